@@ -1,0 +1,72 @@
+-- A set of keys as a finite map with nothing at each key.
+use Rattle.std.proofs.Common.{◌≡◌, ℕ, Bool, true, false, cond, ◌||◌, List, [], ◌∷◌, Option, Some, None, refl, sym, ap, ◌∙◌}
+use Rattle.std.specs.Prelude.{is_some}
+use Rattle.std.specs.List.{list_any}
+use Rattle.std.specs.Map.{lookup, keys_of}
+use Rattle.std.specs.Ordering.{nat_cmp}
+use Rattle.std.specs.declared.cmp.Ordering.{Ordering}
+use Rattle.std.specs.BTreeMap.{is_at}
+use Rattle.std.specs.Cmp.{IsTotalOrder, nat_cmp_total}
+use Rattle.std.specs.FinMap as map
+use Rattle.std.specs.FinMap.{IsAntisymmetric}
+use Rattle.std.proofs.lemmas.Cmp.{on_total, then_total}
+use Rattle.std.proofs.lemmas.Map.Lookups.{exact_pairs, exact_unsigned}
+use Rattle.land_core.specs.Grants.{grant_cmp, marks}
+use Rattle.land_core.specs.Role.{place_of, role_at, role_at_place}
+use Rattle.land_core.specs.declared.roles.Grant.{Grant}
+use Rattle.land_core.proofs.FiniteMaps.{one_inserted, one_removed}
+
+pub grants_total : IsTotalOrder grant_cmp
+grants_total = then_total (on_total (λ g. g.party) nat_cmp_total) (on_total (λ g. place_of g.role) nat_cmp_total)
+
+unpacked : ℕ × ℕ → Grant
+unpacked p = record { party = p.0; role = role_at p.1 }
+
+unpacked_packed : (g : Grant) → unpacked (g.party, place_of g.role) ≡ g
+unfolding unpacked
+unpacked_packed g = ap (λ r. let it : Grant = record { party = g.party; role = r } in it) (role_at_place g.role)
+
+pub exact_grants : IsAntisymmetric grant_cmp
+exact_grants a b h = sym (unpacked_packed a) ∙ ap unpacked (exact_pairs nat_cmp nat_cmp exact_unsigned exact_unsigned (a.party, place_of a.role) (b.party, place_of b.role) h) ∙ unpacked_packed b
+
+abbrev pub mark : Bool → Option (Unit {0})
+mark b = cond b (Some tt) None
+
+pub marked : (b : Bool) → is_some (mark b) ≡ b
+marked true = refl
+marked false = refl
+
+mark_or : (a b : Bool) → cond a (Some tt) (mark b) ≡ mark (a || b)
+mark_or true b = refl
+mark_or false b = refl
+
+mark_then : (a b c : Bool) → mark (cond a b c) ≡ cond a (mark b) (mark c)
+mark_then true b c = refl
+mark_then false b c = refl
+
+pub lookup-marks : {K : Type 0} (t : K → Bool) (ks : List K) → lookup t (marks ks) ≡ mark (list_any t ks)
+lookup-marks t [] = refl
+lookup-marks t (k ∷ ks) = ap (cond (t k) (Some tt)) (lookup-marks t ks) ∙ mark_or (t k) _
+
+pub keys-marks : {K : Type 0} (ks : List K) → keys_of (marks ks) ≡ ks
+keys-marks [] = refl
+keys-marks (k ∷ ks) = ap (λ it. k ∷ it) (keys-marks ks)
+
+-- a set's keys as a map
+module _ {K : Type 0} {R : K → K → Ordering} where
+  pub key_inserted : IsTotalOrder R → IsAntisymmetric R → (ks js : List K) (k : K)
+      → ((q : K) → list_any (is_at (R q)) js ≡ cond (is_at (R k) q) true (list_any (is_at (R q)) ks))
+      → map.from_entries {R = R} (marks js) ≡ map.insert (map.from_entries (marks ks)) k tt
+  key_inserted o same ks js k h = one_inserted o same (marks ks) (marks js) k tt (λ q.
+      lookup-marks _ js ∙ ap mark (h q) ∙ mark_then (is_at (R k) q) _ _ ∙ ap (cond (is_at (R k) q) (Some tt)) (sym (lookup-marks _ ks)))
+
+  pub key_removed : IsTotalOrder R → IsAntisymmetric R → (ks js : List K) (k : K)
+      → ((q : K) → list_any (is_at (R q)) js ≡ cond (is_at (R k) q) false (list_any (is_at (R q)) ks))
+      → map.from_entries {R = R} (marks js) ≡ map.remove (map.from_entries (marks ks)) k
+  key_removed o same ks js k h = one_removed o same (marks ks) (marks js) k (λ q.
+      lookup-marks _ js ∙ ap mark (h q) ∙ mark_then (is_at (R k) q) _ _ ∙ ap (cond (is_at (R k) q) None) (sym (lookup-marks _ ks)))
+
+-- the entries of a set are its keys
+pub marks-keys : {K : Type 0} (es : List (K × Unit {0})) → marks (keys_of es) ≡ es
+marks-keys [] = refl
+marks-keys (e ∷ es) = ap (λ it. e ∷ it) (marks-keys es)

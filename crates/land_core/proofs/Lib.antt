@@ -1,0 +1,7 @@
+pub mod Accepted
+pub mod Booleans
+pub mod FiniteMaps
+pub mod FiniteSets
+pub mod NewRegister
+pub mod Reflection
+pub mod SoundRegisters

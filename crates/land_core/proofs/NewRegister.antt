@@ -1,0 +1,41 @@
+-- The register that an office begins with is sound.
+use Rattle.std.proofs.Common.{◌≡◌, ℕ, true, false, cond, ◌||◌, not, Some, None, refl, sym, ap, ◌∙◌, subst}
+use Rattle.std.specs.Prelude.{codes}
+use Rattle.std.specs.Ordering.{nat_cmp, eq_by_cmp, is_eq}
+use Rattle.std.specs.Cmp.{nat_cmp_total, tied_itself}
+use Rattle.std.specs.FinMap as map
+use Rattle.std.specs.FinMap.{nat_cmp-IsAntisymmetric}
+use Rattle.land_core.specs.Grants.{grant_cmp, grant_of}
+use Rattle.land_core.specs.Register.{nothing, new_register, has_single_party}
+use Rattle.land_core.specs.Soundness.{IsSound, has_loose_grant, is_used}
+use Rattle.land_core.specs.declared.kind.PartyKind.TheVariants.{NonNaturalPerson}
+use Rattle.land_core.specs.declared.party.PartyRecord.{PartyRecord}
+use Rattle.land_core.specs.declared.role.Role.TheVariants.{StateAdministrator}
+use Rattle.land_core.specs.declared.roles.Grant.{Grant}
+use Rattle.land_core.specs.declared.soundness.Unsound.TheVariants.{Reference, Administrator, Memory}
+use Rattle.land_core.proofs.FiniteMaps.{is_equal, none_is_not_some}
+use Rattle.land_core.proofs.FiniteSets.{grants_total, exact_grants}
+use Rattle.land_core.proofs.SoundRegisters.{loose_from, unused_from, single_put, apart_itself, administrator_at}
+
+office : PartyRecord
+office = record { kind = NonNaturalPerson; name = codes "Land Office" }
+
+pub new_is_sound : IsSound new_register
+unfolding office
+new_is_sound Memory = refl
+new_is_sound Reference =
+    let unused = unused_from new_register (λ n p is.
+    elim (eq_by_cmp nat_cmp n 1) as (λ b. eq_by_cmp nat_cmp n 1 ≡ b → cond b (Some office) (map.get nothing.parties n) ≡ Some p → is_used new_register n ≡ true) [
+      | true ↦ λ at e. subst (λ (k : ℕ). is_used new_register k ≡ true) (sym (nat_cmp-IsAntisymmetric n 1 (is_equal _ at))) refl
+      | false ↦ λ apart e. absurd (none_is_not_some (sym (map.get-empty nat_cmp n) ∙ e))
+    ] refl (sym (map.get-insert nat_cmp_total nothing.parties 1 office n) ∙ is)) in
+    let loose = loose_from new_register (λ g is.
+    elim (eq_by_cmp grant_cmp g (grant_of 1 StateAdministrator)) as (λ b. eq_by_cmp grant_cmp g (grant_of 1 StateAdministrator) ≡ b → cond b (Some tt) (map.get nothing.roles g) ≡ Some tt → has_single_party new_register g.party ≡ true) [
+      | true ↦ λ at e. subst (λ (n : ℕ). has_single_party new_register n ≡ true) (sym (ap (λ (x : Grant). x.party) (exact_grants g (grant_of 1 StateAdministrator) (is_equal _ at)))) (single_put nothing new_register 1 office refl refl 1 (λ apart. absurd (apart_itself 1 apart)))
+      | false ↦ λ apart e. absurd (none_is_not_some (sym (map.get-empty grant_cmp g) ∙ e))
+    ] refl (sym (map.get-insert grants_total nothing.roles (grant_of 1 StateAdministrator) tt g) ∙ is)) in
+    ap (λ b. b || has_loose_grant new_register) unused ∙ loose
+new_is_sound Administrator =
+    ap not (administrator_at new_register (grant_of 1 StateAdministrator)
+    (map.get-insert grants_total nothing.roles (grant_of 1 StateAdministrator) tt (grant_of 1 StateAdministrator) ∙ ap (λ b. cond b (Some tt) (map.get nothing.roles (grant_of 1 StateAdministrator))) (ap is_eq (tied_itself grants_total (grant_of 1 StateAdministrator))))
+    refl)

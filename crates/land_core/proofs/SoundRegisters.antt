@@ -1,0 +1,96 @@
+-- What soundness says of look-ups, and how it is shown by look-ups.
+use Rattle.std.proofs.Common.{◌≡◌, ℕ, ◌<◌, Bool, true, false, cond, ◌||◌, ◌&&◌, not, Option, Some, None, refl, sym, ap, ◌∙◌, arith}
+use Rattle.std.specs.Prelude.{nat_lt}
+use Rattle.std.specs.Option.{option_map_or}
+use Rattle.std.specs.List.{list_any}
+use Rattle.std.specs.Ordering.{nat_cmp, eq_by_cmp, is_eq}
+use Rattle.std.specs.Cmp.{nat_cmp_total, tied_itself}
+use Rattle.std.specs.FinMap as map
+use Rattle.std.specs.FinMap.{nat_cmp-IsAntisymmetric}
+use Rattle.std.proofs.lemmas.Bool.{false≢true}
+use Rattle.std.proofs.lemmas.Bool.Decides.{nat_tests}
+use Rattle.land_core.specs.Grants.{grants_in}
+use Rattle.land_core.specs.Register.{has_single_party, is_single}
+use Rattle.land_core.specs.Role.{is_role}
+use Rattle.land_core.specs.Soundness.{IsSound, has_fault, is_used, has_unused_number, has_loose_grant, has_administrator}
+use Rattle.land_core.specs.declared.party.PartyRecord.{PartyRecord}
+use Rattle.land_core.specs.declared.register.Register.{Register}
+use Rattle.land_core.specs.declared.role.Role.TheVariants.{StateAdministrator}
+use Rattle.land_core.specs.declared.roles.Grant.{Grant}
+use Rattle.land_core.specs.declared.soundness.Unsound.TheVariants.{Reference, Administrator}
+use Rattle.land_core.proofs.Booleans.{or_false, not_false}
+use Rattle.land_core.proofs.FiniteSets.{grants_total, exact_grants}
+use Rattle.land_core.proofs.Reflection.{Passes, some_passes, some_at, none_passes, none_at, list_any-map}
+
+pub loose_from : (r : Register) → ((g : Grant) → map.get r.roles g ≡ Some tt → has_single_party r g.party ≡ true) → has_loose_grant r ≡ false
+unfolding grants_in
+loose_from r h =
+    list_any-map (λ (g : Grant). not (has_single_party r g.party)) (λ e. e.0) (map.entries r.roles)
+    ∙ none_passes grants_total exact_grants (λ g u. not (has_single_party r g.party)) r.roles (λ g u is. ap not (h g is))
+
+pub single_from : (r : Register) → has_loose_grant r ≡ false → (g : Grant) → map.get r.roles g ≡ Some tt → has_single_party r g.party ≡ true
+unfolding grants_in
+single_from r none g is =
+    not_false _ (none_at grants_total exact_grants (λ g u. not (has_single_party r g.party)) r.roles g tt
+    (sym (list_any-map (λ (g : Grant). not (has_single_party r g.party)) (λ e. e.0) (map.entries r.roles)) ∙ none) is)
+
+pub administrator_from : (r : Register) → has_administrator r ≡ true → Passes (λ (g : Grant) (u : Unit {0}). is_role g.role StateAdministrator) r.roles
+unfolding grants_in
+administrator_from r h =
+    some_passes grants_total exact_grants (λ g u. is_role g.role StateAdministrator) r.roles
+    (sym (list_any-map (λ (g : Grant). is_role g.role StateAdministrator) (λ e. e.0) (map.entries r.roles)) ∙ h)
+
+pub administrator_at : (r : Register) (g : Grant) → map.get r.roles g ≡ Some tt → is_role g.role StateAdministrator ≡ true → has_administrator r ≡ true
+unfolding grants_in
+administrator_at r g is role =
+    list_any-map (λ (g : Grant). is_role g.role StateAdministrator) (λ e. e.0) (map.entries r.roles)
+    ∙ some_at grants_total exact_grants (λ g u. is_role g.role StateAdministrator) r.roles g tt is role
+
+-- the numbers of parties are in use, where none is not
+pub used_from : (r : Register) → has_unused_number r ≡ false → (n : ℕ) (p : PartyRecord) → map.get r.parties n ≡ Some p → is_used r n ≡ true
+used_from r none n p is = not_false _ (none_at nat_cmp_total nat_cmp-IsAntisymmetric (λ n p. not (is_used r n)) r.parties n p none is)
+
+pub unused_from : (r : Register) → ((n : ℕ) (p : PartyRecord) → map.get r.parties n ≡ Some p → is_used r n ≡ true) → has_unused_number r ≡ false
+unused_from r h = none_passes nat_cmp_total nat_cmp-IsAntisymmetric (λ n p. not (is_used r n)) r.parties (λ n p is. ap not (h n p is))
+
+-- a single party that stands has a record
+pub record Stands (r : Register) (n : ℕ) : Type 0 where
+  pub party : PartyRecord
+  pub there : map.get r.parties n ≡ Some party
+
+pub stands_from : (r : Register) (n : ℕ) → has_single_party r n ≡ true → Stands r n
+stands_from r n h = found (map.get r.parties n) refl h
+  where
+    found : (o : Option PartyRecord) → map.get r.parties n ≡ o → option_map_or (λ (p : PartyRecord). is_single p.kind) o false ≡ true → Stands r n
+    found None e h = absurd (false≢true h)
+    found (Some p) e h = record { party = p; there = e }
+
+pub used_bounds : (r : Register) (n : ℕ) → is_used r n ≡ true → (0 < n) × (n < r.next)
+used_bounds r n h = (grind (arith, nat_tests), grind (arith, nat_tests))
+
+unit_is : (u : Unit {0}) → u ≡ tt
+unit_is u = refl
+
+-- somebody administers a sound register, so its next number is above 0
+pub next_above_zero : (r : Register) → IsSound r → 0 < r.next
+next_above_zero r sound =
+    let reference = or_false _ _ (sound Reference) in
+    let parts = or_false _ _ reference.0 in
+    let one = administrator_from r (not_false _ (sound Administrator)) in
+    let stands = stands_from r one.key.party (single_from r reference.1 one.key (one.there ∙ ap Some (unit_is one.value))) in
+    let bounds = used_bounds r one.key.party (used_from r parts.1 one.key.party stands.party stands.there) in
+    omega arith
+
+-- a number is not apart from itself
+pub apart_itself : (n : ℕ) → eq_by_cmp nat_cmp n n ≡ false → ⊥
+apart_itself n h = false≢true (sym h ∙ ap is_eq (tied_itself nat_cmp_total n))
+
+-- a single party that is put at a number leaves single parties single
+pub single_put : (r new : Register) (number : ℕ) (party : PartyRecord) → new.parties ≡ map.insert r.parties number party → is_single party.kind ≡ true
+    → (n : ℕ) → ((eq_by_cmp nat_cmp n number ≡ false) → has_single_party r n ≡ true) → has_single_party new n ≡ true
+single_put r new number party is single n h =
+    ap (λ o. option_map_or (λ (p : PartyRecord). is_single p.kind) o false) (ap (λ m. map.get m n) is ∙ map.get-insert nat_cmp_total r.parties number party n)
+    ∙ elim (eq_by_cmp nat_cmp n number) as (λ b. eq_by_cmp nat_cmp n number ≡ b → option_map_or (λ (p : PartyRecord). is_single p.kind) (cond b (Some party) (map.get r.parties n)) false ≡ true) [
+      | true ↦ λ at. single
+      | false ↦ λ apart. h apart
+    ] refl

@@ -1,0 +1,20 @@
+-- Changes: entries that are put into the register's maps, and keys whose entries end.
+use Rattle.std.specs.Prelude.{◌≡◌, true, ◌++◌, nat_eq, map as map_list}
+use Rattle.std.specs.Ordering.{eq_by_cmp}
+use Rattle.land_core.specs.Entries.{updated, are_distinct}
+use Rattle.land_core.specs.Grants.{marks, grant_cmp}
+use Rattle.land_core.specs.declared.change.Change.{Change}
+use Rattle.land_core.specs.declared.register.Register.{Register}
+
+-- the register after a change
+abbrev pub after : Change → Register → Register
+after change r = record {
+  parties = updated r.parties change.put.parties change.ended.parties;
+  roles = updated r.roles (marks change.put.roles) change.ended.roles;
+  next = change.next;
+}
+
+-- no key of one map stands twice in the change, neither among what it puts nor among what it ends
+pub record NamesKeysOnce (change : Change) : Type 0 where
+  pub parties : are_distinct nat_eq (map_list (λ e. e.0) change.put.parties ++ change.ended.parties) ≡ true
+  pub roles : are_distinct (eq_by_cmp grant_cmp) (change.put.roles ++ change.ended.roles) ≡ true

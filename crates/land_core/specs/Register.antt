@@ -1,0 +1,55 @@
+-- The register: what stands, without lifespans.
+use Rattle.std.specs.Prelude.{ℕ, Bool, true, false, List, filter, Option, codes}
+use Rattle.std.specs.Option.{option_map, option_map_or}
+use Rattle.std.specs.FinMap as map
+use Rattle.land_core.specs.Entries.{has}
+use Rattle.land_core.specs.Grants.{has_grant, grant_of}
+use Rattle.land_core.specs.Role.{all_roles}
+use Rattle.land_core.specs.declared.kind.Kind.{Kind}
+use Rattle.land_core.specs.declared.kind.Kind.TheVariants as kind
+use Rattle.land_core.specs.declared.kind.PartyKind.{PartyKind}
+use Rattle.land_core.specs.declared.kind.PartyKind.TheVariants.{NaturalPerson, NonNaturalPerson, Group}
+use Rattle.land_core.specs.declared.role.Role.{Role}
+use Rattle.land_core.specs.declared.role.Role.TheVariants.{StateAdministrator}
+use Rattle.land_core.specs.declared.register.Register.{Register}
+use Rattle.land_core.specs.declared.object.Object.{Object}
+use Rattle.land_core.specs.declared.object.Object.TheVariants as object
+
+-- the register that holds nothing, as it was before the office began
+abbrev pub nothing : Register
+nothing = record { parties = map.empty; roles = map.empty; next = 2 }
+
+-- the register that an office begins with: party 1 is the land office itself and state administrator, and 2 is the next number
+abbrev pub new_register : Register
+new_register = record {
+  parties = map.insert map.empty 1 (record { kind = NonNaturalPerson; name = codes "Land Office" });
+  roles = map.insert map.empty (grant_of 1 StateAdministrator) tt;
+  next = 2;
+}
+
+-- whether an object of a kind stands
+abbrev pub stands : Register → Kind → ℕ → Bool
+stands r kind.Party n = has r.parties n
+
+-- whether a party holds a role
+abbrev pub holds : Register → ℕ → Role → Bool
+holds r party role = has_grant r.roles (grant_of party role)
+
+-- a natural or non-natural person is a single party, a group is none (LA_Party, LA_GroupParty)
+abbrev pub is_single : PartyKind → Bool
+is_single NaturalPerson = true
+is_single NonNaturalPerson = true
+is_single Group = false
+
+-- whether a single party stands
+abbrev pub has_single_party : Register → ℕ → Bool
+has_single_party r n = option_map_or (λ p. is_single p.kind) (map.get r.parties n) false
+
+-- the roles of a party, in their order
+abbrev pub roles_of : Register → ℕ → List Role
+roles_of r n = filter (λ role. holds r n role) all_roles
+
+-- the object that stands, as it is shown, or none
+abbrev pub object_at : Register → Kind → ℕ → Option Object
+object_at r kind.Party n =
+    option_map (λ p. object.Party (record { number = n; kind = p.kind; name = p.name; roles = roles_of r n })) (map.get r.parties n)

@@ -1,0 +1,19 @@
+//! The kinds of objects and of parties.
+
+/// A kind of object that the register numbers (LADM: the classes derived from VersionedObject).
+#[derive(Clone, Copy, Debug, PartialEq, Eq)]
+pub enum Kind {
+    /// A party (LA_Party).
+    Party,
+}
+
+/// The type of a party (LA_PartyType).
+#[derive(Clone, Copy, Debug, PartialEq, Eq)]
+pub enum PartyKind {
+    /// A human being.
+    NaturalPerson,
+    /// A company, an office or another body.
+    NonNaturalPerson,
+    /// Parties that hold together (LA_GroupParty).
+    Group,
+}

@@ -1,0 +1,34 @@
+//! The limits of texts.
+ghost use Rattle.std.specs.Prelude.{◌≡◌, length};
+ghost use Rattle.std.specs.List.{list_all};
+ghost use Rattle.std.specs.Str.{chars};
+ghost use Rattle.land_core.specs.Texts.{is_text, is_name, is_plain};
+
+/// Whether a text is a name: 1 to 200 characters, no control character of ASCII among them.
+pub fn is_name(text: &str) -> bool
+    ensures { result ≡ is_name text.now }
+{
+    is_text(text, 1, 200)
+}
+
+/// Whether a text has `least` to `most` characters (Unicode scalar values) and no control character of ASCII.
+pub fn is_text(text: &str, least: usize, most: usize) -> bool
+    ensures { result ≡ is_text least most text.now }
+{
+    let count = character_count(text);
+    least <= count && count <= most && is_plain(text)
+}
+
+fn character_count(text: &str) -> usize
+    ensures { result ≡ length (chars text.now) }
+{
+    text.chars().count()
+}
+
+fn is_plain(text: &str) -> bool
+    ensures { result ≡ list_all is_plain text.now }
+{
+    text.as_bytes()
+        .iter()
+        .all(|byte| *byte >= 32 && *byte != 127)
+}

@@ -1,0 +1,162 @@
+//! The register: everything that stands now.
+ghost use Rattle.std.specs.Prelude.{◌≡◌, IfOk, OnOk, OnErr};
+ghost use Rattle.land_core.specs.Register.{new_register, nothing, stands, object_at, holds, has_single_party, roles_of};
+ghost use Rattle.land_core.specs.Changes.{after};
+ghost use Rattle.land_core.specs.Soundness.{IsSound};
+
+use crate::change::Change;
+use crate::duplicate::Duplicate;
+use crate::kind::{Kind, PartyKind};
+use crate::object::Object;
+use crate::party::{Party, PartyRecord};
+use crate::records::Records;
+use crate::role::Role;
+use crate::roles::{Grant, Roles};
+use crate::sequence::Sequence;
+use crate::text::Text;
+use std::alloc::{AllocError, Global};
+
+/// All records that stand, and the number of the next one.
+#[derive(Debug, Drop)]
+pub struct Register {
+    /// Parties under their numbers (LA_Party).
+    pub parties: Records<PartyRecord>,
+    /// Which party holds which roles (LA_PartyRoleType).
+    pub roles: Roles,
+    /// The number that the next new object takes: 2 to 1_000_000_001 in a sound register.
+    pub next: u64,
+}
+
+impl Register {
+    /// The register that an office begins with: party 1, `Land Office`, is state administrator.
+    pub fn new(alloc: Global) -> Result<Register, AllocError>
+        ensures new { IfOk result (λ it. it ≡ new_register) }
+        ensures sound { IfOk result (λ it. IsSound it) }
+    {
+        let mut register = Register::nothing(alloc);
+        let office = PartyRecord {
+            kind: PartyKind::NonNaturalPerson,
+            name: Text::new(String::from_str(alloc, "Land Office")?),
+        };
+        register.parties.insert(1, office)?;
+        let grant = Grant {
+            party: 1,
+            role: Role::StateAdministrator,
+        };
+        register.roles.insert(grant)?;
+        Ok(register)
+    }
+
+    /// A register that holds nothing, as before the office began. It takes no memory.
+    pub fn nothing(alloc: Global) -> Register
+        ensures { result ≡ nothing }
+    {
+        Register {
+            parties: Records::new(alloc),
+            roles: Roles::new(alloc),
+            next: 2,
+        }
+    }
+
+    /// The register after a change; this one stays as it is.
+    pub fn changed(&self, alloc: Global, change: &Change) -> Result<Register, AllocError>
+        ensures { IfOk result (λ it. it ≡ after change.now self.now) }
+    {
+        let put = &change.put;
+        let ended = &change.ended;
+        Ok(Register {
+            parties: self.parties.updated(alloc, &put.parties, &ended.parties)?,
+            roles: self.roles.updated(alloc, &put.roles, &ended.roles)?,
+            next: change.next,
+        })
+    }
+
+    /// Whether a party holds a role.
+    pub fn holds(&self, party: u64, role: Role) -> bool
+        ensures { result ≡ holds self.now party role }
+    {
+        self.roles.contains(Grant { party, role })
+    }
+
+    /// Whether an object of a kind stands at a number.
+    pub fn stands(&self, kind: Kind, number: u64) -> bool
+        ensures { result ≡ stands self.now kind number }
+    {
+        match kind {
+            Kind::Party => self.parties.get(number).is_some(),
+        }
+    }
+
+    /// Whether a natural or non-natural person stands at a number.
+    pub fn has_single_party(&self, number: u64) -> bool
+        ensures { result ≡ has_single_party self.now number }
+    {
+        match self.parties.get(number) {
+            Some(party) => party.kind != PartyKind::Group,
+            None => false,
+        }
+    }
+
+    /// A copy of the object of a kind that stands at a number, or `None`.
+    pub fn object(
+        &self,
+        alloc: Global,
+        kind: Kind,
+        number: u64,
+    ) -> Result<Option<Object>, AllocError>
+        ensures { IfOk result (λ it. it ≡ object_at self.now kind number) }
+    {
+        match kind {
+            Kind::Party => match self.parties.get(number) {
+                Some(party) => Ok(Some(Object::Party(Party {
+                    number,
+                    kind: party.kind,
+                    name: party.name.copy(alloc)?,
+                    roles: self.roles_of(alloc, number)?,
+                }))),
+                None => Ok(None),
+            },
+        }
+    }
+
+    /// The roles of a party, in their order.
+    fn roles_of(&self, alloc: Global, party: u64) -> Result<Sequence<Role>, AllocError>
+        ensures { IfOk result (λ it. it ≡ roles_of self.now party) }
+    {
+        let mut roles = Sequence::new(alloc);
+        for role in ALL_ROLES {
+            if self.holds(party, role) {
+                roles.push(role)?;
+            }
+        }
+        Ok(roles)
+    }
+}
+
+const ALL_ROLES: [Role; 6] = [
+    Role::Citizen,
+    Role::Conveyancer,
+    Role::Notary,
+    Role::Bank,
+    Role::CertifiedSurveyor,
+    Role::StateAdministrator,
+];
+
+impl Duplicate for Register {
+    fn copy(&self, alloc: Global) -> Result<Register, AllocError> {
+        Ok(Register {
+            parties: self.parties.copy(alloc)?,
+            roles: self.roles.copy(alloc)?,
+            next: self.next,
+        })
+    }
+}
+
+/// Makes a change. After want of memory the register is unchanged.
+pub fn apply(alloc: Global, register: &mut Register, change: &Change) -> Result<(), AllocError>
+    ensures ok { OnOk result (register.new ≡ after change.now register.old) }
+    ensures err { OnErr result (register.new ≡ register.old) }
+{
+    *register = register.changed(alloc, change)?;
+    Ok(())
+}

@@ -1,0 +1,139 @@
+//! The roles of all parties, which contracts see as a set of pairs.
+ghost use Rattle.std.specs.Prelude.{◌≡◌, OnOk, OnErr, IfOk};
+ghost use Rattle.std.specs.FinMap as map;
+ghost use Rattle.std.specs.Map.Iter.{ShowsInOrder, deref};
+ghost use Rattle.land_core.specs.declared.roles.Grant.{Grant};
+ghost use Rattle.land_core.specs.Grants.{has_grant, grants_in, marks};
+ghost use Rattle.land_core.specs.Entries.{updated, with_entries, without};
+
+use crate::duplicate::Duplicate;
+use crate::role::Role;
+use crate::sequence::Sequence;
+use std::alloc::{AllocError, Global};
+use std::collections::BTreeSet;
+use std::collections::btree_set::Iter;
+use std::marker::Model;
+
+/// A party holds a role.
+#[derive(Clone, Copy, Debug, PartialEq, Eq, PartialOrd, Ord)]
+pub struct Grant {
+    /// The party's number.
+    pub party: u64,
+    /// The role that it holds.
+    pub role: Role,
+}
+
+/// Which party holds which roles.
+#[derive(Debug, Drop)]
+pub struct Roles {
+    grants: BTreeSet<Grant>,
+}
+
+impl Model for Roles {
+    ghost use Rattle.std.specs.FinMap as map;
+    ghost use Rattle.std.specs.FinSet as set;
+    ghost use Rattle.land_core.specs.Grants.{coded_grant, Grants, marks};
+
+    ghost Value = { Grants };
+
+    ghost coded = { set.code coded_grant };
+
+    ghost view = { λ a. map.from_entries (marks a.grants.keys) };
+}
+
+impl Roles {
+    /// No roles, which takes no memory.
+    pub fn new(alloc: Global) -> Roles
+        ensures { result ≡ map.empty }
+    {
+        Roles {
+            grants: BTreeSet::new(alloc),
+        }
+    }
+
+    /// The roles of a set, which they keep.
+    pub fn from_set(grants: BTreeSet<Grant>) -> Roles
+        ensures { result ≡ map.from_entries (marks grants.keys) }
+    {
+        Roles { grants }
+    }
+
+    /// The set that the roles kept.
+    pub fn into_set(self) -> BTreeSet<Grant>
+        ensures { map.from_entries (marks result.keys) ≡ self }
+    {
+        let Roles { grants } = self;
+        grants
+    }
+
+    /// Whether a party holds a role.
+    pub fn contains(&self, grant: Grant) -> bool
+        ensures { result ≡ has_grant self.now grant }
+    {
+        self.grants.contains(&grant)
+    }
+
+    /// Gives a party a role. After want of memory the roles are unchanged.
+    pub fn insert(&mut self, grant: Grant) -> Result<(), AllocError>
+        ensures ok { OnOk result (self.new ≡ map.insert self.old grant tt) }
+        ensures err { OnErr result (self.new ≡ self.old) }
+    {
+        self.grants.insert(grant)?;
+        Ok(())
+    }
+
+    /// Ends a role of a party.
+    pub fn remove(&mut self, grant: Grant)
+        ensures { self.new ≡ map.remove self.old grant }
+    {
+        let _ = self.grants.remove(&grant);
+    }
+
+    /// All grants, by party and then by role.
+    pub fn iter(&self) -> Iter<'_, Grant>
+        ensures rest { result ≡ grants_in self.now }
+        ensures runs { ShowsInOrder (deref {X = Grant}) }
+    {
+        self.grants.iter()
+    }
+
+    /// These roles without some, and with others given.
+    pub fn updated(
+        &self,
+        alloc: Global,
+        put: &Sequence<Grant>,
+        ended: &Sequence<Grant>,
+    ) -> Result<Roles, AllocError>
+        ensures { IfOk result (λ it. it ≡ updated self.now (marks put.now) ended.now) }
+    {
+        let mut roles = self.copy(alloc)?;
+        roles.end_all(ended.as_slice());
+        roles.put_all(put.as_slice())?;
+        Ok(roles)
+    }
+
+    fn put_all(&mut self, put: &[Grant]) -> Result<(), AllocError>
+        ensures { OnOk result (self.new ≡ with_entries self.old (marks put.now)) }
+    {
+        for grant in put {
+            self.insert(*grant)?;
+        }
+        Ok(())
+    }
+
+    fn end_all(&mut self, ended: &[Grant])
+        ensures { self.new ≡ without self.old ended.now }
+    {
+        for grant in ended {
+            self.remove(*grant);
+        }
+    }
+}
+
+impl Duplicate for Roles {
+    fn copy(&self, _alloc: Global) -> Result<Roles, AllocError> {
+        Ok(Roles {
+            grants: self.grants.clone()?,
+        })
+    }
+}

@@ -1,0 +1,4 @@
+pub mod Policy
+pub mod Steps
+pub mod Timelines
+pub mod TwoRegisters

@@ -1,0 +1,67 @@
+-- The last version of a timeline, and timelines that go on.
+use Rattle.std.proofs.Common.{◌≡◌, ◌≤◌, ◌-◌, List, [], ◌∷◌, ◌++◌, length, Option, Some, None, refl, sym, ap, ◌∙◌, subst, arith}
+use Rattle.std.specs.Prelude.{ℤ, pos, ◌<ℤ◌, ◌≤ℤ◌, slice_get}
+use Rattle.std.specs.List.{AllByRecursion}
+use Rattle.std.proofs.lemmas.Int.{ints}
+use Rattle.land_core.specs.Changes.{after}
+use Rattle.land_core.specs.Laws.{IsAccepted}
+use Rattle.land_core.specs.Soundness.{IsSound}
+use Rattle.land_core.specs.declared.change.Change.{Change}
+use Rattle.land_core.proofs.Accepted.{accepted_sound}
+use Rattle.land_keep.specs.Keeping.{CanWrite}
+use Rattle.land_keep.specs.Laws.{WritingKeepsSound}
+use Rattle.land_keep.specs.Timeline.{Timeline, IsSoundTimeline, IsMoment, Rises, last_from, last_version, last_stamp, last_register, last_moment}
+use Rattle.land_keep.specs.declared.timeline.Version.{Version}
+
+-- what is at the last place of a list
+slice_get-last : (v : Version) (vs : Timeline) → slice_get (v ∷ vs) (length vs) ≡ Some (last_from v vs)
+slice_get-last v [] = refl
+slice_get-last v (w ∷ ws) = slice_get-last w ws
+
+pub last_is : (tl : Timeline) → slice_get tl (length tl - 1) ≡ last_version tl
+last_is [] = refl
+last_is (v ∷ vs) = let e : length (v ∷ vs) - 1 ≡ length vs = omega arith in ap (slice_get (v ∷ vs)) e ∙ slice_get-last v vs
+
+all_last : (P : Version → Type 0) (v : Version) (vs : Timeline) → AllByRecursion P (v ∷ vs) → P (last_from v vs)
+all_last P v [] h = h.0
+all_last P v (w ∷ ws) h = all_last P w ws h.1
+
+all_more : (P : Version → Type 0) (vs : Timeline) (w : Version) → AllByRecursion P vs → P w → AllByRecursion P (vs ++ w ∷ [])
+all_more P [] w h last = (last, tt)
+all_more P (v ∷ vs) w h last = (h.0, all_more P vs w h.1 last)
+
+rises_more : (v : Version) (vs : Timeline) (w : Version) → Rises v vs → (last_from v vs).stamp <ℤ w.stamp → (last_from v vs).register.next ≤ w.register.next → Rises v (vs ++ w ∷ [])
+rises_more v [] w h later more = (later, more, tt)
+rises_more v (u ∷ us) w h later more = (h.0, h.1, rises_more u us w h.2 later more)
+
+pub written_sound : WritingKeepsSound
+written_sound [] change stamp sound can = absurd sound.rising
+written_sound (v ∷ vs) change stamp sound can =
+    let last = last_from v vs in
+    let IsSoundVersion : Version → Type 0 = λ it. IsSound it.register in
+    let IsAtMoment : Version → Type 0 = λ it. IsMoment it.stamp in
+    let accepted : IsAccepted last.register change = record {
+      caller = can.made.caller;
+      act = can.made.act;
+      stamp = Some stamp;
+      done = can.made.done;
+      well_formed = can.made.well_formed;
+      role_held = can.made.role_held;
+      outcome = can.made.outcome;
+    } in
+    let kept = accepted_sound last.register change (all_last IsSoundVersion v vs sound.sound) accepted in
+    let before : IsMoment last.stamp = all_last IsAtMoment v vs sound.moments in
+    let w : Version = record { stamp = stamp; register = after change last.register } in
+    record {
+      rising = rises_more v vs w sound.rising can.later kept.1;
+      moments = all_more IsAtMoment (v ∷ vs) w sound.moments (from_zero last.stamp stamp before.0 can.later, can.moment);
+      sound = all_more IsSoundVersion (v ∷ vs) w sound.sound kept.0;
+    }
+  where
+    from_zero : (before later : ℤ) → pos 0 ≤ℤ before → before <ℤ later → pos 0 ≤ℤ later
+    from_zero before later h less = omega (arith, ints)
+
+-- the last stamp of a sound timeline is a moment
+pub last_is_moment : (tl : Timeline) → IsSoundTimeline tl → last_stamp tl ≤ℤ last_moment
+last_is_moment [] sound = absurd sound.rising
+last_is_moment (v ∷ vs) sound = (all_last (λ it. IsMoment it.stamp) v vs sound.moments).1

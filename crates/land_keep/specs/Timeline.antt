@@ -1,0 +1,63 @@
+-- The register through time: stamps, and the register from each on (LADM: VersionedObject).
+use Rattle.std.specs.Prelude.{◌≤◌, List, [], ◌∷◌, Option, Some, None, ℤ, pos, ◌<ℤ◌, ◌≤ℤ◌, int_le, fold, unwrap_or, if◌then◌else◌}
+use Rattle.std.specs.Option.{option_map}
+use Rattle.std.specs.List.{AllByRecursion}
+use Rattle.land_core.specs.Register.{nothing, new_register}
+use Rattle.land_core.specs.Soundness.{IsSound}
+use Rattle.land_core.specs.declared.register.Register.{Register}
+use Rattle.land_keep.specs.declared.timeline.Version.{Version}
+
+abbrev pub Timeline : Type 0
+Timeline = List Version
+
+-- the end of the year 2099 in UTC, in milliseconds since 1970
+abbrev pub last_moment : ℤ
+last_moment = pos 4102444799999
+
+-- a new office has the new register from the first moment on
+abbrev pub new_timeline : Timeline
+new_timeline = record { stamp = pos 0; register = new_register } ∷ []
+
+-- the last register whose stamp is at most t
+abbrev pub version_at : Timeline → ℤ → Option Version
+version_at tl t = fold (λ found v. if int_le v.stamp t then Some v else found) None tl
+
+-- the register at t; before the first stamp there is nothing
+abbrev pub register_at : Timeline → ℤ → Register
+register_at tl t = unwrap_or (option_map (λ v. v.register) (version_at tl t)) nothing
+
+-- the last of a version and those after it
+abbrev pub last_from : Version → Timeline → Version
+last_from v [] = v
+last_from v (w ∷ ws) = last_from w ws
+
+abbrev pub last_version : Timeline → Option Version
+last_version [] = None
+last_version (v ∷ vs) = Some (last_from v vs)
+
+-- the stamp of the last accepted change
+abbrev pub last_stamp : Timeline → ℤ
+last_stamp tl = unwrap_or (option_map (λ v. v.stamp) (last_version tl)) (pos 0)
+
+-- the register now
+abbrev pub last_register : Timeline → Register
+last_register tl = unwrap_or (option_map (λ v. v.register) (last_version tl)) nothing
+
+-- from a version on, stamps rise and the next numbers never fall
+abbrev pub Rises : Version → Timeline → Type 0
+Rises before [] = Unit {0}
+Rises before (v ∷ vs) = (before.stamp <ℤ v.stamp) × (before.register.next ≤ v.register.next) × Rises v vs
+
+-- there is a version, and stamps rise
+abbrev pub IsRising : Timeline → Type 0
+IsRising [] = ⊥
+IsRising (v ∷ vs) = Rises v vs
+
+abbrev pub IsMoment : ℤ → Type 0
+IsMoment t = (pos 0 ≤ℤ t) × (t ≤ℤ last_moment)
+
+-- a sound timeline begins, its stamps are moments and rise, its next numbers never fall, and each of its registers is sound
+pub record IsSoundTimeline (tl : Timeline) : Type 0 where
+  pub rising : IsRising tl
+  pub moments : AllByRecursion (λ v. IsMoment v.stamp) tl
+  pub sound : AllByRecursion (λ v. IsSound v.register) tl

@@ -1,0 +1,91 @@
+//! Keepers of the register through time.
+ghost use Rattle.std.specs.Prelude.{◌≡◌, ◌≤ℤ◌, Bool, IfOk, OnOk, OnErr};
+ghost use Rattle.land_core.specs.Register.{object_at};
+ghost use Rattle.land_core.specs.Slices.{slice_of};
+ghost use Rattle.land_keep.specs.Keeping.{Closes, CanWrite};
+ghost use Rattle.land_keep.specs.Machine.{verdict_at, moment_of, written};
+ghost use Rattle.land_keep.specs.Rules.{seen_of};
+ghost use Rattle.land_keep.specs.Timeline.{Timeline, IsSoundTimeline, last_stamp, last_register, register_at, last_moment};
+
+use crate::store_fault::StoreFault;
+use crate::verdict::Verdict;
+use land_core::act::Act;
+use land_core::ask::Ask;
+use land_core::caller::Caller;
+use land_core::change::Change;
+use land_core::kind::Kind;
+use land_core::object::Object;
+use land_core::sequence::NumberList;
+use land_core::slice::Slice;
+use std::alloc::Global;
+
+/// A keeper of the register through time, which contracts see as a sound timeline and whether its store is closed.
+/// A call that fails changes nothing: 501 leaves the keeper open, 502 closes it, and a closed keeper answers 503.
+pub trait Keeper {
+    /// The registers so far, with their stamps.
+    ghost timeline: { Self → Timeline };
+
+    /// Whether a store call has failed.
+    ghost closed: { Self → Bool };
+
+    /// The stamp of the last accepted change, 0 in a new register.
+    fn last(&self) -> i64
+        ensures last { result ≡ last_stamp (timeline self.now) }
+        ensures moment { result ≤ℤ last_moment }
+        ensures sound { IsSoundTimeline (timeline self.now) };
+
+    /// Whether the keeper is closed.
+    fn is_closed(&self) -> bool
+        ensures { result ≡ closed self.now };
+
+    /// What the policy says of an ask, where now is a moment.
+    fn first_denial(
+        &mut self,
+        alloc: Global,
+        caller: Caller,
+        ask: &Ask,
+        now: i64,
+    ) -> Result<Verdict, StoreFault>
+        requires last { last_stamp (timeline self.old) ≤ℤ now }
+        requires asked { moment_of ask.now now ≤ℤ now }
+        ensures value { IfOk result (λ it. it ≡ verdict_at (timeline self.old) caller ask.now now) }
+        ensures same { timeline self.new ≡ timeline self.old }
+        ensures closes { Closes (closed self.old) (closed self.new) result };
+
+    /// The numbers of a kind that the caller sees at a moment, ascending.
+    fn sight(
+        &mut self,
+        alloc: Global,
+        caller: Caller,
+        kind: Kind,
+        at: i64,
+    ) -> Result<NumberList, StoreFault>
+        ensures value { IfOk result (λ it. it ≡ seen_of (register_at (timeline self.old) at) caller kind) }
+        ensures same { timeline self.new ≡ timeline self.old }
+        ensures closes { Closes (closed self.old) (closed self.new) result };
+
+    /// The object that stands at a moment, or `None`.
+    fn object(
+        &mut self,
+        alloc: Global,
+        kind: Kind,
+        number: u64,
+        at: i64,
+    ) -> Result<Option<Object>, StoreFault>
+        ensures value { IfOk result (λ it. it ≡ object_at (register_at (timeline self.old) at) kind number) }
+        ensures same { timeline self.new ≡ timeline self.old }
+        ensures closes { Closes (closed self.old) (closed self.new) result };
+
+    /// The records of the last register that planning may look at.
+    fn slice(&mut self, alloc: Global, caller: Caller, act: &Act) -> Result<Slice, StoreFault>
+        ensures value { IfOk result (λ it. it ≡ slice_of (last_register (timeline self.old)) caller act.now) }
+        ensures same { timeline self.new ≡ timeline self.old }
+        ensures closes { Closes (closed self.old) (closed self.new) result };
+
+    /// Writes a change that an act makes of the last register, with its stamp.
+    fn write(&mut self, alloc: Global, change: &Change, stamp: i64) -> Result<(), StoreFault>
+        requires { CanWrite (timeline self.old) change.now stamp }
+        ensures ok { OnOk result (timeline self.new ≡ written (timeline self.old) change.now stamp) }
+        ensures err { OnErr result (timeline self.new ≡ timeline self.old) }
+        ensures closes { Closes (closed self.old) (closed self.new) result };
+}

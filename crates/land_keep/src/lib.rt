@@ -1,0 +1,18 @@
+//! The register machine: who may see what and at which moment, what a request leads to, and the keepers of the
+//! register through time.
+#![tactic(auto)]
+
+pub mod clock;
+pub mod keeper;
+pub mod laws;
+pub mod machine;
+mod moments;
+pub mod plain_keeper;
+pub mod prepared;
+pub mod reply;
+pub mod rules;
+pub mod store_fault;
+#[cfg(test)]
+mod tests;
+pub mod timeline;
+pub mod verdict;

@@ -1,0 +1,198 @@
+//! The register machine over any keeper: a request is prepared, finished, answered; requests are run in turn.
+ghost use Rattle.std.specs.Prelude.{◌≡◌, ◌≢◌, true, false, pos, unwrap_or, IfOk, OnOk, OnErr, All, IsTrue, ◌↔◌};
+ghost use Rattle.land_core.specs.Acts.{is_well_formed, is_well_formed_request};
+ghost use Rattle.land_core.specs.Outcome.{outcome_of};
+ghost use Rattle.land_core.specs.Register.{holds};
+ghost use Rattle.land_keep.specs.Keeping.{Closes, CanFinish, IsPrepared, Leads, preparation, after_writing};
+ghost use Rattle.land_keep.specs.Machine.{stamp_of, allowed, acted, Element, Run};
+ghost use Rattle.land_keep.specs.Timeline.{last_register};
+
+use crate::clock::Clock;
+use crate::keeper::Keeper;
+use crate::moments::{named_moment, now_at, stamp_at};
+use crate::prepared::{Prepared, Writing};
+use crate::reply::Reply;
+use crate::store_fault::StoreFault;
+use crate::verdict::Verdict;
+use land_core::act::Act;
+use land_core::ask::{Ask, Request};
+use land_core::caller::Caller;
+use land_core::laws::slices_suffice;
+use land_core::plan::plan;
+use land_core::refusal::{Planned, Refusal};
+use std::alloc::{AllocError, Global};
+
+/// Finds the reply to a request and what has to be written for it, and changes nothing.
+pub fn prepare<K: Keeper>(
+    alloc: Global,
+    keeper: &mut K,
+    clock: i64,
+    request: &Request,
+) -> Result<Prepared, StoreFault>
+    requires { is_well_formed_request request.now ≡ true }
+    ensures prepared { IfOk result (λ it. IsPrepared it clock request.now (K.timeline keeper.old)) }
+    ensures same { K.timeline keeper.new ≡ K.timeline keeper.old }
+    ensures closes { Closes (K.closed keeper.old) (K.closed keeper.new) result }
+{
+    if keeper.is_closed() {
+        return Err(StoreFault::Closed);
+    }
+    let now = now_at(clock, keeper.last());
+    let at = named_moment(&request.ask).unwrap_or(now);
+    if now < at {
+        return Ok(told(Reply::Fault(135)));
+    }
+    match keeper.first_denial(alloc, request.caller, &request.ask, now)? {
+        Verdict::Denied(rule) => Ok(told(Reply::Denied(rule))),
+        Verdict::Allowed => prepare_allowed(alloc, keeper, clock, request, at),
+    }
+}
+
+/// Finds the reply to what the policy allows, at the asked moment.
+fn prepare_allowed<K: Keeper>(
+    alloc: Global,
+    keeper: &mut K,
+    clock: i64,
+    request: &Request,
+    at: i64,
+) -> Result<Prepared, StoreFault>
+    requires open { K.closed keeper.old ≡ false }
+    requires well_formed { is_well_formed_request request.now ≡ true }
+    requires role_held { holds (last_register (K.timeline keeper.old)) request.now.caller.party request.now.caller.role ≡ true }
+    ensures prepared { IfOk result (λ it. Leads it (allowed clock request.now.caller request.now.ask at (K.timeline keeper.old)) (K.timeline keeper.old)) }
+    ensures same { K.timeline keeper.new ≡ K.timeline keeper.old }
+    ensures closes { Closes (K.closed keeper.old) (K.closed keeper.new) result }
+{
+    match &request.ask {
+        Ask::View { kind, number, .. } => {
+            Ok(told(match keeper.object(alloc, *kind, *number, at)? {
+                Some(object) => Reply::Object(object),
+                None => Reply::Denied(27),
+            }))
+        }
+        Ask::List { kind, .. } => Ok(told(Reply::Numbers(keeper.sight(
+            alloc,
+            request.caller,
+            *kind,
+            at,
+        )?))),
+        Ask::Do(act) => prepare_act(alloc, keeper, clock, request.caller, act),
+    }
+}
+
+/// Plans an act on a slice of the last register.
+fn prepare_act<K: Keeper>(
+    alloc: Global,
+    keeper: &mut K,
+    clock: i64,
+    caller: Caller,
+    act: &Act,
+) -> Result<Prepared, StoreFault>
+    requires open { K.closed keeper.old ≡ false }
+    requires well_formed { is_well_formed act.now ≡ true }
+    requires role_held { holds (last_register (K.timeline keeper.old)) caller.party caller.role ≡ true }
+    ensures prepared { IfOk result (λ it. Leads it
+        (acted (outcome_of (last_register (K.timeline keeper.old)) caller act.now (stamp_of clock (K.timeline keeper.old))) (unwrap_or (stamp_of clock (K.timeline keeper.old)) (pos 0)) (K.timeline keeper.old))
+        (K.timeline keeper.old)) }
+    ensures same { K.timeline keeper.new ≡ K.timeline keeper.old }
+    ensures closes { Closes (K.closed keeper.old) (K.closed keeper.new) result }
+{
+    let stamp = stamp_at(clock, keeper.last());
+    let slice = keeper.slice(alloc, caller, act)?;
+    slices_suffice();
+    prepared_by(plan(alloc, &slice, caller, act, stamp), stamp.unwrap_or(0))
+}
+
+/// What is prepared for the outcome of an act.
+fn prepared_by(outcome: Result<Planned, Refusal>, stamp: i64) -> Result<Prepared, StoreFault>
+    ensures ok { IfOk result (λ it. (outcome ≢ Err Refusal.NoMemory) × (it ≡ preparation outcome stamp)) }
+    ensures err { OnErr result (result ≡ Err StoreFault.NoMemory) }
+{
+    match outcome {
+        Ok(Planned::New(change, done)) => Ok(Prepared {
+            reply: Reply::Done(done),
+            writing: Some(Writing { change, stamp }),
+        }),
+        Ok(Planned::Repeat(done)) => Ok(told(Reply::Done(done))),
+        Err(Refusal::NoMemory) => Err(StoreFault::NoMemory),
+        Err(refusal) => Ok(told(Reply::Refused(refusal.number()))),
+    }
+}
+
+/// A reply that changes nothing.
+fn told(reply: Reply) -> Prepared
+    ensures reply { result.reply ≡ reply }
+    ensures writing { result.writing ≡ None }
+{
+    Prepared {
+        reply,
+        writing: None,
+    }
+}
+
+/// Writes what is to be written, and gives the reply. The keeper has to be as it was when this was prepared.
+pub fn finish<K: Keeper>(
+    alloc: Global,
+    keeper: &mut K,
+    prepared: Prepared,
+) -> Result<Reply, StoreFault>
+    requires open { K.closed keeper.old ≡ false }
+    requires can_finish { CanFinish prepared (K.timeline keeper.old) }
+    ensures reply { IfOk result (λ it. it ≡ prepared.reply) }
+    ensures ok { OnOk result (K.timeline keeper.new ≡ after_writing prepared.writing (K.timeline keeper.old)) }
+    ensures err { OnErr result (K.timeline keeper.new ≡ K.timeline keeper.old) }
+    ensures closes { Closes (K.closed keeper.old) (K.closed keeper.new) result }
+{
+    let Prepared { reply, writing } = prepared;
+    if let Some(writing) = writing {
+        keeper.write(alloc, &writing.change, writing.stamp)?;
+    }
+    Ok(reply)
+}
+
+/// Answers a request by one step of the register machine, or by a store fault that changes nothing.
+pub fn answer<K: Keeper>(alloc: Global, keeper: &mut K, clock: i64, request: &Request) -> Reply
+    requires { is_well_formed_request request.now ≡ true }
+    ensures { Element (K.closed keeper.old) clock request.now (K.timeline keeper.old) result (K.timeline keeper.new) (K.closed keeper.new) }
+{
+    match prepare(alloc, keeper, clock, request) {
+        Err(fault) => Reply::Store(fault.number()),
+        Ok(prepared) => match finish(alloc, keeper, prepared) {
+            Err(fault) => Reply::Store(fault.number()),
+            Ok(reply) => reply,
+        },
+    }
+}
+
+/// Whether each of some requests keeps the limits of its fields, as `run` asks.
+pub fn are_well_formed(requests: &[Request]) -> bool
+    ensures { IsTrue result ↔ All (λ request. is_well_formed_request request ≡ true) requests.now }
+{
+    requests.iter().all(|request| request.is_well_formed())
+}
+
+/// Answers requests in turn, each with one reading of the clock: a run of the register machine. Room for all replies
+/// is taken first.
+pub fn run<K: Keeper, C: Clock>(
+    alloc: Global,
+    keeper: &mut K,
+    clock: &mut C,
+    requests: &[Request],
+) -> Result<Vec<Reply>, AllocError>
+    requires { All (λ request. is_well_formed_request request ≡ true) requests.now }
+    ensures run { IfOk result (λ replies. Run C.reads
+        (record { closed = K.closed keeper.old; timeline = K.timeline keeper.old; clock = clock.old })
+        requests.now replies.items
+        (record { closed = K.closed keeper.new; timeline = K.timeline keeper.new; clock = clock.new })) }
+    ensures same { OnErr result (K.timeline keeper.new ≡ K.timeline keeper.old) }
+    ensures as_open { OnErr result (K.closed keeper.new ≡ K.closed keeper.old) }
+    ensures unread { OnErr result (clock.new ≡ clock.old) }
+{
+    let mut replies = Vec::with_capacity(alloc, requests.len())?;
+    for request in requests {
+        let reading = clock.read();
+        let reply = answer(alloc, keeper, reading, request);
+        replies.push(reply)?;
+    }
+    Ok(replies)
+}

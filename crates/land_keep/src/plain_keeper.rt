@@ -1,0 +1,185 @@
+//! The plain keeper: the list of whole registers, in memory.
+ghost use Rattle.std.specs.Prelude.{◌≡◌, ◌∷◌, ◌++◌, [], false, unwrap_or, IfOk, OnOk, OnErr};
+ghost use Rattle.std.specs.Option.{option_copied, option_map};
+ghost use Rattle.land_keep.specs.Timeline.{IsSoundTimeline, new_timeline, version_at, last_version};
+
+use crate::keeper::Keeper;
+use crate::laws::writing_keeps_soundness;
+use crate::moments::named_moment;
+use crate::rules::{seen, verdict};
+use crate::store_fault::StoreFault;
+use crate::timeline::Version;
+use crate::verdict::Verdict;
+use land_core::act::Act;
+use land_core::ask::Ask;
+use land_core::caller::Caller;
+use land_core::change::Change;
+use land_core::kind::Kind;
+use land_core::object::Object;
+use land_core::register::Register;
+use land_core::sequence::NumberList;
+use land_core::slice::{Slice, slice_of};
+use std::alloc::{AllocError, Global};
+use std::marker::Model;
+
+/// The whole register from each stamp on. It is never closed.
+#[derive(Debug, Drop)]
+pub struct PlainKeeper {
+    versions: Vec<Version>,
+}
+
+impl Model for PlainKeeper {
+    ghost use Rattle.std.specs.Coded.{coded_list};
+    ghost use Rattle.land_keep.specs.Timeline.{Timeline, IsSoundTimeline};
+    ghost use Rattle.land_keep.specs.contracts.timeline.Version as version;
+
+    ghost Value = { Timeline };
+
+    ghost coded = { coded_list version.the_row.coded };
+
+    ghost view = { λ a. a.versions.items };
+
+    ghost invariant = { λ a. IsSoundTimeline a.versions.items };
+}
+
+impl PlainKeeper {
+    /// A keeper of the new register.
+    pub fn new(alloc: Global) -> Result<PlainKeeper, AllocError>
+        ensures { IfOk result (λ it. it ≡ new_timeline) }
+    {
+        let mut versions = Vec::new(alloc);
+        versions.push(Version {
+            stamp: 0,
+            register: Register::new(alloc)?,
+        })?;
+        Ok(PlainKeeper { versions })
+    }
+
+    fn last_version(&self) -> Option<&Version>
+        ensures last { option_copied result ≡ last_version self.now }
+        ensures sound { IsSoundTimeline self.now }
+    {
+        self.versions.last()
+    }
+
+    /// Appends a version that keeps the timeline sound. After want of memory nothing has changed.
+    fn append(&mut self, version: Version) -> Result<(), AllocError>
+        requires { IsSoundTimeline (self.old ++ version ∷ []) }
+        ensures ok { OnOk result (self.new ≡ self.old ++ version ∷ []) }
+        ensures err { OnErr result (self.new ≡ self.old) }
+    {
+        self.versions.push(version)?;
+        Ok(())
+    }
+
+    /// The last version whose stamp is at most `t`.
+    fn version_at(&self, t: i64) -> Option<&Version>
+        ensures { option_copied result ≡ version_at self.now t }
+    {
+        let mut found = None;
+        for version in &self.versions {
+            if version.stamp <= t {
+                found = Some(version);
+            }
+        }
+        found
+    }
+}
+
+impl Keeper for PlainKeeper {
+    ghost use Rattle.land_core.specs.Register.{object_at};
+    ghost use Rattle.land_core.specs.Slices.{slice_of};
+    ghost use Rattle.land_keep.specs.Timeline.{last_stamp};
+
+    ghost timeline = { λ a. a };
+
+    ghost closed = { λ _. false };
+
+    fn last(&self) -> i64 {
+        match self.last_version() {
+            Some(version) => version.stamp,
+            None => 0,
+        }
+    }
+
+    fn is_closed(&self) -> bool {
+        false
+    }
+
+    fn first_denial(
+        &mut self,
+        alloc: Global,
+        caller: Caller,
+        ask: &Ask,
+        now: i64,
+    ) -> Result<Verdict, StoreFault> {
+        let at = named_moment(ask).unwrap_or(now);
+        let nothing = Register::nothing(alloc);
+        let last = register_of(self.last_version(), &nothing);
+        let then = register_of(self.version_at(at), &nothing);
+        Ok(verdict(last, then, caller, ask, at < now))
+    }
+
+    fn sight(
+        &mut self,
+        alloc: Global,
+        caller: Caller,
+        kind: Kind,
+        at: i64,
+    ) -> Result<NumberList, StoreFault> {
+        let nothing = Register::nothing(alloc);
+        let then = register_of(self.version_at(at), &nothing);
+        match seen(alloc, then, caller, kind) {
+            Ok(numbers) => Ok(numbers),
+            Err(_) => Err(StoreFault::NoMemory),
+        }
+    }
+
+    fn object(
+        &mut self,
+        alloc: Global,
+        kind: Kind,
+        number: u64,
+        at: i64,
+    ) -> Result<Option<Object>, StoreFault> {
+        let nothing = Register::nothing(alloc);
+        let then = register_of(self.version_at(at), &nothing);
+        match then.object(alloc, kind, number) {
+            Ok(object) => Ok(object),
+            Err(_) => Err(StoreFault::NoMemory),
+        }
+    }
+
+    fn slice(&mut self, alloc: Global, caller: Caller, act: &Act) -> Result<Slice, StoreFault> {
+        let nothing = Register::nothing(alloc);
+        let last = register_of(self.last_version(), &nothing);
+        match slice_of(alloc, last, caller, act) {
+            Ok(slice) => Ok(slice),
+            Err(_) => Err(StoreFault::NoMemory),
+        }
+    }
+
+    fn write(&mut self, alloc: Global, change: &Change, stamp: i64) -> Result<(), StoreFault> {
+        let nothing = Register::nothing(alloc);
+        let last = register_of(self.last_version(), &nothing);
+        let register = match last.changed(alloc, change) {
+            Ok(register) => register,
+            Err(_) => return Err(StoreFault::NoMemory),
+        };
+        writing_keeps_soundness();
+        match self.append(Version { stamp, register }) {
+            Ok(()) => Ok(()),
+            Err(_) => Err(StoreFault::NoMemory),
+        }
+    }
+}
+
+/// The register of a version, or the one that holds nothing.
+fn register_of<'a>(version: Option<&'a Version>, nothing: &'a Register) -> &'a Register
+    ensures { result.now ≡ unwrap_or (option_map (λ v. v.register) (option_copied version.entry)) nothing.now }
+{
+    match version {
+        Some(version) => &version.register,
+        None => nothing,
+    }
+}

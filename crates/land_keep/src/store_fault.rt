@@ -1,0 +1,28 @@
+//! Faults of a keeper's store.
+ghost use Rattle.std.specs.Prelude.{◌≡◌};
+
+/// Why a keeper gives no answer. Nothing has changed.
+#[derive(Clone, Copy, Debug, PartialEq, Eq)]
+pub enum StoreFault {
+    /// 501: there was no memory.
+    NoMemory,
+    /// 502: a store call failed for another cause; the keeper is closed from now on.
+    Store,
+    /// 503: the keeper is closed, until its store is opened again.
+    Closed,
+}
+
+impl StoreFault {
+    ghost use Rattle.land_keep.specs.Faults.{number_of};
+
+    /// The number that the caller is told.
+    pub fn number(self) -> u16
+        ensures { result ≡ number_of self }
+    {
+        match self {
+            StoreFault::NoMemory => 501,
+            StoreFault::Store => 502,
+            StoreFault::Closed => 503,
+        }
+    }
+}
