@@ -1,0 +1,9 @@
+pub mod Divisor
+pub mod Least
+pub mod Ratio
+pub mod Answer
+pub mod Wholeness
+pub mod Number
+pub mod Text
+pub mod Order
+pub mod Laws

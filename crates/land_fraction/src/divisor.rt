@@ -1,0 +1,17 @@
+//! Euclid's algorithm.
+
+ghost use Rattle.land_fraction.specs.Divisor.{IsGreatestDivisor};
+
+/// The greatest common divisor of two numbers, which is the other one where one of them is 0.
+pub fn greatest_divisor(a: u64, b: u64) -> u64
+    ensures { IsGreatestDivisor a b result }
+{
+    let mut divisor = a;
+    let mut rest = b;
+    while rest != 0 {
+        let next = divisor % rest;
+        divisor = rest;
+        rest = next;
+    }
+    divisor
+}

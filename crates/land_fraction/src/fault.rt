@@ -1,0 +1,49 @@
+//! Why there is no fraction.
+
+ghost use Rattle.std.specs.Prelude.{◌≡◌, Some};
+ghost use Rattle.land_fraction.specs.Number.{number_of};
+ghost use Rattle.land_fraction.specs.Text.{fault_text};
+
+use std::error::Error;
+use std::fmt;
+
+/// Why a pair of numbers is no fraction. The fault with the least number is answered.
+#[derive(Clone, Copy, Debug, PartialEq, Eq)]
+pub enum FractionFault {
+    /// 101: the numerator or the denominator is zero, or nothing is left by a subtraction.
+    Zero,
+    /// 102: the value is above one.
+    AboveOne,
+    /// 103: in lowest terms the denominator is above 1_000_000_000.
+    TooFine,
+}
+
+impl FractionFault {
+    /// The number of the fault, 101 to 103.
+    pub fn number(self) -> u16
+        ensures { result ≡ number_of self }
+    {
+        match self {
+            FractionFault::Zero => 101,
+            FractionFault::AboveOne => 102,
+            FractionFault::TooFine => 103,
+        }
+    }
+}
+
+impl fmt::Display for FractionFault {
+    ghost output = { λ fault. Some (fault_text fault) };
+
+    fn fmt<W: fmt::Write>(&self, f: &mut fmt::Formatter<W>) -> fmt::Result {
+        match self {
+            FractionFault::Zero => write!(f, "a fraction is above zero"),
+            FractionFault::AboveOne => write!(f, "a fraction is at most one"),
+            FractionFault::TooFine => write!(
+                f,
+                "the denominator in lowest terms is above 1000000000"
+            ),
+        }
+    }
+}
+
+impl Error for FractionFault {}
