@@ -1,0 +1,22 @@
+-- plane geometry
+pub mod Expressions
+pub mod Bounds
+pub mod Meeting
+pub mod Folding
+pub mod CornerLemmas
+pub mod AreaLemmas
+pub mod Turned
+pub mod OutlineLemmas
+-- reading
+pub mod TokenLemmas
+pub mod GrammarLemmas
+pub mod PolygonLemmas
+pub mod NumberLemmas
+pub mod SomeLemmas
+pub mod ListingLemmas
+pub mod JudgeLemmas
+-- printing
+pub mod PrintLemmas
+pub mod PrintedTokens
+pub mod PrintedNumbers
+pub mod LawLemmas

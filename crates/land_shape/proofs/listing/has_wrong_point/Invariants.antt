@@ -1,0 +1,6 @@
+use Rattle.std.proofs.Common.{take}
+use Rattle.land_shape.specs.Faults.{SomeOf, IsNoNumber}
+use Rattle.land_shape.proofs.listing.has_wrong_point.Given as goal
+
+abbrev pub invariant-loop-point : goal.invariant-loop-point
+invariant-loop-point l = ¬ SomeOf (SomeOf IsNoNumber) (take l.point-index l.points)

@@ -1,0 +1,18 @@
+-- the plane
+pub mod Coordinate
+pub mod Place
+pub mod Segment
+pub mod Simple
+pub mod Outline
+-- texts
+pub mod Tokens
+pub mod Grammar
+pub mod Numbers
+pub mod Printed
+pub mod FaultTexts
+pub mod Faults
+pub mod Laws
+-- what private functions compute
+pub mod Turns
+pub mod Reader
+pub mod Steps

@@ -1,0 +1,36 @@
+-- Outlines: simple rings that run counterclockwise
+use Rattle.std.specs.Prelude.{ℕ, List, [], ◌∷◌, ◌≤◌, ◌-◌, ◌<ℤ◌, length, take, reverse, pos, if◌then◌else◌, int_lt}
+use Rattle.std.specs.Int.RustNames.{unsigned_abs}
+use Rattle.std.specs.List.{AllByRecursion}
+use Rattle.land_shape.specs.Coordinate.{IsCoordinate}
+use Rattle.land_shape.specs.Place.{Place, area_of, ring_edges}
+use Rattle.land_shape.specs.Simple.{IsSimple}
+
+-- twice the area, in square millimetres
+abbrev pub doubled_area : List Place → ℕ
+doubled_area ring = unsigned_abs (area_of (ring_edges ring))
+
+-- the same ring the other way round, from the same first point
+abbrev pub turned : List Place → List Place
+turned [] = []
+turned (p ∷ ps) = p ∷ reverse ps
+
+abbrev pub counterclockwise : List Place → List Place
+counterclockwise ring = if int_lt (area_of (ring_edges ring)) (pos 0) then turned ring else ring
+
+-- The ring of the points that a text lists. The last one closes it and is dropped. Turning a ring leaves its edges where they
+-- are, so what is asked of them is asked of the ring put counterclockwise.
+abbrev pub ring_of : List Place → List Place
+ring_of listed = counterclockwise (take (length listed - 1) listed)
+
+abbrev pub IsNear : Place → Type 0
+IsNear p = IsCoordinate p.x × IsCoordinate p.y
+
+-- what every ring is
+pub record IsOutline (ring : List Place) : Type 0 where
+  pub some : 3 ≤ length ring
+  pub few : length ring ≤ 200
+  pub near : AllByRecursion IsNear ring
+  pub simple : IsSimple ring
+  pub left : pos 0 <ℤ area_of (ring_edges ring)
+  pub small : doubled_area ring ≤ 1000000000000000000

@@ -1,0 +1,90 @@
+-- What the reader of a text computes, step by step. `Grammar` says what a polygon is; the proofs show that both agree.
+use Rattle.std.specs.Prelude.{ℕ, Bool, true, false, List, [], ◌∷◌, ◌++◌, ◌&&◌, if◌then◌else◌, nat_le, length, Option, Some, None, option_and_then}
+use Rattle.std.specs.Option.{option_map}
+use Rattle.land_shape.specs.declared.tokens.Token.{Token}
+use Rattle.land_shape.specs.declared.tokens.Token.TheVariants.{Open, Close, Comma, Word}
+use Rattle.land_shape.specs.declared.body.At.{At}
+use Rattle.land_shape.specs.declared.body.At.TheVariants.{BeforeBody, BeforeRing, InPoint, AfterRing, AfterBody}
+use Rattle.land_shape.specs.declared.body.Progress.{Progress}
+use Rattle.land_shape.specs.declared.polygon.WrittenPolygon.{WrittenPolygon}
+use Rattle.land_shape.specs.declared.polygon.WrittenPolygon.TheVariants as code
+use Rattle.land_shape.specs.Grammar.{Words, Points, Rings, Polygon, empty, body, is_keyword, is_tag, is_tagged_keyword, is_empty_word}
+
+-- how far a body has been read
+pub record Reading : Type 0 where
+  pub at : At
+  pub rings : Rings
+  pub points : Points
+  pub words : Words
+
+abbrev pub progress_of : Progress → Reading
+progress_of p = record { at = p.at; rings = p.rings.items; points = p.points.items; words = p.words.items }
+
+abbrev pub nothing_read : Reading
+nothing_read = record { at = BeforeBody; rings = []; points = []; words = [] }
+
+abbrev pub is_point : Words → Bool
+is_point words = nat_le 2 (length words) && nat_le (length words) 4
+
+abbrev pub with_word : Reading → List ℕ → Reading
+with_word r w = record r { words = r.words ++ w ∷ [] }
+
+-- the point begun is whole
+abbrev pub with_point : Reading → Reading
+with_point r = record r { points = r.points ++ r.words ∷ []; words = [] }
+
+-- the ring begun is whole
+abbrev pub with_ring : Reading → Reading
+with_ring r = record r { at = AfterRing; rings = r.rings ++ r.points ∷ []; points = [] }
+
+abbrev pub after_at : At → Token → Reading → Option Reading
+after_at BeforeBody Open r = Some (record r { at = BeforeRing })
+after_at BeforeRing Open r = Some (record r { at = InPoint })
+after_at InPoint (Word w) r = Some (with_word r w)
+after_at InPoint Comma r = if is_point r.words then Some (with_point r) else None
+after_at InPoint Close r = if is_point r.words then Some (with_ring (with_point r)) else None
+after_at AfterRing Comma r = Some (record r { at = BeforeRing })
+after_at AfterRing Close r = Some (record r { at = AfterBody })
+after_at _ _ r = None
+
+-- one more token; None where a body can not go on with it
+abbrev pub after : Reading → Token → Option Reading
+after r token = after_at r.at token r
+
+abbrev pub after_all : Reading → List Token → Option Reading
+after_all r [] = Some r
+after_all r (t ∷ ts) = option_and_then (λ s. after_all s ts) (after r t)
+
+abbrev pub rings_at_end : At → Rings → Option Rings
+rings_at_end AfterBody rings = Some rings
+rings_at_end _ rings = None
+
+abbrev pub body_of : List Token → Option Rings
+body_of tokens = option_and_then (λ r. rings_at_end r.at r.rings) (after_all nothing_read tokens)
+
+-- ---- whole texts
+
+-- whether a tag stands first, and what is left without it
+abbrev pub after_tag : List Token → Bool × List Token
+after_tag (Word t ∷ ts) = if is_tag t then (true, ts) else (false, Word t ∷ ts)
+after_tag ts = (false, ts)
+
+abbrev pub after_head : List Token → Option (Bool × List Token)
+after_head (Word k ∷ ts) =
+    if is_tagged_keyword k then Some (true, ts) else (if is_keyword k then Some (after_tag ts) else None)
+after_head ts = None
+
+abbrev pub is_empty_alone : List Token → Bool
+is_empty_alone (Word w ∷ []) = is_empty_word w
+is_empty_alone ts = false
+
+abbrev pub polygon_after : Bool × List Token → Option Polygon
+polygon_after rest = if is_empty_alone rest.1 then Some empty else option_map (body rest.0) (body_of rest.1)
+
+abbrev pub polygon_of : List Token → Option Polygon
+polygon_of tokens = option_and_then polygon_after (after_head tokens)
+
+-- the polygon that the reader found
+abbrev pub written : WrittenPolygon → Polygon
+written code.Empty = empty
+written (code.Body tagged rings) = body tagged rings.items

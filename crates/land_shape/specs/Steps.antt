@@ -1,0 +1,78 @@
+-- What the later steps of the reader answer, each for what it is given
+use Rattle.std.specs.Prelude.{◌≡◌, ◌⊎◌, ℕ, ℤ, Bool, true, false, List, [], ◌∷◌, ◌≤◌, ◌<◌, ◌-◌, length, Result, Ok, Err, Some}
+use Rattle.std.specs.List.{AllByRecursion}
+use Rattle.land_shape.specs.declared.faults.ShapeFault.{ShapeFault}
+use Rattle.land_shape.specs.declared.faults.ShapeFault.TheVariants.{Empty, Inner, ZOrM, Number, Range, FewPoints, ManyPoints, NotClosed, NotSimple, AreaTooLarge, NoMemory}
+use Rattle.land_shape.specs.declared.plane.Point.{Point}
+use Rattle.land_shape.specs.Coordinate.{IsCoordinate}
+use Rattle.land_shape.specs.Faults.{SomeOf, IsLong, IsNoNumber, IsFar, Locate, Lists}
+use Rattle.land_shape.specs.Grammar.{Words, Points, Rings, Polygon, empty, body, IsBody, IsPolygon}
+use Rattle.land_shape.specs.Numbers.{coordinate_of}
+use Rattle.land_shape.specs.Outline.{IsNear, IsOutline, ring_of, doubled_area}
+use Rattle.land_shape.specs.Place.{Place}
+use Rattle.land_shape.specs.Simple.{IsSimple, place_of, places, place_at}
+
+-- a word's value, or what is wrong with it
+abbrev pub ReadsNumber : List ℕ → Result ℤ ShapeFault → Type 0
+ReadsNumber w (Ok z) = (coordinate_of w ≡ Some z) × IsCoordinate z
+ReadsNumber w (Err Number) = IsNoNumber w
+ReadsNumber w (Err Range) = IsFar w
+ReadsNumber w _ = ⊥
+
+abbrev pub HasTwoWords : Words → Type 0
+HasTwoWords words = length words ≡ 2
+
+-- the point of two words, or what is wrong with them
+abbrev pub ReadsPoint : Words → Result Point ShapeFault → Type 0
+ReadsPoint words (Ok p) = Locate words (place_of p)
+ReadsPoint words (Err Number) = SomeOf IsNoNumber words
+ReadsPoint words (Err Range) = SomeOf IsFar words
+ReadsPoint words _ = ⊥
+
+-- the reader finds no body without a ring
+abbrev pub IsFull : Polygon → Type 0
+IsFull empty = Unit {0}
+IsFull (body tagged rings) = IsBody rings
+
+-- the only ring of a polygon without a tag, whose points have two words each; or what is wrong with the polygon
+abbrev pub PlainRing : Polygon → Result Points ShapeFault → Type 0
+PlainRing polygon (Ok ring) = (polygon ≡ body false (ring ∷ [])) × AllByRecursion HasTwoWords ring
+PlainRing polygon (Err Empty) = polygon ≡ empty
+PlainRing polygon (Err Inner) = (tagged : Bool) × (rings : Rings) × ((polygon ≡ body tagged rings) × (2 ≤ length rings))
+PlainRing polygon (Err ZOrM) =
+    (tagged : Bool) × (ring : Points) × ((polygon ≡ body tagged (ring ∷ [])) × ((tagged ≡ true) ⊎ SomeOf IsLong ring))
+PlainRing polygon _ = ⊥
+
+-- the places of a ring's points, or what is wrong with their words
+abbrev pub ReadsPoints : Points → Result (List Place) ShapeFault → Type 0
+ReadsPoints points (Ok places) = Lists points places × AllByRecursion IsNear places
+ReadsPoints points (Err Number) = SomeOf (SomeOf IsNoNumber) points
+ReadsPoints points (Err Range) = (¬ SomeOf (SomeOf IsNoNumber) points) × SomeOf (SomeOf IsFar) points
+ReadsPoints points (Err NoMemory) = Unit {0}
+ReadsPoints points _ = ⊥
+
+-- the text is a polygon of one ring without a tag, and these are the places that it lists
+pub record IsPlainList (text : List ℕ) (places : List Place) : Type 0 where
+  pub points : Points
+  pub is_polygon : IsPolygon text (body false (points ∷ []))
+  pub two_words : AllByRecursion HasTwoWords points
+  pub lists : Lists points places
+  pub near : AllByRecursion IsNear places
+
+abbrev pub IsClosed : List Place → Type 0
+IsClosed listed = place_at listed (length listed - 1) ≡ place_at listed 0
+
+-- 4 to 201 places, the last of them the first; or what is wrong with the list
+abbrev pub Closes : List Place → Result (Unit {0}) ShapeFault → Type 0
+Closes listed (Ok _) = (4 ≤ length listed) × (length listed ≤ 201) × IsClosed listed
+Closes listed (Err FewPoints) = length listed < 4
+Closes listed (Err ManyPoints) = 201 < length listed
+Closes listed (Err NotClosed) = (4 ≤ length listed) × (length listed ≤ 201) × (¬ IsClosed listed)
+Closes listed _ = ⊥
+
+-- the ring of listed places, or what is wrong with it
+abbrev pub Encloses : List Place → Result (List Place) ShapeFault → Type 0
+Encloses listed (Ok ring) = (ring ≡ ring_of listed) × IsOutline ring
+Encloses listed (Err NotSimple) = ¬ IsSimple (ring_of listed)
+Encloses listed (Err AreaTooLarge) = IsSimple (ring_of listed) × (1000000000000000000 < doubled_area (ring_of listed))
+Encloses listed _ = ⊥

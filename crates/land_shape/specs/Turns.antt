@@ -1,0 +1,27 @@
+-- What the test for a common point looks at
+use Rattle.std.specs.Prelude.{◌≡◌, ℤ, ◌-ℤ◌, ◌≤ℤ◌}
+use Rattle.std.specs.Int.{int_min, int_max}
+use Rattle.land_shape.specs.Coordinate.{cross_of}
+use Rattle.land_shape.specs.Place.{Place}
+
+-- on one axis, the segments a b and c d overlap
+pub record Overlap (a b c d : ℤ) : Type 0 where
+  pub low : int_min c d ≤ℤ int_max a b
+  pub high : int_min a b ≤ℤ int_max c d
+
+-- what two numbers lie between
+pub record AreInside (low high first second : ℤ) : Type 0 where
+  pub first_from : low ≤ℤ first
+  pub first_to : first ≤ℤ high
+  pub second_from : low ≤ℤ second
+  pub second_to : second ≤ℤ high
+
+-- The cross products of the segments a b and c d, and of the way from a to c with each.
+pub record AreTurns (a b c d : Place) (whole first second : ℤ) : Type 0 where
+  pub whole_is : whole ≡ cross_of (b.x -ℤ a.x) (b.y -ℤ a.y) (d.x -ℤ c.x) (d.y -ℤ c.y)
+  pub first_is : first ≡ cross_of (c.x -ℤ a.x) (c.y -ℤ a.y) (d.x -ℤ c.x) (d.y -ℤ c.y)
+  pub second_is : second ≡ cross_of (c.x -ℤ a.x) (c.y -ℤ a.y) (b.x -ℤ a.x) (b.y -ℤ a.y)
+
+-- the boxes of the segments a b and c d overlap
+abbrev pub BoxesOverlap : Place → Place → Place → Place → Type 0
+BoxesOverlap a b c d = Overlap a.x b.x c.x d.x × Overlap a.y b.y c.y d.y

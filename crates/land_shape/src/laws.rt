@@ -1,0 +1,13 @@
+//! Laws over the definitions alone, each the contract of a function that does nothing.
+
+ghost use Rattle.land_shape.specs.Laws.{PrintedLaw, OneAnswerLaw};
+
+/// The printed form of a ring stands for that ring and no other.
+pub fn printed_rings()
+    ensures { PrintedLaw }
+{}
+
+/// No text has two answers.
+pub fn one_answer()
+    ensures { OneAnswerLaw }
+{}

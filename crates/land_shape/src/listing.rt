@@ -1,0 +1,73 @@
+//! The points that a ring lists.
+
+ghost use Rattle.std.specs.Prelude.{◌≡◌, ◌↔◌, IsTrue, length, MatchResult, Ok, Err};
+ghost use Rattle.std.specs.List.{AllByRecursion};
+ghost use Rattle.land_shape.specs.Faults.{SomeOf, IsNoNumber};
+ghost use Rattle.land_shape.specs.Simple.{places};
+ghost use Rattle.land_shape.specs.Steps.{HasTwoWords, ReadsPoint, ReadsPoints};
+
+use crate::body::WrittenPoint;
+use crate::faults::ShapeFault;
+use crate::numbers::coordinate;
+use crate::plane::Point;
+use crate::tokens::Word;
+use std::alloc::Global;
+
+/// Whether a word is no number.
+fn is_no_number(word: &[u8]) -> bool
+    ensures { IsTrue result ↔ IsNoNumber word.now }
+{
+    coordinate(word) == Err(ShapeFault::Number)
+}
+
+/// Whether one of a point's words is no number.
+fn has_wrong_word(words: &[Word<'_>]) -> bool
+    ensures { IsTrue result ↔ SomeOf IsNoNumber words.now }
+{
+    for word in words {
+        if is_no_number(word.bytes()) {
+            return true;
+        }
+    }
+    false
+}
+
+/// Whether a point has a word that is no number.
+fn has_wrong_point(points: &[WrittenPoint<'_>]) -> bool
+    ensures { IsTrue result ↔ SomeOf (SomeOf IsNoNumber) points.now }
+{
+    for point in points {
+        if has_wrong_word(point.words()) {
+            return true;
+        }
+    }
+    false
+}
+
+/// The point of two words.
+fn point_of(words: &[Word<'_>]) -> Result<Point, ShapeFault>
+    requires { HasTwoWords words.now }
+    ensures { ReadsPoint words.now result }
+{
+    let x = coordinate(words[0].bytes())?;
+    let y = coordinate(words[1].bytes())?;
+    Ok(Point { x, y })
+}
+
+/// The points of a ring. All words are numbers before any of them is too large.
+pub(crate) fn listed_points(
+    alloc: Global,
+    ring: &[WrittenPoint<'_>],
+) -> Result<Vec<Point>, ShapeFault>
+    requires { AllByRecursion HasTwoWords ring.now }
+    ensures { MatchResult result (λ points. ReadsPoints ring.now (Ok (places points.items))) (λ fault. ReadsPoints ring.now (Err fault)) }
+{
+    if has_wrong_point(ring) {
+        return Err(ShapeFault::Number);
+    }
+    let mut points = Vec::new(alloc);
+    for words in ring {
+        points.push(point_of(words.words())?)?;
+    }
+    Ok(points)
+}

@@ -1,0 +1,116 @@
+//! Rings: simple, counterclockwise, and not too large.
+
+ghost use Rattle.std.specs.Prelude.{◌≡◌, ◌<◌, ◌≤◌, ◌≤ℤ◌, IfOk, length, pos, string_bytes};
+ghost use Rattle.land_shape.specs.Outline.{IsOutline, counterclockwise, doubled_area};
+ghost use Rattle.land_shape.specs.Place.{area_of, ring_edges};
+ghost use Rattle.land_shape.specs.Printed.{printed};
+ghost use Rattle.land_shape.specs.Simple.{places};
+ghost use Rattle.land_shape.specs.Steps.{Encloses};
+
+use crate::area::signed_area;
+use crate::faults::ShapeFault;
+use crate::plane::Point;
+use crate::printing::write_points;
+use crate::simple::is_apart;
+use std::alloc::AllocError;
+use std::marker::Model;
+
+/// The greatest doubled area, in square millimetres.
+const GREATEST: i128 = 1_000_000_000_000_000_000;
+
+/// The outline of a parcel: a simple ring of 3 to 200 points, counterclockwise from the first point that was given.
+///
+/// Contracts see a ring as the list of its places.
+#[derive(Debug, Drop)]
+pub struct Ring {
+    points: Vec<Point>,
+    doubled: u64,
+}
+
+impl Model for Ring {
+    ghost use Rattle.std.specs.Prelude.{List, ◌≡◌};
+    ghost use Rattle.land_shape.specs.Place.{Place};
+    ghost use Rattle.land_shape.specs.Simple.{places};
+    ghost use Rattle.land_shape.specs.Outline.{IsOutline, doubled_area};
+
+    ghost Value = { List Place };
+
+    ghost view = { λ r. places r.points.items };
+
+    ghost invariant = { λ r. IsOutline (places r.points.items) × (r.doubled ≡ doubled_area (places r.points.items)) };
+}
+
+impl Ring {
+    /// The points, without the first one at the end again.
+    pub fn points(&self) -> &[Point]
+        ensures points { places result.now ≡ self.now }
+        ensures sound { IsOutline self.now }
+    {
+        self.points.as_slice()
+    }
+
+    /// Twice the area, in square millimetres: 1 to 1_000_000_000_000_000_000.
+    pub fn doubled_area(&self) -> u64
+        ensures value { result ≡ doubled_area self.now }
+        ensures some { 1 ≤ result }
+        ensures bounded { result ≤ 1000000000000000000 }
+    {
+        self.doubled
+    }
+
+    /// The ring in well-known text: `POLYGON ((x y, x y, ...))`, closed by the first point again.
+    pub fn write_wkt(&self) -> Result<String, AllocError>
+        ensures { IfOk result (λ text. string_bytes text ≡ printed self.now) }
+    {
+        write_points(*self.points.allocator(), &self.points)
+    }
+
+    /// The same ring once more.
+    pub fn copy(&self) -> Result<Ring, AllocError>
+        ensures { IfOk result (λ ring. ring ≡ self.now) }
+    {
+        let Ring { points, doubled } = self;
+        Ok(Ring {
+            points: Vec::from_slice(*points.allocator(), points)?,
+            doubled: *doubled,
+        })
+    }
+}
+
+/// Puts a ring counterclockwise, and answers twice its area.
+fn put_counterclockwise(points: &mut [Point]) -> i128
+    requires some { 0 < length points.old }
+    requires few { length points.old ≤ 200 }
+    ensures ring { places points.new ≡ counterclockwise (places points.old) }
+    ensures area { result ≡ area_of (ring_edges (places points.new)) }
+    ensures left { pos 0 ≤ℤ result }
+{
+    let area = signed_area(points);
+    if area < 0 {
+        points[1..].reverse();
+        -area
+    } else {
+        area
+    }
+}
+
+/// The ring of listed points, the last of which closes it and is dropped.
+pub(crate) fn enclosed(listed: Vec<Point>) -> Result<Ring, ShapeFault>
+    requires some { 4 ≤ length listed.items }
+    requires few { length listed.items ≤ 201 }
+    ensures { Encloses (places listed.items) result }
+{
+    let mut points = listed;
+    points.pop();
+    let area = put_counterclockwise(&mut points);
+    if area == 0 || !is_apart(&points) {
+        return Err(ShapeFault::NotSimple);
+    }
+    if area > GREATEST {
+        return Err(ShapeFault::AreaTooLarge);
+    }
+    Ok(Ring {
+        points,
+        doubled: area as u64,
+    })
+}

@@ -1,0 +1,40 @@
+//! The only ring of a polygon in the plane.
+
+ghost use Rattle.std.specs.Prelude.{◌≡◌, ◌↔◌, IsTrue};
+ghost use Rattle.land_shape.specs.Faults.{SomeOf, IsLong};
+ghost use Rattle.land_shape.specs.Reader.{written};
+ghost use Rattle.land_shape.specs.Steps.{IsFull, PlainRing};
+
+use crate::body::{WrittenPoint, WrittenRing};
+use crate::faults::ShapeFault;
+use crate::polygon::WrittenPolygon;
+
+/// Whether a point has three words or more.
+fn has_long_point(points: &[WrittenPoint<'_>]) -> bool
+    ensures { IsTrue result ↔ SomeOf IsLong points.now }
+{
+    for point in points {
+        if point.words().len() > 2 {
+            return true;
+        }
+    }
+    false
+}
+
+/// The only ring of a polygon without a tag, whose points have two words each.
+pub(crate) fn plain_ring<'a>(polygon: WrittenPolygon<'a>) -> Result<WrittenRing<'a>, ShapeFault>
+    requires { IsFull (written polygon) }
+    ensures { PlainRing (written polygon.entry) result }
+{
+    let WrittenPolygon::Body { tagged, mut rings } = polygon else {
+        return Err(ShapeFault::Empty);
+    };
+    if rings.len() > 1 {
+        return Err(ShapeFault::Inner);
+    }
+    let ring = rings.pop().unwrap();
+    if tagged || has_long_point(ring.points()) {
+        return Err(ShapeFault::ZOrM);
+    }
+    Ok(ring)
+}

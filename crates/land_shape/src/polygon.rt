@@ -1,0 +1,78 @@
+//! What a whole text is: a polygon without points, or one with a body.
+
+ghost use Rattle.std.specs.Prelude.{◌≡◌, IfOk, MatchOption, Some, None};
+ghost use Rattle.std.specs.Option.{option_map};
+ghost use Rattle.land_shape.specs.Reader.{after_head, after_tag, is_empty_alone, polygon_of, written};
+
+use crate::body::{WrittenRing, body_of};
+use crate::tokens::Token;
+use crate::words::{is_empty_word, is_keyword, is_tag, is_tagged_keyword};
+use std::alloc::{AllocError, Global};
+
+/// What follows the head of a polygon.
+#[derive(Drop)]
+pub(crate) enum WrittenPolygon<'a> {
+    Empty,
+    Body {
+        tagged: bool,
+        rings: Vec<WrittenRing<'a>>,
+    },
+}
+
+/// Takes a tag off, and says whether there was one.
+fn after_tag<'b, 'a>(tokens: &'b [Token<'a>]) -> (bool, &'b [Token<'a>])
+    ensures tagged { result.0 ≡ (after_tag tokens.now).0 }
+    ensures rest { result.1.now ≡ (after_tag tokens.now).1 }
+{
+    if let Some((Token::Word(word), rest)) = tokens.split_first() {
+        if is_tag(word.bytes()) {
+            return (true, rest);
+        }
+    }
+    (false, tokens)
+}
+
+/// Takes the keyword and a tag off, and says whether there was a tag. None where there is no keyword.
+fn after_head<'b, 'a>(tokens: &'b [Token<'a>]) -> Option<(bool, &'b [Token<'a>])>
+    ensures { MatchOption result (after_head tokens.now ≡ None) (λ r. after_head tokens.now ≡ Some (r.0, r.1.now)) }
+{
+    let Some((Token::Word(word), rest)) = tokens.split_first() else {
+        return None;
+    };
+    if is_tagged_keyword(word.bytes()) {
+        return Some((true, rest));
+    }
+    if !is_keyword(word.bytes()) {
+        return None;
+    }
+    Some(after_tag(rest))
+}
+
+/// Whether the tokens are the word EMPTY alone.
+fn is_empty_alone(tokens: &[Token<'_>]) -> bool
+    ensures { result ≡ is_empty_alone tokens.now }
+{
+    if let Some((Token::Word(word), rest)) = tokens.split_first() {
+        return rest.is_empty() && is_empty_word(word.bytes());
+    }
+    false
+}
+
+/// The polygon of a whole text, or None where it is none.
+pub(crate) fn polygon_of<'a>(
+    alloc: Global,
+    tokens: &[Token<'a>],
+) -> Result<Option<WrittenPolygon<'a>>, AllocError>
+    ensures { IfOk result (λ polygon. option_map written polygon ≡ polygon_of tokens.now) }
+{
+    let Some((tagged, rest)) = after_head(tokens) else {
+        return Ok(None);
+    };
+    if is_empty_alone(rest) {
+        return Ok(Some(WrittenPolygon::Empty));
+    }
+    match body_of(alloc, rest)? {
+        Some(rings) => Ok(Some(WrittenPolygon::Body { tagged, rings })),
+        None => Ok(None),
+    }
+}
