@@ -1,4 +1,3 @@
-pub mod Accepted
 pub mod Booleans
 pub mod FiniteMaps
 pub mod FiniteSets

@@ -1,21 +1,23 @@
 -- The register that an office begins with is sound.
-use Rattle.std.proofs.Common.{◌≡◌, ℕ, true, false, cond, ◌||◌, not, Some, None, refl, sym, ap, ◌∙◌, subst}
+use Rattle.std.proofs.Common.{◌≡◌, ℕ, true, false, cond, not, Option, Some, refl, sym, ap, ◌∙◌, subst}
+use Rattle.std.proofs.lemmas.Bool.{false≢true}
+use Rattle.std.specs.Option.{option_map_or}
 use Rattle.std.specs.Prelude.{codes}
 use Rattle.std.specs.Ordering.{nat_cmp, eq_by_cmp, is_eq}
 use Rattle.std.specs.Cmp.{nat_cmp_total, tied_itself}
 use Rattle.std.specs.FinMap as map
 use Rattle.std.specs.FinMap.{nat_cmp-IsAntisymmetric}
 use Rattle.land_core.specs.Grants.{grant_cmp, grant_of}
-use Rattle.land_core.specs.Register.{nothing, new_register, has_single_party}
-use Rattle.land_core.specs.Soundness.{IsSound, has_loose_grant, is_used}
+use Rattle.land_core.specs.Register.{nothing, new_register, has_single_party, is_single}
+use Rattle.land_core.specs.Soundness.{IsSound, is_used}
 use Rattle.land_core.specs.declared.kind.PartyKind.TheVariants.{NonNaturalPerson}
 use Rattle.land_core.specs.declared.party.PartyRecord.{PartyRecord}
 use Rattle.land_core.specs.declared.role.Role.TheVariants.{StateAdministrator}
 use Rattle.land_core.specs.declared.roles.Grant.{Grant}
-use Rattle.land_core.specs.declared.soundness.Unsound.TheVariants.{Reference, Administrator, Memory}
+use Rattle.land_core.specs.declared.soundness.Unsound.TheVariants.{Reference, Group, Administrator, Memory}
 use Rattle.land_core.proofs.FiniteMaps.{is_equal, none_is_not_some}
 use Rattle.land_core.proofs.FiniteSets.{grants_total, exact_grants}
-use Rattle.land_core.proofs.SoundRegisters.{loose_from, unused_from, single_put, apart_itself, administrator_at}
+use Rattle.land_core.proofs.SoundRegisters.{refers_back, loose_from, unused_from, loose_members_from, unbroken_from, single_put, apart_itself, administrator_at}
 
 office : PartyRecord
 office = record { kind = NonNaturalPerson; name = codes "Land Office" }
@@ -34,7 +36,14 @@ new_is_sound Reference =
       | true ↦ λ at e. subst (λ (n : ℕ). has_single_party new_register n ≡ true) (sym (ap (λ (x : Grant). x.party) (exact_grants g (grant_of 1 StateAdministrator) (is_equal _ at)))) (single_put nothing new_register 1 office refl refl 1 (λ apart. absurd (apart_itself 1 apart)))
       | false ↦ λ apart e. absurd (none_is_not_some (sym (map.get-empty grant_cmp g) ∙ e))
     ] refl (sym (map.get-insert grants_total nothing.roles (grant_of 1 StateAdministrator) tt g) ∙ is)) in
-    ap (λ b. b || has_loose_grant new_register) unused ∙ loose
+    let members = loose_members_from new_register (λ group members is. absurd (none_is_not_some (sym (map.get-empty nat_cmp group) ∙ is))) in
+    refers_back new_register (record { room = refl; numbers = unused; grants = loose; members = members })
+new_is_sound Group =
+    unbroken_from new_register (λ n p is group. absurd (
+    elim (eq_by_cmp nat_cmp n 1) as (λ b. cond b (Some office) (map.get nothing.parties n) ≡ Some p → ⊥) [
+      | true ↦ λ e. false≢true (sym group ∙ ap (λ (o : Option PartyRecord). option_map_or (λ (q : PartyRecord). is_single q.kind) o true) (sym e))
+      | false ↦ λ e. none_is_not_some (sym (map.get-empty nat_cmp n) ∙ e)
+    ] (sym (map.get-insert nat_cmp_total nothing.parties 1 office n) ∙ is)))
 new_is_sound Administrator =
     ap not (administrator_at new_register (grant_of 1 StateAdministrator)
     (map.get-insert grants_total nothing.roles (grant_of 1 StateAdministrator) tt (grant_of 1 StateAdministrator) ∙ ap (λ b. cond b (Some tt) (map.get nothing.roles (grant_of 1 StateAdministrator))) (ap is_eq (tied_itself grants_total (grant_of 1 StateAdministrator))))

@@ -1,8 +1,6 @@
 -- What soundness says of look-ups, and how it is shown by look-ups.
 use Rattle.std.proofs.Common.{◌≡◌, ℕ, ◌<◌, Bool, true, false, cond, ◌||◌, ◌&&◌, not, Option, Some, None, refl, sym, ap, ◌∙◌, arith}
-use Rattle.std.specs.Prelude.{nat_lt}
 use Rattle.std.specs.Option.{option_map_or}
-use Rattle.std.specs.List.{list_any}
 use Rattle.std.specs.Ordering.{nat_cmp, eq_by_cmp, is_eq}
 use Rattle.std.specs.Cmp.{nat_cmp_total, tied_itself}
 use Rattle.std.specs.FinMap as map
@@ -10,17 +8,39 @@ use Rattle.std.specs.FinMap.{nat_cmp-IsAntisymmetric}
 use Rattle.std.proofs.lemmas.Bool.{false≢true}
 use Rattle.std.proofs.lemmas.Bool.Decides.{nat_tests}
 use Rattle.land_core.specs.Grants.{grants_in}
-use Rattle.land_core.specs.Register.{has_single_party, is_single}
+use Rattle.land_core.specs.Members.{Members, are_group_shares}
+use Rattle.land_core.specs.Register.{has_single_party, has_group, is_single, shares_of}
 use Rattle.land_core.specs.Role.{is_role}
-use Rattle.land_core.specs.Soundness.{IsSound, has_fault, is_used, has_unused_number, has_loose_grant, has_administrator}
+use Rattle.land_core.specs.Soundness.{IsSound, has_fault, is_past_the_numbers, is_used, has_unused_number, has_loose_grant, has_loose_members, has_loose_member, are_loose, has_broken_group, has_administrator}
 use Rattle.land_core.specs.declared.party.PartyRecord.{PartyRecord}
 use Rattle.land_core.specs.declared.register.Register.{Register}
 use Rattle.land_core.specs.declared.role.Role.TheVariants.{StateAdministrator}
 use Rattle.land_core.specs.declared.roles.Grant.{Grant}
 use Rattle.land_core.specs.declared.soundness.Unsound.TheVariants.{Reference, Administrator}
+use Rattle.land_fraction.specs.Ratio.{Ratio}
 use Rattle.land_core.proofs.Booleans.{or_false, not_false}
 use Rattle.land_core.proofs.FiniteSets.{grants_total, exact_grants}
 use Rattle.land_core.proofs.Reflection.{Passes, some_passes, some_at, none_passes, none_at, list_any-map}
+
+-- what a register without faults of reference has: the four parts of that fault
+pub record Refers (r : Register) : Type 0 where
+  pub room : is_past_the_numbers r ≡ false
+  pub numbers : has_unused_number r ≡ false
+  pub grants : has_loose_grant r ≡ false
+  pub members : has_loose_members r ≡ false
+
+pub refers : (r : Register) → has_fault Reference r ≡ false → Refers r
+refers r h =
+    let members = or_false (is_past_the_numbers r || has_unused_number r || has_loose_grant r) (has_loose_members r) h in
+    let grants = or_false (is_past_the_numbers r || has_unused_number r) (has_loose_grant r) members.0 in
+    let numbers = or_false (is_past_the_numbers r) (has_unused_number r) grants.0 in
+    record { room = numbers.0; numbers = numbers.1; grants = grants.1; members = members.1 }
+
+pub refers_back : (r : Register) → Refers r → has_fault Reference r ≡ false
+refers_back r h =
+    ap (λ b. b || has_unused_number r || has_loose_grant r || has_loose_members r) h.room ∙ ap (λ b. b || has_loose_grant r || has_loose_members r) h.numbers
+    ∙ ap (λ b. b || has_loose_members r) h.grants
+    ∙ h.members
 
 pub loose_from : (r : Register) → ((g : Grant) → map.get r.roles g ≡ Some tt → has_single_party r g.party ≡ true) → has_loose_grant r ≡ false
 unfolding grants_in
@@ -53,6 +73,43 @@ used_from r none n p is = not_false _ (none_at nat_cmp_total nat_cmp-IsAntisymme
 pub unused_from : (r : Register) → ((n : ℕ) (p : PartyRecord) → map.get r.parties n ≡ Some p → is_used r n ≡ true) → has_unused_number r ≡ false
 unused_from r h = none_passes nat_cmp_total nat_cmp-IsAntisymmetric (λ n p. not (is_used r n)) r.parties (λ n p is. ap not (h n p is))
 
+-- what a register that has members for a number says of them
+pub record AreTight (r : Register) (group : ℕ) (members : Members) : Type 0 where
+  pub grouped : has_group r group ≡ true
+  pub single : (n : ℕ) (share : Ratio) → map.get members n ≡ Some share → has_single_party r n ≡ true
+
+tight_from : (r : Register) (group : ℕ) (members : Members) → AreTight r group members → are_loose r group members ≡ false
+tight_from r group members h =
+    ap (λ b. not b || has_loose_member r members) h.grouped
+    ∙ none_passes nat_cmp_total nat_cmp-IsAntisymmetric (λ n share. not (has_single_party r n)) members (λ n share is. ap not (h.single n share is))
+
+pub loose_members_from : (r : Register) → ((group : ℕ) (members : Members) → map.get r.members group ≡ Some members → AreTight r group members) → has_loose_members r ≡ false
+loose_members_from r h = none_passes nat_cmp_total nat_cmp-IsAntisymmetric (λ group members. are_loose r group members) r.members (λ group members is. tight_from r group members (h group members is))
+
+pub members_from : (r : Register) → has_loose_members r ≡ false → (group : ℕ) (members : Members) → map.get r.members group ≡ Some members → AreTight r group members
+members_from r none group members is =
+    let parts = or_false (not (has_group r group)) (has_loose_member r members) (none_at nat_cmp_total nat_cmp-IsAntisymmetric (λ group members. are_loose r group members) r.members group members none is) in
+    record {
+      grouped = not_false _ parts.0;
+      single = λ n share at. not_false _ (none_at nat_cmp_total nat_cmp-IsAntisymmetric (λ n share. not (has_single_party r n)) members n share parts.1 at);
+    }
+
+-- groups are whole, where none is broken
+abbrev is_broken : Register → ℕ → PartyRecord → Bool
+is_broken r n p = not (is_single p.kind) && not (are_group_shares (shares_of r n))
+
+pub unbroken_from : (r : Register) → ((n : ℕ) (p : PartyRecord) → map.get r.parties n ≡ Some p → is_single p.kind ≡ false → are_group_shares (shares_of r n) ≡ true) → has_broken_group r ≡ false
+unbroken_from r h =
+    none_passes nat_cmp_total nat_cmp-IsAntisymmetric (is_broken r) r.parties (λ n p is.
+    elim (is_single p.kind) as (λ b. is_single p.kind ≡ b → (not b && not (are_group_shares (shares_of r n))) ≡ false) [
+      | true ↦ λ single. refl
+      | false ↦ λ group. ap not (h n p is group)
+    ] refl)
+
+pub whole_from : (r : Register) → has_broken_group r ≡ false → (n : ℕ) (p : PartyRecord) → map.get r.parties n ≡ Some p → is_single p.kind ≡ false → are_group_shares (shares_of r n) ≡ true
+whole_from r none n p is group =
+    not_false _ (sym (ap (λ b. not b && not (are_group_shares (shares_of r n))) group) ∙ none_at nat_cmp_total nat_cmp-IsAntisymmetric (is_broken r) r.parties n p none is)
+
 -- a single party that stands has a record
 pub record Stands (r : Register) (n : ℕ) : Type 0 where
   pub party : PartyRecord
@@ -74,11 +131,10 @@ unit_is u = refl
 -- somebody administers a sound register, so its next number is above 0
 pub next_above_zero : (r : Register) → IsSound r → 0 < r.next
 next_above_zero r sound =
-    let reference = or_false _ _ (sound Reference) in
-    let parts = or_false _ _ reference.0 in
+    let parts = refers r (sound Reference) in
     let one = administrator_from r (not_false _ (sound Administrator)) in
-    let stands = stands_from r one.key.party (single_from r reference.1 one.key (one.there ∙ ap Some (unit_is one.value))) in
-    let bounds = used_bounds r one.key.party (used_from r parts.1 one.key.party stands.party stands.there) in
+    let stands = stands_from r one.key.party (single_from r parts.grants one.key (one.there ∙ ap Some (unit_is one.value))) in
+    let bounds = used_bounds r one.key.party (used_from r parts.numbers one.key.party stands.party stands.there) in
     omega arith
 
 -- a number is not apart from itself

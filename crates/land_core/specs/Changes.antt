@@ -11,6 +11,7 @@ abbrev pub after : Change → Register → Register
 after change r = record {
   parties = updated r.parties change.put.parties change.ended.parties;
   roles = updated r.roles (marks change.put.roles) change.ended.roles;
+  members = updated r.members change.put.members change.ended.members;
   next = change.next;
 }
 
@@ -18,3 +19,4 @@ after change r = record {
 pub record NamesKeysOnce (change : Change) : Type 0 where
   pub parties : are_distinct nat_eq (map_list (λ e. e.0) change.put.parties ++ change.ended.parties) ≡ true
   pub roles : are_distinct (eq_by_cmp grant_cmp) (change.put.roles ++ change.ended.roles) ≡ true
+  pub members : are_distinct nat_eq (map_list (λ e. e.0) change.put.members ++ change.ended.members) ≡ true

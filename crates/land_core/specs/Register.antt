@@ -1,29 +1,33 @@
 -- The register: what stands, without lifespans.
-use Rattle.std.specs.Prelude.{ℕ, Bool, true, false, List, filter, Option, codes}
+use Rattle.std.specs.Prelude.{ℕ, Bool, true, false, not, List, [], filter, Option, codes}
 use Rattle.std.specs.Option.{option_map, option_map_or}
 use Rattle.std.specs.FinMap as map
 use Rattle.land_core.specs.Entries.{has}
 use Rattle.land_core.specs.Grants.{has_grant, grant_of}
+use Rattle.land_core.specs.Members.{members_in, shares_in}
 use Rattle.land_core.specs.Role.{all_roles}
 use Rattle.land_core.specs.declared.kind.Kind.{Kind}
 use Rattle.land_core.specs.declared.kind.Kind.TheVariants as kind
 use Rattle.land_core.specs.declared.kind.PartyKind.{PartyKind}
 use Rattle.land_core.specs.declared.kind.PartyKind.TheVariants.{NaturalPerson, NonNaturalPerson, Group}
+use Rattle.land_core.specs.declared.member.Member.{Member}
 use Rattle.land_core.specs.declared.role.Role.{Role}
 use Rattle.land_core.specs.declared.role.Role.TheVariants.{StateAdministrator}
 use Rattle.land_core.specs.declared.register.Register.{Register}
 use Rattle.land_core.specs.declared.object.Object.{Object}
 use Rattle.land_core.specs.declared.object.Object.TheVariants as object
+use Rattle.land_fraction.specs.Ratio.{Ratio}
 
 -- the register that holds nothing, as it was before the office began
 abbrev pub nothing : Register
-nothing = record { parties = map.empty; roles = map.empty; next = 2 }
+nothing = record { parties = map.empty; roles = map.empty; members = map.empty; next = 2 }
 
 -- the register that an office begins with: party 1 is the land office itself and state administrator, and 2 is the next number
 abbrev pub new_register : Register
 new_register = record {
   parties = map.insert map.empty 1 (record { kind = NonNaturalPerson; name = codes "Land Office" });
   roles = map.insert map.empty (grant_of 1 StateAdministrator) tt;
+  members = map.empty;
   next = 2;
 }
 
@@ -45,6 +49,21 @@ is_single Group = false
 abbrev pub has_single_party : Register → ℕ → Bool
 has_single_party r n = option_map_or (λ p. is_single p.kind) (map.get r.parties n) false
 
+-- whether a group stands
+abbrev pub has_group : Register → ℕ → Bool
+has_group r n = option_map_or (λ p. not (is_single p.kind)) (map.get r.parties n) false
+
+-- whether a party is a member of a group
+abbrev pub is_member : Register → (group party : ℕ) → Bool
+is_member r group party = option_map_or (λ members. has members party) (map.get r.members group) false
+
+-- the members of a group, by ascending numbers, and their shares; a single party has none
+abbrev pub members_of : Register → ℕ → List Member
+members_of r n = option_map_or members_in (map.get r.members n) []
+
+abbrev pub shares_of : Register → ℕ → List Ratio
+shares_of r n = option_map_or shares_in (map.get r.members n) []
+
 -- the roles of a party, in their order
 abbrev pub roles_of : Register → ℕ → List Role
 roles_of r n = filter (λ role. holds r n role) all_roles
@@ -52,4 +71,4 @@ roles_of r n = filter (λ role. holds r n role) all_roles
 -- the object that stands, as it is shown, or none
 abbrev pub object_at : Register → Kind → ℕ → Option Object
 object_at r kind.Party n =
-    option_map (λ p. object.Party (record { number = n; kind = p.kind; name = p.name; roles = roles_of r n })) (map.get r.parties n)
+    option_map (λ p. object.Party (record { number = n; kind = p.kind; name = p.name; members = members_of r n; roles = roles_of r n })) (map.get r.parties n)

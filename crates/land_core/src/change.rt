@@ -1,4 +1,5 @@
 //! Changes of the register, and what the caller of an act is told.
+use crate::member::Members;
 use crate::party::PartyRecord;
 use crate::roles::Grant;
 use crate::sequence::{NumberList, Sequence};
@@ -10,6 +11,8 @@ pub struct Put {
     pub parties: Sequence<(u64, PartyRecord)>,
     /// Roles that begin.
     pub roles: Sequence<Grant>,
+    /// Groups' members from then on, under the groups' numbers.
+    pub members: Sequence<(u64, Members)>,
 }
 
 /// Keys of the register's maps whose entries end.
@@ -19,6 +22,8 @@ pub struct Ended {
     pub parties: NumberList,
     /// Roles that end.
     pub roles: Sequence<Grant>,
+    /// Numbers of groups whose members end.
+    pub members: NumberList,
 }
 
 /// What an act changes. No key of one map stands twice in it.

@@ -1,12 +1,13 @@
 //! Parties (LA_Party).
 use crate::duplicate::Duplicate;
 use crate::kind::PartyKind;
+use crate::member::Member;
 use crate::role::Role;
 use crate::sequence::Sequence;
 use crate::text::Text;
 use std::alloc::{AllocError, Global};
 
-/// What the register keeps of a party under its number. Its roles stand in a set of their own.
+/// What the register keeps of a party under its number. Its roles and its members stand in maps of their own.
 #[derive(Debug, Drop)]
 pub struct PartyRecord {
     /// What it is.
@@ -24,7 +25,7 @@ impl Duplicate for PartyRecord {
     }
 }
 
-/// A party as it is shown: its record with its number and its roles.
+/// A party as it is shown: its record with its number, its members and its roles.
 #[derive(Debug, Drop)]
 pub struct Party {
     /// Its number.
@@ -33,6 +34,8 @@ pub struct Party {
     pub kind: PartyKind,
     /// What it is called.
     pub name: Text,
+    /// The members of a group, by ascending numbers (LA_PartyMember); none of a single party.
+    pub members: Sequence<Member>,
     /// The roles that it holds, in the order of `Role`.
     pub roles: Sequence<Role>,
 }
@@ -43,6 +46,7 @@ impl Duplicate for Party {
             number: self.number,
             kind: self.kind,
             name: self.name.copy(alloc)?,
+            members: self.members.copy(alloc)?,
             roles: self.roles.copy(alloc)?,
         })
     }

@@ -1,12 +1,13 @@
 //! The register: everything that stands now.
 ghost use Rattle.std.specs.Prelude.{◌≡◌, IfOk, OnOk, OnErr};
-ghost use Rattle.land_core.specs.Register.{new_register, nothing, stands, object_at, holds, has_single_party, roles_of};
+ghost use Rattle.land_core.specs.Register.{new_register, nothing, stands, object_at, holds, has_single_party, has_group, is_member, members_of, roles_of};
 ghost use Rattle.land_core.specs.Changes.{after};
 ghost use Rattle.land_core.specs.Soundness.{IsSound};
 
 use crate::change::Change;
 use crate::duplicate::Duplicate;
 use crate::kind::{Kind, PartyKind};
+use crate::member::{Member, Members, listed};
 use crate::object::Object;
 use crate::party::{Party, PartyRecord};
 use crate::records::Records;
@@ -23,6 +24,8 @@ pub struct Register {
     pub parties: Records<PartyRecord>,
     /// Which party holds which roles (LA_PartyRoleType).
     pub roles: Roles,
+    /// The members of groups, under the groups' numbers (LA_PartyMember).
+    pub members: Records<Members>,
     /// The number that the next new object takes: 2 to 1_000_000_001 in a sound register.
     pub next: u64,
 }
@@ -54,6 +57,7 @@ impl Register {
         Register {
             parties: Records::new(alloc),
             roles: Roles::new(alloc),
+            members: Records::new(alloc),
             next: 2,
         }
     }
@@ -67,6 +71,7 @@ impl Register {
         Ok(Register {
             parties: self.parties.updated(alloc, &put.parties, &ended.parties)?,
             roles: self.roles.updated(alloc, &put.roles, &ended.roles)?,
+            members: self.members.updated(alloc, &put.members, &ended.members)?,
             next: change.next,
         })
     }
@@ -97,6 +102,26 @@ impl Register {
         }
     }
 
+    /// Whether a group stands at a number.
+    pub fn has_group(&self, number: u64) -> bool
+        ensures { result ≡ has_group self.now number }
+    {
+        match self.parties.get(number) {
+            Some(party) => party.kind == PartyKind::Group,
+            None => false,
+        }
+    }
+
+    /// Whether a party is a member of a group.
+    pub fn is_member(&self, group: u64, party: u64) -> bool
+        ensures { result ≡ is_member self.now group party }
+    {
+        match self.members.get(group) {
+            Some(members) => members.get(party).is_some(),
+            None => false,
+        }
+    }
+
     /// A copy of the object of a kind that stands at a number, or `None`.
     pub fn object(
         &self,
@@ -112,10 +137,21 @@ impl Register {
                     number,
                     kind: party.kind,
                     name: party.name.copy(alloc)?,
+                    members: self.members_of(alloc, number)?,
                     roles: self.roles_of(alloc, number)?,
                 }))),
                 None => Ok(None),
             },
+        }
+    }
+
+    /// The members of a group, by ascending numbers.
+    fn members_of(&self, alloc: Global, group: u64) -> Result<Sequence<Member>, AllocError>
+        ensures { IfOk result (λ it. it ≡ members_of self.now group) }
+    {
+        match self.members.get(group) {
+            Some(members) => listed(alloc, members),
+            None => Ok(Sequence::new(alloc)),
         }
     }
 
@@ -147,6 +183,7 @@ impl Duplicate for Register {
         Ok(Register {
             parties: self.parties.copy(alloc)?,
             roles: self.roles.copy(alloc)?,
+            members: self.members.copy(alloc)?,
             next: self.next,
         })
     }

@@ -1,15 +1,23 @@
 //! When a register is sound.
-ghost use Rattle.std.specs.Prelude.{◌≡◌, ◌≢◌, true, OnOk, IfErr};
-ghost use Rattle.land_core.specs.Soundness.{IsSound, has_fault, has_unused_number, has_loose_grant, has_administrator, is_used};
+ghost use Rattle.std.specs.Prelude.{◌≡◌, ◌≢◌, true, IfOk, OnOk, IfErr};
+ghost use Rattle.land_core.specs.Members.{are_group_shares};
+ghost use Rattle.land_core.specs.Register.{shares_of};
+ghost use Rattle.land_core.specs.Soundness.{IsSound, has_fault, has_unused_number, has_loose_grant, has_loose_members, are_loose, has_loose_member, has_broken_group, has_administrator, is_used};
 
+use crate::kind::PartyKind;
+use crate::member::{Members, shares_of};
 use crate::register::Register;
 use crate::role::Role;
+use land_fraction::{Fraction, Whole, is_whole};
+use std::alloc::{AllocError, Global};
 
 /// Why a register is not sound.
 #[derive(Clone, Copy, Debug, PartialEq, Eq)]
 pub enum Unsound {
-    /// A number is not in use, or a role is that of nobody or of a group.
+    /// A number is not in use, a role is that of nobody or of a group, or a member that of no group or no single party.
     Reference,
+    /// A group has fewer than 2 or more than 64 members, or their shares do not sum to one.
+    Group,
     /// No party is state administrator.
     Administrator,
     /// There was no memory to tell.
@@ -17,12 +25,17 @@ pub enum Unsound {
 }
 
 /// Whether the register is sound, or a fault that it has.
-pub fn check(register: &Register) -> Result<(), Unsound>
+pub fn check(alloc: Global, register: &Register) -> Result<(), Unsound>
     ensures ok { OnOk result (IsSound register.now) }
     ensures fault { IfErr result (λ fault. fault ≢ Unsound.Memory → has_fault fault register.now ≡ true) }
 {
     if has_reference_fault(register) {
         return Err(Unsound::Reference);
+    }
+    match has_broken_group(alloc, register) {
+        Ok(false) => {}
+        Ok(true) => return Err(Unsound::Group),
+        Err(_) => return Err(Unsound::Memory),
     }
     if !has_administrator(register) {
         return Err(Unsound::Administrator);
@@ -33,7 +46,10 @@ pub fn check(register: &Register) -> Result<(), Unsound>
 fn has_reference_fault(register: &Register) -> bool
     ensures { result ≡ has_fault Unsound.Reference register.now }
 {
-    register.next > 1_000_000_001 || has_unused_number(register) || has_loose_grant(register)
+    register.next > 1_000_000_001
+        || has_unused_number(register)
+        || has_loose_grant(register)
+        || has_loose_members(register)
 }
 
 fn has_unused_number(register: &Register) -> bool
@@ -49,6 +65,60 @@ fn has_loose_grant(register: &Register) -> bool
         .roles
         .iter()
         .any(|grant| !register.has_single_party(grant.party))
+}
+
+fn has_loose_members(register: &Register) -> bool
+    ensures { result ≡ has_loose_members register.now }
+{
+    register
+        .members
+        .iter()
+        .any(|(group, members)| are_loose(register, *group, members))
+}
+
+fn are_loose(register: &Register, group: u64, members: &Members) -> bool
+    ensures { result ≡ are_loose register.now group members.now }
+{
+    !register.has_group(group) || has_loose_member(register, members)
+}
+
+fn has_loose_member(register: &Register, members: &Members) -> bool
+    ensures { result ≡ has_loose_member register.now members.now }
+{
+    members
+        .iter()
+        .any(|(party, _)| !register.has_single_party(*party))
+}
+
+fn has_broken_group(alloc: Global, register: &Register) -> Result<bool, AllocError>
+    ensures { IfOk result (λ it. it ≡ has_broken_group register.now) }
+{
+    for (number, party) in register.parties.iter() {
+        if party.kind == PartyKind::Group && !is_whole_group(alloc, register, *number)? {
+            return Ok(true);
+        }
+    }
+    Ok(false)
+}
+
+/// Whether a group has 2 to 64 members whose shares make a whole.
+fn is_whole_group(alloc: Global, register: &Register, group: u64) -> Result<bool, AllocError>
+    ensures { IfOk result (λ it. it ≡ are_group_shares (shares_of register.now group)) }
+{
+    match register.members.get(group) {
+        Some(members) => {
+            let shares = shares_of(alloc, members)?;
+            Ok(are_group_shares(shares.as_slice()))
+        }
+        None => Ok(false),
+    }
+}
+
+/// Whether these are 2 to 64 shares that make a whole.
+fn are_group_shares(shares: &[Fraction]) -> bool
+    ensures { result ≡ are_group_shares shares.now }
+{
+    2 <= shares.len() && shares.len() <= 64 && is_whole(shares) == Whole::Yes
 }
 
 fn has_administrator(register: &Register) -> bool

@@ -1,3 +1,5 @@
+pub mod GroupSight
+pub mod Past
 pub mod Policy
 pub mod Steps
 pub mod Timelines

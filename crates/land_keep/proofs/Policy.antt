@@ -1,5 +1,5 @@
 -- The first rule that denies is the least one, and what is seen is exactly what no rule denies.
-use Rattle.std.proofs.Common.{◌≡◌, ℕ, ◌<◌, ◌≤◌, ◌↔◌, Bool, true, false, ◌||◌, ◌&&◌, not, cond, List, [], ◌∷◌, Option, Some, None, refl, sym, ap, ◌∙◌, subst, arith}
+use Rattle.std.proofs.Common.{◌≡◌, ℕ, ◌<◌, ◌≤◌, Bool, true, false, ◌||◌, ◌&&◌, cond, List, [], ◌∷◌, Option, Some, None, refl, sym, ap, ◌∙◌, subst, arith}
 use Rattle.std.specs.Prelude.{nat_eq, nat_lt}
 use Rattle.std.proofs.lemmas.Bool.{false≢true}
 use Rattle.std.proofs.lemmas.Bool.Decides.{nat_tests}
@@ -108,6 +108,10 @@ all_rise : (now at : Register) (caller : Caller) (a : Ask) (past : Bool) → ris
 all_rise now at caller (ask.View kind.Party number moment) past = refl
 all_rise now at caller (ask.List k moment) past = refl
 all_rise now at caller (ask.Do (act.Enrol it)) past = refl
+all_rise now at caller (ask.Do (act.Group it)) past = refl
+all_rise now at caller (ask.Do (act.Regroup it)) past = refl
+all_rise now at caller (ask.Do (act.Grant it)) past = refl
+all_rise now at caller (ask.Do (act.Revoke it)) past = refl
 
 pub verdicts_least : VerdictsAreLeast
 verdicts_least now at caller a past =

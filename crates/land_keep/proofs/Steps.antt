@@ -5,15 +5,15 @@ use Rattle.std.specs.Int.{int_max}
 use Rattle.std.proofs.lemmas.Int.{ints}
 use Rattle.land_core.specs.Acts.{is_well_formed}
 use Rattle.land_core.specs.Register.{holds}
-use Rattle.land_core.specs.Outcome.{outcome_of}
+use Rattle.land_acts.specs.Outcome.{outcome_of}
 use Rattle.land_core.specs.declared.caller.Caller.{Caller}
 use Rattle.land_core.specs.declared.act.Act.{Act}
 use Rattle.land_core.specs.declared.act.Act.TheVariants as act
 use Rattle.land_core.specs.declared.ask.Request.{Request}
 use Rattle.land_keep.specs.declared.verdict.Verdict.TheVariants.{Allowed}
-use Rattle.land_core.specs.declared.refusal.Refusal.{Refusal}
-use Rattle.land_core.specs.declared.refusal.Planned.{Planned}
-use Rattle.land_core.specs.declared.refusal.Planned.TheVariants.{New, Repeat}
+use Rattle.land_acts.specs.declared.refusal.Refusal.{Refusal}
+use Rattle.land_acts.specs.declared.refusal.Planned.{Planned}
+use Rattle.land_acts.specs.declared.refusal.Planned.TheVariants.{New, Repeat}
 use Rattle.land_core.specs.declared.register.Register.{Register}
 use Rattle.land_keep.specs.declared.reply.Reply.{Reply}
 use Rattle.land_keep.specs.Timeline.{Timeline, last_stamp, last_register}
@@ -44,6 +44,10 @@ not_ok e = cc
 -- an act without a stamp is refused
 pub without_stamp : (r : Register) (caller : Caller) (a : Act) (p : Planned) → outcome_of r caller a None ≡ Ok p → ⊥
 without_stamp r caller (act.Enrol it) p e = grind (arith)
+without_stamp r caller (act.Group it) p e = grind (arith)
+without_stamp r caller (act.Regroup it) p e = grind (arith)
+without_stamp r caller (act.Grant it) p e = grind (arith)
+without_stamp r caller (act.Revoke it) p e = grind (arith)
 
 pub stamp_bounds : (clock last s : ℤ)
     → cond (int_lt (pos 4102444799999) clock || int_lt (pos 4102444799999) (last +ℤ pos 1)) None (Some (int_max (int_max clock (pos 0)) (last +ℤ pos 1))) ≡ Some s

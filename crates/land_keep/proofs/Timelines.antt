@@ -1,16 +1,14 @@
 -- The last version of a timeline, and timelines that go on.
-use Rattle.std.proofs.Common.{◌≡◌, ◌≤◌, ◌-◌, List, [], ◌∷◌, ◌++◌, length, Option, Some, None, refl, sym, ap, ◌∙◌, subst, arith}
+use Rattle.std.proofs.Common.{◌≡◌, ◌≤◌, ◌-◌, [], ◌∷◌, ◌++◌, length, Some, refl, ap, ◌∙◌, arith}
 use Rattle.std.specs.Prelude.{ℤ, pos, ◌<ℤ◌, ◌≤ℤ◌, slice_get}
 use Rattle.std.specs.List.{AllByRecursion}
 use Rattle.std.proofs.lemmas.Int.{ints}
 use Rattle.land_core.specs.Changes.{after}
-use Rattle.land_core.specs.Laws.{IsAccepted}
+use Rattle.land_acts.specs.Laws.{IsAccepted}
 use Rattle.land_core.specs.Soundness.{IsSound}
-use Rattle.land_core.specs.declared.change.Change.{Change}
-use Rattle.land_core.proofs.Accepted.{accepted_sound}
-use Rattle.land_keep.specs.Keeping.{CanWrite}
+use Rattle.land_acts.proofs.Accepted.{accepted_sound}
 use Rattle.land_keep.specs.Laws.{WritingKeepsSound}
-use Rattle.land_keep.specs.Timeline.{Timeline, IsSoundTimeline, IsMoment, Rises, last_from, last_version, last_stamp, last_register, last_moment}
+use Rattle.land_keep.specs.Timeline.{Timeline, IsSoundTimeline, IsMoment, Rises, last_from, last_version, last_stamp, last_moment}
 use Rattle.land_keep.specs.declared.timeline.Version.{Version}
 
 -- what is at the last place of a list

@@ -1,9 +1,8 @@
 -- The reply to a read is told by now, the last register and the register at the asked moment.
-use Rattle.std.proofs.Common.{◌≡◌, Bool, true, false, cond, Option, refl, sym, ap, ◌∙◌, subst}
-use Rattle.std.specs.Prelude.{ℕ, ℤ, int_lt, unwrap_or}
+use Rattle.std.proofs.Common.{◌≡◌, Bool, true, false, cond, refl, sym, ap, ◌∙◌}
+use Rattle.std.specs.Prelude.{ℤ, int_lt, unwrap_or}
 use Rattle.land_core.specs.declared.ask.Ask.{Ask}
 use Rattle.land_core.specs.declared.ask.Ask.TheVariants as ask
-use Rattle.land_core.specs.declared.ask.Request.{Request}
 use Rattle.land_core.specs.declared.caller.Caller.{Caller}
 use Rattle.land_core.specs.declared.register.Register.{Register}
 use Rattle.land_keep.specs.Laws.{ReadsLookAtTwoRegisters, IsRead}

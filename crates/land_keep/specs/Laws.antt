@@ -1,15 +1,19 @@
 -- Laws over the definitions alone.
-use Rattle.std.specs.Prelude.{◌≡◌, ℕ, ◌<◌, ◌↔◌, Bool, true, false, ℤ, nat_eq}
+use Rattle.std.specs.Prelude.{◌≡◌, ℕ, ◌<◌, ◌↔◌, Bool, true, false, Option, ℤ, ◌<ℤ◌, nat_eq}
 use Rattle.std.specs.List.{list_any}
+use Rattle.land_core.specs.Register.{stands, holds, is_member}
 use Rattle.land_core.specs.declared.ask.Ask.{Ask}
 use Rattle.land_core.specs.declared.ask.Ask.TheVariants as ask
 use Rattle.land_core.specs.declared.ask.Request.{Request}
 use Rattle.land_core.specs.declared.caller.Caller.{Caller}
 use Rattle.land_core.specs.declared.change.Change.{Change}
 use Rattle.land_core.specs.declared.kind.Kind.{Kind}
+use Rattle.land_core.specs.declared.kind.Kind.TheVariants as kind
 use Rattle.land_core.specs.declared.register.Register.{Register}
+use Rattle.land_core.specs.declared.role.Role.TheVariants.{Citizen}
 use Rattle.land_keep.specs.Keeping.{CanWrite}
 use Rattle.land_keep.specs.Machine.{step, written, now_of, moment_of}
+use Rattle.land_keep.specs.Relations.{is_party_in_sight}
 use Rattle.land_keep.specs.Rules.{rules_on, verdict_of, denies, rise_above, ascends, sees, seen_of}
 use Rattle.land_keep.specs.Timeline.{Timeline, IsSoundTimeline, register_at, last_register}
 use Rattle.land_keep.specs.declared.verdict.Verdict.TheVariants.{Allowed, Denied}
@@ -39,9 +43,29 @@ pub record SeenIsExact (at : Register) (caller : Caller) (k : Kind) : Type 0 whe
 abbrev pub SeenIsExactly : Type 0
 SeenIsExactly = (at : Register) (caller : Caller) (k : Kind) → SeenIsExact at caller k
 
+-- a party in the role of a citizen
+abbrev pub citizen : ℕ → Caller
+citizen party = record { party = party; role = Citizen }
+
+-- what the policy says of a citizen's view of a group, whatever the register is now: it is shown to its members at the
+-- asked moment, and to no other party that is not the group itself and sees it in nothing else
+pub record GroupIsSeen (now at : Register) (party group : ℕ) (moment : Option ℤ) (past : Bool) : Type 0 where
+  pub member : is_member at group party ≡ true → stands at kind.Party group ≡ true → verdict_of now at (citizen party) (ask.View kind.Party group moment) past ≡ Allowed
+  pub other : nat_eq group party ≡ false → is_member at group party ≡ false → is_party_in_sight at (citizen party) group ≡ false
+      → verdict_of now at (citizen party) (ask.View kind.Party group moment) past ≡ Denied 13
+
+-- members at the asked moment see their group, and others do not; the register now only says that the caller is a citizen
+abbrev pub MembersSeeGroups : Type 0
+MembersSeeGroups = (now at : Register) (party group : ℕ) (moment : Option ℤ) (past : Bool) → stands now kind.Party party ≡ true → holds now party Citizen ≡ true
+    → GroupIsSeen now at party group moment past
+
 -- a timeline stays sound after a change that may be written
 abbrev pub WritingKeepsSound : Type 0
 WritingKeepsSound = (tl : Timeline) (change : Change) (stamp : ℤ) → IsSoundTimeline tl → CanWrite tl change stamp → IsSoundTimeline (written tl change stamp)
+
+-- a change leaves the register at each moment before its stamp as it was
+abbrev pub PastStays : Type 0
+PastStays = (tl : Timeline) (change : Change) (stamp t : ℤ) → t <ℤ stamp → register_at (written tl change stamp) t ≡ register_at tl t
 
 abbrev pub IsRead : Ask → Type 0
 IsRead (ask.View k number at) = Unit {0}

@@ -2,8 +2,8 @@
 use Rattle.std.specs.Prelude.{◌≡◌, ℕ, Bool, true, false, ◌||◌, List, [], ◌∷◌, ◌++◌, Option, Some, None, Result, Ok, Err, ℤ, pos, ◌+ℤ◌, int_lt, unwrap_or, ◌⊎◌, if◌then◌else◌}
 use Rattle.std.specs.Int.{int_min, int_max}
 use Rattle.land_core.specs.Changes.{after}
-use Rattle.land_core.specs.Outcome.{outcome_of}
-use Rattle.land_core.specs.Planning.{number_of}
+use Rattle.land_acts.specs.Outcome.{outcome_of}
+use Rattle.land_acts.specs.Planning.{number_of}
 use Rattle.land_core.specs.Register.{object_at}
 use Rattle.land_core.specs.declared.ask.Ask.{Ask}
 use Rattle.land_core.specs.declared.ask.Ask.TheVariants as ask
@@ -12,9 +12,9 @@ use Rattle.land_core.specs.declared.caller.Caller.{Caller}
 use Rattle.land_core.specs.declared.change.Change.{Change}
 use Rattle.land_core.specs.declared.kind.Kind.{Kind}
 use Rattle.land_core.specs.declared.object.Object.{Object}
-use Rattle.land_core.specs.declared.refusal.Planned.{Planned}
-use Rattle.land_core.specs.declared.refusal.Planned.TheVariants.{New, Repeat}
-use Rattle.land_core.specs.declared.refusal.Refusal.{Refusal}
+use Rattle.land_acts.specs.declared.refusal.Planned.{Planned}
+use Rattle.land_acts.specs.declared.refusal.Planned.TheVariants.{New, Repeat}
+use Rattle.land_acts.specs.declared.refusal.Refusal.{Refusal}
 use Rattle.land_core.specs.declared.register.Register.{Register}
 use Rattle.land_keep.specs.Rules.{verdict_of, seen_of}
 use Rattle.land_keep.specs.Timeline.{Timeline, register_at, last_stamp, last_register, last_moment}

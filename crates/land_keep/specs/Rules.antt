@@ -36,9 +36,13 @@ caller_rules now caller past =
     ∷ (3, past && is_of_the_present caller)
     ∷ []
 
--- acts of the office: to enrol
+-- acts of the office: to enrol, to group and regroup, to grant and revoke roles
 abbrev pub is_office_act : Act → Bool
 is_office_act (act.Enrol it) = true
+is_office_act (act.Group it) = true
+is_office_act (act.Regroup it) = true
+is_office_act (act.Grant it) = true
+is_office_act (act.Revoke it) = true
 
 abbrev pub act_rules : (now : Register) → Caller → Act → Rules
 act_rules now caller a =

@@ -1,7 +1,7 @@
 //! Keepers of the register through time.
 ghost use Rattle.std.specs.Prelude.{◌≡◌, ◌≤ℤ◌, Bool, IfOk, OnOk, OnErr};
 ghost use Rattle.land_core.specs.Register.{object_at};
-ghost use Rattle.land_core.specs.Slices.{slice_of};
+ghost use Rattle.land_acts.specs.Slices.{slice_of};
 ghost use Rattle.land_keep.specs.Keeping.{Closes, CanWrite};
 ghost use Rattle.land_keep.specs.Machine.{verdict_at, moment_of, written};
 ghost use Rattle.land_keep.specs.Rules.{seen_of};
@@ -9,6 +9,7 @@ ghost use Rattle.land_keep.specs.Timeline.{Timeline, IsSoundTimeline, last_stamp
 
 use crate::store_fault::StoreFault;
 use crate::verdict::Verdict;
+use land_acts::slice::Slice;
 use land_core::act::Act;
 use land_core::ask::Ask;
 use land_core::caller::Caller;
@@ -16,7 +17,6 @@ use land_core::change::Change;
 use land_core::kind::Kind;
 use land_core::object::Object;
 use land_core::sequence::NumberList;
-use land_core::slice::Slice;
 use std::alloc::Global;
 
 /// A keeper of the register through time, which contracts see as a sound timeline and whether its store is closed.

@@ -1,7 +1,7 @@
 //! The register machine over any keeper: a request is prepared, finished, answered; requests are run in turn.
 ghost use Rattle.std.specs.Prelude.{◌≡◌, ◌≢◌, true, false, pos, unwrap_or, IfOk, OnOk, OnErr, All, IsTrue, ◌↔◌};
 ghost use Rattle.land_core.specs.Acts.{is_well_formed, is_well_formed_request};
-ghost use Rattle.land_core.specs.Outcome.{outcome_of};
+ghost use Rattle.land_acts.specs.Outcome.{outcome_of};
 ghost use Rattle.land_core.specs.Register.{holds};
 ghost use Rattle.land_keep.specs.Keeping.{Closes, CanFinish, IsPrepared, Leads, preparation, after_writing};
 ghost use Rattle.land_keep.specs.Machine.{stamp_of, allowed, acted, Element, Run};
@@ -14,12 +14,12 @@ use crate::prepared::{Prepared, Writing};
 use crate::reply::Reply;
 use crate::store_fault::StoreFault;
 use crate::verdict::Verdict;
+use land_acts::laws::slices_suffice;
+use land_acts::plan::plan;
+use land_acts::refusal::{Planned, Refusal};
 use land_core::act::Act;
 use land_core::ask::{Ask, Request};
 use land_core::caller::Caller;
-use land_core::laws::slices_suffice;
-use land_core::plan::plan;
-use land_core::refusal::{Planned, Refusal};
 use std::alloc::{AllocError, Global};
 
 /// Finds the reply to a request and what has to be written for it, and changes nothing.

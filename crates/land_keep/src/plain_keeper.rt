@@ -10,6 +10,7 @@ use crate::rules::{seen, verdict};
 use crate::store_fault::StoreFault;
 use crate::timeline::Version;
 use crate::verdict::Verdict;
+use land_acts::slice::{Slice, slice_of};
 use land_core::act::Act;
 use land_core::ask::Ask;
 use land_core::caller::Caller;
@@ -18,7 +19,6 @@ use land_core::kind::Kind;
 use land_core::object::Object;
 use land_core::register::Register;
 use land_core::sequence::NumberList;
-use land_core::slice::{Slice, slice_of};
 use std::alloc::{AllocError, Global};
 use std::marker::Model;
 
@@ -88,7 +88,7 @@ impl PlainKeeper {
 
 impl Keeper for PlainKeeper {
     ghost use Rattle.land_core.specs.Register.{object_at};
-    ghost use Rattle.land_core.specs.Slices.{slice_of};
+    ghost use Rattle.land_acts.specs.Slices.{slice_of};
     ghost use Rattle.land_keep.specs.Timeline.{last_stamp};
 
     ghost timeline = { λ a. a };

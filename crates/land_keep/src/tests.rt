@@ -1,91 +1,171 @@
 //! The worked examples of this stage as requests with their full replies, and what a refused allocation leaves.
 //! `.ci/allocations` runs these tests with each allocation refused in turn: a test may then end for want of memory,
 //! and no assertion may fail.
+mod first_rows;
+mod groups_and_roles;
+mod memory;
+
 use crate::clock::Clock;
-use crate::keeper::Keeper;
-use crate::machine::{answer, are_well_formed, finish, prepare, run};
+use crate::machine::{are_well_formed, run};
 use crate::plain_keeper::PlainKeeper;
 use crate::reply::Reply;
-use land_core::act::{Act, Enrol};
+use land_core::act::{Act, Enrol, NewGroup, Regroup};
 use land_core::ask::{Ask, Request};
 use land_core::caller::Caller;
 use land_core::kind::{Kind, PartyKind};
+use land_core::member::Member;
 use land_core::object::Object;
+use land_core::party::Party;
 use land_core::role::Role;
+use land_core::roles::Grant;
+use land_core::sequence::Sequence;
 use land_core::text::Text;
+use land_fraction::Fraction;
 use std::alloc::{AllocError, Global};
 use std::process::Abort;
-use std::test::Fail;
 
-/// A clock that reads a list, and its last reading for ever.
+/// A member's number, and the numerator and denominator of its share.
+type Share = (u64, u64, u64);
+
+/// What a row asks.
+#[derive(Clone, Copy, Debug)]
+enum Asked {
+    Enrol(PartyKind, &'static str),
+    Group(&'static str, &'static [Share]),
+    Regroup(u64, &'static [Share]),
+    Grant(u64, Role),
+    Revoke(u64, Role),
+    View(u64),
+    ViewAt(u64, i64),
+    List,
+    ListAt(i64),
+}
+
+/// A reading of the clock, who asks what, and the reply in one line.
+type Row = (i64, Caller, Asked, &'static str);
+
+const OFFICE: Caller = Caller {
+    party: 1,
+    role: Role::StateAdministrator,
+};
+
+fn citizen(party: u64) -> Caller {
+    Caller {
+        party,
+        role: Role::Citizen,
+    }
+}
+
+fn text(alloc: Global, text: &str) -> Result<Text, AllocError> {
+    Ok(Text::new(String::from_str(alloc, text)?))
+}
+
+/// Members with their shares; a share that is no fraction is left out.
+fn members(alloc: Global, shares: &[Share]) -> Result<Sequence<Member>, AllocError> {
+    let mut members = Sequence::new(alloc);
+    for (party, n, d) in shares {
+        if let Ok(share) = Fraction::new(*n, *d) {
+            members.push(Member {
+                party: *party,
+                share,
+            })?;
+        }
+    }
+    Ok(members)
+}
+
+fn group(alloc: Global, name: &str, shares: &[Share]) -> Result<Act, AllocError> {
+    Ok(Act::Group(NewGroup {
+        name: text(alloc, name)?,
+        members: members(alloc, shares)?,
+    }))
+}
+
+fn view(number: u64, at: Option<i64>) -> Ask {
+    Ask::View {
+        kind: Kind::Party,
+        number,
+        at,
+    }
+}
+
+fn list(at: Option<i64>) -> Ask {
+    Ask::List {
+        kind: Kind::Party,
+        at,
+    }
+}
+
+/// What a row asks, as it is asked.
+fn ask(alloc: Global, asked: Asked) -> Result<Ask, AllocError> {
+    match asked {
+        Asked::Enrol(kind, name) => Ok(Ask::Do(Act::Enrol(Enrol {
+            kind,
+            name: text(alloc, name)?,
+        }))),
+        Asked::Group(name, shares) => Ok(Ask::Do(group(alloc, name, shares)?)),
+        Asked::Regroup(group, shares) => Ok(Ask::Do(Act::Regroup(Regroup {
+            group,
+            members: members(alloc, shares)?,
+        }))),
+        Asked::Grant(party, role) => Ok(Ask::Do(Act::Grant(Grant { party, role }))),
+        Asked::Revoke(party, role) => Ok(Ask::Do(Act::Revoke(Grant { party, role }))),
+        Asked::View(number) => Ok(view(number, None)),
+        Asked::ViewAt(number, at) => Ok(view(number, Some(at))),
+        Asked::List => Ok(list(None)),
+        Asked::ListAt(at) => Ok(list(Some(at))),
+    }
+}
+
+fn request(alloc: Global, caller: Caller, asked: Asked) -> Result<Request, AllocError> {
+    Ok(Request {
+        caller,
+        ask: ask(alloc, asked)?,
+    })
+}
+
+/// A clock that reads the rows' readings in turn, and then 0.
 #[derive(Drop)]
-struct ListClock<'a> {
-    readings: &'a [i64],
+struct RowClock<'a> {
+    rows: &'a [Row],
     next: usize,
 }
 
-impl Clock for ListClock<'_> {
+impl Clock for RowClock<'_> {
     ghost reads = { λ _ _ _. Unit {0} };
 
     fn read(&mut self) -> i64 {
-        let reading = self.readings.get(self.next).copied().unwrap_or(0);
+        let reading = self.rows.get(self.next).map_or(0, |row| row.0);
         self.next = self.next.saturating_add(1);
         reading
     }
 }
 
-fn caller(party: u64, role: Role) -> Caller {
-    Caller { party, role }
-}
-
-fn office() -> Caller {
-    caller(1, Role::StateAdministrator)
-}
-
-fn enrol(alloc: Global, caller: Caller, name: &str) -> Result<Request, AllocError> {
-    Ok(Request {
-        caller,
-        ask: Ask::Do(Act::Enrol(Enrol {
-            kind: PartyKind::NaturalPerson,
-            name: Text::new(String::from_str(alloc, name)?),
-        })),
-    })
-}
-
-fn view(caller: Caller, number: u64) -> Request {
-    Request {
-        caller,
-        ask: Ask::View {
-            kind: Kind::Party,
-            number,
-            at: None,
-        },
+/// The members of a group in one line, each as a number and a share.
+fn member_line(alloc: Global, members: &[Member]) -> Result<String, AllocError> {
+    let mut line = String::new(alloc);
+    for member in members {
+        write!(line, "({} {})", member.party, member.share)?;
     }
+    Ok(line)
 }
 
-fn list(caller: Caller, at: Option<i64>) -> Request {
-    Request {
-        caller,
-        ask: Ask::List {
-            kind: Kind::Party,
-            at,
-        },
-    }
+fn party_line(alloc: Global, it: &Party) -> Result<String, AllocError> {
+    let members = member_line(alloc, it.members.as_slice())?;
+    format!(in alloc;
+        "party {} {:?} {} [{}] {:?}",
+        it.number,
+        it.kind,
+        it.name.as_str(),
+        members.as_str(),
+        it.roles.as_slice()
+    )
 }
 
 /// A reply in one line.
 fn line(alloc: Global, reply: &Reply) -> Result<String, AllocError> {
     match reply {
-        Reply::Object(Object::Party(it)) => {
-            let name = it.name.as_str();
-            format!(in alloc;
-                "party {} {:?} {} {:?}",
-                it.number,
-                it.kind,
-                name,
-                it.roles.as_slice()
-            )
-        }
+        Reply::Object(Object::Party(it)) => party_line(alloc, it),
         Reply::Numbers(numbers) => format!(in alloc; "numbers {:?}", numbers.as_slice()),
         Reply::Done(it) => {
             format!(in alloc;
@@ -102,198 +182,24 @@ fn line(alloc: Global, reply: &Reply) -> Result<String, AllocError> {
     }
 }
 
-/// Runs requests over a new register, with these clock readings, and compares the replies in full. A reply of 501
-/// stands for want of memory; it is compared with nothing.
-fn assert_replies(
-    rt: &impl Abort,
-    alloc: Global,
-    readings: &[i64],
-    requests: &[Request],
-    replies: &[&str],
-) -> Result<(), AllocError> {
+/// Runs the requests of rows over a new register, and compares the replies in full. A reply of 501 stands for want of
+/// memory: what follows it is compared with nothing.
+fn assert_rows(rt: &impl Abort, alloc: Global, rows: &[Row]) -> Result<(), AllocError> {
+    let mut requests = Vec::new(alloc);
+    for (_, caller, asked, _) in rows {
+        requests.push(request(alloc, *caller, *asked)?)?;
+    }
+    assert!(rt; are_well_formed(requests.as_slice()));
     let mut keeper = PlainKeeper::new(alloc)?;
-    let mut clock = ListClock { readings, next: 0 };
-    assert!(rt; are_well_formed(requests));
-    let answers = run(alloc, &mut keeper, &mut clock, requests)?;
-    assert_eq!(rt; answers.len(), replies.len());
-    for (answer, expected) in answers.iter().zip(replies) {
-        let line = line(alloc, answer)?;
-        if line.as_str() == "store 501" {
+    let mut clock = RowClock { rows, next: 0 };
+    let answers = run(alloc, &mut keeper, &mut clock, requests.as_slice())?;
+    assert_eq!(rt; answers.len(), rows.len());
+    for (answer, row) in answers.iter().zip(rows) {
+        let told = line(alloc, answer)?;
+        if told.as_str() == "store 501" {
             return Ok(());
         }
-        assert_eq!(rt; line.as_str(), *expected);
+        assert_eq!(rt; told.as_str(), row.3);
     }
-    Ok(())
-}
-
-#[test]
-fn a_stranger_and_a_missing_role_are_denied(rt: HostRuntime) -> Result<(), Fail> {
-    let anna_as_office = caller(2, Role::StateAdministrator);
-    let anna = caller(2, Role::Citizen);
-    let alloc = rt.alloc();
-    assert_replies(
-        &rt,
-        alloc,
-        &[1000, 1000, 1000, 1000],
-        &[
-            enrol(alloc, caller(9, Role::StateAdministrator), "Anna")?,
-            enrol(alloc, office(), "Anna")?,
-            enrol(alloc, anna_as_office, "Anna")?,
-            enrol(alloc, anna, "Anna")?,
-        ],
-        &[
-            "denied 1",
-            "done 2 made [2] at 1000",
-            "denied 2",
-            "denied 4",
-        ],
-    )?;
-    Ok(())
-}
-
-#[test]
-fn stamps_rise_whatever_the_clock_reads(rt: HostRuntime) -> Result<(), Fail> {
-    let alloc = rt.alloc();
-    assert_replies(
-        &rt,
-        alloc,
-        &[5000, 4000, 4000, 4_102_444_800_000, 4_102_444_799_999, 1000],
-        &[
-            enrol(alloc, office(), "Anna")?,
-            enrol(alloc, office(), "Ben")?,
-            list(office(), Some(5002)),
-            enrol(alloc, office(), "Nora")?,
-            enrol(alloc, office(), "Nora")?,
-            enrol(alloc, office(), "Nora")?,
-        ],
-        &[
-            "done 2 made [2] at 5000",
-            "done 3 made [3] at 5001",
-            "fault 135",
-            "refused 217",
-            "done 4 made [4] at 4102444799999",
-            "refused 217",
-        ],
-    )?;
-    Ok(())
-}
-
-#[test]
-fn a_citizen_sees_itself(rt: HostRuntime) -> Result<(), Fail> {
-    let alloc = rt.alloc();
-    let anna = caller(2, Role::Citizen);
-    assert_replies(
-        &rt,
-        alloc,
-        &[1000, 1000, 1000, 1000, 1000],
-        &[
-            enrol(alloc, office(), "Anna")?,
-            view(office(), 9),
-            view(anna, 1),
-            list(anna, None),
-            view(anna, 2),
-        ],
-        &[
-            "done 2 made [2] at 1000",
-            "denied 27",
-            "denied 13",
-            "numbers [2]",
-            "party 2 NaturalPerson Anna [Citizen]",
-        ],
-    )?;
-    Ok(())
-}
-
-#[test]
-fn the_past_is_read_at_its_moment(rt: HostRuntime) -> Result<(), Fail> {
-    let alloc = rt.alloc();
-    let anna = caller(2, Role::Citizen);
-    let anna_at_999 = Request {
-        caller: anna,
-        ask: Ask::View {
-            kind: Kind::Party,
-            number: 2,
-            at: Some(999),
-        },
-    };
-    assert_replies(
-        &rt,
-        alloc,
-        &[1000, 1000, 1000, 1000, 1000, -5, 1000],
-        &[
-            enrol(alloc, office(), "Anna")?,
-            list(office(), Some(999)),
-            list(office(), Some(1000)),
-            anna_at_999,
-            list(anna, Some(999)),
-            list(office(), Some(1001)),
-            list(caller(9, Role::Citizen), Some(1001)),
-        ],
-        &[
-            "done 2 made [2] at 1000",
-            "numbers [1]",
-            "numbers [1, 2]",
-            "denied 27",
-            "numbers []",
-            "fault 135",
-            "fault 135",
-        ],
-    )?;
-    Ok(())
-}
-
-#[test]
-fn a_run_may_be_empty_or_end_in_a_denial(rt: HostRuntime) -> Result<(), Fail> {
-    let alloc = rt.alloc();
-    assert_replies(&rt, alloc, &[], &[], &[])?;
-    assert_replies(
-        &rt,
-        alloc,
-        &[1000, 1000],
-        &[
-            enrol(alloc, office(), "Anna")?,
-            view(caller(3, Role::Citizen), 3),
-        ],
-        &["done 2 made [2] at 1000", "denied 1"],
-    )?;
-    Ok(())
-}
-
-#[test]
-fn what_is_prepared_changes_nothing_before_it_is_finished(rt: HostRuntime) -> Result<(), Fail> {
-    let alloc = rt.alloc();
-    let mut keeper = PlainKeeper::new(alloc)?;
-    let request = enrol(alloc, office(), "Anna")?;
-    assert!(rt; request.is_well_formed());
-    assert!(rt; !keeper.is_closed());
-    if let Ok(prepared) = prepare(alloc, &mut keeper, 1000, &request) {
-        let told = line(alloc, prepared.reply())?;
-        assert_eq!(rt; told.as_str(), "done 2 made [2] at 1000");
-        assert_eq!(rt; keeper.last(), 0);
-        if let Ok(reply) = finish(alloc, &mut keeper, prepared) {
-            assert_eq!(rt; line(alloc, &reply)?.as_str(), "done 2 made [2] at 1000");
-            assert_eq!(rt; keeper.last(), 1000);
-        } else {
-            assert_eq!(rt; keeper.last(), 0);
-        }
-    }
-    Ok(())
-}
-
-#[test]
-fn after_want_of_memory_the_same_request_is_done(rt: HostRuntime) -> Result<(), Fail> {
-    let alloc = rt.alloc();
-    let mut keeper = PlainKeeper::new(alloc)?;
-    let request = enrol(alloc, office(), "Anna")?;
-    assert!(rt; request.is_well_formed());
-    let mut reply = answer(alloc, &mut keeper, 1000, &request);
-    if let Reply::Store(number) = reply {
-        assert_eq!(rt; number, 501);
-        assert_eq!(rt; keeper.last(), 0);
-        assert!(rt; !keeper.is_closed());
-        reply = answer(alloc, &mut keeper, 1000, &request);
-    }
-    assert_eq!(rt; line(alloc, &reply)?.as_str(), "done 2 made [2] at 1000");
-    assert_eq!(rt; keeper.last(), 1000);
     Ok(())
 }

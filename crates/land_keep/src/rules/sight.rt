@@ -38,11 +38,11 @@ fn party_verdict(at: &Register, caller: Caller, number: u64) -> Verdict
     }
 }
 
-/// Whether a group is one of which the party is a member. No act makes a group yet.
+/// Whether a group is one of which the party is a member.
 fn is_member_of(at: &Register, party: u64, group: u64) -> bool
     ensures { result ≡ is_member_of at.now party group }
 {
-    false
+    at.is_member(group, party)
 }
 
 /// Whether a party is that of an entry in the caller's sight. No act makes an entry yet.

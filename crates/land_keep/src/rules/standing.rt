@@ -60,6 +60,6 @@ fn is_office_act(act: &Act) -> bool
     ensures { result ≡ is_office_act act.now }
 {
     match act {
-        Act::Enrol(_) => true,
+        Act::Enrol(_) | Act::Group(_) | Act::Regroup(_) | Act::Grant(_) | Act::Revoke(_) => true,
     }
 }

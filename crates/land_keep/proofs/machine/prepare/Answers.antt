@@ -1,5 +1,5 @@
 use Rattle.std.proofs.Common.{◌≡◌, sym, ◌∙◌, rules, false}
-use Rattle.std.specs.Prelude.{int_lt, unwrap_or, FitsSigned}
+use Rattle.std.specs.Prelude.{int_lt, FitsSigned}
 use Rattle.std.specs.Int.{w64}
 use Rattle.std.proofs.lemmas.Int.{to_z-of_z}
 use Rattle.land_keep.specs.Machine.{now_of, moment_of, verdict_at}

@@ -1,5 +1,4 @@
-use Rattle.std.proofs.Common.{◌≡◌, refl, sym, subst}
-use Rattle.land_core.specs.Register.{new_register}
+use Rattle.std.proofs.Common.{refl, sym, subst}
 use Rattle.land_core.specs.Soundness.{IsSound}
 use Rattle.land_core.specs.declared.register.Register.{Register}
 use Rattle.land_core.proofs.NewRegister.{new_is_sound}

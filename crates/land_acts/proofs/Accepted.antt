@@ -1,0 +1,92 @@
+-- Accepted acts keep a register sound, and name no key twice.
+use Rattle.std.proofs.Common.{◌≡◌, ◌≤◌, true, ◌&&◌, not, Option, None, Ok, [], ◌∷◌, length, refl, subst, arith}
+use Rattle.std.specs.Prelude.{ℤ, ◌||◌, is_none, unwrap_or, pos}
+use Rattle.land_core.specs.Acts.{is_well_formed, are_members, is_number, name_numbers}
+use Rattle.land_core.specs.Changes.{after, NamesKeysOnce}
+use Rattle.land_core.specs.Members.{is_group_size}
+use Rattle.land_core.specs.Register.{has_single_party, has_group, holds}
+use Rattle.land_core.specs.Role.{is_role}
+use Rattle.land_core.specs.Soundness.{IsSound}
+use Rattle.land_core.specs.Texts.{is_name}
+use Rattle.land_core.specs.declared.act.Act.{Act}
+use Rattle.land_core.specs.declared.act.Act.TheVariants as act
+use Rattle.land_core.specs.declared.caller.Caller.{Caller}
+use Rattle.land_core.specs.declared.change.Change.{Change}
+use Rattle.land_core.specs.declared.change.Done.{Done}
+use Rattle.land_core.specs.declared.register.Register.{Register}
+use Rattle.land_core.specs.declared.role.Role.TheVariants.{StateAdministrator}
+use Rattle.land_core.proofs.Booleans.{both_of, or_false, not_false}
+use Rattle.land_acts.specs.declared.refusal.Planned.TheVariants.{New}
+use Rattle.land_acts.specs.declared.refusal.Refusal.TheVariants.{NoSuchParty, SharesTooFine, TooMany, SharesNotWhole, RoleHeld, RoleNotHeld, ClockOut, LastAdministrator, SameParty}
+use Rattle.land_acts.specs.Laws.{AcceptedKeepsSound, AcceptedNamesKeysOnce}
+use Rattle.land_acts.specs.Outcome.{outcome_of, first_that_holds, refusals_of, change_of, done_of}
+use Rattle.land_acts.specs.Planning.{lacks_numbers, has_administrator_beside}
+use Rattle.land_acts.specs.Sharing.{lists_stranger, are_too_fine, are_whole, lists_twice}
+use Rattle.land_acts.proofs.GroupActs.{enrolled_is_sound, grouped_is_sound, regrouped_is_sound}
+use Rattle.land_acts.proofs.Outcomes.{IsPlanned, planned_from, first_none}
+use Rattle.land_acts.proofs.RoleActs.{granted_is_sound, revoked_is_sound}
+
+-- ---- each act, where none of its refusals holds
+
+sound_after : (r : Register) (caller : Caller) (a : Act) (stamp : Option ℤ) → IsSound r → is_well_formed a ≡ true → first_that_holds (refusals_of r caller a stamp) ≡ None
+    → IsSound (after (change_of r caller a) r)
+sound_after r caller (act.Enrol it) stamp sound formed none =
+    enrolled_is_sound r it sound (both_of _ _ formed).0 (first_none TooMany (lacks_numbers r 1) ((ClockOut, is_none stamp) ∷ []) none).first
+sound_after r caller (act.Group it) stamp sound formed none =
+    let known = first_none NoSuchParty (lists_stranger r it.members) ((SharesTooFine, are_too_fine it.members) ∷ (TooMany, lacks_numbers r 1) ∷ (SharesNotWhole, not (are_whole it.members)) ∷ (ClockOut, is_none stamp) ∷ (SameParty, lists_twice it.members) ∷ []) none in
+    let fine = first_none SharesTooFine (are_too_fine it.members) ((TooMany, lacks_numbers r 1) ∷ (SharesNotWhole, not (are_whole it.members)) ∷ (ClockOut, is_none stamp) ∷ (SameParty, lists_twice it.members) ∷ []) known.rest in
+    let room = first_none TooMany (lacks_numbers r 1) ((SharesNotWhole, not (are_whole it.members)) ∷ (ClockOut, is_none stamp) ∷ (SameParty, lists_twice it.members) ∷ []) fine.rest in
+    let whole = first_none SharesNotWhole (not (are_whole it.members)) ((ClockOut, is_none stamp) ∷ (SameParty, lists_twice it.members) ∷ []) room.rest in
+    let stamped = first_none ClockOut (is_none stamp) ((SameParty, lists_twice it.members) ∷ []) whole.rest in
+    let once = first_none SameParty (lists_twice it.members) [] stamped.rest in
+    let size : is_group_size (length it.members) ≡ true = (both_of _ (name_numbers it.members) (both_of (is_name it.name) (are_members it.members) formed).1).0 in
+    grouped_is_sound r it sound size known.first room.first (not_false _ whole.first) once.first
+sound_after r caller (act.Regroup it) stamp sound formed none =
+    let known = first_none NoSuchParty (not (has_group r it.group) || lists_stranger r it.members) ((SharesTooFine, are_too_fine it.members) ∷ (SharesNotWhole, not (are_whole it.members)) ∷ (ClockOut, is_none stamp) ∷ (SameParty, lists_twice it.members) ∷ []) none in
+    let fine = first_none SharesTooFine (are_too_fine it.members) ((SharesNotWhole, not (are_whole it.members)) ∷ (ClockOut, is_none stamp) ∷ (SameParty, lists_twice it.members) ∷ []) known.rest in
+    let whole = first_none SharesNotWhole (not (are_whole it.members)) ((ClockOut, is_none stamp) ∷ (SameParty, lists_twice it.members) ∷ []) fine.rest in
+    let stamped = first_none ClockOut (is_none stamp) ((SameParty, lists_twice it.members) ∷ []) whole.rest in
+    let once = first_none SameParty (lists_twice it.members) [] stamped.rest in
+    let parties = or_false (not (has_group r it.group)) (lists_stranger r it.members) known.first in
+    let size : is_group_size (length it.members) ≡ true = (both_of _ (name_numbers it.members) (both_of (is_number it.group) (are_members it.members) formed).1).0 in
+    regrouped_is_sound r it sound size (not_false _ parties.0) parties.1 (not_false _ whole.first) once.first
+sound_after r caller (act.Grant it) stamp sound formed none =
+    granted_is_sound r it sound (not_false _ (first_none NoSuchParty (not (has_single_party r it.party)) ((RoleHeld, holds r it.party it.role) ∷ (ClockOut, is_none stamp) ∷ []) none).first)
+sound_after r caller (act.Revoke it) stamp sound formed none =
+    let last = is_role it.role StateAdministrator && not (has_administrator_beside r it.party) in
+    let known = first_none NoSuchParty (not (has_single_party r it.party)) ((RoleNotHeld, not (holds r it.party it.role)) ∷ (ClockOut, is_none stamp) ∷ (LastAdministrator, last) ∷ []) none in
+    let held = first_none RoleNotHeld (not (holds r it.party it.role)) ((ClockOut, is_none stamp) ∷ (LastAdministrator, last) ∷ []) known.rest in
+    let stamped = first_none ClockOut (is_none stamp) ((LastAdministrator, last) ∷ []) held.rest in
+    revoked_is_sound r it sound (first_none LastAdministrator last [] stamped.rest).first
+
+next_grows : (r : Register) (caller : Caller) (a : Act) → r.next ≤ (change_of r caller a).next
+next_grows r caller (act.Enrol it) = omega arith
+next_grows r caller (act.Group it) = omega arith
+next_grows r caller (act.Regroup it) = omega arith
+next_grows r caller (act.Grant it) = omega arith
+next_grows r caller (act.Revoke it) = omega arith
+
+names_once : (r : Register) (caller : Caller) (a : Act) → NamesKeysOnce (change_of r caller a)
+names_once r caller (act.Enrol it) = record { parties = refl; roles = refl; members = refl }
+names_once r caller (act.Group it) = record { parties = refl; roles = refl; members = refl }
+names_once r caller (act.Regroup it) = record { parties = refl; roles = refl; members = refl }
+names_once r caller (act.Grant it) = record { parties = refl; roles = refl; members = refl }
+names_once r caller (act.Revoke it) = record { parties = refl; roles = refl; members = refl }
+
+-- ---- any act
+
+planned : (r : Register) (caller : Caller) (a : Act) (stamp : Option ℤ) (change : Change) (done : Done) → outcome_of r caller a stamp ≡ Ok (New change done)
+    → IsPlanned (refusals_of r caller a stamp) (change_of r caller a) change
+planned r caller a stamp change done is =
+    planned_from (refusals_of r caller a stamp) (change_of r caller a) change (done_of r caller a (unwrap_or stamp (pos 0))) done is
+
+pub accepted_sound : AcceptedKeepsSound
+accepted_sound r change sound h =
+    let plan = planned r h.caller h.act h.stamp change h.done h.outcome in
+    subst (λ (made : Change). IsSound (after made r) × (r.next ≤ made.next)) plan.same
+    (sound_after r h.caller h.act h.stamp sound h.well_formed plan.none_holds, next_grows r h.caller h.act)
+
+pub accepted_once : AcceptedNamesKeysOnce
+accepted_once r change h =
+    let plan = planned r h.caller h.act h.stamp change h.done h.outcome in
+    subst NamesKeysOnce plan.same (names_once r h.caller h.act)

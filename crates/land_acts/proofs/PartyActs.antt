@@ -1,0 +1,85 @@
+-- A party that is put at the next number: what stood before stands as it was.
+use Rattle.std.proofs.Common.{◌≡◌, ℕ, ◌+◌, ◌<◌, true, false, cond, ◌&&◌, not, Option, Some, None, refl, sym, ap, ◌∙◌, subst, arith}
+use Rattle.std.specs.Prelude.{nat_lt}
+use Rattle.std.specs.Option.{option_map_or}
+use Rattle.std.specs.Ordering.{nat_cmp, eq_by_cmp, is_eq}
+use Rattle.std.specs.Cmp.{nat_cmp_total, tied_itself}
+use Rattle.std.specs.FinMap as map
+use Rattle.std.proofs.lemmas.Bool.{false≢true}
+use Rattle.std.proofs.lemmas.Bool.Decides.{nat_tests}
+use Rattle.land_core.specs.Members.{Members}
+use Rattle.land_core.specs.Register.{has_single_party, has_group, is_single}
+use Rattle.land_core.specs.Soundness.{IsSound, has_unused_number, has_loose_grant, is_used}
+use Rattle.land_core.specs.declared.party.PartyRecord.{PartyRecord}
+use Rattle.land_core.specs.declared.register.Register.{Register}
+use Rattle.land_core.specs.declared.soundness.Unsound.TheVariants.{Reference}
+use Rattle.land_core.proofs.SoundRegisters.{refers, used_from, unused_from, used_bounds, next_above_zero, loose_from, single_from, AreTight}
+use Rattle.land_acts.proofs.Numbers.{one_number, lesser_apart}
+
+-- each party that stands in a register stands in another one too, as it was
+abbrev pub StayParties : Register → Register → Type 0
+StayParties r new = (n : ℕ) (p : PartyRecord) → map.get r.parties n ≡ Some p → map.get new.parties n ≡ Some p
+
+pub single_stays : (r new : Register) → StayParties r new → (n : ℕ) → has_single_party r n ≡ true → has_single_party new n ≡ true
+single_stays r new stay n h = found (map.get r.parties n) refl h
+  where
+    found : (o : Option PartyRecord) → map.get r.parties n ≡ o → option_map_or (λ (p : PartyRecord). is_single p.kind) o false ≡ true → has_single_party new n ≡ true
+    found None e h = absurd (false≢true h)
+    found (Some p) e h = ap (λ o. option_map_or (λ (p : PartyRecord). is_single p.kind) o false) (stay n p e) ∙ h
+
+pub group_stays : (r new : Register) → StayParties r new → (n : ℕ) → has_group r n ≡ true → has_group new n ≡ true
+group_stays r new stay n h = found (map.get r.parties n) refl h
+  where
+    found : (o : Option PartyRecord) → map.get r.parties n ≡ o → option_map_or (λ (p : PartyRecord). not (is_single p.kind)) o false ≡ true → has_group new n ≡ true
+    found None e h = absurd (false≢true h)
+    found (Some p) e h = ap (λ o. option_map_or (λ (p : PartyRecord). not (is_single p.kind)) o false) (stay n p e) ∙ h
+
+pub tight_stays : (r new : Register) → StayParties r new → (group : ℕ) (members : Members) → AreTight r group members → AreTight new group members
+tight_stays r new stay group members h = record {
+  grouped = group_stays r new stay group h.grouped;
+  single = λ n share is. single_stays r new stay n (h.single n share is);
+}
+
+-- a number that is in use stays so when the next number grows by one, and the one that was next is in use then
+used_more : (next n : ℕ) → (nat_lt 0 n && nat_lt n next) ≡ true → (nat_lt 0 n && nat_lt n (next + 1)) ≡ true
+used_more next n h = grind (arith, nat_tests)
+
+next_used : (next : ℕ) → 0 < next → (nat_lt 0 next && nat_lt next (next + 1)) ≡ true
+next_used next h = grind (arith, nat_tests)
+
+module _ (r new : Register) (party : PartyRecord) (parties : new.parties ≡ map.insert r.parties r.next party) (next : new.next ≡ r.next + 1) (sound : IsSound r) where
+  put_at : (n : ℕ) → map.get new.parties n ≡ cond (eq_by_cmp nat_cmp n r.next) (Some party) (map.get r.parties n)
+  put_at n = ap (λ m. map.get m n) parties ∙ map.get-insert nat_cmp_total r.parties r.next party n
+
+  -- no party stood at the next number
+  pub not_next : (n : ℕ) (p : PartyRecord) → map.get r.parties n ≡ Some p → eq_by_cmp nat_cmp n r.next ≡ false
+  not_next n p is = lesser_apart n r.next (used_bounds r n (used_from r (refers r (sound Reference)).numbers n p is)).1
+
+  pub stay : StayParties r new
+  stay n p is = put_at n ∙ ap (λ b. cond b (Some party) (map.get r.parties n)) (not_next n p is) ∙ is
+
+  pub put_there : map.get new.parties r.next ≡ Some party
+  put_there = put_at r.next ∙ ap (λ b. cond b (Some party) (map.get r.parties r.next)) (ap is_eq (tied_itself nat_cmp_total r.next))
+
+  -- each party of the new register is the new one or stood before
+  pub each_party : (P : ℕ → PartyRecord → Type 0) → P r.next party → ((n : ℕ) (p : PartyRecord) → eq_by_cmp nat_cmp n r.next ≡ false → map.get r.parties n ≡ Some p → P n p)
+      → (n : ℕ) (p : PartyRecord) → map.get new.parties n ≡ Some p → P n p
+  each_party P here there n p is =
+      elim (eq_by_cmp nat_cmp n r.next) as (λ b. eq_by_cmp nat_cmp n r.next ≡ b → cond b (Some party) (map.get r.parties n) ≡ Some p → P n p) [
+        | true ↦ λ at e. subst (λ (q : PartyRecord). P n q) (same_party_record e) (subst (λ (k : ℕ). P k party) (sym (one_number n r.next at)) here)
+        | false ↦ λ apart e. there n p apart e
+      ] refl (sym (put_at n) ∙ is)
+    where
+      same_party_record : Some party ≡ Some p → party ≡ p
+      same_party_record e = cc
+
+  pub all_used : has_unused_number new ≡ false
+  all_used =
+      unused_from new
+      (each_party (λ n p. is_used new n ≡ true)
+      (ap (λ k. nat_lt 0 r.next && nat_lt r.next k) next ∙ next_used r.next (next_above_zero r sound))
+      (λ n p apart is. ap (λ k. nat_lt 0 n && nat_lt n k) next ∙ used_more r.next n (used_from r (refers r (sound Reference)).numbers n p is)))
+
+  pub no_loose_grant : new.roles ≡ r.roles → has_loose_grant new ≡ false
+  no_loose_grant roles =
+      loose_from new (λ g is. single_stays r new stay g.party (single_from r (refers r (sound Reference)).grants g (sym (ap (λ m. map.get m g) roles) ∙ is)))

@@ -1,0 +1,89 @@
+-- What planning reads of a slice is what it reads of the register.
+use Rattle.std.proofs.Common.{◌≡◌, ℕ, Bool, true, false, ◌||◌, ◌&&◌, not, Some, List, [], ◌∷◌, refl, sym, ap, ◌∙◌, subst}
+use Rattle.std.specs.Prelude.{is_some, nat_eq}
+use Rattle.std.specs.Option.{option_map_or}
+use Rattle.std.specs.List.{list_any, AllByRecursion}
+use Rattle.std.specs.Cmp.{nat_cmp_total}
+use Rattle.std.specs.FinMap as map
+use Rattle.std.specs.FinMap.{nat_cmp-IsAntisymmetric}
+use Rattle.std.proofs.lemmas.Bool.{false≢true}
+use Rattle.land_core.specs.Entries.{only}
+use Rattle.land_core.specs.Grants.{grants_in, has_grant, grant_of}
+use Rattle.land_core.specs.Register.{has_single_party, has_group, holds, is_single}
+use Rattle.land_core.specs.Role.{is_role}
+use Rattle.land_core.specs.declared.act.Act.{Act}
+use Rattle.land_core.specs.declared.act.Act.TheVariants as act
+use Rattle.land_core.specs.declared.act.Regroup.{Regroup}
+use Rattle.land_core.specs.declared.caller.Caller.{Caller}
+use Rattle.land_core.specs.declared.member.Member.{Member}
+use Rattle.land_core.specs.declared.register.Register.{Register}
+use Rattle.land_core.specs.declared.role.Role.{Role}
+use Rattle.land_core.specs.declared.role.Role.TheVariants.{StateAdministrator, Citizen, Conveyancer, Notary, Bank, CertifiedSurveyor}
+use Rattle.land_core.specs.declared.roles.Grant.{Grant}
+use Rattle.land_core.proofs.Booleans.{both_of}
+use Rattle.land_core.proofs.FiniteSets.{grants_total, exact_grants}
+use Rattle.land_core.proofs.Reflection.{get-only, entries-only, each_there, list_any-filter, list_any-map}
+use Rattle.land_acts.specs.Planning.{has_administrator_beside}
+use Rattle.land_acts.specs.Sharing.{lists_party, lists_stranger}
+use Rattle.land_acts.specs.Slices.{slice_of, looks_at_party, names_party}
+use Rattle.land_acts.proofs.Numbers.{same_number}
+
+pub or_right : (x y : Bool) → y ≡ true → (x || y) ≡ true
+or_right true y h = refl
+or_right false y h = h
+
+pub administrator_is : (role : Role) → is_role role StateAdministrator ≡ true → role ≡ StateAdministrator
+administrator_is StateAdministrator h = refl
+administrator_is Citizen h = absurd (false≢true h)
+administrator_is Conveyancer h = absurd (false≢true h)
+administrator_is Notary h = absurd (false≢true h)
+administrator_is Bank h = absurd (false≢true h)
+administrator_is CertifiedSurveyor h = absurd (false≢true h)
+
+-- a regrouping names its group and its members
+pub names_group : (it : Regroup) → names_party (act.Regroup it) it.group ≡ true
+names_group it = ap (λ b. b || lists_party it.members it.group) (same_number it.group)
+
+pub names_members : (it : Regroup) (n : ℕ) → lists_party it.members n ≡ true → names_party (act.Regroup it) n ≡ true
+names_members it n listed = or_right (nat_eq n it.group) (lists_party it.members n) listed
+
+module _ (r : Register) (caller : Caller) (a : Act) where
+  party_same : (n : ℕ) → names_party a n ≡ true → map.get (slice_of r caller a).parties n ≡ map.get r.parties n
+  party_same n named = get-only nat_cmp_total nat_cmp-IsAntisymmetric _ r.parties n (λ v. ap (λ b. b || holds r n StateAdministrator) named)
+
+  pub single_same : (n : ℕ) → names_party a n ≡ true → has_single_party (slice_of r caller a) n ≡ has_single_party r n
+  single_same n named = ap (λ o. option_map_or (λ p. is_single p.kind) o false) (party_same n named)
+
+  pub group_same : (n : ℕ) → names_party a n ≡ true → has_group (slice_of r caller a) n ≡ has_group r n
+  group_same n named = ap (λ o. option_map_or (λ p. not (is_single p.kind)) o false) (party_same n named)
+
+  pub holds_same : (n : ℕ) (role : Role) → names_party a n ≡ true → holds (slice_of r caller a) n role ≡ holds r n role
+  holds_same n role named =
+      ap is_some (get-only grants_total exact_grants _ r.roles (grant_of n role) (λ v. ap (λ b. b || holds r n StateAdministrator) named))
+
+  pub stranger_same : (members : List Member) → ((n : ℕ) → lists_party members n ≡ true → names_party a n ≡ true)
+      → lists_stranger (slice_of r caller a) members ≡ lists_stranger r members
+  stranger_same [] named = refl
+  stranger_same (member ∷ members) named =
+      ap (λ b. not b || lists_stranger (slice_of r caller a) members)
+      (single_same member.party (named member.party (ap (λ b. b || lists_party members member.party) (same_number member.party))))
+      ∙ ap (λ b. not (has_single_party r member.party) || b)
+      (stranger_same members (λ n listed. named n (or_right (nat_eq n member.party) (lists_party members n) listed)))
+
+  pub beside_same : (n : ℕ) → has_administrator_beside (slice_of r caller a) n ≡ has_administrator_beside r n
+  unfolding grants_in
+  beside_same n =
+      let test : Grant → Bool = λ g. is_role g.role StateAdministrator && not (nat_eq g.party n) in
+      list_any-map test (λ e. e.0) (map.entries (only (λ g u. looks_at_party r a g.party) r.roles))
+      ∙ ap (list_any (λ e. test e.0)) (entries-only grants_total exact_grants (λ g u. looks_at_party r a g.party) r.roles)
+      ∙ list_any-filter (λ e. test e.0) (λ e. looks_at_party r a e.0.party) (map.entries r.roles) (kept (map.entries r.roles) (each_there grants_total exact_grants r.roles))
+      ∙ sym (list_any-map test (λ e. e.0) (map.entries r.roles))
+    where
+      kept : (es : List (Grant × Unit {0})) → AllByRecursion (λ e. map.get r.roles e.0 ≡ Some e.1) es
+          → AllByRecursion (λ e. (is_role e.0.role StateAdministrator && not (nat_eq e.0.party n)) ≡ true → looks_at_party r a e.0.party ≡ true) es
+      kept [] h = tt
+      kept (e ∷ es) h = (
+        λ passes. or_right (names_party a e.0.party) _
+            (subst (λ (role : Role). has_grant r.roles (grant_of e.0.party role) ≡ true) (administrator_is e.0.role (both_of _ _ passes).0) (ap is_some h.0)),
+        kept es h.1,
+      )

@@ -1,0 +1,25 @@
+-- Enrolling: a natural or non-natural person gets the next number and becomes a citizen.
+use Rattle.std.specs.Prelude.{◌+◌, Bool, List, [], ◌∷◌, Option, is_none, ℤ}
+use Rattle.land_core.specs.Grants.{grant_of}
+use Rattle.land_core.specs.declared.role.Role.TheVariants.{Citizen}
+use Rattle.land_core.specs.declared.act.Enrol.{Enrol}
+use Rattle.land_core.specs.declared.change.Change.{Change}
+use Rattle.land_core.specs.declared.change.Done.{Done}
+use Rattle.land_core.specs.declared.register.Register.{Register}
+use Rattle.land_acts.specs.declared.refusal.Refusal.{Refusal}
+use Rattle.land_acts.specs.declared.refusal.Refusal.TheVariants.{TooMany, ClockOut}
+use Rattle.land_acts.specs.Planning.{lacks_numbers}
+
+-- its refusals, each with whether its condition holds, the least number first
+abbrev pub enrol_refusals : Register → Option ℤ → List (Refusal × Bool)
+enrol_refusals r stamp = (TooMany, lacks_numbers r 1) ∷ (ClockOut, is_none stamp) ∷ []
+
+abbrev pub enrol_change : Register → Enrol → Change
+enrol_change r it = record {
+  put = record { parties = (r.next, record { kind = it.kind; name = it.name }) ∷ []; roles = grant_of r.next Citizen ∷ []; members = [] };
+  ended = record { parties = []; roles = []; members = [] };
+  next = r.next + 1;
+}
+
+abbrev pub enrol_done : Register → Enrol → ℤ → Done
+enrol_done r it stamp = record { number = r.next; made = r.next ∷ []; stamp = stamp }

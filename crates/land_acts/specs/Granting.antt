@@ -1,0 +1,25 @@
+-- Granting: a single party gets a role that it does not hold.
+use Rattle.std.specs.Prelude.{ℤ, Bool, not, List, [], ◌∷◌, Option, is_none}
+use Rattle.land_core.specs.Register.{has_single_party, holds}
+use Rattle.land_core.specs.declared.change.Change.{Change}
+use Rattle.land_core.specs.declared.change.Done.{Done}
+use Rattle.land_core.specs.declared.register.Register.{Register}
+use Rattle.land_acts.specs.declared.refusal.Refusal.{Refusal}
+use Rattle.land_acts.specs.declared.refusal.Refusal.TheVariants.{NoSuchParty, RoleHeld, ClockOut}
+use Rattle.land_core.specs.declared.roles.Grant.{Grant}
+use Rattle.land_acts.specs.Planning.{told_of}
+
+-- its refusals, each with whether its condition holds, the least number first
+abbrev pub grant_refusals : Register → Grant → Option ℤ → List (Refusal × Bool)
+grant_refusals r it stamp =
+    (NoSuchParty, not (has_single_party r it.party)) ∷ (RoleHeld, holds r it.party it.role) ∷ (ClockOut, is_none stamp) ∷ []
+
+abbrev pub grant_change : Register → Grant → Change
+grant_change r it = record {
+  put = record { parties = []; roles = it ∷ []; members = [] };
+  ended = record { parties = []; roles = []; members = [] };
+  next = r.next;
+}
+
+abbrev pub grant_done : Grant → ℤ → Done
+grant_done it stamp = told_of it.party stamp

@@ -1,0 +1,32 @@
+-- Grouping: single parties, each with its share, become the members of a new group, which has no roles.
+use Rattle.std.specs.Prelude.{◌+◌, ℤ, Bool, not, List, [], ◌∷◌, Option, is_none}
+use Rattle.land_core.specs.declared.act.NewGroup.{NewGroup}
+use Rattle.land_core.specs.declared.change.Change.{Change}
+use Rattle.land_core.specs.declared.change.Done.{Done}
+use Rattle.land_core.specs.declared.kind.PartyKind.TheVariants.{Group}
+use Rattle.land_core.specs.declared.register.Register.{Register}
+use Rattle.land_acts.specs.declared.refusal.Refusal.{Refusal}
+use Rattle.land_acts.specs.declared.refusal.Refusal.TheVariants.{NoSuchParty, SharesTooFine, TooMany, SharesNotWhole, ClockOut, SameParty}
+use Rattle.land_acts.specs.Planning.{lacks_numbers}
+use Rattle.land_acts.specs.Sharing.{lists_stranger, are_too_fine, are_whole, lists_twice, members_of_list}
+
+-- its refusals, each with whether its condition holds, the least number first
+abbrev pub group_refusals : Register → NewGroup → Option ℤ → List (Refusal × Bool)
+group_refusals r it stamp =
+    (NoSuchParty, lists_stranger r it.members)
+    ∷ (SharesTooFine, are_too_fine it.members)
+    ∷ (TooMany, lacks_numbers r 1)
+    ∷ (SharesNotWhole, not (are_whole it.members))
+    ∷ (ClockOut, is_none stamp)
+    ∷ (SameParty, lists_twice it.members)
+    ∷ []
+
+abbrev pub group_change : Register → NewGroup → Change
+group_change r it = record {
+  put = record { parties = (r.next, record { kind = Group; name = it.name }) ∷ []; roles = []; members = (r.next, members_of_list it.members) ∷ [] };
+  ended = record { parties = []; roles = []; members = [] };
+  next = r.next + 1;
+}
+
+abbrev pub group_done : Register → ℤ → Done
+group_done r stamp = record { number = r.next; made = r.next ∷ []; stamp = stamp }

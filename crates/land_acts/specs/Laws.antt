@@ -1,0 +1,36 @@
+-- Laws over the definitions alone.
+use Rattle.std.specs.Prelude.{◌≡◌, ◌≤◌, true, Option, Ok, ℤ}
+use Rattle.land_core.specs.Acts.{is_well_formed}
+use Rattle.land_core.specs.Register.{holds}
+use Rattle.land_core.specs.Soundness.{IsSound}
+use Rattle.land_core.specs.Changes.{after, NamesKeysOnce}
+use Rattle.land_acts.specs.Outcome.{outcome_of}
+use Rattle.land_acts.specs.Slices.{slice_of}
+use Rattle.land_core.specs.declared.caller.Caller.{Caller}
+use Rattle.land_core.specs.declared.act.Act.{Act}
+use Rattle.land_core.specs.declared.change.Change.{Change}
+use Rattle.land_core.specs.declared.change.Done.{Done}
+use Rattle.land_acts.specs.declared.refusal.Planned.TheVariants.{New}
+use Rattle.land_core.specs.declared.register.Register.{Register}
+
+-- an act has the same outcome over a register and over its slice: the same refusal, the same change, the same done
+abbrev pub SlicesSuffice : Type 0
+SlicesSuffice = (r : Register) (caller : Caller) (a : Act) (stamp : Option ℤ) → outcome_of (slice_of r caller a) caller a stamp ≡ outcome_of r caller a stamp
+
+-- an act is accepted, of a caller that holds its role, with a change
+pub record IsAccepted (r : Register) (change : Change) : Type 0 where
+  pub caller : Caller
+  pub act : Act
+  pub stamp : Option ℤ
+  pub done : Done
+  pub well_formed : is_well_formed act ≡ true
+  pub role_held : holds r caller.party caller.role ≡ true
+  pub outcome : outcome_of r caller act stamp ≡ Ok (New change done)
+
+-- an accepted act leaves a sound register sound, and no number is given anew
+abbrev pub AcceptedKeepsSound : Type 0
+AcceptedKeepsSound = (r : Register) (change : Change) → IsSound r → IsAccepted r change → IsSound (after change r) × (r.next ≤ change.next)
+
+-- an accepted act puts and ends no key twice
+abbrev pub AcceptedNamesKeysOnce : Type 0
+AcceptedNamesKeysOnce = (r : Register) (change : Change) → IsAccepted r change → NamesKeysOnce change

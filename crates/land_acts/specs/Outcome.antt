@@ -1,0 +1,59 @@
+-- What an act leads to: the least refusal whose condition holds, else a change of the register.
+use Rattle.std.specs.Prelude.{◌≡◌, Bool, List, [], ◌∷◌, Option, Some, None, Result, Ok, Err, unwrap_or, ℤ, pos, if◌then◌else◌}
+use Rattle.land_acts.specs.Enrolment.{enrol_refusals, enrol_change, enrol_done}
+use Rattle.land_acts.specs.Granting.{grant_refusals, grant_change, grant_done}
+use Rattle.land_acts.specs.Grouping.{group_refusals, group_change, group_done}
+use Rattle.land_acts.specs.Regrouping.{regroup_refusals, regroup_change, regroup_done}
+use Rattle.land_acts.specs.Revoking.{revoke_refusals, revoke_change, revoke_done}
+use Rattle.land_core.specs.declared.caller.Caller.{Caller}
+use Rattle.land_core.specs.declared.act.Act.{Act}
+use Rattle.land_core.specs.declared.act.Act.TheVariants.{Enrol, Group, Regroup, Grant, Revoke}
+use Rattle.land_core.specs.declared.change.Change.{Change}
+use Rattle.land_core.specs.declared.change.Done.{Done}
+use Rattle.land_core.specs.declared.register.Register.{Register}
+use Rattle.land_acts.specs.declared.refusal.Refusal.{Refusal}
+use Rattle.land_acts.specs.declared.refusal.Planned.{Planned}
+use Rattle.land_acts.specs.declared.refusal.Planned.TheVariants.{New}
+
+-- the refusals of an act, each with whether its condition holds, the least number first
+abbrev pub refusals_of : Register → Caller → Act → Option ℤ → List (Refusal × Bool)
+refusals_of r caller (Enrol it) stamp = enrol_refusals r stamp
+refusals_of r caller (Group it) stamp = group_refusals r it stamp
+refusals_of r caller (Regroup it) stamp = regroup_refusals r it stamp
+refusals_of r caller (Grant it) stamp = grant_refusals r it stamp
+refusals_of r caller (Revoke it) stamp = revoke_refusals r it stamp
+
+-- what an act changes where it is not refused
+abbrev pub change_of : Register → Caller → Act → Change
+change_of r caller (Enrol it) = enrol_change r it
+change_of r caller (Group it) = group_change r it
+change_of r caller (Regroup it) = regroup_change r it
+change_of r caller (Grant it) = grant_change r it
+change_of r caller (Revoke it) = revoke_change r it
+
+-- what the caller is told of an act that is not refused
+abbrev pub done_of : Register → Caller → Act → ℤ → Done
+done_of r caller (Enrol it) stamp = enrol_done r it stamp
+done_of r caller (Group it) stamp = group_done r stamp
+done_of r caller (Regroup it) stamp = regroup_done it stamp
+done_of r caller (Grant it) stamp = grant_done it stamp
+done_of r caller (Revoke it) stamp = revoke_done it stamp
+
+-- the first whose condition holds
+abbrev pub first_that_holds : List (Refusal × Bool) → Option Refusal
+first_that_holds [] = None
+first_that_holds (line ∷ lines) = if line.1 then Some line.0 else first_that_holds lines
+
+abbrev pub refused_else : Option Refusal → Planned → Result Planned Refusal
+refused_else None planned = Ok planned
+refused_else (Some refusal) planned = Err refusal
+
+-- the outcome of an act with a stamp, or with none where there is no moment left for a change
+abbrev pub outcome_of : Register → Caller → Act → Option ℤ → Result Planned Refusal
+outcome_of r caller a stamp =
+    refused_else (first_that_holds (refusals_of r caller a stamp)) (New (change_of r caller a) (done_of r caller a (unwrap_or stamp (pos 0))))
+
+-- no refusal holds, at some stamp or none
+pub record IsUnrefused (r : Register) (caller : Caller) (a : Act) : Type 0 where
+  pub stamp : Option ℤ
+  pub none_holds : first_that_holds (refusals_of r caller a stamp) ≡ None

@@ -1,0 +1,31 @@
+-- Regrouping: the listed members take the place of those that a group has.
+use Rattle.std.specs.Prelude.{ℤ, Bool, not, ◌||◌, List, [], ◌∷◌, Option, is_none}
+use Rattle.land_core.specs.Register.{has_group}
+use Rattle.land_core.specs.declared.act.Regroup.{Regroup}
+use Rattle.land_core.specs.declared.change.Change.{Change}
+use Rattle.land_core.specs.declared.change.Done.{Done}
+use Rattle.land_core.specs.declared.register.Register.{Register}
+use Rattle.land_acts.specs.declared.refusal.Refusal.{Refusal}
+use Rattle.land_acts.specs.declared.refusal.Refusal.TheVariants.{NoSuchParty, SharesTooFine, SharesNotWhole, ClockOut, SameParty}
+use Rattle.land_acts.specs.Planning.{told_of}
+use Rattle.land_acts.specs.Sharing.{lists_stranger, are_too_fine, are_whole, lists_twice, members_of_list}
+
+-- its refusals, each with whether its condition holds, the least number first
+abbrev pub regroup_refusals : Register → Regroup → Option ℤ → List (Refusal × Bool)
+regroup_refusals r it stamp =
+    (NoSuchParty, not (has_group r it.group) || lists_stranger r it.members)
+    ∷ (SharesTooFine, are_too_fine it.members)
+    ∷ (SharesNotWhole, not (are_whole it.members))
+    ∷ (ClockOut, is_none stamp)
+    ∷ (SameParty, lists_twice it.members)
+    ∷ []
+
+abbrev pub regroup_change : Register → Regroup → Change
+regroup_change r it = record {
+  put = record { parties = []; roles = []; members = (it.group, members_of_list it.members) ∷ [] };
+  ended = record { parties = []; roles = []; members = [] };
+  next = r.next;
+}
+
+abbrev pub regroup_done : Regroup → ℤ → Done
+regroup_done it stamp = told_of it.group stamp

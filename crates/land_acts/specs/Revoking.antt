@@ -1,0 +1,31 @@
+-- Revoking: a role of a single party ends. The last state administrator stays one.
+use Rattle.std.specs.Prelude.{ℤ, Bool, not, ◌&&◌, List, [], ◌∷◌, Option, is_none}
+use Rattle.land_core.specs.Register.{has_single_party, holds}
+use Rattle.land_core.specs.Role.{is_role}
+use Rattle.land_core.specs.declared.change.Change.{Change}
+use Rattle.land_core.specs.declared.change.Done.{Done}
+use Rattle.land_core.specs.declared.register.Register.{Register}
+use Rattle.land_acts.specs.declared.refusal.Refusal.{Refusal}
+use Rattle.land_acts.specs.declared.refusal.Refusal.TheVariants.{NoSuchParty, RoleNotHeld, ClockOut, LastAdministrator}
+use Rattle.land_core.specs.declared.role.Role.TheVariants.{StateAdministrator}
+use Rattle.land_core.specs.declared.roles.Grant.{Grant}
+use Rattle.land_acts.specs.Planning.{told_of, has_administrator_beside}
+
+-- its refusals, each with whether its condition holds, the least number first
+abbrev pub revoke_refusals : Register → Grant → Option ℤ → List (Refusal × Bool)
+revoke_refusals r it stamp =
+    (NoSuchParty, not (has_single_party r it.party))
+    ∷ (RoleNotHeld, not (holds r it.party it.role))
+    ∷ (ClockOut, is_none stamp)
+    ∷ (LastAdministrator, is_role it.role StateAdministrator && not (has_administrator_beside r it.party))
+    ∷ []
+
+abbrev pub revoke_change : Register → Grant → Change
+revoke_change r it = record {
+  put = record { parties = []; roles = []; members = [] };
+  ended = record { parties = []; roles = it ∷ []; members = [] };
+  next = r.next;
+}
+
+abbrev pub revoke_done : Grant → ℤ → Done
+revoke_done it stamp = told_of it.party stamp

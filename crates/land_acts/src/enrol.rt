@@ -1,0 +1,59 @@
+//! Enrolling a party.
+ghost use Rattle.std.specs.Prelude.{◌≡◌, ◌≤◌, ◌+◌, IfOk};
+ghost use Rattle.land_acts.specs.Enrolment.{enrol_refusals, enrol_change, enrol_done};
+ghost use Rattle.land_acts.specs.Outcome.{first_that_holds};
+
+use crate::plan::{lacks_numbers, no_change};
+use crate::refusal::Refusal;
+use crate::slice::Slice;
+use land_core::act::Enrol;
+use land_core::change::{Change, Done};
+use land_core::duplicate::Duplicate;
+use land_core::party::PartyRecord;
+use land_core::role::Role;
+use land_core::roles::Grant;
+use land_core::sequence::Sequence;
+use std::alloc::{AllocError, Global};
+
+/// The least refusal of an enrolment whose condition holds.
+pub(crate) fn refusal(slice: &Slice, stamp: Option<i64>) -> Option<Refusal>
+    ensures { result ≡ first_that_holds (enrol_refusals slice.now stamp) }
+{
+    if lacks_numbers(slice, 1) {
+        Some(Refusal::TooMany)
+    } else if stamp.is_none() {
+        Some(Refusal::ClockOut)
+    } else {
+        None
+    }
+}
+
+/// The new party with the next number, a citizen.
+pub(crate) fn planned(
+    alloc: Global,
+    slice: &Slice,
+    it: &Enrol,
+    stamp: i64,
+) -> Result<(Change, Done), AllocError>
+    requires { slice.now.next ≤ 1_000_000_000 }
+    ensures { IfOk result (λ planned. (planned.0 ≡ enrol_change slice.now it.now) × (planned.1 ≡ enrol_done slice.now it.now stamp)) }
+{
+    let number = slice.next;
+    let party = PartyRecord {
+        kind: it.kind,
+        name: it.name.copy(alloc)?,
+    };
+    let citizen = Grant {
+        party: number,
+        role: Role::Citizen,
+    };
+    let mut change = no_change(alloc, number + 1);
+    change.put.parties.push((number, party))?;
+    change.put.roles.push(citizen)?;
+    let done = Done {
+        number,
+        made: Sequence::of_one(alloc, number)?,
+        stamp,
+    };
+    Ok((change, done))
+}

@@ -1,0 +1,40 @@
+//! Giving a party a role.
+ghost use Rattle.std.specs.Prelude.{◌≡◌, IfOk};
+ghost use Rattle.land_acts.specs.Granting.{grant_refusals, grant_change, grant_done};
+ghost use Rattle.land_acts.specs.Outcome.{first_that_holds};
+
+use crate::plan::{no_change, told_of};
+use crate::refusal::Refusal;
+use crate::slice::Slice;
+use land_core::change::{Change, Done};
+use land_core::roles::Grant;
+use std::alloc::{AllocError, Global};
+
+/// The least refusal of a grant whose condition holds.
+pub(crate) fn refusal(slice: &Slice, it: &Grant, stamp: Option<i64>) -> Option<Refusal>
+    ensures { result ≡ first_that_holds (grant_refusals slice.now it.now stamp) }
+{
+    if !slice.has_single_party(it.party) {
+        Some(Refusal::NoSuchParty)
+    } else if slice.holds(it.party, it.role) {
+        Some(Refusal::RoleHeld)
+    } else if stamp.is_none() {
+        Some(Refusal::ClockOut)
+    } else {
+        None
+    }
+}
+
+/// The role of the party, from then on.
+pub(crate) fn planned(
+    alloc: Global,
+    slice: &Slice,
+    it: &Grant,
+    stamp: i64,
+) -> Result<(Change, Done), AllocError>
+    ensures { IfOk result (λ planned. (planned.0 ≡ grant_change slice.now it.now) × (planned.1 ≡ grant_done it.now stamp)) }
+{
+    let mut change = no_change(alloc, slice.next);
+    change.put.roles.push(*it)?;
+    Ok((change, told_of(alloc, it.party, stamp)))
+}

@@ -1,0 +1,73 @@
+//! Making a group of parties.
+ghost use Rattle.std.specs.Prelude.{◌≡◌, ◌≤◌, ◌+◌, IfOk};
+ghost use Rattle.land_acts.specs.Grouping.{group_refusals, group_change, group_done};
+ghost use Rattle.land_acts.specs.Outcome.{first_that_holds};
+
+use crate::plan::{lacks_numbers, no_change};
+use crate::refusal::Refusal;
+use crate::sharing::{lists_stranger, lists_twice, members_of_list, wholeness};
+use crate::slice::Slice;
+use land_core::act::NewGroup;
+use land_core::change::{Change, Done};
+use land_core::duplicate::Duplicate;
+use land_core::kind::PartyKind;
+use land_core::party::PartyRecord;
+use land_core::sequence::Sequence;
+use land_fraction::Whole;
+use std::alloc::{AllocError, Global};
+
+/// The least refusal of a new group whose condition holds.
+pub(crate) fn refusal(
+    alloc: Global,
+    slice: &Slice,
+    it: &NewGroup,
+    stamp: Option<i64>,
+) -> Result<Option<Refusal>, AllocError>
+    ensures { IfOk result (λ first. first ≡ first_that_holds (group_refusals slice.now it.now stamp)) }
+{
+    let members = it.members.as_slice();
+    if lists_stranger(slice, members) {
+        return Ok(Some(Refusal::NoSuchParty));
+    }
+    let whole = wholeness(alloc, members)?;
+    if whole == Whole::TooFine {
+        Ok(Some(Refusal::SharesTooFine))
+    } else if lacks_numbers(slice, 1) {
+        Ok(Some(Refusal::TooMany))
+    } else if whole != Whole::Yes {
+        Ok(Some(Refusal::SharesNotWhole))
+    } else if stamp.is_none() {
+        Ok(Some(Refusal::ClockOut))
+    } else if lists_twice(members) {
+        Ok(Some(Refusal::SameParty))
+    } else {
+        Ok(None)
+    }
+}
+
+/// The new group with the next number, and its members.
+pub(crate) fn planned(
+    alloc: Global,
+    slice: &Slice,
+    it: &NewGroup,
+    stamp: i64,
+) -> Result<(Change, Done), AllocError>
+    requires { slice.now.next ≤ 1_000_000_000 }
+    ensures { IfOk result (λ planned. (planned.0 ≡ group_change slice.now it.now) × (planned.1 ≡ group_done slice.now stamp)) }
+{
+    let number = slice.next;
+    let party = PartyRecord {
+        kind: PartyKind::Group,
+        name: it.name.copy(alloc)?,
+    };
+    let members = members_of_list(alloc, it.members.as_slice())?;
+    let mut change = no_change(alloc, number + 1);
+    change.put.parties.push((number, party))?;
+    change.put.members.push((number, members))?;
+    let done = Done {
+        number,
+        made: Sequence::of_one(alloc, number)?,
+        stamp,
+    };
+    Ok((change, done))
+}

@@ -1,0 +1,60 @@
+//! Why an act is refused, and what it leads to.
+ghost use Rattle.std.specs.Prelude.{◌≡◌};
+
+use land_core::change::{Change, Done};
+
+/// Why an act is refused.
+#[derive(Clone, Copy, Debug, PartialEq, Eq)]
+pub enum Refusal {
+    /// 205: a party that is named does not stand, or is not of the kind that is asked for.
+    NoSuchParty,
+    /// 207: the shares have no common denominator up to 1_000_000_000.
+    SharesTooFine,
+    /// 210: a new number would be above 1_000_000_000.
+    TooMany,
+    /// 213: the shares do not sum to one.
+    SharesNotWhole,
+    /// 215: the party holds the role already.
+    RoleHeld,
+    /// 216: the party does not hold the role.
+    RoleNotHeld,
+    /// 217: there is no moment left for the change.
+    ClockOut,
+    /// 218: nobody else is state administrator.
+    LastAdministrator,
+    /// 219: a party is named twice.
+    SameParty,
+    /// 501: there was no memory for the plan.
+    NoMemory,
+}
+
+impl Refusal {
+    ghost use Rattle.land_acts.specs.Planning.{number_of};
+
+    /// The number that the caller is told.
+    pub fn number(self) -> u16
+        ensures { result ≡ number_of self }
+    {
+        match self {
+            Refusal::NoSuchParty => 205,
+            Refusal::SharesTooFine => 207,
+            Refusal::TooMany => 210,
+            Refusal::SharesNotWhole => 213,
+            Refusal::RoleHeld => 215,
+            Refusal::RoleNotHeld => 216,
+            Refusal::ClockOut => 217,
+            Refusal::LastAdministrator => 218,
+            Refusal::SameParty => 219,
+            Refusal::NoMemory => 501,
+        }
+    }
+}
+
+/// What an act that is not refused leads to.
+#[derive(Debug, Drop)]
+pub enum Planned {
+    /// A change, and what the caller is told.
+    New(Change, Done),
+    /// What the caller was told before: the act was done already.
+    Repeat(Done),
+}

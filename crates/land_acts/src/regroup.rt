@@ -1,0 +1,55 @@
+//! Giving a group other members.
+ghost use Rattle.std.specs.Prelude.{◌≡◌, IfOk};
+ghost use Rattle.land_acts.specs.Regrouping.{regroup_refusals, regroup_change, regroup_done};
+ghost use Rattle.land_acts.specs.Outcome.{first_that_holds};
+
+use crate::plan::{no_change, told_of};
+use crate::refusal::Refusal;
+use crate::sharing::{lists_stranger, lists_twice, members_of_list, wholeness};
+use crate::slice::Slice;
+use land_core::act::Regroup;
+use land_core::change::{Change, Done};
+use land_fraction::Whole;
+use std::alloc::{AllocError, Global};
+
+/// The least refusal of a regrouping whose condition holds.
+pub(crate) fn refusal(
+    alloc: Global,
+    slice: &Slice,
+    it: &Regroup,
+    stamp: Option<i64>,
+) -> Result<Option<Refusal>, AllocError>
+    ensures { IfOk result (λ first. first ≡ first_that_holds (regroup_refusals slice.now it.now stamp)) }
+{
+    let members = it.members.as_slice();
+    if !slice.has_group(it.group) || lists_stranger(slice, members) {
+        return Ok(Some(Refusal::NoSuchParty));
+    }
+    let whole = wholeness(alloc, members)?;
+    if whole == Whole::TooFine {
+        Ok(Some(Refusal::SharesTooFine))
+    } else if whole != Whole::Yes {
+        Ok(Some(Refusal::SharesNotWhole))
+    } else if stamp.is_none() {
+        Ok(Some(Refusal::ClockOut))
+    } else if lists_twice(members) {
+        Ok(Some(Refusal::SameParty))
+    } else {
+        Ok(None)
+    }
+}
+
+/// The group with the listed members in place of those that it had.
+pub(crate) fn planned(
+    alloc: Global,
+    slice: &Slice,
+    it: &Regroup,
+    stamp: i64,
+) -> Result<(Change, Done), AllocError>
+    ensures { IfOk result (λ planned. (planned.0 ≡ regroup_change slice.now it.now) × (planned.1 ≡ regroup_done it.now stamp)) }
+{
+    let members = members_of_list(alloc, it.members.as_slice())?;
+    let mut change = no_change(alloc, slice.next);
+    change.put.members.push((it.group, members))?;
+    Ok((change, told_of(alloc, it.group, stamp)))
+}

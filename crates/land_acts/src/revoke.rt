@@ -1,0 +1,51 @@
+//! Ending a role of a party.
+ghost use Rattle.std.specs.Prelude.{◌≡◌, IfOk};
+ghost use Rattle.land_acts.specs.Revoking.{revoke_refusals, revoke_change, revoke_done};
+ghost use Rattle.land_acts.specs.Outcome.{first_that_holds};
+ghost use Rattle.land_acts.specs.Planning.{has_administrator_beside};
+
+use crate::plan::{no_change, told_of};
+use crate::refusal::Refusal;
+use crate::slice::Slice;
+use land_core::change::{Change, Done};
+use land_core::role::Role;
+use land_core::roles::Grant;
+use std::alloc::{AllocError, Global};
+
+/// The least refusal of a revocation whose condition holds.
+pub(crate) fn refusal(slice: &Slice, it: &Grant, stamp: Option<i64>) -> Option<Refusal>
+    ensures { result ≡ first_that_holds (revoke_refusals slice.now it.now stamp) }
+{
+    if !slice.has_single_party(it.party) {
+        Some(Refusal::NoSuchParty)
+    } else if !slice.holds(it.party, it.role) {
+        Some(Refusal::RoleNotHeld)
+    } else if stamp.is_none() {
+        Some(Refusal::ClockOut)
+    } else if it.role == Role::StateAdministrator && !has_administrator_beside(slice, it.party) {
+        Some(Refusal::LastAdministrator)
+    } else {
+        None
+    }
+}
+
+/// Whether some other party is state administrator.
+fn has_administrator_beside(slice: &Slice, party: u64) -> bool
+    ensures { result ≡ has_administrator_beside slice.now party }
+{
+    slice.roles.iter().any(|grant| grant.role == Role::StateAdministrator && grant.party != party)
+}
+
+/// The end of the party's role.
+pub(crate) fn planned(
+    alloc: Global,
+    slice: &Slice,
+    it: &Grant,
+    stamp: i64,
+) -> Result<(Change, Done), AllocError>
+    ensures { IfOk result (λ planned. (planned.0 ≡ revoke_change slice.now it.now) × (planned.1 ≡ revoke_done it.now stamp)) }
+{
+    let mut change = no_change(alloc, slice.next);
+    change.ended.roles.push(*it)?;
+    Ok((change, told_of(alloc, it.party, stamp)))
+}

@@ -1,0 +1,70 @@
+//! The members that an act lists.
+ghost use Rattle.std.specs.Prelude.{◌≡◌, ◌++◌, IfOk};
+ghost use Rattle.land_core.specs.Entries.{are_distinct};
+ghost use Rattle.land_core.specs.Members.{is_yes};
+ghost use Rattle.land_fraction.specs.Wholeness.{wholeness};
+ghost use Rattle.land_acts.specs.Sharing.{listed_shares, lists_party, lists_stranger, lists_twice, members_of_list, same_party};
+
+use crate::slice::Slice;
+use land_core::member::{Member, Members};
+use land_core::records::Records;
+use land_fraction::{Fraction, Whole, is_whole};
+use std::alloc::{AllocError, Global};
+
+/// Whether a party is listed.
+pub(crate) fn lists_party(members: &[Member], number: u64) -> bool
+    ensures { result ≡ lists_party members.now number }
+{
+    members.iter().any(|member| number == member.party)
+}
+
+/// Whether one of those listed is no single party that stands.
+pub(crate) fn lists_stranger(slice: &Slice, members: &[Member]) -> bool
+    ensures { result ≡ lists_stranger slice.now members.now }
+{
+    members
+        .iter()
+        .any(|member| !slice.has_single_party(member.party))
+}
+
+/// Whether the listed shares make a whole.
+pub(crate) fn wholeness(alloc: Global, members: &[Member]) -> Result<Whole, AllocError>
+    ensures { IfOk result (λ it. it ≡ wholeness (listed_shares members.now)) }
+{
+    let shares = listed_shares(alloc, members)?;
+    Ok(is_whole(shares.as_slice()))
+}
+
+fn listed_shares(alloc: Global, members: &[Member]) -> Result<Vec<Fraction>, AllocError>
+    ensures { IfOk result (λ it. it.items ≡ listed_shares members.now) }
+{
+    members.iter().map(|member| member.share).collect(alloc)
+}
+
+/// Whether a party is listed twice.
+pub(crate) fn lists_twice(members: &[Member]) -> bool
+    ensures { result ≡ lists_twice members.now }
+{
+    !are_apart(members)
+}
+
+/// Whether no party is listed twice.
+fn are_apart(members: &[Member]) -> bool
+    ensures { result ≡ are_distinct same_party members.now }
+{
+    match members.split_first() {
+        Some((first, rest)) => !lists_party(rest, first.party) && are_apart(rest),
+        None => true,
+    }
+}
+
+/// The listed members as a group has them.
+pub(crate) fn members_of_list(alloc: Global, listed: &[Member]) -> Result<Members, AllocError>
+    ensures { IfOk result (λ it. it ≡ members_of_list listed.now) }
+{
+    let mut members = Records::new(alloc);
+    for member in listed {
+        members.insert(member.party, member.share)?;
+    }
+    Ok(members)
+}

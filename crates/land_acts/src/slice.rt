@@ -1,0 +1,98 @@
+//! Slices: the records that planning may look at.
+ghost use Rattle.std.specs.Prelude.{◌≡◌, IfOk};
+ghost use Rattle.land_core.specs.Entries.{only};
+ghost use Rattle.land_acts.specs.Slices.{slice_of, looks_at_party, names_party};
+
+use crate::sharing::lists_party;
+use land_core::act::Act;
+use land_core::caller::Caller;
+use land_core::duplicate::Duplicate;
+use land_core::member::Members;
+use land_core::party::PartyRecord;
+use land_core::records::Records;
+use land_core::register::Register;
+use land_core::role::Role;
+use land_core::roles::Roles;
+use std::alloc::{AllocError, Global};
+
+/// A register with only the records that planning may look at.
+pub type Slice = Register;
+
+/// The slice of a register for an act: the parties that the act names and all state administrators, each with its
+/// roles and its members, and the next number.
+pub fn slice_of(
+    alloc: Global,
+    register: &Register,
+    caller: Caller,
+    act: &Act,
+) -> Result<Slice, AllocError>
+    ensures { IfOk result (λ it. it ≡ slice_of register.now caller act.now) }
+{
+    Ok(Register {
+        parties: parties_looked_at(alloc, register, act)?,
+        roles: roles_looked_at(alloc, register, act)?,
+        members: members_looked_at(alloc, register, act)?,
+        next: register.next,
+    })
+}
+
+fn parties_looked_at(
+    alloc: Global,
+    register: &Register,
+    act: &Act,
+) -> Result<Records<PartyRecord>, AllocError>
+    ensures { IfOk result (λ it. it ≡ only (λ n p. looks_at_party register.now act.now n) register.now.parties) }
+{
+    let mut kept = Records::new(alloc);
+    for (number, party) in register.parties.iter() {
+        if looks_at_party(register, act, *number) {
+            kept.insert(*number, party.copy(alloc)?)?;
+        }
+    }
+    Ok(kept)
+}
+
+fn roles_looked_at(alloc: Global, register: &Register, act: &Act) -> Result<Roles, AllocError>
+    ensures { IfOk result (λ it. it ≡ only (λ grant u. looks_at_party register.now act.now grant.party) register.now.roles) }
+{
+    let mut kept = Roles::new(alloc);
+    for grant in register.roles.iter() {
+        if looks_at_party(register, act, grant.party) {
+            kept.insert(*grant)?;
+        }
+    }
+    Ok(kept)
+}
+
+fn members_looked_at(
+    alloc: Global,
+    register: &Register,
+    act: &Act,
+) -> Result<Records<Members>, AllocError>
+    ensures { IfOk result (λ it. it ≡ only (λ n members. looks_at_party register.now act.now n) register.now.members) }
+{
+    let mut kept = Records::new(alloc);
+    for (number, members) in register.members.iter() {
+        if looks_at_party(register, act, *number) {
+            kept.insert(*number, members.copy(alloc)?)?;
+        }
+    }
+    Ok(kept)
+}
+
+fn looks_at_party(register: &Register, act: &Act, party: u64) -> bool
+    ensures { result ≡ looks_at_party register.now act.now party }
+{
+    names_party(act, party) || register.holds(party, Role::StateAdministrator)
+}
+
+fn names_party(act: &Act, party: u64) -> bool
+    ensures { result ≡ names_party act.now party }
+{
+    match act {
+        Act::Enrol(_) => false,
+        Act::Group(it) => lists_party(it.members.as_slice(), party),
+        Act::Regroup(it) => party == it.group || lists_party(it.members.as_slice(), party),
+        Act::Grant(it) | Act::Revoke(it) => party == it.party,
+    }
+}

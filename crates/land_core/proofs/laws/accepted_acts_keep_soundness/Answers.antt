@@ -1,5 +1,0 @@
-use Rattle.land_core.proofs.Accepted.{accepted_sound}
-use Rattle.land_core.proofs.laws.accepted_acts_keep_soundness.Goals as goal
-
-pub returns : goal.returns
-returns c = accepted_sound

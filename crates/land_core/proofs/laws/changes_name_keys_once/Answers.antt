@@ -1,5 +1,0 @@
-use Rattle.land_core.proofs.Accepted.{accepted_once}
-use Rattle.land_core.proofs.laws.changes_name_keys_once.Goals as goal
-
-pub returns : goal.returns
-returns c = accepted_once

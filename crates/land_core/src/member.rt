@@ -1,0 +1,58 @@
+//! Members of groups (LA_PartyMember) and their shares.
+ghost use Rattle.std.specs.Prelude.{◌≡◌, IfOk};
+ghost use Rattle.land_core.specs.Members.{members_in, shares_in};
+
+use crate::duplicate::Duplicate;
+use crate::records::Records;
+use crate::sequence::Sequence;
+use land_fraction::Fraction;
+use std::alloc::{AllocError, Global};
+
+/// A party and its share in a group, as acts list members and objects show them.
+#[derive(Clone, Copy, Debug)]
+pub struct Member {
+    /// The party's number.
+    pub party: u64,
+    /// Its share.
+    pub share: Fraction,
+}
+
+/// The members of one group: each party's number with its share.
+pub type Members = Records<Fraction>;
+
+impl Duplicate for Fraction {
+    fn copy(&self, _alloc: Global) -> Result<Fraction, AllocError> {
+        Ok(*self)
+    }
+}
+
+impl Duplicate for Member {
+    fn copy(&self, _alloc: Global) -> Result<Member, AllocError> {
+        Ok(*self)
+    }
+}
+
+/// The members of a group as they are shown, by ascending numbers.
+pub fn listed(alloc: Global, members: &Members) -> Result<Sequence<Member>, AllocError>
+    ensures { IfOk result (λ it. it ≡ members_in members.now) }
+{
+    let mut listed = Sequence::new(alloc);
+    for (party, share) in members.iter() {
+        listed.push(Member {
+            party: *party,
+            share: *share,
+        })?;
+    }
+    Ok(listed)
+}
+
+/// The shares of a group's members, in the order of their numbers.
+pub fn shares_of(alloc: Global, members: &Members) -> Result<Sequence<Fraction>, AllocError>
+    ensures { IfOk result (λ it. it ≡ shares_in members.now) }
+{
+    let mut shares = Sequence::new(alloc);
+    for (_, share) in members.iter() {
+        shares.push(*share)?;
+    }
+    Ok(shares)
+}
