@@ -14,6 +14,7 @@ use Rattle.land_acts.specs.Planning.{lacks_numbers}
 abbrev pub enrol_refusals : Register → Option ℤ → List (Refusal × Bool)
 enrol_refusals r stamp = (TooMany, lacks_numbers r 1) ∷ (ClockOut, is_none stamp) ∷ []
 
+-- the party stands under the next number and holds the role citizen
 abbrev pub enrol_change : Register → Enrol → Change
 enrol_change r it = record {
   put = record { parties = (r.next, record { kind = it.kind; name = it.name }) ∷ []; roles = grant_of r.next Citizen ∷ []; members = [] };
@@ -21,5 +22,6 @@ enrol_change r it = record {
   next = r.next + 1;
 }
 
+-- the act is about the party, and made it
 abbrev pub enrol_done : Register → Enrol → ℤ → Done
 enrol_done r it stamp = record { number = r.next; made = r.next ∷ []; stamp = stamp }

@@ -14,6 +14,7 @@ abbrev pub grant_refusals : Register → Grant → Option ℤ → List (Refusal 
 grant_refusals r it stamp =
     (NoSuchParty, not (has_single_party r it.party)) ∷ (RoleHeld, holds r it.party it.role) ∷ (ClockOut, is_none stamp) ∷ []
 
+-- the role begins
 abbrev pub grant_change : Register → Grant → Change
 grant_change r it = record {
   put = record { parties = []; roles = it ∷ []; members = [] };
@@ -21,5 +22,6 @@ grant_change r it = record {
   next = r.next;
 }
 
+-- the act is about the party
 abbrev pub grant_done : Grant → ℤ → Done
 grant_done it stamp = told_of it.party stamp

@@ -21,6 +21,7 @@ group_refusals r it stamp =
     ∷ (SameParty, lists_twice it.members)
     ∷ []
 
+-- the group stands under the next number, and so do its members
 abbrev pub group_change : Register → NewGroup → Change
 group_change r it = record {
   put = record { parties = (r.next, record { kind = Group; name = it.name }) ∷ []; roles = []; members = (r.next, members_of_list it.members) ∷ [] };
@@ -28,5 +29,6 @@ group_change r it = record {
   next = r.next + 1;
 }
 
+-- the act is about the group, and made it
 abbrev pub group_done : Register → ℤ → Done
 group_done r stamp = record { number = r.next; made = r.next ∷ []; stamp = stamp }

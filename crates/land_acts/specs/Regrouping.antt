@@ -20,6 +20,7 @@ regroup_refusals r it stamp =
     ∷ (SameParty, lists_twice it.members)
     ∷ []
 
+-- the listed members stand under the group's number, and no others
 abbrev pub regroup_change : Register → Regroup → Change
 regroup_change r it = record {
   put = record { parties = []; roles = []; members = (it.group, members_of_list it.members) ∷ [] };
@@ -27,5 +28,6 @@ regroup_change r it = record {
   next = r.next;
 }
 
+-- the act is about the group
 abbrev pub regroup_done : Regroup → ℤ → Done
 regroup_done it stamp = told_of it.group stamp

@@ -20,6 +20,7 @@ revoke_refusals r it stamp =
     ∷ (LastAdministrator, is_role it.role StateAdministrator && not (has_administrator_beside r it.party))
     ∷ []
 
+-- the role ends
 abbrev pub revoke_change : Register → Grant → Change
 revoke_change r it = record {
   put = record { parties = []; roles = []; members = [] };
@@ -27,5 +28,6 @@ revoke_change r it = record {
   next = r.next;
 }
 
+-- the act is about the party
 abbrev pub revoke_done : Grant → ℤ → Done
 revoke_done it stamp = told_of it.party stamp

@@ -24,6 +24,7 @@ lists_party members n = list_any (λ member. nat_eq n member.party) members
 abbrev pub lists_stranger : Register → List Member → Bool
 lists_stranger r members = list_any (λ member. not (has_single_party r member.party)) members
 
+-- whether it cannot be told if shares make a whole
 abbrev pub is_too_fine : Whole → Bool
 is_too_fine Yes = false
 is_too_fine No = false
@@ -37,6 +38,7 @@ are_too_fine members = is_too_fine (wholeness (listed_shares members))
 abbrev pub are_whole : List Member → Bool
 are_whole members = is_yes (wholeness (listed_shares members))
 
+-- whether two of those listed are one party
 abbrev pub same_party : Member → Member → Bool
 same_party member other = nat_eq member.party other.party
 

@@ -1,5 +1,5 @@
 //! Making a group of parties.
-ghost use Rattle.std.specs.Prelude.{◌≡◌, ◌≤◌, ◌+◌, IfOk};
+ghost use Rattle.std.specs.Prelude.{◌≡◌, ◌≤◌, IfOk};
 ghost use Rattle.land_acts.specs.Grouping.{group_refusals, group_change, group_done};
 ghost use Rattle.land_acts.specs.Outcome.{first_that_holds};
 
