@@ -6,7 +6,6 @@ pub mod HeaderLemmas
 pub mod ItemLemmas
 pub mod LengthLemmas
 pub mod ListingLemmas
-pub mod MomentTexts
 pub mod PartyPaths
 pub mod ReplyTexts
 pub mod ServingLemmas

@@ -1,5 +1,5 @@
--- Numbers of objects in decimal.
-use Rattle.std.specs.Prelude.{ℕ, ◌+◌, ◌*◌, ◌-◌, Bool, ◌&&◌, nat_le, List, length, Result, Ok, Err, if◌then◌else◌}
+-- Numbers of objects, and moments, in decimal.
+use Rattle.std.specs.Prelude.{ℕ, ◌+◌, ◌*◌, ◌-◌, Bool, ◌&&◌, nat_le, List, length, Option, Some, None, Result, Ok, Err, if◌then◌else◌}
 use Rattle.std.specs.List.{fold, list_all}
 use Rattle.std.specs.Char.{is_ascii_digit}
 use Rattle.land.specs.declared.first.request_fault.RequestFault.{RequestFault}
@@ -16,6 +16,10 @@ decimal_value digits = fold with_digit 0 digits
 -- 1 to 13 decimal digits
 abbrev pub is_decimal : List ℕ → Bool
 is_decimal text = nat_le 1 (length text) && nat_le (length text) 13 && list_all is_ascii_digit text
+
+-- the value of 1 to 13 digits; any other text has none
+abbrev pub decimal_in : List ℕ → Option ℕ
+decimal_in text = if is_decimal text then Some (decimal_value text) else None
 
 -- the number of an object: 1 to 13 digits that write a number from 1 to 1_000_000_000; any other text is fault 132
 abbrev pub number_in : List ℕ → Result ℕ RequestFault

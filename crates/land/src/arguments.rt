@@ -1,9 +1,8 @@
 //! The words of the command line.
-ghost use Rattle.std.specs.Prelude.{◌≡◌, map, pos, string_bytes, true};
-ghost use Rattle.std.specs.Char.{is_ascii_digit};
-ghost use Rattle.std.specs.List.{list_all};
+ghost use Rattle.std.specs.Prelude.{◌≡◌, map, string_bytes};
 ghost use Rattle.land.specs.Arguments.{command_of, moment_in};
-ghost use Rattle.land.specs.Decimals.{decimal_value, is_decimal};
+
+use crate::first::numbers::read_decimal;
 
 /// The last moment that there is: the end of the year 2099 in UTC.
 const LAST_MOMENT: i64 = 4_102_444_799_999;
@@ -36,37 +35,11 @@ pub fn read_words(words: &[String]) -> Option<Command>
 fn read_moment(text: &str) -> Option<i64>
     ensures { result ≡ moment_in text.now }
 {
-    if !is_decimal(text) {
-        return None;
-    }
-    let moment = decimal_value(text);
+    let moment = i64::try_from(read_decimal(text.as_bytes())?).ok()?;
     if moment <= LAST_MOMENT {
         Some(moment)
     } else {
         None
-    }
-}
-
-fn is_decimal(text: &str) -> bool
-    ensures { result ≡ is_decimal text.now }
-{
-    let count = text.len();
-    1 <= count && count <= 13 && has_only_digits(text)
-}
-
-fn has_only_digits(text: &str) -> bool
-    ensures { result ≡ list_all is_ascii_digit text.now }
-{
-    text.bytes().all(|byte| byte.is_ascii_digit())
-}
-
-fn decimal_value(text: &str) -> i64
-    requires { is_decimal text.now ≡ true }
-    ensures { result ≡ pos (decimal_value text.now) }
-{
-    match text.parse() {
-        Ok(value) => value,
-        Err(_) => unreachable!(),
     }
 }
 

@@ -7,8 +7,6 @@ use crate::sharing::lists_party;
 use land_core::act::Act;
 use land_core::caller::Caller;
 use land_core::duplicate::Duplicate;
-use land_core::member::Members;
-use land_core::party::PartyRecord;
 use land_core::records::Records;
 use land_core::register::Register;
 use land_core::role::Role;
@@ -29,24 +27,26 @@ pub fn slice_of(
     ensures { IfOk result (λ it. it ≡ slice_of register.now caller act.now) }
 {
     Ok(Register {
-        parties: parties_looked_at(alloc, register, act)?,
+        parties: records_looked_at(alloc, &register.parties, register, act)?,
         roles: roles_looked_at(alloc, register, act)?,
-        members: members_looked_at(alloc, register, act)?,
+        members: records_looked_at(alloc, &register.members, register, act)?,
         next: register.next,
     })
 }
 
-fn parties_looked_at(
+/// Of records by the numbers of parties, those that planning may look at.
+fn records_looked_at<T: Duplicate>(
     alloc: Global,
+    records: &Records<T>,
     register: &Register,
     act: &Act,
-) -> Result<Records<PartyRecord>, AllocError>
-    ensures { IfOk result (λ it. it ≡ only (λ n p. looks_at_party register.now act.now n) register.now.parties) }
+) -> Result<Records<T>, AllocError>
+    ensures { IfOk result (λ it. it ≡ only (λ n value. looks_at_party register.now act.now n) records.now) }
 {
     let mut kept = Records::new(alloc);
-    for (number, party) in register.parties.iter() {
+    for (number, record) in records.iter() {
         if looks_at_party(register, act, *number) {
-            kept.insert(*number, party.copy(alloc)?)?;
+            kept.insert(*number, record.copy(alloc)?)?;
         }
     }
     Ok(kept)
@@ -59,22 +59,6 @@ fn roles_looked_at(alloc: Global, register: &Register, act: &Act) -> Result<Role
     for grant in register.roles.iter() {
         if looks_at_party(register, act, grant.party) {
             kept.insert(*grant)?;
-        }
-    }
-    Ok(kept)
-}
-
-fn members_looked_at(
-    alloc: Global,
-    register: &Register,
-    act: &Act,
-) -> Result<Records<Members>, AllocError>
-    ensures { IfOk result (λ it. it ≡ only (λ n members. looks_at_party register.now act.now n) register.now.members) }
-{
-    let mut kept = Records::new(alloc);
-    for (number, members) in register.members.iter() {
-        if looks_at_party(register, act, *number) {
-            kept.insert(*number, members.copy(alloc)?)?;
         }
     }
     Ok(kept)

@@ -26,9 +26,13 @@ fn expect_ring(rt: &impl Abort, alloc: Global, row: Row) -> Result<(), Fail> {
     Ok(())
 }
 
-/// Reads a text, and compares the fault's number with the one expected.
+/// Reads a text, and compares the fault's number with the one expected. After want of memory it is read again.
 fn expect_fault(rt: &impl Abort, alloc: Global, number: u16, text: &str) {
-    match read_wkt(alloc, text) {
+    let mut read = read_wkt(alloc, text);
+    if let Err(ShapeFault::NoMemory) = read {
+        read = read_wkt(alloc, text);
+    }
+    match read {
         Ok(_) => panic!(rt; "it is read: {text}"),
         Err(fault) => assert_eq!(rt; fault.number(), number, "{text}"),
     }

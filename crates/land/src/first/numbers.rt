@@ -2,7 +2,7 @@
 ghost use Rattle.std.specs.Prelude.{◌≡◌, ◌≤◌, length, true};
 ghost use Rattle.std.specs.List.{list_all};
 ghost use Rattle.std.specs.Char.{is_ascii_digit};
-ghost use Rattle.land.specs.Decimals.{decimal_value, is_decimal, number_in};
+ghost use Rattle.land.specs.Decimals.{decimal_in, decimal_value, is_decimal, number_in};
 
 use crate::first::request_fault::RequestFault;
 use crate::first::words::are_digits;
@@ -15,14 +15,20 @@ const GREATEST: u64 = 1_000_000_000;
 pub fn read_number(text: &[u8]) -> Result<u64, RequestFault>
     ensures { result ≡ number_in text.now }
 {
-    if !is_decimal(text) {
-        return Err(RequestFault::Number);
+    match read_decimal(text) {
+        Some(value) if 1 <= value && value <= GREATEST => Ok(value),
+        _ => Err(RequestFault::Number),
     }
-    let value = decimal_value(text);
-    if 1 <= value && value <= GREATEST {
-        Ok(value)
+}
+
+/// The value of 1 to 13 decimal digits, leading zeros allowed. Any other text has none.
+pub fn read_decimal(text: &[u8]) -> Option<u64>
+    ensures { result ≡ decimal_in text.now }
+{
+    if is_decimal(text) {
+        Some(decimal_value(text))
     } else {
-        Err(RequestFault::Number)
+        None
     }
 }
 

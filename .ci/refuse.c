@@ -1,0 +1,73 @@
+/* Loaded before a program's own library, it refuses the call of one number: REFUSE_MEMORY of the allocations, REFUSE_READ
+   of the reads, or REFUSE_WRITE of the writes. Each refusal puts a byte on descriptor 9, so that a caller knows that the
+   program came so far. With PIECES set, a read or a write moves one byte at a time. */
+#define _GNU_SOURCE
+#include <dlfcn.h>
+#include <errno.h>
+#include <stdlib.h>
+#include <sys/syscall.h>
+#include <unistd.h>
+
+static int is_refused(long *calls, const char *name)
+{
+    const char *number = getenv(name);
+    if (number == NULL || ++*calls != atol(number))
+        return 0;
+    syscall(SYS_write, 9, "x", 1);
+    return 1;
+}
+
+static int wants_memory(void)
+{
+    static long calls;
+    return is_refused(&calls, "REFUSE_MEMORY");
+}
+
+void *malloc(size_t size)
+{
+    static void *(*next)(size_t);
+    if (next == NULL)
+        next = (void *(*)(size_t))dlsym(RTLD_NEXT, "malloc");
+    if (wants_memory()) {
+        errno = ENOMEM;
+        return NULL;
+    }
+    return next(size);
+}
+
+void *realloc(void *old, size_t size)
+{
+    static void *(*next)(void *, size_t);
+    if (next == NULL)
+        next = (void *(*)(void *, size_t))dlsym(RTLD_NEXT, "realloc");
+    if (wants_memory()) {
+        errno = ENOMEM;
+        return NULL;
+    }
+    return next(old, size);
+}
+
+static size_t piece(size_t size)
+{
+    return getenv("PIECES") != NULL && size > 1 ? 1 : size;
+}
+
+ssize_t read(int file, void *to, size_t size)
+{
+    static long calls;
+    if (is_refused(&calls, "REFUSE_READ")) {
+        errno = EIO;
+        return -1;
+    }
+    return syscall(SYS_read, file, to, piece(size));
+}
+
+ssize_t write(int file, const void *from, size_t size)
+{
+    static long calls;
+    if (file == 1 && is_refused(&calls, "REFUSE_WRITE")) {
+        errno = EIO;
+        return -1;
+    }
+    return syscall(SYS_write, file, from, piece(size));
+}
