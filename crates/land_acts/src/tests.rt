@@ -1,5 +1,5 @@
 //! What no clause says: that the calls succeed, up to the last number and the end of time, and what a refused
-//! allocation leaves. `.ci/allocations` runs these tests with each allocation refused in turn: a test may then end
+//! allocation leaves. `.ci/refusals` runs these tests with each allocation refused in turn: a test may then end
 //! for want of memory, and no assertion may fail.
 mod enrolling;
 mod grouping;

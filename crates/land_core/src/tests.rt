@@ -1,5 +1,5 @@
 //! What no clause says: that the calls succeed, up to the limits, and what a refused allocation leaves.
-//! `.ci/allocations` runs these tests with each allocation refused in turn: a test may then end for want of memory, and
+//! `.ci/refusals` runs these tests with each allocation refused in turn: a test may then end for want of memory, and
 //! no assertion may fail.
 mod changing;
 mod faults;

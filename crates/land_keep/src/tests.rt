@@ -1,5 +1,5 @@
 //! The worked examples of this stage as requests with their full replies, and what a refused allocation leaves.
-//! `.ci/allocations` runs these tests with each allocation refused in turn: a test may then end for want of memory,
+//! `.ci/refusals` runs these tests with each allocation refused in turn: a test may then end for want of memory,
 //! and no assertion may fail.
 mod first_rows;
 mod groups_and_roles;
