@@ -12,6 +12,3 @@ mod order;
 pub use bounded::Fraction;
 pub use fault::FractionFault;
 pub use lists::{Whole, common, is_whole};
-
-#[cfg(test)]
-mod tests;
