@@ -1,5 +1,5 @@
 -- The register that an office begins with is sound.
-use Rattle.std.proofs.Common.{◌≡◌, ℕ, true, false, cond, not, Option, Some, refl, sym, ap, ◌∙◌, subst}
+use Rattle.std.proofs.Common.{◌≡◌, ℕ, true, false, cond, not, ◌&&◌, ◌||◌, nat_lt, Option, Some, refl, sym, ap, ◌∙◌, subst}
 use Rattle.std.proofs.lemmas.Bool.{false≢true}
 use Rattle.std.specs.Option.{option_map_or}
 use Rattle.std.specs.Prelude.{codes}
@@ -7,17 +7,19 @@ use Rattle.std.specs.Ordering.{nat_cmp, eq_by_cmp, is_eq}
 use Rattle.std.specs.Cmp.{nat_cmp_total, tied_itself}
 use Rattle.std.specs.FinMap as map
 use Rattle.std.specs.FinMap.{nat_cmp-IsAntisymmetric}
+use Rattle.land_core.specs.Entries.{has}
 use Rattle.land_core.specs.Grants.{grant_cmp, grant_of}
 use Rattle.land_core.specs.Register.{nothing, new_register, has_single_party, is_single}
-use Rattle.land_core.specs.Soundness.{IsSound, is_used}
+use Rattle.land_core.specs.Soundness.{IsSound, is_used, is_loose_rank, clashes_later}
+use Rattle.land_core.specs.Units.{has_whole_shares, has_parcel, has_owner, parcel_count, rrr_count, rank_of}
 use Rattle.land_core.specs.declared.kind.PartyKind.TheVariants.{NonNaturalPerson}
 use Rattle.land_core.specs.declared.party.PartyRecord.{PartyRecord}
 use Rattle.land_core.specs.declared.role.Role.TheVariants.{StateAdministrator}
 use Rattle.land_core.specs.declared.roles.Grant.{Grant}
-use Rattle.land_core.specs.declared.soundness.Unsound.TheVariants.{Reference, Group, Administrator, Memory}
+use Rattle.land_core.specs.declared.soundness.Unsound.TheVariants.{Reference, Shares, Group, Bare, Crowded, Twice, Rank, Administrator, Memory}
 use Rattle.land_core.proofs.FiniteMaps.{is_equal, none_is_not_some}
 use Rattle.land_core.proofs.FiniteSets.{grants_total, exact_grants}
-use Rattle.land_core.proofs.SoundRegisters.{refers_back, loose_from, unused_from, loose_members_from, unbroken_from, single_put, apart_itself, administrator_at}
+use Rattle.land_core.proofs.SoundRegisters.{are_used_back, none_in_empty, refers_back, loose_from, unused_from, loose_members_from, unbroken_from, single_put, apart_itself, administrator_at}
 
 office : PartyRecord
 office = record { kind = NonNaturalPerson; name = codes "Land Office" }
@@ -26,7 +28,7 @@ pub new_is_sound : IsSound new_register
 unfolding office
 new_is_sound Memory = refl
 new_is_sound Reference =
-    let unused = unused_from new_register (λ n p is.
+    let parties = unused_from new_register new_register.parties (λ n p is.
     elim (eq_by_cmp nat_cmp n 1) as (λ b. eq_by_cmp nat_cmp n 1 ≡ b → cond b (Some office) (map.get nothing.parties n) ≡ Some p → is_used new_register n ≡ true) [
       | true ↦ λ at e. subst (λ (k : ℕ). is_used new_register k ≡ true) (sym (nat_cmp-IsAntisymmetric n 1 (is_equal _ at))) refl
       | false ↦ λ apart e. absurd (none_is_not_some (sym (map.get-empty nat_cmp n) ∙ e))
@@ -37,7 +39,26 @@ new_is_sound Reference =
       | false ↦ λ apart e. absurd (none_is_not_some (sym (map.get-empty grant_cmp g) ∙ e))
     ] refl (sym (map.get-insert grants_total nothing.roles (grant_of 1 StateAdministrator) tt g) ∙ is)) in
     let members = loose_members_from new_register (λ group members is. absurd (none_is_not_some (sym (map.get-empty nat_cmp group) ∙ is))) in
-    refers_back new_register (record { room = refl; numbers = unused; grants = loose; members = members })
+    let unused = are_used_back new_register (record {
+      parties = parties;
+      units = none_in_empty (λ n u. not (is_used new_register n));
+      parcels = none_in_empty (λ n p. not (is_used new_register n));
+      rrrs = none_in_empty (λ n e. not (is_used new_register n));
+      sources = none_in_empty (λ n s. not (is_used new_register n));
+    }) in
+    refers_back new_register (record {
+      room = refl;
+      numbers = unused;
+      grants = loose;
+      members = members;
+      parcels = none_in_empty (λ n p. not (has new_register.units p.unit && has new_register.sources p.source));
+      rrrs = none_in_empty (λ n e. not (has new_register.units e.unit && has new_register.parties e.party && has new_register.sources e.source));
+    })
+new_is_sound Shares = none_in_empty (λ n u. u.checked && not (has_whole_shares new_register n))
+new_is_sound Bare = none_in_empty (λ n u. not (has_parcel new_register n && has_owner new_register n))
+new_is_sound Crowded = none_in_empty (λ n u. nat_lt 256 (parcel_count new_register n) || nat_lt 256 (rrr_count new_register n))
+new_is_sound Twice = none_in_empty (clashes_later new_register)
+new_is_sound Rank = none_in_empty (λ n e. is_loose_rank new_register (rank_of e.class))
 new_is_sound Group =
     unbroken_from new_register (λ n p is group. absurd (
     elim (eq_by_cmp nat_cmp n 1) as (λ b. cond b (Some office) (map.get nothing.parties n) ≡ Some p → ⊥) [

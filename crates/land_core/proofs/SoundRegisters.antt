@@ -4,14 +4,15 @@ use Rattle.std.specs.Option.{option_map_or}
 use Rattle.std.specs.Ordering.{nat_cmp, eq_by_cmp, is_eq}
 use Rattle.std.specs.Cmp.{nat_cmp_total, tied_itself}
 use Rattle.std.specs.FinMap as map
-use Rattle.std.specs.FinMap.{nat_cmp-IsAntisymmetric}
+use Rattle.std.specs.FinMap.{FinMap, nat_cmp-IsAntisymmetric}
 use Rattle.std.proofs.lemmas.Bool.{false≢true}
 use Rattle.std.proofs.lemmas.Bool.Decides.{nat_tests}
+use Rattle.land_core.specs.Entries.{some}
 use Rattle.land_core.specs.Grants.{grants_in}
 use Rattle.land_core.specs.Members.{Members, are_group_shares}
 use Rattle.land_core.specs.Register.{has_single_party, has_group, is_single, shares_of}
 use Rattle.land_core.specs.Role.{is_role}
-use Rattle.land_core.specs.Soundness.{IsSound, has_fault, is_past_the_numbers, is_used, has_unused_number, has_loose_grant, has_loose_members, has_loose_member, are_loose, has_broken_group, has_administrator}
+use Rattle.land_core.specs.Soundness.{IsSound, has_fault, is_past_the_numbers, is_used, has_unused, has_unused_number, has_loose_grant, has_loose_members, has_loose_member, has_loose_parcel, has_loose_rrr, are_loose, has_broken_group, has_administrator}
 use Rattle.land_core.specs.declared.party.PartyRecord.{PartyRecord}
 use Rattle.land_core.specs.declared.register.Register.{Register}
 use Rattle.land_core.specs.declared.role.Role.TheVariants.{StateAdministrator}
@@ -19,28 +20,64 @@ use Rattle.land_core.specs.declared.roles.Grant.{Grant}
 use Rattle.land_core.specs.declared.soundness.Unsound.TheVariants.{Reference, Administrator}
 use Rattle.land_fraction.specs.Ratio.{Ratio}
 use Rattle.land_core.proofs.Booleans.{or_false, not_false}
+use Rattle.land_core.proofs.FiniteMaps.{none_is_not_some}
 use Rattle.land_core.proofs.FiniteSets.{grants_total, exact_grants}
 use Rattle.land_core.proofs.Reflection.{Passes, some_passes, some_at, none_passes, none_at, list_any-map}
 
--- what a register without faults of reference has: the four parts of that fault
+-- what a register without faults of reference has: the six parts of that fault
 pub record Refers (r : Register) : Type 0 where
   pub room : is_past_the_numbers r ≡ false
   pub numbers : has_unused_number r ≡ false
   pub grants : has_loose_grant r ≡ false
   pub members : has_loose_members r ≡ false
+  pub parcels : has_loose_parcel r ≡ false
+  pub rrrs : has_loose_rrr r ≡ false
 
 pub refers : (r : Register) → has_fault Reference r ≡ false → Refers r
 refers r h =
-    let members = or_false (is_past_the_numbers r || has_unused_number r || has_loose_grant r) (has_loose_members r) h in
+    let rrrs = or_false (is_past_the_numbers r || has_unused_number r || has_loose_grant r || has_loose_members r || has_loose_parcel r) (has_loose_rrr r) h in
+    let parcels = or_false (is_past_the_numbers r || has_unused_number r || has_loose_grant r || has_loose_members r) (has_loose_parcel r) rrrs.0 in
+    let members = or_false (is_past_the_numbers r || has_unused_number r || has_loose_grant r) (has_loose_members r) parcels.0 in
     let grants = or_false (is_past_the_numbers r || has_unused_number r) (has_loose_grant r) members.0 in
     let numbers = or_false (is_past_the_numbers r) (has_unused_number r) grants.0 in
-    record { room = numbers.0; numbers = numbers.1; grants = grants.1; members = members.1 }
+    record { room = numbers.0; numbers = numbers.1; grants = grants.1; members = members.1; parcels = parcels.1; rrrs = rrrs.1 }
 
 pub refers_back : (r : Register) → Refers r → has_fault Reference r ≡ false
 refers_back r h =
-    ap (λ b. b || has_unused_number r || has_loose_grant r || has_loose_members r) h.room ∙ ap (λ b. b || has_loose_grant r || has_loose_members r) h.numbers
-    ∙ ap (λ b. b || has_loose_members r) h.grants
-    ∙ h.members
+    ap (λ b. b || has_unused_number r || has_loose_grant r || has_loose_members r || has_loose_parcel r || has_loose_rrr r) h.room
+    ∙ ap (λ b. b || has_loose_grant r || has_loose_members r || has_loose_parcel r || has_loose_rrr r) h.numbers
+    ∙ ap (λ b. b || has_loose_members r || has_loose_parcel r || has_loose_rrr r) h.grants
+    ∙ ap (λ b. b || has_loose_parcel r || has_loose_rrr r) h.members
+    ∙ ap (λ b. b || has_loose_rrr r) h.parcels
+    ∙ h.rrrs
+
+-- numbers in use of each map that has objects
+pub record AreUsed (r : Register) : Type 0 where
+  pub parties : has_unused r r.parties ≡ false
+  pub units : has_unused r r.units ≡ false
+  pub parcels : has_unused r r.parcels ≡ false
+  pub rrrs : has_unused r r.rrrs ≡ false
+  pub sources : has_unused r r.sources ≡ false
+
+pub are_used : (r : Register) → has_unused_number r ≡ false → AreUsed r
+are_used r h =
+    let sources = or_false (has_unused r r.parties || has_unused r r.units || has_unused r r.parcels || has_unused r r.rrrs) (has_unused r r.sources) h in
+    let rrrs = or_false (has_unused r r.parties || has_unused r r.units || has_unused r r.parcels) (has_unused r r.rrrs) sources.0 in
+    let parcels = or_false (has_unused r r.parties || has_unused r r.units) (has_unused r r.parcels) rrrs.0 in
+    let units = or_false (has_unused r r.parties) (has_unused r r.units) parcels.0 in
+    record { parties = units.0; units = units.1; parcels = parcels.1; rrrs = rrrs.1; sources = sources.1 }
+
+pub are_used_back : (r : Register) → AreUsed r → has_unused_number r ≡ false
+are_used_back r h =
+    ap (λ b. b || has_unused r r.units || has_unused r r.parcels || has_unused r r.rrrs || has_unused r r.sources) h.parties
+    ∙ ap (λ b. b || has_unused r r.parcels || has_unused r r.rrrs || has_unused r r.sources) h.units
+    ∙ ap (λ b. b || has_unused r r.rrrs || has_unused r r.sources) h.parcels
+    ∙ ap (λ b. b || has_unused r r.sources) h.rrrs
+    ∙ h.sources
+
+-- nothing in an empty map passes a test
+pub none_in_empty : {V : Type 0} (p : ℕ → V → Bool) → some p map.empty ≡ false
+none_in_empty p = none_passes nat_cmp_total nat_cmp-IsAntisymmetric p map.empty (λ n v is. absurd (none_is_not_some (sym (map.get-empty nat_cmp n) ∙ is)))
 
 pub loose_from : (r : Register) → ((g : Grant) → map.get r.roles g ≡ Some tt → has_single_party r g.party ≡ true) → has_loose_grant r ≡ false
 unfolding grants_in
@@ -66,12 +103,12 @@ administrator_at r g is role =
     list_any-map (λ (g : Grant). is_role g.role StateAdministrator) (λ e. e.0) (map.entries r.roles)
     ∙ some_at grants_total exact_grants (λ g u. is_role g.role StateAdministrator) r.roles g tt is role
 
--- the numbers of parties are in use, where none is not
-pub used_from : (r : Register) → has_unused_number r ≡ false → (n : ℕ) (p : PartyRecord) → map.get r.parties n ≡ Some p → is_used r n ≡ true
-used_from r none n p is = not_false _ (none_at nat_cmp_total nat_cmp-IsAntisymmetric (λ n p. not (is_used r n)) r.parties n p none is)
+-- the numbers of records are in use, where none is not
+pub used_from : {V : Type 0} (r : Register) (records : FinMap nat_cmp V) → has_unused r records ≡ false → (n : ℕ) (v : V) → map.get records n ≡ Some v → is_used r n ≡ true
+used_from r records none n v is = not_false _ (none_at nat_cmp_total nat_cmp-IsAntisymmetric (λ n v. not (is_used r n)) records n v none is)
 
-pub unused_from : (r : Register) → ((n : ℕ) (p : PartyRecord) → map.get r.parties n ≡ Some p → is_used r n ≡ true) → has_unused_number r ≡ false
-unused_from r h = none_passes nat_cmp_total nat_cmp-IsAntisymmetric (λ n p. not (is_used r n)) r.parties (λ n p is. ap not (h n p is))
+pub unused_from : {V : Type 0} (r : Register) (records : FinMap nat_cmp V) → ((n : ℕ) (v : V) → map.get records n ≡ Some v → is_used r n ≡ true) → has_unused r records ≡ false
+unused_from r records h = none_passes nat_cmp_total nat_cmp-IsAntisymmetric (λ n v. not (is_used r n)) records (λ n v is. ap not (h n v is))
 
 -- what a register that has members for a number says of them
 pub record AreTight (r : Register) (group : ℕ) (members : Members) : Type 0 where
@@ -134,7 +171,7 @@ next_above_zero r sound =
     let parts = refers r (sound Reference) in
     let one = administrator_from r (not_false _ (sound Administrator)) in
     let stands = stands_from r one.key.party (single_from r parts.grants one.key (one.there ∙ ap Some (unit_is one.value))) in
-    let bounds = used_bounds r one.key.party (used_from r parts.numbers one.key.party stands.party stands.there) in
+    let bounds = used_bounds r one.key.party (used_from r r.parties (are_used r parts.numbers).parties one.key.party stands.party stands.there) in
     omega arith
 
 -- a number is not apart from itself

@@ -1,15 +1,25 @@
 -- Acts and requests within the limits of their fields.
 use Rattle.std.specs.Prelude.{ℕ, Bool, true, List, length, nat_le, ◌&&◌}
-use Rattle.std.specs.List.{list_all}
+use Rattle.std.specs.List.{list_all, list_any}
 use Rattle.land_core.specs.Members.{is_group_size}
 use Rattle.land_core.specs.Register.{is_single}
-use Rattle.land_core.specs.Texts.{is_name}
+use Rattle.land_core.specs.Texts.{is_name, is_title, are_words, is_label}
+use Rattle.land_core.specs.Units.{is_type}
 use Rattle.land_core.specs.declared.act.Act.{Act}
-use Rattle.land_core.specs.declared.act.Act.TheVariants.{Enrol, Group, Regroup, Grant, Revoke}
+use Rattle.land_core.specs.declared.act.Act.TheVariants.{Enrol, Group, Regroup, Grant, Revoke, Register, Burden as ActBurden, Lift as ActLift}
+use Rattle.land_core.specs.declared.act.Burden.{Burden}
+use Rattle.land_core.specs.declared.act.NewParcel.{NewParcel}
+use Rattle.land_core.specs.declared.act.NewRight.{NewRight}
+use Rattle.land_core.specs.declared.act.NewUnit.{NewUnit}
 use Rattle.land_core.specs.declared.ask.Ask.{Ask}
-use Rattle.land_core.specs.declared.ask.Ask.TheVariants.{View, List as AskList, Do}
+use Rattle.land_core.specs.declared.ask.Ask.TheVariants.{View, List as AskList, Sheet, Do}
 use Rattle.land_core.specs.declared.ask.Request.{Request}
 use Rattle.land_core.specs.declared.member.Member.{Member}
+use Rattle.land_core.specs.declared.rrr.RightType.TheVariants.{Ownership}
+
+-- a first registration has 1 to 64 parcels and 1 to 64 rights
+abbrev pub is_first_count : ℕ → Bool
+is_first_count count = nat_le 1 count && nat_le count 64
 
 -- objects are named by the numbers 1 to 1_000_000_000
 abbrev pub is_number : ℕ → Bool
@@ -23,6 +33,33 @@ name_numbers members = list_all (λ member. is_number member.party) members
 abbrev pub are_members : List Member → Bool
 are_members members = is_group_size (length members) && name_numbers members
 
+-- whether each of some parcels has a label
+abbrev pub have_labels : List NewParcel → Bool
+have_labels parcels = list_all (λ parcel. is_label parcel.label) parcels
+
+-- a unit is entered with 1 to 64 parcels, each with a label
+abbrev pub are_parcels : List NewParcel → Bool
+are_parcels parcels = is_first_count (length parcels) && have_labels parcels
+
+-- whether each of some rights is of a party named by a number, and whether one of them is an ownership
+abbrev pub have_parties : List NewRight → Bool
+have_parties rights = list_all (λ right. is_number right.party) rights
+
+abbrev pub have_owner : List NewRight → Bool
+have_owner rights = list_any (λ right. is_type right.right_type Ownership) rights
+
+-- and with 1 to 64 rights, each of a party named by a number, an ownership among them
+abbrev pub are_rights : List NewRight → Bool
+are_rights rights = is_first_count (length rights) && have_parties rights && have_owner rights
+
+-- a new unit has a name, a document, parcels and rights
+abbrev pub is_new_unit : NewUnit → Bool
+is_new_unit it = is_name it.name && is_title it.document && are_parcels it.parcels && are_rights it.rights
+
+-- a burden has a unit, a party, words and a document
+abbrev pub is_burden : Burden → Bool
+is_burden it = is_number it.unit && is_number it.party && are_words it.words && is_title it.document
+
 -- who is enrolled is a single party with a name
 abbrev pub is_well_formed : Act → Bool
 is_well_formed (Enrol it) = is_single it.kind && is_name it.name
@@ -30,11 +67,15 @@ is_well_formed (Group it) = is_name it.name && are_members it.members
 is_well_formed (Regroup it) = is_number it.group && are_members it.members
 is_well_formed (Grant it) = is_number it.party
 is_well_formed (Revoke it) = is_number it.party
+is_well_formed (Register it) = is_new_unit it
+is_well_formed (ActBurden it) = is_burden it
+is_well_formed (ActLift it) = is_number it.rrr
 
 -- a read has no limits: what does not stand is denied
 abbrev pub is_well_formed_ask : Ask → Bool
 is_well_formed_ask (View k number at) = true
 is_well_formed_ask (AskList k at) = true
+is_well_formed_ask (Sheet unit at) = true
 is_well_formed_ask (Do it) = is_well_formed it
 
 abbrev pub is_well_formed_request : Request → Bool

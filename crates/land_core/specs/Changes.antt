@@ -1,10 +1,23 @@
 -- Changes: entries that are put into the register's maps, and keys whose entries end.
-use Rattle.std.specs.Prelude.{◌≡◌, true, ◌++◌, nat_eq, map as map_list}
+use Rattle.std.specs.Prelude.{◌≡◌, ℕ, true, [], ◌++◌, nat_eq, map as map_list}
 use Rattle.std.specs.Ordering.{eq_by_cmp}
 use Rattle.land_core.specs.Entries.{updated, are_distinct}
 use Rattle.land_core.specs.Grants.{marks, grant_cmp}
 use Rattle.land_core.specs.declared.change.Change.{Change}
+use Rattle.land_core.specs.declared.change.Ended.{Ended}
+use Rattle.land_core.specs.declared.change.Put.{Put}
 use Rattle.land_core.specs.declared.register.Register.{Register}
+
+-- nothing that is put, and nothing that ends
+abbrev pub no_put : Put
+no_put = record { parties = []; roles = []; members = []; units = []; parcels = []; rrrs = []; sources = [] }
+
+abbrev pub no_ended : Ended
+no_ended = record { parties = []; roles = []; members = []; units = []; parcels = []; rrrs = []; sources = [] }
+
+-- the change that puts and ends nothing
+abbrev pub no_change : (next : ℕ) → Change
+no_change next = record { put = no_put; ended = no_ended; next = next }
 
 -- the register after a change
 abbrev pub after : Change → Register → Register
@@ -12,6 +25,10 @@ after change r = record {
   parties = updated r.parties change.put.parties change.ended.parties;
   roles = updated r.roles (marks change.put.roles) change.ended.roles;
   members = updated r.members change.put.members change.ended.members;
+  units = updated r.units change.put.units change.ended.units;
+  parcels = updated r.parcels change.put.parcels change.ended.parcels;
+  rrrs = updated r.rrrs change.put.rrrs change.ended.rrrs;
+  sources = updated r.sources change.put.sources change.ended.sources;
   next = change.next;
 }
 
@@ -20,3 +37,7 @@ pub record NamesKeysOnce (change : Change) : Type 0 where
   pub parties : are_distinct nat_eq (map_list (λ e. e.0) change.put.parties ++ change.ended.parties) ≡ true
   pub roles : are_distinct (eq_by_cmp grant_cmp) (change.put.roles ++ change.ended.roles) ≡ true
   pub members : are_distinct nat_eq (map_list (λ e. e.0) change.put.members ++ change.ended.members) ≡ true
+  pub units : are_distinct nat_eq (map_list (λ e. e.0) change.put.units ++ change.ended.units) ≡ true
+  pub parcels : are_distinct nat_eq (map_list (λ e. e.0) change.put.parcels ++ change.ended.parcels) ≡ true
+  pub rrrs : are_distinct nat_eq (map_list (λ e. e.0) change.put.rrrs ++ change.ended.rrrs) ≡ true
+  pub sources : are_distinct nat_eq (map_list (λ e. e.0) change.put.sources ++ change.ended.sources) ≡ true

@@ -1,10 +1,13 @@
 -- Definitions of the register.
 pub mod Acts
+pub mod ByUnit
 pub mod Changes
 pub mod Entries
 pub mod Grants
+pub mod Laws
 pub mod Members
 pub mod Register
 pub mod Role
 pub mod Soundness
 pub mod Texts
+pub mod Units

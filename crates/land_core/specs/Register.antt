@@ -15,12 +15,26 @@ use Rattle.land_core.specs.declared.role.Role.{Role}
 use Rattle.land_core.specs.declared.role.Role.TheVariants.{StateAdministrator}
 use Rattle.land_core.specs.declared.register.Register.{Register}
 use Rattle.land_core.specs.declared.object.Object.{Object}
+use Rattle.land_core.specs.declared.parcel.Parcel.{Parcel}
+use Rattle.land_core.specs.declared.party.Party.{Party}
+use Rattle.land_core.specs.declared.rrr.Rrr.{Rrr}
+use Rattle.land_core.specs.declared.source.Source.{Source}
+use Rattle.land_core.specs.declared.unit.Unit.{Unit as UnitShown}
 use Rattle.land_core.specs.declared.object.Object.TheVariants as object
 use Rattle.land_fraction.specs.Ratio.{Ratio}
 
 -- the register that holds nothing, as it was before the office began
 abbrev pub nothing : Register
-nothing = record { parties = map.empty; roles = map.empty; members = map.empty; next = 2 }
+nothing = record {
+  parties = map.empty;
+  roles = map.empty;
+  members = map.empty;
+  units = map.empty;
+  parcels = map.empty;
+  rrrs = map.empty;
+  sources = map.empty;
+  next = 2;
+}
 
 -- the register that an office begins with: party 1 is the land office itself and state administrator, and 2 is the next number
 abbrev pub new_register : Register
@@ -28,12 +42,20 @@ new_register = record {
   parties = map.insert map.empty 1 (record { kind = NonNaturalPerson; name = codes "Land Office" });
   roles = map.insert map.empty (grant_of 1 StateAdministrator) tt;
   members = map.empty;
+  units = map.empty;
+  parcels = map.empty;
+  rrrs = map.empty;
+  sources = map.empty;
   next = 2;
 }
 
 -- whether an object of a kind stands
 abbrev pub stands : Register → Kind → ℕ → Bool
 stands r kind.Party n = has r.parties n
+stands r kind.Unit n = has r.units n
+stands r kind.Parcel n = has r.parcels n
+stands r kind.Rrr n = has r.rrrs n
+stands r kind.Source n = has r.sources n
 
 -- whether a party holds a role
 abbrev pub holds : Register → ℕ → Role → Bool
@@ -68,7 +90,26 @@ shares_of r n = option_map_or shares_in (map.get r.members n) []
 abbrev pub roles_of : Register → ℕ → List Role
 roles_of r n = filter (λ role. holds r n role) all_roles
 
--- the object that stands, as it is shown, or none
+-- what stands at a number, as it is shown, or none: the record with its number
+abbrev pub party_at : Register → ℕ → Option Party
+party_at r n = option_map (λ p. record { number = n; kind = p.kind; name = p.name; members = members_of r n; roles = roles_of r n }) (map.get r.parties n)
+
+abbrev pub unit_at : Register → ℕ → Option UnitShown
+unit_at r n = option_map (λ u. record { number = n; name = u.name; checked = u.checked }) (map.get r.units n)
+
+abbrev pub parcel_at : Register → ℕ → Option Parcel
+parcel_at r n = option_map (λ p. record { number = n; unit = p.unit; label = p.label; outline = p.outline; source = p.source }) (map.get r.parcels n)
+
+abbrev pub rrr_at : Register → ℕ → Option Rrr
+rrr_at r n = option_map (λ e. record { number = n; unit = e.unit; party = e.party; class = e.class; source = e.source }) (map.get r.rrrs n)
+
+abbrev pub source_at : Register → ℕ → Option Source
+source_at r n = option_map (λ s. record { number = n; kind = s.kind; title = s.title }) (map.get r.sources n)
+
+-- the object of a kind that stands, as it is shown, or none
 abbrev pub object_at : Register → Kind → ℕ → Option Object
-object_at r kind.Party n =
-    option_map (λ p. object.Party (record { number = n; kind = p.kind; name = p.name; members = members_of r n; roles = roles_of r n })) (map.get r.parties n)
+object_at r kind.Party n = option_map object.Party (party_at r n)
+object_at r kind.Unit n = option_map object.Unit (unit_at r n)
+object_at r kind.Parcel n = option_map object.Parcel (parcel_at r n)
+object_at r kind.Rrr n = option_map object.Rrr (rrr_at r n)
+object_at r kind.Source n = option_map object.Source (source_at r n)

@@ -1,15 +1,20 @@
--- When a register is sound.
-use Rattle.std.specs.Prelude.{ℕ, ◌≡◌, Bool, false, not, ◌&&◌, ◌||◌, nat_lt}
+-- When a register is sound. A record is called loose where something that it refers to does not stand, or is not of the kind
+-- that is asked for.
+use Rattle.std.specs.Prelude.{ℕ, ◌≡◌, Bool, false, not, ◌&&◌, ◌||◌, nat_lt, Option, Some, None}
+use Rattle.std.specs.FinMap.{FinMap}
 use Rattle.std.specs.List.{list_any}
-use Rattle.land_core.specs.Entries.{some}
+use Rattle.std.specs.Ordering.{nat_cmp}
+use Rattle.land_core.specs.Entries.{some, has}
 use Rattle.land_core.specs.Grants.{grants_in}
 use Rattle.land_core.specs.Members.{Members, are_group_shares}
 use Rattle.land_core.specs.Register.{has_single_party, has_group, is_single, shares_of}
 use Rattle.land_core.specs.Role.{is_role}
 use Rattle.land_core.specs.declared.role.Role.TheVariants.{StateAdministrator}
 use Rattle.land_core.specs.declared.register.Register.{Register}
+use Rattle.land_core.specs.declared.rrr.RrrRecord.{RrrRecord}
+use Rattle.land_core.specs.Units.{has_whole_shares, has_parcel, has_owner, parcel_count, rrr_count, do_clash, rank_of}
 use Rattle.land_core.specs.declared.soundness.Unsound.{Unsound}
-use Rattle.land_core.specs.declared.soundness.Unsound.TheVariants.{Reference, Group, Administrator, Memory}
+use Rattle.land_core.specs.declared.soundness.Unsound.TheVariants.{Reference, Shares, Group, Bare, Crowded, Twice, Rank, Administrator, Memory}
 
 -- whether all numbers up to 1_000_000_000 are used and more
 abbrev pub is_past_the_numbers : Register → Bool
@@ -20,8 +25,11 @@ abbrev pub is_used : Register → ℕ → Bool
 is_used r n = nat_lt 0 n && nat_lt n r.next
 
 -- whether a record stands under a number that is not in use
+abbrev pub has_unused : {V : Type 0} → Register → FinMap nat_cmp V → Bool
+has_unused r records = some (λ n v. not (is_used r n)) records
+
 abbrev pub has_unused_number : Register → Bool
-has_unused_number r = some (λ n p. not (is_used r n)) r.parties
+has_unused_number r = has_unused r r.parties || has_unused r r.units || has_unused r r.parcels || has_unused r r.rrrs || has_unused r r.sources
 
 -- whether a role is that of no single party: of nobody, or of a group
 abbrev pub has_loose_grant : Register → Bool
@@ -38,9 +46,45 @@ are_loose r group members = not (has_group r group) || has_loose_member r member
 abbrev pub has_loose_members : Register → Bool
 has_loose_members r = some (λ group members. are_loose r group members) r.members
 
+-- whether a parcel is in no unit that stands, or comes from no source that stands
+abbrev pub has_loose_parcel : Register → Bool
+has_loose_parcel r = some (λ n p. not (has r.units p.unit && has r.sources p.source)) r.parcels
+
+-- whether an entry is in no unit, of no party or from no source that stands
+abbrev pub has_loose_rrr : Register → Bool
+has_loose_rrr r = some (λ n e. not (has r.units e.unit && has r.parties e.party && has r.sources e.source)) r.rrrs
+
 -- whether a group has not 2 to 64 members whose shares make a whole
 abbrev pub has_broken_group : Register → Bool
 has_broken_group r = some (λ n p. not (is_single p.kind) && not (are_group_shares (shares_of r n))) r.parties
+
+-- whether the shares of some type of right in a checked unit do not make a whole
+abbrev pub has_unit_in_parts : Register → Bool
+has_unit_in_parts r = some (λ n u. u.checked && not (has_whole_shares r n)) r.units
+
+-- whether a unit has no parcel, or nobody owns it
+abbrev pub has_bare_unit : Register → Bool
+has_bare_unit r = some (λ n u. not (has_parcel r n && has_owner r n)) r.units
+
+-- whether a unit has more than 256 parcels, or more than 256 entries
+abbrev pub has_crowded_unit : Register → Bool
+has_crowded_unit r = some (λ n u. nat_lt 256 (parcel_count r n) || nat_lt 256 (rrr_count r n)) r.units
+
+-- whether an entry does not go together with one of a greater number
+abbrev pub clashes_later : Register → ℕ → RrrRecord → Bool
+clashes_later r n e = some (λ m f. nat_lt n m && do_clash e f) r.rrrs
+
+-- whether two entries do not go together
+abbrev pub has_clash : Register → Bool
+has_clash r = some (λ n e. clashes_later r n e) r.rrrs
+
+-- whether a rank is out of its bounds: they are those of the numbers in use
+abbrev pub is_loose_rank : Register → Option ℕ → Bool
+is_loose_rank r None = false
+is_loose_rank r (Some rank) = not (is_used r rank)
+
+abbrev pub has_loose_rank : Register → Bool
+has_loose_rank r = some (λ n e. is_loose_rank r (rank_of e.class)) r.rrrs
 
 -- whether some party is state administrator
 abbrev pub has_administrator : Register → Bool
@@ -49,9 +93,20 @@ has_administrator r = list_any (λ grant. is_role grant.role StateAdministrator)
 -- whether the register has a fault
 abbrev pub has_fault : Unsound → Register → Bool
 -- what a record refers to stands, numbers are in use, only groups have members, members are single parties, and groups have no roles
-has_fault Reference r = is_past_the_numbers r || has_unused_number r || has_loose_grant r || has_loose_members r
+has_fault Reference r =
+    is_past_the_numbers r || has_unused_number r || has_loose_grant r || has_loose_members r || has_loose_parcel r || has_loose_rrr r
+-- in each checked unit the shares of each type of right that occurs make a whole
+has_fault Shares r = has_unit_in_parts r
 -- each group has 2 to 64 members whose shares make a whole
 has_fault Group r = has_broken_group r
+-- each unit has a parcel and an owner
+has_fault Bare r = has_bare_unit r
+-- each unit has at most 256 parcels and 256 entries
+has_fault Crowded r = has_crowded_unit r
+-- in a unit no party has two rights of one type, and no two mortgages have one rank
+has_fault Twice r = has_clash r
+-- the rank of a mortgage is at least 1 and below the next number
+has_fault Rank r = has_loose_rank r
 -- somebody can administer the register
 has_fault Administrator r = not (has_administrator r)
 -- want of memory is no fault of the register

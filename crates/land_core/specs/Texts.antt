@@ -11,6 +11,16 @@ is_plain byte = nat_le 32 byte && not (nat_eq byte 127)
 abbrev pub is_text : (least most : ℕ) → List ℕ → Bool
 is_text least most bytes = nat_le least (length (chars bytes)) && nat_le (length (chars bytes)) most && list_all is_plain bytes
 
--- a name has 1 to 200 characters
+-- a name has 1 to 200 characters, and so have the title of a document and the words of a restriction or a responsibility
 abbrev pub is_name : List ℕ → Bool
 is_name bytes = is_text 1 200 bytes
+
+abbrev pub is_title : List ℕ → Bool
+is_title bytes = is_text 1 200 bytes
+
+abbrev pub are_words : List ℕ → Bool
+are_words bytes = is_text 1 200 bytes
+
+-- a label has 1 to 40 characters
+abbrev pub is_label : List ℕ → Bool
+is_label bytes = is_text 1 40 bytes

@@ -1,14 +1,17 @@
 //! Acts: what a caller asks the office to do.
 ghost use Rattle.std.specs.Prelude.{◌≡◌};
 ghost use Rattle.std.specs.List.{list_all};
-ghost use Rattle.land_core.specs.Acts.{is_number, are_members, name_numbers};
+ghost use Rattle.land_core.specs.Acts.{is_number, are_members, name_numbers, are_parcels, have_labels, are_rights, have_parties, have_owner};
 
 use crate::kind::PartyKind;
-use crate::limits::is_name;
+use crate::limits::{are_words, is_label, is_name, is_title};
 use crate::member::Member;
 use crate::roles::Grant;
+use crate::rrr::RightType;
 use crate::sequence::Sequence;
 use crate::text::Text;
+use land_fraction::Fraction;
+use land_shape::Ring;
 
 /// Enters a single party, which becomes a citizen.
 #[derive(Debug, Drop)]
@@ -37,6 +40,72 @@ pub struct Regroup {
     pub members: Sequence<Member>,
 }
 
+/// A parcel of a new unit.
+#[derive(Debug, Drop)]
+pub struct NewParcel {
+    /// What it is called on the map: 1 to 40 characters.
+    pub label: Text,
+    /// Its outline, in millimetres.
+    pub outline: Ring,
+}
+
+/// A right in a new unit.
+#[derive(Clone, Copy, Debug)]
+pub struct NewRight {
+    /// The number of the party that has it.
+    pub party: u64,
+    /// Its type.
+    pub right_type: RightType,
+    /// The party's share.
+    pub share: Fraction,
+}
+
+/// Enters a unit with its first parcels and rights.
+#[derive(Debug, Drop)]
+pub struct NewUnit {
+    /// What it is called: 1 to 200 characters.
+    pub name: Text,
+    /// Whether the shares of each type of right in it have to make a whole.
+    pub checked: bool,
+    /// The title of the document: 1 to 200 characters.
+    pub document: Text,
+    /// Its 1 to 64 parcels.
+    pub parcels: Sequence<NewParcel>,
+    /// Its 1 to 64 rights, an ownership among them.
+    pub rights: Sequence<NewRight>,
+}
+
+/// What a unit is burdened with.
+#[derive(Clone, Copy, Debug, PartialEq, Eq)]
+pub enum BurdenClass {
+    /// What the party may not do, or has to bear (LA_Restriction).
+    Restriction,
+    /// What the party has to do (LA_Responsibility).
+    Responsibility,
+}
+
+/// Burdens a unit with a restriction or a responsibility of a party.
+#[derive(Debug, Drop)]
+pub struct Burden {
+    /// The unit's number.
+    pub unit: u64,
+    /// The party's number.
+    pub party: u64,
+    /// Which of the two it is.
+    pub class: BurdenClass,
+    /// What it says: 1 to 200 characters.
+    pub words: Text,
+    /// The title of the document: 1 to 200 characters.
+    pub document: Text,
+}
+
+/// Lifts a restriction or a responsibility.
+#[derive(Clone, Copy, Debug, PartialEq, Eq)]
+pub struct Lift {
+    /// The entry's number.
+    pub rrr: u64,
+}
+
 /// What a caller asks the office to do.
 #[derive(Debug, Drop)]
 pub enum Act {
@@ -50,6 +119,12 @@ pub enum Act {
     Grant(Grant),
     /// Ends a role of a single party.
     Revoke(Grant),
+    /// Enters a unit.
+    Register(NewUnit),
+    /// Burdens a unit.
+    Burden(Burden),
+    /// Lifts a burden.
+    Lift(Lift),
 }
 
 impl Act {
@@ -64,8 +139,72 @@ impl Act {
             Act::Group(it) => is_name(it.name.as_str()) && are_members(it.members.as_slice()),
             Act::Regroup(it) => is_number(it.group) && are_members(it.members.as_slice()),
             Act::Grant(it) | Act::Revoke(it) => is_number(it.party),
+            Act::Register(it) => it.is_well_formed(),
+            Act::Burden(it) => it.is_well_formed(),
+            Act::Lift(it) => is_number(it.rrr),
         }
     }
+}
+
+impl NewUnit {
+    ghost use Rattle.land_core.specs.Acts.{is_new_unit};
+
+    fn is_well_formed(&self) -> bool
+        ensures { result ≡ is_new_unit self.now }
+    {
+        is_name(self.name.as_str())
+            && is_title(self.document.as_str())
+            && are_parcels(self.parcels.as_slice())
+            && are_rights(self.rights.as_slice())
+    }
+}
+
+impl Burden {
+    ghost use Rattle.land_core.specs.Acts.{is_burden};
+
+    fn is_well_formed(&self) -> bool
+        ensures { result ≡ is_burden self.now }
+    {
+        is_number(self.unit)
+            && is_number(self.party)
+            && are_words(self.words.as_str())
+            && is_title(self.document.as_str())
+    }
+}
+
+/// Whether a unit may be entered with these parcels: 1 to 64, each with a label.
+fn are_parcels(parcels: &[NewParcel]) -> bool
+    ensures { result ≡ are_parcels parcels.now }
+{
+    1 <= parcels.len() && parcels.len() <= 64 && have_labels(parcels)
+}
+
+fn have_labels(parcels: &[NewParcel]) -> bool
+    ensures { result ≡ have_labels parcels.now }
+{
+    parcels.iter().all(|parcel| is_label(parcel.label.as_str()))
+}
+
+/// Whether a unit may be entered with these rights: 1 to 64, each of a party named by a number, and an ownership among
+/// them.
+fn are_rights(rights: &[NewRight]) -> bool
+    ensures { result ≡ are_rights rights.now }
+{
+    1 <= rights.len() && rights.len() <= 64 && have_parties(rights) && have_owner(rights)
+}
+
+fn have_parties(rights: &[NewRight]) -> bool
+    ensures { result ≡ have_parties rights.now }
+{
+    rights.iter().all(|right| is_number(right.party))
+}
+
+fn have_owner(rights: &[NewRight]) -> bool
+    ensures { result ≡ have_owner rights.now }
+{
+    rights
+        .iter()
+        .any(|right| right.right_type.is(RightType::Ownership))
 }
 
 /// Whether a group may be asked for with these members: 2 to 64, each named by a number.

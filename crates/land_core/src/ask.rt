@@ -24,6 +24,13 @@ pub enum Ask {
         /// The moment, in milliseconds since 1970 UTC.
         at: Option<i64>,
     },
+    /// To see the title sheet of a unit, at a moment or now.
+    Sheet {
+        /// The unit's number.
+        unit: u64,
+        /// The moment, in milliseconds since 1970 UTC.
+        at: Option<i64>,
+    },
     /// To do something.
     Do(Act),
 }
@@ -45,7 +52,7 @@ impl Request {
         ensures { result ≡ is_well_formed_request self.now }
     {
         match &self.ask {
-            Ask::View { .. } | Ask::List { .. } => true,
+            Ask::View { .. } | Ask::List { .. } | Ask::Sheet { .. } => true,
             Ask::Do(act) => act.is_well_formed(),
         }
     }

@@ -1,8 +1,16 @@
 //! Changes of the register, and what the caller of an act is told.
+ghost use Rattle.std.specs.Prelude.{◌≡◌};
+ghost use Rattle.land_core.specs.Changes.{no_change};
+
 use crate::member::Members;
+use crate::parcel::ParcelRecord;
 use crate::party::PartyRecord;
 use crate::roles::Grant;
+use crate::rrr::RrrRecord;
 use crate::sequence::{NumberList, Sequence};
+use crate::source::SourceRecord;
+use crate::unit::UnitRecord;
+use std::alloc::Global;
 
 /// New or changed entries of the register's maps.
 #[derive(Debug, Drop)]
@@ -13,6 +21,14 @@ pub struct Put {
     pub roles: Sequence<Grant>,
     /// Groups' members from then on, under the groups' numbers.
     pub members: Sequence<(u64, Members)>,
+    /// Units under their numbers.
+    pub units: Sequence<(u64, UnitRecord)>,
+    /// Parcels under their numbers.
+    pub parcels: Sequence<(u64, ParcelRecord)>,
+    /// Entries of units under their numbers.
+    pub rrrs: Sequence<(u64, RrrRecord)>,
+    /// Sources under their numbers.
+    pub sources: Sequence<(u64, SourceRecord)>,
 }
 
 /// Keys of the register's maps whose entries end.
@@ -24,6 +40,14 @@ pub struct Ended {
     pub roles: Sequence<Grant>,
     /// Numbers of groups whose members end.
     pub members: NumberList,
+    /// Numbers of units.
+    pub units: NumberList,
+    /// Numbers of parcels.
+    pub parcels: NumberList,
+    /// Numbers of entries of units.
+    pub rrrs: NumberList,
+    /// Numbers of sources.
+    pub sources: NumberList,
 }
 
 /// What an act changes. No key of one map stands twice in it.
@@ -35,6 +59,35 @@ pub struct Change {
     pub ended: Ended,
     /// The next number from then on.
     pub next: u64,
+}
+
+impl Change {
+    /// The change that puts and ends nothing. It takes no memory.
+    pub fn nothing(alloc: Global, next: u64) -> Change
+        ensures { result ≡ no_change next }
+    {
+        Change {
+            put: Put {
+                parties: Sequence::new(alloc),
+                roles: Sequence::new(alloc),
+                members: Sequence::new(alloc),
+                units: Sequence::new(alloc),
+                parcels: Sequence::new(alloc),
+                rrrs: Sequence::new(alloc),
+                sources: Sequence::new(alloc),
+            },
+            ended: Ended {
+                parties: Sequence::new(alloc),
+                roles: Sequence::new(alloc),
+                members: Sequence::new(alloc),
+                units: Sequence::new(alloc),
+                parcels: Sequence::new(alloc),
+                rrrs: Sequence::new(alloc),
+                sources: Sequence::new(alloc),
+            },
+            next,
+        }
+    }
 }
 
 /// What the caller of an act that was done is told.

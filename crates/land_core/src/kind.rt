@@ -5,6 +5,14 @@
 pub enum Kind {
     /// A party (LA_Party).
     Party,
+    /// A basic administrative unit (LA_BAUnit).
+    Unit,
+    /// A parcel (LA_SpatialUnit).
+    Parcel,
+    /// A right, a restriction, a responsibility or a mortgage (LA_RRR).
+    Rrr,
+    /// A source (LA_Source).
+    Source,
 }
 
 /// The type of a party (LA_PartyType).

@@ -2,13 +2,34 @@
 ghost use Rattle.std.specs.Prelude.{◌≡◌, length};
 ghost use Rattle.std.specs.List.{list_all};
 ghost use Rattle.std.specs.Str.{chars};
-ghost use Rattle.land_core.specs.Texts.{is_text, is_name, is_plain};
+ghost use Rattle.land_core.specs.Texts.{are_words, is_label, is_title, is_text, is_name, is_plain};
 
 /// Whether a text is a name: 1 to 200 characters, no control character of ASCII among them.
 pub fn is_name(text: &str) -> bool
     ensures { result ≡ is_name text.now }
 {
     is_text(text, 1, 200)
+}
+
+/// Whether a text may be the title of a document: 1 to 200 characters.
+pub fn is_title(text: &str) -> bool
+    ensures { result ≡ is_title text.now }
+{
+    is_text(text, 1, 200)
+}
+
+/// Whether a text may be the words of a restriction or a responsibility: 1 to 200 characters.
+pub fn are_words(text: &str) -> bool
+    ensures { result ≡ are_words text.now }
+{
+    is_text(text, 1, 200)
+}
+
+/// Whether a text may be the label of a parcel: 1 to 40 characters.
+pub fn is_label(text: &str) -> bool
+    ensures { result ≡ is_label text.now }
+{
+    is_text(text, 1, 40)
 }
 
 /// Whether a text has `least` to `most` characters (Unicode scalar values) and no control character of ASCII.

@@ -1,6 +1,6 @@
 //! The register: everything that stands now.
 ghost use Rattle.std.specs.Prelude.{◌≡◌, IfOk, OnOk, OnErr};
-ghost use Rattle.land_core.specs.Register.{new_register, nothing, stands, object_at, holds, has_single_party, has_group, is_member, members_of, roles_of};
+ghost use Rattle.land_core.specs.Register.{new_register, nothing, stands, object_at, party_at, unit_at, parcel_at, rrr_at, source_at, holds, has_single_party, has_group, is_member, members_of, roles_of};
 ghost use Rattle.land_core.specs.Changes.{after};
 ghost use Rattle.land_core.specs.Soundness.{IsSound};
 
@@ -9,12 +9,17 @@ use crate::duplicate::Duplicate;
 use crate::kind::{Kind, PartyKind};
 use crate::member::{Member, Members, listed};
 use crate::object::Object;
+use crate::parcel::{Parcel, ParcelRecord};
 use crate::party::{Party, PartyRecord};
 use crate::records::Records;
 use crate::role::Role;
 use crate::roles::{Grant, Roles};
+use crate::rrr::{Rrr, RrrRecord};
 use crate::sequence::Sequence;
+use crate::source::{Source, SourceRecord};
 use crate::text::Text;
+use crate::unit::{Unit, UnitRecord};
+use land_shape::Ring;
 use std::alloc::{AllocError, Global};
 
 /// All records that stand, and the number of the next one.
@@ -26,6 +31,14 @@ pub struct Register {
     pub roles: Roles,
     /// The members of groups, under the groups' numbers (LA_PartyMember).
     pub members: Records<Members>,
+    /// Units under their numbers (LA_BAUnit).
+    pub units: Records<UnitRecord>,
+    /// Parcels under their numbers (LA_SpatialUnit).
+    pub parcels: Records<ParcelRecord>,
+    /// The entries of units under their numbers (LA_RRR).
+    pub rrrs: Records<RrrRecord>,
+    /// Sources under their numbers (LA_Source).
+    pub sources: Records<SourceRecord>,
     /// The number that the next new object takes: 2 to 1_000_000_001 in a sound register.
     pub next: u64,
 }
@@ -58,6 +71,10 @@ impl Register {
             parties: Records::new(alloc),
             roles: Roles::new(alloc),
             members: Records::new(alloc),
+            units: Records::new(alloc),
+            parcels: Records::new(alloc),
+            rrrs: Records::new(alloc),
+            sources: Records::new(alloc),
             next: 2,
         }
     }
@@ -72,6 +89,10 @@ impl Register {
             parties: self.parties.updated(alloc, &put.parties, &ended.parties)?,
             roles: self.roles.updated(alloc, &put.roles, &ended.roles)?,
             members: self.members.updated(alloc, &put.members, &ended.members)?,
+            units: self.units.updated(alloc, &put.units, &ended.units)?,
+            parcels: self.parcels.updated(alloc, &put.parcels, &ended.parcels)?,
+            rrrs: self.rrrs.updated(alloc, &put.rrrs, &ended.rrrs)?,
+            sources: self.sources.updated(alloc, &put.sources, &ended.sources)?,
             next: change.next,
         })
     }
@@ -89,6 +110,10 @@ impl Register {
     {
         match kind {
             Kind::Party => self.parties.get(number).is_some(),
+            Kind::Unit => self.units.get(number).is_some(),
+            Kind::Parcel => self.parcels.get(number).is_some(),
+            Kind::Rrr => self.rrrs.get(number).is_some(),
+            Kind::Source => self.sources.get(number).is_some(),
         }
     }
 
@@ -131,17 +156,84 @@ impl Register {
     ) -> Result<Option<Object>, AllocError>
         ensures { IfOk result (λ it. it ≡ object_at self.now kind number) }
     {
-        match kind {
-            Kind::Party => match self.parties.get(number) {
-                Some(party) => Ok(Some(Object::Party(Party {
-                    number,
-                    kind: party.kind,
-                    name: party.name.copy(alloc)?,
-                    members: self.members_of(alloc, number)?,
-                    roles: self.roles_of(alloc, number)?,
-                }))),
-                None => Ok(None),
-            },
+        let object = match kind {
+            Kind::Party => self.party(alloc, number)?.map(Object::Party),
+            Kind::Unit => self.unit(alloc, number)?.map(Object::Unit),
+            Kind::Parcel => self.parcel(alloc, number)?.map(Object::Parcel),
+            Kind::Rrr => self.rrr(alloc, number)?.map(Object::Rrr),
+            Kind::Source => self.source(alloc, number)?.map(Object::Source),
+        };
+        Ok(object)
+    }
+
+    fn party(&self, alloc: Global, number: u64) -> Result<Option<Party>, AllocError>
+        ensures { IfOk result (λ it. it ≡ party_at self.now number) }
+    {
+        match self.parties.get(number) {
+            Some(record) => Ok(Some(Party {
+                number,
+                kind: record.kind,
+                name: record.name.copy(alloc)?,
+                members: self.members_of(alloc, number)?,
+                roles: self.roles_of(alloc, number)?,
+            })),
+            None => Ok(None),
+        }
+    }
+
+    fn unit(&self, alloc: Global, number: u64) -> Result<Option<Unit>, AllocError>
+        ensures { IfOk result (λ it. it ≡ unit_at self.now number) }
+    {
+        match self.units.get(number) {
+            Some(record) => Ok(Some(Unit {
+                number,
+                name: record.name.copy(alloc)?,
+                checked: record.checked,
+            })),
+            None => Ok(None),
+        }
+    }
+
+    fn parcel(&self, alloc: Global, number: u64) -> Result<Option<Parcel>, AllocError>
+        ensures { IfOk result (λ it. it ≡ parcel_at self.now number) }
+    {
+        match self.parcels.get(number) {
+            Some(record) => Ok(Some(Parcel {
+                number,
+                unit: record.unit,
+                label: record.label.copy(alloc)?,
+                outline: Ring::copy(&record.outline)?,
+                source: record.source,
+            })),
+            None => Ok(None),
+        }
+    }
+
+    fn rrr(&self, alloc: Global, number: u64) -> Result<Option<Rrr>, AllocError>
+        ensures { IfOk result (λ it. it ≡ rrr_at self.now number) }
+    {
+        match self.rrrs.get(number) {
+            Some(record) => Ok(Some(Rrr {
+                number,
+                unit: record.unit,
+                party: record.party,
+                class: record.class.copy(alloc)?,
+                source: record.source,
+            })),
+            None => Ok(None),
+        }
+    }
+
+    fn source(&self, alloc: Global, number: u64) -> Result<Option<Source>, AllocError>
+        ensures { IfOk result (λ it. it ≡ source_at self.now number) }
+    {
+        match self.sources.get(number) {
+            Some(record) => Ok(Some(Source {
+                number,
+                kind: record.kind,
+                title: record.title.copy(alloc)?,
+            })),
+            None => Ok(None),
         }
     }
 
@@ -184,6 +276,10 @@ impl Duplicate for Register {
             parties: self.parties.copy(alloc)?,
             roles: self.roles.copy(alloc)?,
             members: self.members.copy(alloc)?,
+            units: self.units.copy(alloc)?,
+            parcels: self.parcels.copy(alloc)?,
+            rrrs: self.rrrs.copy(alloc)?,
+            sources: self.sources.copy(alloc)?,
             next: self.next,
         })
     }

@@ -2,26 +2,54 @@
 ghost use Rattle.std.specs.Prelude.{◌≡◌, ◌≢◌, true, IfOk, OnOk, IfErr};
 ghost use Rattle.land_core.specs.Members.{are_group_shares};
 ghost use Rattle.land_core.specs.Register.{shares_of};
-ghost use Rattle.land_core.specs.Soundness.{IsSound, has_fault, has_unused_number, has_loose_grant, has_loose_members, are_loose, has_loose_member, has_broken_group, has_administrator, is_used};
+ghost use Rattle.land_core.specs.Soundness.{IsSound, has_fault, has_unused, has_unused_number, has_loose_grant, has_loose_members, has_loose_parcel, has_loose_rrr, are_loose, has_loose_member, has_broken_group, has_administrator, is_used};
 
-use crate::kind::PartyKind;
+mod by_unit;
+mod claim;
+mod groups;
+mod units;
+
+use crate::kind::{Kind, PartyKind};
 use crate::member::{Members, shares_of};
+use crate::records::Records;
 use crate::register::Register;
 use crate::role::Role;
+use crate::soundness::units::check_units;
 use land_fraction::{Fraction, Whole, is_whole};
 use std::alloc::{AllocError, Global};
 
 /// Why a register is not sound.
 #[derive(Clone, Copy, Debug, PartialEq, Eq)]
 pub enum Unsound {
-    /// A number is not in use, a role is that of nobody or of a group, or a member that of no group or no single party.
+    /// A number is not in use, a role is that of nobody or of a group, a member that of no group or no single party, or what
+    /// a parcel or an entry refers to does not stand.
     Reference,
+    /// The shares of a type of right in a checked unit do not sum to one.
+    Shares,
     /// A group has fewer than 2 or more than 64 members, or their shares do not sum to one.
     Group,
+    /// A unit has no parcel, or nobody owns it.
+    Bare,
+    /// A unit has more than 256 parcels or more than 256 entries.
+    Crowded,
+    /// In a unit a party has two rights of one type, or two mortgages have one rank.
+    Twice,
+    /// The rank of a mortgage is below 1, or not below the next number.
+    Rank,
     /// No party is state administrator.
     Administrator,
     /// There was no memory to tell.
     Memory,
+}
+
+impl From<AllocError> for Unsound {
+    ghost use Rattle.land_core.specs.declared.soundness.Unsound.TheVariants.{Memory};
+
+    ghost from_gives = { λ _ fault. fault ≡ Memory };
+
+    fn from(_fault: AllocError) -> Unsound {
+        Unsound::Memory
+    }
 }
 
 /// Whether the register is sound, or a fault that it has.
@@ -32,15 +60,13 @@ pub fn check(alloc: Global, register: &Register) -> Result<(), Unsound>
     if has_reference_fault(register) {
         return Err(Unsound::Reference);
     }
-    match has_broken_group(alloc, register) {
-        Ok(false) => {}
-        Ok(true) => return Err(Unsound::Group),
-        Err(_) => return Err(Unsound::Memory),
+    if has_broken_group(alloc, register)? {
+        return Err(Unsound::Group);
     }
     if !has_administrator(register) {
         return Err(Unsound::Administrator);
     }
-    Ok(())
+    check_units(alloc, register)
 }
 
 fn has_reference_fault(register: &Register) -> bool
@@ -50,12 +76,44 @@ fn has_reference_fault(register: &Register) -> bool
         || has_unused_number(register)
         || has_loose_grant(register)
         || has_loose_members(register)
+        || has_loose_parcel(register)
+        || has_loose_rrr(register)
 }
 
 fn has_unused_number(register: &Register) -> bool
     ensures { result ≡ has_unused_number register.now }
 {
-    register.parties.iter().any(|(n, _)| !is_used(register, *n))
+    has_unused(register, &register.parties)
+        || has_unused(register, &register.units)
+        || has_unused(register, &register.parcels)
+        || has_unused(register, &register.rrrs)
+        || has_unused(register, &register.sources)
+}
+
+fn has_unused<T>(register: &Register, records: &Records<T>) -> bool
+    ensures { result ≡ has_unused register.now records.now }
+{
+    records
+        .iter()
+        .any(|(number, _)| !is_used(register, *number))
+}
+
+fn has_loose_parcel(register: &Register) -> bool
+    ensures { result ≡ has_loose_parcel register.now }
+{
+    register.parcels.iter().any(|(_, parcel)| {
+        !(register.stands(Kind::Unit, parcel.unit) && register.stands(Kind::Source, parcel.source))
+    })
+}
+
+fn has_loose_rrr(register: &Register) -> bool
+    ensures { result ≡ has_loose_rrr register.now }
+{
+    register.rrrs.iter().any(|(_, entry)| {
+        !(register.stands(Kind::Unit, entry.unit)
+            && register.stands(Kind::Party, entry.party)
+            && register.stands(Kind::Source, entry.source))
+    })
 }
 
 fn has_loose_grant(register: &Register) -> bool
@@ -130,7 +188,7 @@ fn has_administrator(register: &Register) -> bool
         .any(|grant| grant.role == Role::StateAdministrator)
 }
 
-fn is_used(register: &Register, number: u64) -> bool
+pub(crate) fn is_used(register: &Register, number: u64) -> bool
     ensures { result ≡ is_used register.now number }
 {
     0 < number && number < register.next

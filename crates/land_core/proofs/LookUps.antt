@@ -1,0 +1,351 @@
+-- A register is sound exactly where its look-ups say so.
+use Rattle.std.proofs.Common.{◌≡◌, ◌≢◌, ℕ, ◌<◌, ◌≤◌, Bool, true, false, not, ◌||◌, ◌&&◌, nat_eq, nat_lt, List, [], ◌∷◌, length, Option, Some, None, is_some, refl, sym, ap, ◌∙◌, subst, arith}
+use Rattle.std.proofs.lemmas.Bool.{false≢true, lt-ltb, le-ltb, ltb-true, ltb-false, eqb-true, eq-eqb}
+use Rattle.std.proofs.lemmas.Bool.Decides.{nat_tests}
+use Rattle.std.specs.Cmp.{nat_cmp_total}
+use Rattle.std.specs.FinMap as map
+use Rattle.std.specs.FinMap.{FinMap, nat_cmp-IsAntisymmetric}
+use Rattle.std.specs.Ordering.{nat_cmp}
+use Rattle.land_core.specs.Entries.{has, some}
+use Rattle.land_core.specs.Grants.{grant_of}
+use Rattle.land_core.specs.Laws.{AreOfGroup, EntryRefers, GoTogether, HasOwner, HasParcel, IsInUse, IsSoundByLookUps, IsSoundUnit, ParcelRefers, SoundnessByLookUps}
+use Rattle.land_core.specs.Members.{are_group_shares, is_group_size, is_yes}
+use Rattle.land_core.specs.Register.{holds, shares_of}
+use Rattle.land_core.specs.Role.{is_role, place_of, role_at, role_at_place}
+use Rattle.land_core.specs.Soundness.{IsSound, clashes_later, has_clash, is_loose_rank, is_used}
+use Rattle.land_core.specs.Units.{are_of_one_rank, are_of_one_type, are_whole_or_none, do_clash, has_owner, has_parcel, has_whole_shares, is_right_in, is_right_of, is_type, parcel_count, rank_of, rrr_count, type_of, type_shares}
+use Rattle.land_core.specs.declared.parcel.ParcelRecord.{ParcelRecord}
+use Rattle.land_core.specs.declared.register.Register.{Register}
+use Rattle.land_core.specs.declared.role.Role.{Role}
+use Rattle.land_core.specs.declared.role.Role.TheVariants.{StateAdministrator}
+use Rattle.land_core.specs.declared.rrr.Class.{Class}
+use Rattle.land_core.specs.declared.rrr.Class.TheVariants.{Right, Restriction, Responsibility, Mortgage}
+use Rattle.land_core.specs.declared.rrr.RightType.{RightType}
+use Rattle.land_core.specs.declared.rrr.RightType.TheVariants.{Ownership, Lease, Usufruct}
+use Rattle.land_core.specs.declared.rrr.RrrRecord.{RrrRecord}
+use Rattle.land_core.specs.declared.soundness.Unsound.TheVariants.{Reference, Shares, Group, Bare, Crowded, Twice, Rank, Administrator, Memory}
+use Rattle.land_core.specs.declared.unit.UnitRecord.{UnitRecord}
+use Rattle.land_fraction.specs.Laws.{WholenessLaw}
+use Rattle.land_fraction.specs.Ratio.{Ratio}
+use Rattle.land_fraction.specs.Wholeness.{IsWhole, wholeness}
+use Rattle.land_fraction.specs.declared.lists.Whole.{Whole}
+use Rattle.land_fraction.specs.declared.lists.Whole.TheVariants.{Yes, No, TooFine}
+use Rattle.land_core.proofs.Booleans.{both_of, not_false, or_false}
+use Rattle.land_core.proofs.Reflection.{none_at, none_passes, some_at, some_passes}
+use Rattle.land_core.proofs.SoundRegisters.{are_used, are_used_back, administrator_at, administrator_from, loose_from, loose_members_from, members_from, refers, refers_back, single_from, unbroken_from, unused_from, used_bounds, used_from, whole_from}
+
+-- where no entry passes a test, none at a number does, and the other way round
+at : {V : Type 0} (p : ℕ → V → Bool) (m : FinMap nat_cmp V) → some p m ≡ false → (n : ℕ) (v : V) → map.get m n ≡ Some v → p n v ≡ false
+at p m none n v is = none_at nat_cmp_total nat_cmp-IsAntisymmetric p m n v none is
+
+each : {V : Type 0} (p : ℕ → V → Bool) (m : FinMap nat_cmp V) → ((n : ℕ) (v : V) → map.get m n ≡ Some v → p n v ≡ false) → some p m ≡ false
+each p m h = none_passes nat_cmp_total nat_cmp-IsAntisymmetric p m h
+
+both : (a b : Bool) → a ≡ true → b ≡ true → (a && b) ≡ true
+both a b x y = ap (λ t. t && b) x ∙ y
+
+neither : (a b : Bool) → a ≡ false → b ≡ false → (a || b) ≡ false
+neither a b x y = ap (λ t. t || b) x ∙ y
+
+in_use : (r : Register) (n : ℕ) → is_used r n ≡ true → IsInUse r n
+in_use r n h = let it = used_bounds r n h in record { positive = it.0; below = it.1 }
+
+used : (r : Register) (n : ℕ) → IsInUse r n → is_used r n ≡ true
+used r n h = both (nat_lt 0 n) (nat_lt n r.next) (lt-ltb 0 n h.positive) (lt-ltb n r.next h.below)
+
+-- types of rights are one where the test says so
+one_type : (a b : RightType) → is_type a b ≡ true → a ≡ b
+one_type Ownership Ownership h = refl
+one_type Ownership Lease h = absurd (false≢true h)
+one_type Ownership Usufruct h = absurd (false≢true h)
+one_type Lease Ownership h = absurd (false≢true h)
+one_type Lease Lease h = refl
+one_type Lease Usufruct h = absurd (false≢true h)
+one_type Usufruct Ownership h = absurd (false≢true h)
+one_type Usufruct Lease h = absurd (false≢true h)
+one_type Usufruct Usufruct h = refl
+
+type_itself : (a : RightType) → is_type a a ≡ true
+type_itself Ownership = refl
+type_itself Lease = refl
+type_itself Usufruct = refl
+
+-- a test that is not passed
+untrue : (b : Bool) → (b ≡ true → ⊥) → b ≡ false
+untrue true h = absurd (h refl)
+untrue false h = refl
+
+-- rights of one type, and mortgages of one rank
+types_from : (a b : Option RightType) → are_of_one_type a b ≡ true → (type : RightType) × (a ≡ Some type) × (b ≡ Some type)
+types_from (Some x) (Some y) h = (y, ap Some (one_type x y h), refl)
+types_from (Some x) None h = absurd (false≢true h)
+types_from None b h = absurd (false≢true h)
+
+types_to : (type : RightType) (a b : Option RightType) → a ≡ Some type → b ≡ Some type → are_of_one_type a b ≡ true
+types_to type a b x y = ap (λ o. are_of_one_type o b) x ∙ ap (are_of_one_type (Some type)) y ∙ type_itself type
+
+ranks_from : (a b : Option ℕ) → are_of_one_rank a b ≡ true → (rank : ℕ) × (a ≡ Some rank) × (b ≡ Some rank)
+ranks_from (Some x) (Some y) h = (y, ap Some (eqb-true x y h), refl)
+ranks_from (Some x) None h = absurd (false≢true h)
+ranks_from None b h = absurd (false≢true h)
+
+ranks_to : (rank : ℕ) (a b : Option ℕ) → a ≡ Some rank → b ≡ Some rank → are_of_one_rank a b ≡ true
+ranks_to rank a b x y = ap (λ o. are_of_one_rank o b) x ∙ ap (are_of_one_rank (Some rank)) y ∙ eq-eqb rank rank refl
+
+-- two entries of a unit go together where they do not clash
+together : (e f : RrrRecord) → e.unit ≡ f.unit → do_clash e f ≡ false → GoTogether e f
+together e f unit h =
+    let one = are_of_one_type (type_of e.class) (type_of f.class) in
+    let rank = are_of_one_rank (rank_of e.class) (rank_of f.class) in
+    let parts = or_false (nat_eq e.party f.party && one) rank (sym (ap (λ t. t && (nat_eq e.party f.party && one || rank)) (eq-eqb e.unit f.unit unit)) ∙ h) in
+    record {
+      rights = λ type party x y. false≢true (sym parts.0 ∙ both (nat_eq e.party f.party) one (eq-eqb e.party f.party party) (types_to type (type_of e.class) (type_of f.class) x y));
+      ranks = λ place x y. false≢true (sym parts.1 ∙ ranks_to place (rank_of e.class) (rank_of f.class) x y);
+    }
+
+turned : (e f : RrrRecord) → GoTogether f e → GoTogether e f
+turned e f h = record {
+  rights = λ type party x y. h.rights type (sym party) y x;
+  ranks = λ rank x y. h.ranks rank y x;
+}
+
+apart : (e f : RrrRecord) → (e.unit ≡ f.unit → GoTogether e f) → do_clash e f ≡ false
+apart e f h = untrue (do_clash e f) (λ clash.
+    let one = are_of_one_type (type_of e.class) (type_of f.class) in
+    let rank = are_of_one_rank (rank_of e.class) (rank_of f.class) in
+    let parts = both_of (nat_eq e.unit f.unit) (nat_eq e.party f.party && one || rank) clash in
+    let go = h (eqb-true e.unit f.unit parts.0) in
+    let rights : (nat_eq e.party f.party && one) ≡ false = untrue (nat_eq e.party f.party && one) (λ it.
+    let those = both_of (nat_eq e.party f.party) one it in
+    let type = types_from (type_of e.class) (type_of f.class) those.1 in
+    go.rights type.0 (eqb-true e.party f.party those.0) type.1 type.2) in
+    let ranks : rank ≡ false = untrue rank (λ it. let place = ranks_from (rank_of e.class) (rank_of f.class) it in go.ranks place.0 place.1 place.2) in
+    false≢true (sym (neither (nat_eq e.party f.party && one) rank rights ranks) ∙ parts.1))
+
+-- an entry that is a right of a type
+right_from : (type : RightType) (class : Class) → is_right_of type class ≡ true → type_of class ≡ Some type
+right_from type (Right other share) h = ap Some (one_type other type h)
+right_from type (Restriction words) h = absurd (false≢true h)
+right_from type (Responsibility words) h = absurd (false≢true h)
+right_from type (Mortgage amount currency rank) h = absurd (false≢true h)
+
+right_to : (type : RightType) (class : Class) → type_of class ≡ Some type → is_right_of type class ≡ true
+right_to type (Right other share) h = let is : other ≡ type = cc in ap (λ t. is_type t type) is ∙ type_itself type
+right_to type (Restriction words) h = absurd (none h)
+  where
+    none : None ≡ Some type → ⊥
+    none e = cc
+right_to type (Responsibility words) h = absurd (none h)
+  where
+    none : None ≡ Some type → ⊥
+    none e = cc
+right_to type (Mortgage amount currency rank) h = absurd (none h)
+  where
+    none : None ≡ Some type → ⊥
+    none e = cc
+
+-- parcels, owners and counts of a unit
+parcel_from : (r : Register) (unit : ℕ) → has_parcel r unit ≡ true → HasParcel r unit
+parcel_from r unit h =
+    let it = some_passes nat_cmp_total nat_cmp-IsAntisymmetric (λ n p. nat_eq p.unit unit) r.parcels h in
+    record { number = it.key; parcel = it.value; there = it.there; in_unit = eqb-true it.value.unit unit it.passes }
+
+parcel_to : (r : Register) (unit : ℕ) → HasParcel r unit → has_parcel r unit ≡ true
+parcel_to r unit h = some_at nat_cmp_total nat_cmp-IsAntisymmetric (λ n p. nat_eq p.unit unit) r.parcels h.number h.parcel h.there (eq-eqb h.parcel.unit unit h.in_unit)
+
+owner_from : (r : Register) (unit : ℕ) → has_owner r unit ≡ true → HasOwner r unit
+owner_from r unit h =
+    let it = some_passes nat_cmp_total nat_cmp-IsAntisymmetric (λ n e. is_right_in unit Ownership e) r.rrrs h in
+    let parts = both_of (nat_eq it.value.unit unit) (is_right_of Ownership it.value.class) it.passes in
+    record { number = it.key; entry = it.value; there = it.there; in_unit = eqb-true it.value.unit unit parts.0; owns = right_from Ownership it.value.class parts.1 }
+
+owner_to : (r : Register) (unit : ℕ) → HasOwner r unit → has_owner r unit ≡ true
+owner_to r unit h =
+    some_at nat_cmp_total nat_cmp-IsAntisymmetric (λ n e. is_right_in unit Ownership e) r.rrrs h.number h.entry h.there
+    (both (nat_eq h.entry.unit unit) (is_right_of Ownership h.entry.class) (eq-eqb h.entry.unit unit h.in_unit) (right_to Ownership h.entry.class h.owns))
+
+size_from : (n : ℕ) → is_group_size n ≡ true → (2 ≤ n) × (n ≤ 64)
+size_from n h = (grind (arith, nat_tests), grind (arith, nat_tests))
+
+size_to : (n : ℕ) → 2 ≤ n → n ≤ 64 → is_group_size n ≡ true
+size_to n least most = grind (arith, nat_tests)
+
+-- a grant that stands
+granted : (o : Option (Unit {0})) → is_some o ≡ true → o ≡ Some tt
+granted None h = absurd (false≢true h)
+granted (Some u) h = refl
+
+administers : (role : Role) → is_role role StateAdministrator ≡ true → role ≡ StateAdministrator
+administers role h = sym (role_at_place role) ∙ ap role_at (eqb-true (place_of role) 5 h)
+
+-- what a parcel and an entry refer to
+parcel_refers : (r : Register) (p : ParcelRecord) → not (has r.units p.unit && has r.sources p.source) ≡ false → ParcelRefers r p
+parcel_refers r p h = let it = both_of (has r.units p.unit) (has r.sources p.source) (not_false _ h) in record { unit = it.0; source = it.1 }
+
+entry_refers : (r : Register) (e : RrrRecord) → not (has r.units e.unit && has r.parties e.party && has r.sources e.source) ≡ false → EntryRefers r e
+entry_refers r e h =
+    let it = both_of (has r.units e.unit && has r.parties e.party) (has r.sources e.source) (not_false _ h) in
+    let first = both_of (has r.units e.unit) (has r.parties e.party) it.0 in
+    record { unit = first.0; party = first.1; source = it.1 }
+
+-- pairs of entries, the lesser number first or last
+pairs_from : (r : Register) → has_clash r ≡ false → (m n : ℕ) (e f : RrrRecord) → map.get r.rrrs m ≡ Some e → map.get r.rrrs n ≡ Some f → m ≢ n → e.unit ≡ f.unit → GoTogether e f
+pairs_from r none m n e f is that other unit =
+    elim (nat_lt m n) as (λ b. nat_lt m n ≡ b → GoTogether e f) [
+      | true ↦ λ before. together e f unit (sym (ap (λ t. t && do_clash e f) before) ∙ in_order m n e f is that)
+      | false ↦ λ after.
+          let le : n ≤ m = ltb-false m n after in
+          let lt : n < m = omega arith in
+          turned e f (together f e (sym unit) (sym (ap (λ t. t && do_clash f e) (lt-ltb n m lt)) ∙ in_order n m f e that is))
+    ] refl
+  where
+    in_order : (m n : ℕ) (e f : RrrRecord) → map.get r.rrrs m ≡ Some e → map.get r.rrrs n ≡ Some f → (nat_lt m n && do_clash e f) ≡ false
+    in_order m n e f is that = at (λ n f. nat_lt m n && do_clash e f) r.rrrs (at (λ m e. clashes_later r m e) r.rrrs none m e is) n f that
+
+pair_to : (n m : ℕ) (e f : RrrRecord) → (n ≢ m → e.unit ≡ f.unit → GoTogether e f) → (nat_lt n m && do_clash e f) ≡ false
+pair_to n m e f h = untrue (nat_lt n m && do_clash e f) (λ it.
+    let parts = both_of (nat_lt n m) (do_clash e f) it in
+    let before : n < m = ltb-true n m parts.0 in
+    let other : n ≢ m = omega arith in
+    false≢true (sym (apart e f (h other)) ∙ parts.1))
+
+rank_to : (r : Register) (o : Option ℕ) → ((rank : ℕ) → o ≡ Some rank → IsInUse r rank) → is_loose_rank r o ≡ false
+rank_to r None h = refl
+rank_to r (Some rank) h = ap not (used r rank (h rank refl))
+
+-- shares make a whole where the answer is that they do
+module _ (law : WholenessLaw) where
+  whole_from_yes : (shares : List Ratio) → is_yes (wholeness shares) ≡ true → IsWhole shares
+  whole_from_yes shares h = (law shares Yes).1 (sym (is_it (wholeness shares) h))
+    where
+      is_it : (whole : Whole) → is_yes whole ≡ true → whole ≡ Yes
+      is_it Yes h = refl
+      is_it No h = absurd (false≢true h)
+      is_it TooFine h = absurd (false≢true h)
+
+  yes_from_whole : (shares : List Ratio) → IsWhole shares → is_yes (wholeness shares) ≡ true
+  yes_from_whole shares h = ap is_yes (sym ((law shares Yes).0 h))
+
+  group_from : (shares : List Ratio) → are_group_shares shares ≡ true → AreOfGroup shares
+  group_from shares h =
+      let parts = both_of (is_group_size (length shares)) (is_yes (wholeness shares)) h in
+      let size = size_from (length shares) parts.0 in
+      record { least = size.0; most = size.1; whole = whole_from_yes shares parts.1 }
+
+  group_to : (shares : List Ratio) → AreOfGroup shares → are_group_shares shares ≡ true
+  group_to shares h = both (is_group_size (length shares)) (is_yes (wholeness shares)) (size_to (length shares) h.least h.most) (yes_from_whole shares h.whole)
+
+  whole_from_none : (shares : List Ratio) → are_whole_or_none shares ≡ true → shares ≢ [] → IsWhole shares
+  whole_from_none [] h some = absurd (some refl)
+  whole_from_none (share ∷ shares) h some = whole_from_yes (share ∷ shares) h
+
+  none_from_whole : (shares : List Ratio) → (shares ≢ [] → IsWhole shares) → are_whole_or_none shares ≡ true
+  none_from_whole [] h = refl
+  none_from_whole (share ∷ shares) h = yes_from_whole (share ∷ shares) (h some)
+    where
+      some : (share ∷ shares) ≡ [] → ⊥
+      some e = cc
+
+  shares_from : (r : Register) (n : ℕ) → has_whole_shares r n ≡ true → (type : RightType) → are_whole_or_none (type_shares r n type) ≡ true
+  shares_from r n h type =
+      let both_types = both_of (are_whole_or_none (type_shares r n Ownership) && are_whole_or_none (type_shares r n Lease)) (are_whole_or_none (type_shares r n Usufruct)) h in
+      let first = both_of (are_whole_or_none (type_shares r n Ownership)) (are_whole_or_none (type_shares r n Lease)) both_types.0 in
+      of_type type first.0 first.1 both_types.1
+    where
+      of_type : (type : RightType) → are_whole_or_none (type_shares r n Ownership) ≡ true → are_whole_or_none (type_shares r n Lease) ≡ true → are_whole_or_none (type_shares r n Usufruct) ≡ true
+          → are_whole_or_none (type_shares r n type) ≡ true
+      of_type Ownership a b c = a
+      of_type Lease a b c = b
+      of_type Usufruct a b c = c
+
+  shares_to : (r : Register) (n : ℕ) → ((type : RightType) → are_whole_or_none (type_shares r n type) ≡ true) → has_whole_shares r n ≡ true
+  shares_to r n h =
+      both (are_whole_or_none (type_shares r n Ownership) && are_whole_or_none (type_shares r n Lease)) (are_whole_or_none (type_shares r n Usufruct))
+      (both (are_whole_or_none (type_shares r n Ownership)) (are_whole_or_none (type_shares r n Lease)) (h Ownership) (h Lease)) (h Usufruct)
+
+  unit_from : (r : Register) → IsSound r → (n : ℕ) (u : UnitRecord) → map.get r.units n ≡ Some u → IsSoundUnit r n u
+  unit_from r sound n u is =
+      let bare = both_of (has_parcel r n) (has_owner r n) (not_false _ (at (λ n u. not (has_parcel r n && has_owner r n)) r.units (sound Bare) n u is)) in
+      let crowded = or_false (nat_lt 256 (parcel_count r n)) (nat_lt 256 (rrr_count r n)) (at (λ n u. nat_lt 256 (parcel_count r n) || nat_lt 256 (rrr_count r n)) r.units (sound Crowded) n u is) in
+      let parts = at (λ n u. u.checked && not (has_whole_shares r n)) r.units (sound Shares) n u is in
+      record {
+        parcel = parcel_from r n bare.0;
+        owner = owner_from r n bare.1;
+        parcels = ltb-false 256 (parcel_count r n) crowded.0;
+        entries = ltb-false 256 (rrr_count r n) crowded.1;
+        whole = λ checked type some. whole_from_none (type_shares r n type)
+            (shares_from r n (not_false _ (sym (ap (λ t. t && not (has_whole_shares r n)) checked) ∙ parts)) type) some;
+      }
+
+  unit_in_parts : (r : Register) (n : ℕ) (u : UnitRecord) → IsSoundUnit r n u → (u.checked && not (has_whole_shares r n)) ≡ false
+  unit_in_parts r n u h =
+      elim u.checked as (λ b. u.checked ≡ b → (b && not (has_whole_shares r n)) ≡ false) [
+        | true ↦ λ checked. ap not (shares_to r n (λ type. none_from_whole (type_shares r n type) (h.whole checked type)))
+        | false ↦ λ free. refl
+      ] refl
+
+  -- what soundness says of look-ups
+  look_ups_from : (r : Register) → IsSound r → IsSoundByLookUps r
+  look_ups_from r sound =
+      let parts = refers r (sound Reference) in
+      let numbers = are_used r parts.numbers in
+      let administrator = administrator_from r (not_false _ (sound Administrator)) in
+      record {
+        room = ltb-false 1000000001 r.next parts.room;
+        numbers_of_parties = λ n v is. in_use r n (used_from r r.parties numbers.parties n v is);
+        numbers_of_units = λ n v is. in_use r n (used_from r r.units numbers.units n v is);
+        numbers_of_parcels = λ n v is. in_use r n (used_from r r.parcels numbers.parcels n v is);
+        numbers_of_entries = λ n v is. in_use r n (used_from r r.rrrs numbers.rrrs n v is);
+        numbers_of_sources = λ n v is. in_use r n (used_from r r.sources numbers.sources n v is);
+        roles = λ party role h. single_from r parts.grants (grant_of party role) (granted (map.get r.roles (grant_of party role)) h);
+        members = λ group members is. let it = members_from r parts.members group members is in record { grouped = it.grouped; single = it.single };
+        parcels = λ n p is. parcel_refers r p (at (λ n p. not (has r.units p.unit && has r.sources p.source)) r.parcels parts.parcels n p is);
+        entries = λ n e is. entry_refers r e (at (λ n e. not (has r.units e.unit && has r.parties e.party && has r.sources e.source)) r.rrrs parts.rrrs n e is);
+        groups = λ n p is group. group_from (shares_of r n) (whole_from r (sound Group) n p is group);
+        units = unit_from r sound;
+        pairs = pairs_from r (sound Twice);
+        ranks = λ n e rank is at_rank. in_use r rank (not_false _ (sym (ap (is_loose_rank r) at_rank) ∙ at (λ n e. is_loose_rank r (rank_of e.class)) r.rrrs (sound Rank) n e is));
+        administrator = (
+          administrator.key.party,
+          subst (λ (role : Role). holds r administrator.key.party role ≡ true) (administers administrator.key.role administrator.passes) (ap is_some administrator.there),
+        );
+      }
+
+  -- and what look-ups say of soundness
+  look_ups_to : (r : Register) → IsSoundByLookUps r → IsSound r
+  look_ups_to r h Reference =
+      refers_back r (record {
+        room = le-ltb 1000000001 r.next h.room;
+        numbers = are_used_back r (record {
+          parties = unused_from r r.parties (λ n v is. used r n (h.numbers_of_parties n v is));
+          units = unused_from r r.units (λ n v is. used r n (h.numbers_of_units n v is));
+          parcels = unused_from r r.parcels (λ n v is. used r n (h.numbers_of_parcels n v is));
+          rrrs = unused_from r r.rrrs (λ n v is. used r n (h.numbers_of_entries n v is));
+          sources = unused_from r r.sources (λ n v is. used r n (h.numbers_of_sources n v is));
+        });
+        grants = loose_from r (λ g is. h.roles g.party g.role (ap is_some is));
+        members = loose_members_from r (λ group members is. let it = h.members group members is in record { grouped = it.grouped; single = it.single });
+        parcels = each (λ n p. not (has r.units p.unit && has r.sources p.source)) r.parcels (λ n p is.
+            let it = h.parcels n p is in ap not (both (has r.units p.unit) (has r.sources p.source) it.unit it.source));
+        rrrs = each (λ n e. not (has r.units e.unit && has r.parties e.party && has r.sources e.source)) r.rrrs (λ n e is.
+            let it = h.entries n e is in
+            ap not (both (has r.units e.unit && has r.parties e.party) (has r.sources e.source) (both (has r.units e.unit) (has r.parties e.party) it.unit it.party) it.source));
+      })
+  look_ups_to r h Shares = each (λ n u. u.checked && not (has_whole_shares r n)) r.units (λ n u is. unit_in_parts r n u (h.units n u is))
+  look_ups_to r h Group = unbroken_from r (λ n p is group. group_to (shares_of r n) (h.groups n p is group))
+  look_ups_to r h Bare =
+      each (λ n u. not (has_parcel r n && has_owner r n)) r.units (λ n u is.
+      let it = h.units n u is in ap not (both (has_parcel r n) (has_owner r n) (parcel_to r n it.parcel) (owner_to r n it.owner)))
+  look_ups_to r h Crowded =
+      each (λ n u. nat_lt 256 (parcel_count r n) || nat_lt 256 (rrr_count r n)) r.units (λ n u is.
+      let it = h.units n u is in
+      neither (nat_lt 256 (parcel_count r n)) (nat_lt 256 (rrr_count r n)) (le-ltb 256 (parcel_count r n) it.parcels) (le-ltb 256 (rrr_count r n) it.entries))
+  look_ups_to r h Twice =
+      each (λ n e. clashes_later r n e) r.rrrs (λ n e is. each (λ m f. nat_lt n m && do_clash e f) r.rrrs (λ m f later. pair_to n m e f (h.pairs n m e f is later)))
+  look_ups_to r h Rank = each (λ n e. is_loose_rank r (rank_of e.class)) r.rrrs (λ n e is. rank_to r (rank_of e.class) (λ rank at_rank. h.ranks n e rank is at_rank))
+  look_ups_to r h Administrator =
+      ap not (administrator_at r (grant_of h.administrator.0 StateAdministrator) (granted (map.get r.roles (grant_of h.administrator.0 StateAdministrator)) h.administrator.1) refl)
+  look_ups_to r h Memory = refl
+
+  pub by_look_ups : SoundnessByLookUps
+  by_look_ups r = (look_ups_from r, look_ups_to r)

@@ -1,0 +1,233 @@
+//! Rights, restrictions, responsibilities and mortgages (LA_RRR): the entries of units.
+ghost use Rattle.std.specs.Prelude.{◌≡◌};
+ghost use Rattle.land_core.specs.Units.{are_of_one_rank, are_of_one_type, do_clash, is_right_in, is_type, rank_of, share_in, type_of};
+
+use crate::duplicate::Duplicate;
+use crate::text::Text;
+use land_fraction::Fraction;
+use std::alloc::{AllocError, Global};
+
+/// The type of a right (LA_RightType).
+#[derive(Clone, Copy, Debug, PartialEq, Eq)]
+pub enum RightType {
+    /// To own.
+    Ownership,
+    /// To use for rent.
+    Lease,
+    /// To use and to take the fruits.
+    Usufruct,
+}
+
+impl RightType {
+    /// Whether two types are one.
+    pub fn is(self, other: RightType) -> bool
+        ensures { result ≡ is_type self other }
+    {
+        match (self, other) {
+            (RightType::Ownership, RightType::Ownership)
+            | (RightType::Lease, RightType::Lease)
+            | (RightType::Usufruct, RightType::Usufruct) => true,
+            _ => false,
+        }
+    }
+}
+
+/// What an entry says, by its class.
+#[derive(Debug, Drop)]
+pub enum Class {
+    /// A right to a share of the unit (LA_Right).
+    Right {
+        /// The type of the right.
+        right_type: RightType,
+        /// The share that its party has.
+        share: Fraction,
+    },
+    /// What its party may not do, or has to bear (LA_Restriction).
+    Restriction {
+        /// In words: 1 to 200 characters.
+        words: Text,
+    },
+    /// What its party has to do (LA_Responsibility).
+    Responsibility {
+        /// In words: 1 to 200 characters.
+        words: Text,
+    },
+    /// What the unit is a security for; its party is the creditor (LA_Mortgage).
+    Mortgage {
+        /// The amount in minor units: 1 to 1_000_000_000_000_000.
+        amount: u64,
+        /// The currency: three letters from A to Z (ISO 4217).
+        currency: Text,
+        /// The rank among the mortgages of the unit, from 1.
+        rank: u64,
+    },
+}
+
+impl Class {
+    ghost use Rattle.land_core.specs.Units.{is_right_of, share_of};
+
+    /// The type of a right.
+    pub fn right_type(&self) -> Option<RightType>
+        ensures { result ≡ type_of self.now }
+    {
+        match self {
+            Class::Right { right_type, .. } => Some(*right_type),
+            _ => None,
+        }
+    }
+
+    /// The rank of a mortgage.
+    pub fn rank(&self) -> Option<u64>
+        ensures { result ≡ rank_of self.now }
+    {
+        match self {
+            Class::Mortgage { rank, .. } => Some(*rank),
+            _ => None,
+        }
+    }
+
+    /// Whether it is a right of a type.
+    pub fn is_right_of(&self, wanted: RightType) -> bool
+        ensures { result ≡ is_right_of wanted self.now }
+    {
+        match self {
+            Class::Right { right_type, .. } => right_type.is(wanted),
+            _ => false,
+        }
+    }
+
+    /// The share of a right of a type.
+    pub fn share_of(&self, wanted: RightType) -> Option<Fraction>
+        ensures { result ≡ share_of wanted self.now }
+    {
+        match self {
+            Class::Right { right_type, share } if right_type.is(wanted) => Some(*share),
+            _ => None,
+        }
+    }
+}
+
+impl Duplicate for Class {
+    fn copy(&self, alloc: Global) -> Result<Class, AllocError> {
+        match self {
+            Class::Right { right_type, share } => Ok(Class::Right {
+                right_type: *right_type,
+                share: *share,
+            }),
+            Class::Restriction { words } => Ok(Class::Restriction {
+                words: words.copy(alloc)?,
+            }),
+            Class::Responsibility { words } => Ok(Class::Responsibility {
+                words: words.copy(alloc)?,
+            }),
+            Class::Mortgage {
+                amount,
+                currency,
+                rank,
+            } => Ok(Class::Mortgage {
+                amount: *amount,
+                currency: currency.copy(alloc)?,
+                rank: *rank,
+            }),
+        }
+    }
+}
+
+/// What the register keeps of an entry under its number.
+#[derive(Debug, Drop)]
+pub struct RrrRecord {
+    /// The number of its unit.
+    pub unit: u64,
+    /// The number of its party: who has the right or the duty, or the creditor.
+    pub party: u64,
+    /// What it says.
+    pub class: Class,
+    /// The number of the source that it comes from.
+    pub source: u64,
+}
+
+impl RrrRecord {
+    /// Whether it is a right of a type in a unit.
+    pub fn is_right_in(&self, unit: u64, right_type: RightType) -> bool
+        ensures { result ≡ is_right_in unit right_type self.now }
+    {
+        self.unit == unit && self.class.is_right_of(right_type)
+    }
+
+    /// The share of a right of a type in a unit.
+    pub fn share_in(&self, unit: u64, right_type: RightType) -> Option<Fraction>
+        ensures { result ≡ share_in unit right_type self.now }
+    {
+        if self.unit == unit {
+            self.class.share_of(right_type)
+        } else {
+            None
+        }
+    }
+
+    /// Whether two entries do not go together in one unit: two rights of one type of one party, or two mortgages of one
+    /// rank.
+    pub fn do_clash(&self, other: &RrrRecord) -> bool
+        ensures { result ≡ do_clash self.now other.now }
+    {
+        self.unit == other.unit
+            && (self.party == other.party && are_of_one_type(&self.class, &other.class)
+                || are_of_one_rank(&self.class, &other.class))
+    }
+}
+
+fn are_of_one_type(class: &Class, other: &Class) -> bool
+    ensures { result ≡ are_of_one_type (type_of class.now) (type_of other.now) }
+{
+    match (class.right_type(), other.right_type()) {
+        (Some(right_type), Some(other)) => right_type.is(other),
+        _ => false,
+    }
+}
+
+fn are_of_one_rank(class: &Class, other: &Class) -> bool
+    ensures { result ≡ are_of_one_rank (rank_of class.now) (rank_of other.now) }
+{
+    match (class.rank(), other.rank()) {
+        (Some(rank), Some(other)) => rank == other,
+        _ => false,
+    }
+}
+
+impl Duplicate for RrrRecord {
+    fn copy(&self, alloc: Global) -> Result<RrrRecord, AllocError> {
+        Ok(RrrRecord {
+            unit: self.unit,
+            party: self.party,
+            class: self.class.copy(alloc)?,
+            source: self.source,
+        })
+    }
+}
+
+/// An entry as it is shown: its record with its number.
+#[derive(Debug, Drop)]
+pub struct Rrr {
+    /// Its number.
+    pub number: u64,
+    /// The number of its unit.
+    pub unit: u64,
+    /// The number of its party: who has the right or the duty, or the creditor.
+    pub party: u64,
+    /// What it says.
+    pub class: Class,
+    /// The number of the source that it comes from.
+    pub source: u64,
+}
+
+impl Duplicate for Rrr {
+    fn copy(&self, alloc: Global) -> Result<Rrr, AllocError> {
+        Ok(Rrr {
+            number: self.number,
+            unit: self.unit,
+            party: self.party,
+            class: self.class.copy(alloc)?,
+            source: self.source,
+        })
+    }
+}
