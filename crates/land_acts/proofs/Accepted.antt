@@ -1,8 +1,9 @@
 -- Accepted acts keep a register sound, and name no key twice.
-use Rattle.std.proofs.Common.{◌≡◌, ◌≤◌, true, ◌&&◌, not, Option, None, Ok, [], ◌∷◌, length, refl, subst, arith}
-use Rattle.std.specs.Prelude.{ℤ, ◌||◌, is_none, unwrap_or, pos}
+use Rattle.std.proofs.Common.{◌≡◌, ◌≤◌, true, ◌&&◌, not, Option, Some, None, Ok, [], ◌∷◌, length, refl, subst, arith}
+use Rattle.std.specs.Prelude.{ℤ, ◌||◌, ◌+◌, is_none, map as map_list}
 use Rattle.land_core.specs.Acts.{is_well_formed, are_members, is_number, name_numbers}
 use Rattle.land_core.specs.Changes.{after, NamesKeysOnce}
+use Rattle.land_core.specs.Entries.{has}
 use Rattle.land_core.specs.Members.{is_group_size}
 use Rattle.land_core.specs.Register.{has_single_party, has_group, holds}
 use Rattle.land_core.specs.Role.{is_role}
@@ -17,13 +18,21 @@ use Rattle.land_core.specs.declared.register.Register.{Register}
 use Rattle.land_core.specs.declared.role.Role.TheVariants.{StateAdministrator}
 use Rattle.land_core.proofs.Booleans.{both_of, or_false, not_false}
 use Rattle.land_acts.specs.declared.refusal.Planned.TheVariants.{New}
-use Rattle.land_acts.specs.declared.refusal.Refusal.TheVariants.{NoSuchParty, SharesTooFine, TooMany, SharesNotWhole, RoleHeld, RoleNotHeld, ClockOut, LastAdministrator, SameParty}
-use Rattle.land_acts.specs.Laws.{AcceptedKeepsSound, AcceptedNamesKeysOnce}
+use Rattle.land_acts.specs.declared.refusal.Refusal.TheVariants.{NoSuchUnit, NoSuchRight, NoSuchParty, SharesTooFine, TooMany, SharesNotWhole, RoleHeld, RoleNotHeld, ClockOut, LastAdministrator, SameParty}
+use Rattle.land_acts.specs.Burdening.{would_crowd}
+use Rattle.land_acts.specs.FirstRights.{lists_absent, are_types_too_fine, are_types_whole, has_right_twice}
+use Rattle.land_acts.specs.Laws.{AcceptedKeepsSound, AcceptedNamesKeysOnce, AcceptedTellsStamp, NothingWithoutStamp}
+use Rattle.land_acts.specs.Lifting.{has_burden}
 use Rattle.land_acts.specs.Outcome.{outcome_of, first_that_holds, refusals_of, change_of, done_of}
 use Rattle.land_acts.specs.Planning.{lacks_numbers, has_administrator_beside}
+use Rattle.land_acts.specs.Registering.{new_count, parcel_of, right_of}
 use Rattle.land_acts.specs.Sharing.{lists_stranger, are_too_fine, are_whole, lists_twice}
+use Rattle.land_acts.proofs.BurdenedUnits.{burdened_is_sound}
 use Rattle.land_acts.proofs.GroupActs.{enrolled_is_sound, grouped_is_sound, regrouped_is_sound}
-use Rattle.land_acts.proofs.Outcomes.{IsPlanned, planned_from, first_none}
+use Rattle.land_acts.proofs.LiftedEntries.{lifted_is_sound}
+use Rattle.land_acts.proofs.NewObjects.{numbered_once}
+use Rattle.land_acts.proofs.Outcomes.{IsPlanned, planned_from, unstamped, first_none}
+use Rattle.land_acts.proofs.RegisteredUnits.{registered_is_sound}
 use Rattle.land_acts.proofs.RoleActs.{granted_is_sound, revoked_is_sound}
 
 -- ---- each act, where none of its refusals holds
@@ -58,6 +67,21 @@ sound_after r caller (act.Revoke it) stamp sound formed none =
     let held = first_none RoleNotHeld (not (holds r it.party it.role)) ((ClockOut, is_none stamp) ∷ (LastAdministrator, last) ∷ []) known.rest in
     let stamped = first_none ClockOut (is_none stamp) ((LastAdministrator, last) ∷ []) held.rest in
     revoked_is_sound r it sound (first_none LastAdministrator last [] stamped.rest).first
+sound_after r caller (act.Register it) stamp sound formed none =
+    let known = first_none NoSuchParty (lists_absent r it.rights) ((SharesTooFine, it.checked && are_types_too_fine it.rights) ∷ (TooMany, lacks_numbers r (new_count it)) ∷ (SharesNotWhole, it.checked && not (are_types_whole it.rights)) ∷ (ClockOut, is_none stamp) ∷ (SameParty, has_right_twice it.rights) ∷ []) none in
+    let fine = first_none SharesTooFine (it.checked && are_types_too_fine it.rights) ((TooMany, lacks_numbers r (new_count it)) ∷ (SharesNotWhole, it.checked && not (are_types_whole it.rights)) ∷ (ClockOut, is_none stamp) ∷ (SameParty, has_right_twice it.rights) ∷ []) known.rest in
+    let room = first_none TooMany (lacks_numbers r (new_count it)) ((SharesNotWhole, it.checked && not (are_types_whole it.rights)) ∷ (ClockOut, is_none stamp) ∷ (SameParty, has_right_twice it.rights) ∷ []) fine.rest in
+    let whole = first_none SharesNotWhole (it.checked && not (are_types_whole it.rights)) ((ClockOut, is_none stamp) ∷ (SameParty, has_right_twice it.rights) ∷ []) room.rest in
+    let stamped = first_none ClockOut (is_none stamp) ((SameParty, has_right_twice it.rights) ∷ []) whole.rest in
+    let once = first_none SameParty (has_right_twice it.rights) [] stamped.rest in
+    registered_is_sound r it sound formed known.first room.first whole.first once.first
+sound_after r caller (act.Burden it) stamp sound formed none =
+    let unit = first_none NoSuchUnit (not (has r.units it.unit)) ((NoSuchParty, not (has r.parties it.party)) ∷ (TooMany, lacks_numbers r 2 || would_crowd r it.unit 1) ∷ (ClockOut, is_none stamp) ∷ []) none in
+    let party = first_none NoSuchParty (not (has r.parties it.party)) ((TooMany, lacks_numbers r 2 || would_crowd r it.unit 1) ∷ (ClockOut, is_none stamp) ∷ []) unit.rest in
+    let room = or_false (lacks_numbers r 2) (would_crowd r it.unit 1) (first_none TooMany (lacks_numbers r 2 || would_crowd r it.unit 1) ((ClockOut, is_none stamp) ∷ []) party.rest).first in
+    burdened_is_sound r it sound (not_false _ unit.first) (not_false _ party.first) room.0 room.1
+sound_after r caller (act.Lift it) stamp sound formed none =
+    lifted_is_sound r it (not_false _ (first_none NoSuchRight (not (has_burden r it.rrr)) ((ClockOut, is_none stamp) ∷ []) none).first) sound
 
 next_grows : (r : Register) (caller : Caller) (a : Act) → r.next ≤ (change_of r caller a).next
 next_grows r caller (act.Enrol it) = omega arith
@@ -65,28 +89,62 @@ next_grows r caller (act.Group it) = omega arith
 next_grows r caller (act.Regroup it) = omega arith
 next_grows r caller (act.Grant it) = omega arith
 next_grows r caller (act.Revoke it) = omega arith
+next_grows r caller (act.Register it) = omega arith
+next_grows r caller (act.Burden it) = omega arith
+next_grows r caller (act.Lift it) = omega arith
 
 names_once : (r : Register) (caller : Caller) (a : Act) → NamesKeysOnce (change_of r caller a)
-names_once r caller (act.Enrol it) = record { parties = refl; roles = refl; members = refl }
-names_once r caller (act.Group it) = record { parties = refl; roles = refl; members = refl }
-names_once r caller (act.Regroup it) = record { parties = refl; roles = refl; members = refl }
-names_once r caller (act.Grant it) = record { parties = refl; roles = refl; members = refl }
-names_once r caller (act.Revoke it) = record { parties = refl; roles = refl; members = refl }
+names_once r caller (act.Enrol it) = record { parties = refl; roles = refl; members = refl; units = refl; parcels = refl; rrrs = refl; sources = refl }
+names_once r caller (act.Group it) = record { parties = refl; roles = refl; members = refl; units = refl; parcels = refl; rrrs = refl; sources = refl }
+names_once r caller (act.Regroup it) = record { parties = refl; roles = refl; members = refl; units = refl; parcels = refl; rrrs = refl; sources = refl }
+names_once r caller (act.Grant it) = record { parties = refl; roles = refl; members = refl; units = refl; parcels = refl; rrrs = refl; sources = refl }
+names_once r caller (act.Register it) = record {
+  parties = refl;
+  roles = refl;
+  members = refl;
+  units = refl;
+  parcels = numbered_once (r.next + 2) (map_list (parcel_of (r.next + 1) r.next) it.parcels);
+  rrrs = numbered_once (r.next + 2 + length it.parcels) (map_list (right_of (r.next + 1) r.next) it.rights);
+  sources = refl;
+}
+names_once r caller (act.Burden it) = record { parties = refl; roles = refl; members = refl; units = refl; parcels = refl; rrrs = refl; sources = refl }
+names_once r caller (act.Lift it) = record { parties = refl; roles = refl; members = refl; units = refl; parcels = refl; rrrs = refl; sources = refl }
+names_once r caller (act.Revoke it) = record { parties = refl; roles = refl; members = refl; units = refl; parcels = refl; rrrs = refl; sources = refl }
+
+-- the stamp is told with the change
+stamp_told : (r : Register) (caller : Caller) (a : Act) (stamp : ℤ) → (done_of r caller a stamp).stamp ≡ stamp
+stamp_told r caller (act.Enrol it) stamp = refl
+stamp_told r caller (act.Group it) stamp = refl
+stamp_told r caller (act.Regroup it) stamp = refl
+stamp_told r caller (act.Grant it) stamp = refl
+stamp_told r caller (act.Revoke it) stamp = refl
+stamp_told r caller (act.Register it) stamp = refl
+stamp_told r caller (act.Burden it) stamp = refl
+stamp_told r caller (act.Lift it) stamp = refl
 
 -- ---- any act
 
-planned : (r : Register) (caller : Caller) (a : Act) (stamp : Option ℤ) (change : Change) (done : Done) → outcome_of r caller a stamp ≡ Ok (New change done)
-    → IsPlanned (refusals_of r caller a stamp) (change_of r caller a) change
+planned : (r : Register) (caller : Caller) (a : Act) (stamp : ℤ) (change : Change) (done : Done) → outcome_of r caller a (Some stamp) ≡ Ok (New change done)
+    → IsPlanned (refusals_of r caller a (Some stamp)) (change_of r caller a) change (λ at. done_of r caller a at) done stamp
 planned r caller a stamp change done is =
-    planned_from (refusals_of r caller a stamp) (change_of r caller a) change (done_of r caller a (unwrap_or stamp (pos 0))) done is
+    planned_from (refusals_of r caller a (Some stamp)) (change_of r caller a) change (λ at. done_of r caller a at) done stamp is
 
 pub accepted_sound : AcceptedKeepsSound
-accepted_sound r change sound h =
-    let plan = planned r h.caller h.act h.stamp change h.done h.outcome in
+accepted_sound r change stamp sound h =
+    let plan = planned r h.caller h.act stamp change h.done h.outcome in
     subst (λ (made : Change). IsSound (after made r) × (r.next ≤ made.next)) plan.same
-    (sound_after r h.caller h.act h.stamp sound h.well_formed plan.none_holds, next_grows r h.caller h.act)
+    (sound_after r h.caller h.act (Some stamp) sound h.well_formed plan.none_holds, next_grows r h.caller h.act)
 
 pub accepted_once : AcceptedNamesKeysOnce
-accepted_once r change h =
-    let plan = planned r h.caller h.act h.stamp change h.done h.outcome in
+accepted_once r change stamp h =
+    let plan = planned r h.caller h.act stamp change h.done h.outcome in
     subst NamesKeysOnce plan.same (names_once r h.caller h.act)
+
+pub tells_stamp : AcceptedTellsStamp
+tells_stamp r change stamp h =
+    let plan = planned r h.caller h.act stamp change h.done h.outcome in
+    subst (λ (done : Done). done.stamp ≡ stamp) plan.is_told (stamp_told r h.caller h.act stamp)
+
+pub nothing_unstamped : NothingWithoutStamp
+nothing_unstamped r caller a change done is =
+    unstamped (refusals_of r caller a None) (change_of r caller a) change (λ at. done_of r caller a at) done is

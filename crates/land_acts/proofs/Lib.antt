@@ -1,8 +1,13 @@
 pub mod Accepted
+pub mod BurdenedUnits
 pub mod GroupActs
+pub mod Growth
+pub mod LiftedEntries
 pub mod ListedMembers
+pub mod NewObjects
 pub mod Numbers
 pub mod Outcomes
 pub mod PartyActs
+pub mod RegisteredUnits
 pub mod RoleActs
 pub mod SlicedWords

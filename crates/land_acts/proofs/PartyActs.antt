@@ -1,5 +1,5 @@
 -- A party that is put at the next number: what stood before stands as it was.
-use Rattle.std.proofs.Common.{◌≡◌, ℕ, ◌+◌, ◌<◌, true, false, cond, ◌&&◌, not, Option, Some, None, refl, sym, ap, ◌∙◌, subst, arith}
+use Rattle.std.proofs.Common.{◌≡◌, ℕ, ◌+◌, ◌<◌, ◌≤◌, true, false, cond, ◌&&◌, not, Option, Some, None, refl, sym, ap, ◌∙◌, subst, arith}
 use Rattle.std.specs.Prelude.{nat_lt}
 use Rattle.std.specs.Option.{option_map_or}
 use Rattle.std.specs.Ordering.{nat_cmp, eq_by_cmp, is_eq}
@@ -7,13 +7,15 @@ use Rattle.std.specs.Cmp.{nat_cmp_total, tied_itself}
 use Rattle.std.specs.FinMap as map
 use Rattle.std.proofs.lemmas.Bool.{false≢true}
 use Rattle.std.proofs.lemmas.Bool.Decides.{nat_tests}
+use Rattle.land_core.specs.Entries.{has}
 use Rattle.land_core.specs.Members.{Members}
 use Rattle.land_core.specs.Register.{has_single_party, has_group, is_single}
-use Rattle.land_core.specs.Soundness.{IsSound, has_unused_number, has_loose_grant, is_used}
+use Rattle.land_core.specs.Soundness.{IsSound, has_unused, has_unused_number, has_loose_grant, has_loose_rrr, is_used}
 use Rattle.land_core.specs.declared.party.PartyRecord.{PartyRecord}
 use Rattle.land_core.specs.declared.register.Register.{Register}
 use Rattle.land_core.specs.declared.soundness.Unsound.TheVariants.{Reference}
-use Rattle.land_core.proofs.SoundRegisters.{refers, used_from, unused_from, used_bounds, next_above_zero, loose_from, single_from, AreTight}
+use Rattle.land_core.proofs.SoundRegisters.{are_used, are_used_back, refers, used_from, unused_from, used_bounds, next_above_zero, loose_from, single_from, AreTight}
+use Rattle.land_acts.proofs.Growth.{used_grows, unused_grows, has_stays, anchored, anchored_back}
 use Rattle.land_acts.proofs.Numbers.{one_number, lesser_apart}
 
 -- each party that stands in a register stands in another one too, as it was
@@ -40,20 +42,20 @@ tight_stays r new stay group members h = record {
   single = λ n share is. single_stays r new stay n (h.single n share is);
 }
 
--- a number that is in use stays so when the next number grows by one, and the one that was next is in use then
-used_more : (next n : ℕ) → (nat_lt 0 n && nat_lt n next) ≡ true → (nat_lt 0 n && nat_lt n (next + 1)) ≡ true
-used_more next n h = grind (arith, nat_tests)
-
+-- the number that was next is in use when the next one grows by one
 next_used : (next : ℕ) → 0 < next → (nat_lt 0 next && nat_lt next (next + 1)) ≡ true
 next_used next h = grind (arith, nat_tests)
 
 module _ (r new : Register) (party : PartyRecord) (parties : new.parties ≡ map.insert r.parties r.next party) (next : new.next ≡ r.next + 1) (sound : IsSound r) where
+  grows : r.next ≤ new.next
+  grows = rw next (omega arith)
+
   put_at : (n : ℕ) → map.get new.parties n ≡ cond (eq_by_cmp nat_cmp n r.next) (Some party) (map.get r.parties n)
   put_at n = ap (λ m. map.get m n) parties ∙ map.get-insert nat_cmp_total r.parties r.next party n
 
   -- no party stood at the next number
   pub not_next : (n : ℕ) (p : PartyRecord) → map.get r.parties n ≡ Some p → eq_by_cmp nat_cmp n r.next ≡ false
-  not_next n p is = lesser_apart n r.next (used_bounds r n (used_from r (refers r (sound Reference)).numbers n p is)).1
+  not_next n p is = lesser_apart n r.next (used_bounds r n (used_from r r.parties (are_used r (refers r (sound Reference)).numbers).parties n p is)).1
 
   pub stay : StayParties r new
   stay n p is = put_at n ∙ ap (λ b. cond b (Some party) (map.get r.parties n)) (not_next n p is) ∙ is
@@ -73,12 +75,34 @@ module _ (r new : Register) (party : PartyRecord) (parties : new.parties ≡ map
       same_party_record : Some party ≡ Some p → party ≡ p
       same_party_record e = cc
 
-  pub all_used : has_unused_number new ≡ false
-  all_used =
-      unused_from new
+  parties_used : has_unused new new.parties ≡ false
+  parties_used =
+      unused_from new new.parties
       (each_party (λ n p. is_used new n ≡ true)
       (ap (λ k. nat_lt 0 r.next && nat_lt r.next k) next ∙ next_used r.next (next_above_zero r sound))
-      (λ n p apart is. ap (λ k. nat_lt 0 n && nat_lt n k) next ∙ used_more r.next n (used_from r (refers r (sound Reference)).numbers n p is)))
+      (λ n p apart is. used_grows r new grows n (used_from r r.parties (are_used r (refers r (sound Reference)).numbers).parties n p is)))
+
+  pub all_used : new.units ≡ r.units → new.parcels ≡ r.parcels → new.rrrs ≡ r.rrrs → new.sources ≡ r.sources → has_unused_number new ≡ false
+  all_used units parcels rrrs sources =
+      let before = are_used r (refers r (sound Reference)).numbers in
+      are_used_back new (record {
+        parties = parties_used;
+        units = ap (has_unused new) units ∙ unused_grows r new grows r.units before.units;
+        parcels = ap (has_unused new) parcels ∙ unused_grows r new grows r.parcels before.parcels;
+        rrrs = ap (has_unused new) rrrs ∙ unused_grows r new grows r.rrrs before.rrrs;
+        sources = ap (has_unused new) sources ∙ unused_grows r new grows r.sources before.sources;
+      })
+
+  -- entries refer to what stands as before
+  pub no_loose_rrr : new.units ≡ r.units → new.rrrs ≡ r.rrrs → new.sources ≡ r.sources → has_loose_rrr new ≡ false
+  no_loose_rrr units rrrs sources =
+      anchored_back new (λ n e is.
+      let one = anchored r (refers r (sound Reference)).rrrs n e (sym (ap (λ m. map.get m n) rrrs) ∙ is) in
+      record {
+        unit = ap (λ m. has m e.unit) units ∙ one.unit;
+        party = has_stays r.parties new.parties stay e.party one.party;
+        source = ap (λ m. has m e.source) sources ∙ one.source;
+      })
 
   pub no_loose_grant : new.roles ≡ r.roles → has_loose_grant new ≡ false
   no_loose_grant roles =

@@ -12,7 +12,7 @@ use Rattle.land_core.specs.Soundness.{IsSound}
 use Rattle.land_core.specs.declared.register.Register.{Register}
 use Rattle.land_core.specs.declared.role.Role.TheVariants.{StateAdministrator}
 use Rattle.land_core.specs.declared.roles.Grant.{Grant}
-use Rattle.land_core.specs.declared.soundness.Unsound.TheVariants.{Reference, Group, Administrator, Memory}
+use Rattle.land_core.specs.declared.soundness.Unsound.TheVariants.{Reference, Shares, Group, Bare, Crowded, Twice, Rank, Administrator, Memory}
 use Rattle.land_core.proofs.Booleans.{both_of, not_false}
 use Rattle.land_core.proofs.FiniteMaps.{is_equal, none_is_not_some}
 use Rattle.land_core.proofs.FiniteSets.{grants_total, exact_grants}
@@ -33,7 +33,12 @@ one_grant g it at = exact_grants g it (is_equal _ at)
 
 pub granted_is_sound : (r : Register) (it : Grant) → IsSound r → has_single_party r it.party ≡ true → IsSound (after (grant_change r it) r)
 granted_is_sound r it sound single Memory = refl
+granted_is_sound r it sound single Shares = sound Shares
 granted_is_sound r it sound single Group = sound Group
+granted_is_sound r it sound single Bare = sound Bare
+granted_is_sound r it sound single Crowded = sound Crowded
+granted_is_sound r it sound single Twice = sound Twice
+granted_is_sound r it sound single Rank = sound Rank
 granted_is_sound r it sound single Reference =
     let before = refers r (sound Reference) in
     let new = after (grant_change r it) r in
@@ -46,6 +51,8 @@ granted_is_sound r it sound single Reference =
             | false ↦ λ apart e. single_from r before.grants g e
           ] refl (sym (map.get-insert grants_total r.roles it tt g) ∙ is));
       members = before.members;
+      parcels = before.parcels;
+      rrrs = before.rrrs;
     })
 granted_is_sound r it sound single Administrator =
     let new = after (grant_change r it) r in
@@ -104,7 +111,12 @@ one_beside r it sound last =
 pub revoked_is_sound : (r : Register) (it : Grant) → IsSound r → (is_role it.role StateAdministrator && not (has_administrator_beside r it.party)) ≡ false
     → IsSound (after (revoke_change r it) r)
 revoked_is_sound r it sound last Memory = refl
+revoked_is_sound r it sound last Shares = sound Shares
 revoked_is_sound r it sound last Group = sound Group
+revoked_is_sound r it sound last Bare = sound Bare
+revoked_is_sound r it sound last Crowded = sound Crowded
+revoked_is_sound r it sound last Twice = sound Twice
+revoked_is_sound r it sound last Rank = sound Rank
 revoked_is_sound r it sound last Reference =
     let before = refers r (sound Reference) in
     let new = after (revoke_change r it) r in
@@ -117,6 +129,8 @@ revoked_is_sound r it sound last Reference =
             | false ↦ λ e. single_from r before.grants g e
           ] (sym (map.get-remove grants_total r.roles it g) ∙ is));
       members = before.members;
+      parcels = before.parcels;
+      rrrs = before.rrrs;
     })
 revoked_is_sound r it sound last Administrator =
     let new = after (revoke_change r it) r in

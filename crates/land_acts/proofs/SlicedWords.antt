@@ -1,18 +1,20 @@
 -- What planning reads of a slice is what it reads of the register.
-use Rattle.std.proofs.Common.{◌≡◌, ℕ, Bool, true, false, ◌||◌, ◌&&◌, not, Some, List, [], ◌∷◌, refl, sym, ap, ◌∙◌, subst}
-use Rattle.std.specs.Prelude.{is_some, nat_eq}
+use Rattle.std.proofs.Common.{◌≡◌, ℕ, Bool, true, false, cond, length, ◌||◌, ◌&&◌, not, Some, List, [], ◌∷◌, refl, sym, ap, ◌∙◌, subst}
+use Rattle.std.specs.Prelude.{is_some, nat_eq, filter}
 use Rattle.std.specs.Option.{option_map_or}
 use Rattle.std.specs.List.{list_any, AllByRecursion}
 use Rattle.std.specs.Cmp.{nat_cmp_total}
 use Rattle.std.specs.FinMap as map
 use Rattle.std.specs.FinMap.{nat_cmp-IsAntisymmetric}
 use Rattle.std.proofs.lemmas.Bool.{false≢true}
-use Rattle.land_core.specs.Entries.{only}
+use Rattle.land_core.specs.Entries.{only, has}
 use Rattle.land_core.specs.Grants.{grants_in, has_grant, grant_of}
 use Rattle.land_core.specs.Register.{has_single_party, has_group, holds, is_single}
 use Rattle.land_core.specs.Role.{is_role}
 use Rattle.land_core.specs.declared.act.Act.{Act}
 use Rattle.land_core.specs.declared.act.Act.TheVariants as act
+use Rattle.land_core.specs.Units.{rrr_count}
+use Rattle.land_core.specs.declared.act.NewRight.{NewRight}
 use Rattle.land_core.specs.declared.act.Regroup.{Regroup}
 use Rattle.land_core.specs.declared.caller.Caller.{Caller}
 use Rattle.land_core.specs.declared.member.Member.{Member}
@@ -23,10 +25,12 @@ use Rattle.land_core.specs.declared.roles.Grant.{Grant}
 use Rattle.land_core.proofs.Booleans.{both_of}
 use Rattle.land_core.proofs.FiniteSets.{grants_total, exact_grants}
 use Rattle.land_core.proofs.Reflection.{get-only, entries-only, each_there, list_any-filter, list_any-map}
+use Rattle.land_acts.specs.FirstRights.{have_party, lists_absent}
+use Rattle.land_acts.specs.Lifting.{has_burden, is_burden}
 use Rattle.land_acts.specs.Planning.{has_administrator_beside}
 use Rattle.land_acts.specs.Sharing.{lists_party, lists_stranger}
-use Rattle.land_acts.specs.Slices.{slice_of, looks_at_party, names_party}
-use Rattle.land_acts.proofs.Numbers.{same_number}
+use Rattle.land_acts.specs.Slices.{slice_of, looks_at_party, looks_at_rrr, names_party, names_rrr, names_unit}
+use Rattle.land_acts.proofs.Numbers.{same_number, one_number, tied_number}
 
 pub or_right : (x y : Bool) → y ≡ true → (x || y) ≡ true
 or_right true y h = refl
@@ -41,27 +45,27 @@ administrator_is Bank h = absurd (false≢true h)
 administrator_is CertifiedSurveyor h = absurd (false≢true h)
 
 -- a regrouping names its group and its members
-pub names_group : (it : Regroup) → names_party (act.Regroup it) it.group ≡ true
-names_group it = ap (λ b. b || lists_party it.members it.group) (same_number it.group)
+pub names_group : (r : Register) (it : Regroup) → names_party r (act.Regroup it) it.group ≡ true
+names_group r it = ap (λ b. b || lists_party it.members it.group) (same_number it.group)
 
-pub names_members : (it : Regroup) (n : ℕ) → lists_party it.members n ≡ true → names_party (act.Regroup it) n ≡ true
-names_members it n listed = or_right (nat_eq n it.group) (lists_party it.members n) listed
+pub names_members : (r : Register) (it : Regroup) (n : ℕ) → lists_party it.members n ≡ true → names_party r (act.Regroup it) n ≡ true
+names_members r it n listed = or_right (nat_eq n it.group) (lists_party it.members n) listed
 
 module _ (r : Register) (caller : Caller) (a : Act) where
-  party_same : (n : ℕ) → names_party a n ≡ true → map.get (slice_of r caller a).parties n ≡ map.get r.parties n
+  party_same : (n : ℕ) → names_party r a n ≡ true → map.get (slice_of r caller a).parties n ≡ map.get r.parties n
   party_same n named = get-only nat_cmp_total nat_cmp-IsAntisymmetric _ r.parties n (λ v. ap (λ b. b || holds r n StateAdministrator) named)
 
-  pub single_same : (n : ℕ) → names_party a n ≡ true → has_single_party (slice_of r caller a) n ≡ has_single_party r n
+  pub single_same : (n : ℕ) → names_party r a n ≡ true → has_single_party (slice_of r caller a) n ≡ has_single_party r n
   single_same n named = ap (λ o. option_map_or (λ p. is_single p.kind) o false) (party_same n named)
 
-  pub group_same : (n : ℕ) → names_party a n ≡ true → has_group (slice_of r caller a) n ≡ has_group r n
+  pub group_same : (n : ℕ) → names_party r a n ≡ true → has_group (slice_of r caller a) n ≡ has_group r n
   group_same n named = ap (λ o. option_map_or (λ p. not (is_single p.kind)) o false) (party_same n named)
 
-  pub holds_same : (n : ℕ) (role : Role) → names_party a n ≡ true → holds (slice_of r caller a) n role ≡ holds r n role
+  pub holds_same : (n : ℕ) (role : Role) → names_party r a n ≡ true → holds (slice_of r caller a) n role ≡ holds r n role
   holds_same n role named =
       ap is_some (get-only grants_total exact_grants _ r.roles (grant_of n role) (λ v. ap (λ b. b || holds r n StateAdministrator) named))
 
-  pub stranger_same : (members : List Member) → ((n : ℕ) → lists_party members n ≡ true → names_party a n ≡ true)
+  pub stranger_same : (members : List Member) → ((n : ℕ) → lists_party members n ≡ true → names_party r a n ≡ true)
       → lists_stranger (slice_of r caller a) members ≡ lists_stranger r members
   stranger_same [] named = refl
   stranger_same (member ∷ members) named =
@@ -83,7 +87,54 @@ module _ (r : Register) (caller : Caller) (a : Act) where
           → AllByRecursion (λ e. (is_role e.0.role StateAdministrator && not (nat_eq e.0.party n)) ≡ true → looks_at_party r a e.0.party ≡ true) es
       kept [] h = tt
       kept (e ∷ es) h = (
-        λ passes. or_right (names_party a e.0.party) _
+        λ passes. or_right (names_party r a e.0.party) _
             (subst (λ (role : Role). has_grant r.roles (grant_of e.0.party role) ≡ true) (administrator_is e.0.role (both_of _ _ passes).0) (ap is_some h.0)),
         kept es h.1,
       )
+
+-- ---- units and entries
+
+-- of what passes a test among what another test keeps, nothing is lost where the one implies the other
+filter_within : {X : Type 0} (p q : X → Bool) → ((x : X) → p x ≡ true → q x ≡ true) → (xs : List X) → filter p (filter q xs) ≡ filter p xs
+filter_within p q implies [] = refl
+filter_within {X} p q implies (x ∷ xs) =
+    elim (q x) as (λ b. q x ≡ b → filter p (cond b (x ∷ filter q xs) (filter q xs)) ≡ cond (p x) (x ∷ filter p xs) (filter p xs)) [
+      | true ↦ λ kept. ap (λ (it : List X). cond (p x) (x ∷ it) it) (filter_within p q implies xs)
+      | false ↦ λ lost. filter_within p q implies xs ∙ ap (λ b. cond b (x ∷ filter p xs) (filter p xs)) (sym (not_passed lost))
+    ] refl
+  where
+    not_passed : q x ≡ false → p x ≡ false
+    not_passed lost = elim (p x) as (λ b. p x ≡ b → b ≡ false) [ true ↦ λ passed. absurd (false≢true (sym lost ∙ implies x passed)) | false ↦ λ failed. refl ] refl
+
+or_left : (x y : Bool) → x ≡ true → (x || y) ≡ true
+or_left x y h = ap (λ b. b || y) h
+
+module _ (r : Register) (caller : Caller) (a : Act) where
+  pub stands_same : (n : ℕ) → names_party r a n ≡ true → has (slice_of r caller a).parties n ≡ has r.parties n
+  stands_same n named = ap is_some (party_same r caller a n named)
+
+  pub absent_same : (rights : List NewRight) → ((n : ℕ) → have_party rights n ≡ true → names_party r a n ≡ true)
+      → lists_absent (slice_of r caller a) rights ≡ lists_absent r rights
+  absent_same [] named = refl
+  absent_same (right ∷ rights) named =
+      ap (λ b. not b || lists_absent (slice_of r caller a) rights)
+      (stands_same right.party (named right.party (ap (λ b. b || have_party rights right.party) (same_number right.party))))
+      ∙ ap (λ b. not (has r.parties right.party) || b)
+      (absent_same rights (λ n listed. named n (or_right (nat_eq n right.party) (have_party rights n) listed)))
+
+  pub unit_same : (n : ℕ) → names_unit r a n ≡ true → has (slice_of r caller a).units n ≡ has r.units n
+  unit_same n named = ap is_some (get-only nat_cmp_total nat_cmp-IsAntisymmetric (λ k u. names_unit r a k) r.units n (λ v. named))
+
+  pub count_same : (unit : ℕ) → names_unit r a unit ≡ true → rrr_count (slice_of r caller a) unit ≡ rrr_count r unit
+  count_same unit named =
+      ap (λ es. length (filter (λ e. nat_eq e.1.unit unit) es)) (entries-only nat_cmp_total nat_cmp-IsAntisymmetric (λ n e. looks_at_rrr r a n e) r.rrrs)
+      ∙ ap length (filter_within (λ e. nat_eq e.1.unit unit) (λ e. looks_at_rrr r a e.0 e.1)
+      (λ e same. or_left (names_unit r a e.1.unit) (names_rrr r a e.0) (subst (λ (n : ℕ). names_unit r a n ≡ true) (sym (one_unit e.1.unit unit same)) named)) (map.entries r.rrrs))
+    where
+      one_unit : (n m : ℕ) → nat_eq n m ≡ true → n ≡ m
+      one_unit n m same = one_number n m (tied_number n m ∙ same)
+
+  pub burden_same : (n : ℕ) → names_rrr r a n ≡ true → has_burden (slice_of r caller a) n ≡ has_burden r n
+  burden_same n named =
+      ap (λ o. option_map_or (λ e. is_burden e.class) o false)
+      (get-only nat_cmp_total nat_cmp-IsAntisymmetric (λ k e. looks_at_rrr r a k e) r.rrrs n (λ e. or_right (names_unit r a e.unit) (names_rrr r a n) named))

@@ -1,5 +1,6 @@
 -- Enrolling: a natural or non-natural person gets the next number and becomes a citizen.
 use Rattle.std.specs.Prelude.{◌+◌, Bool, List, [], ◌∷◌, Option, is_none, ℤ}
+use Rattle.land_core.specs.Changes.{no_put, no_ended}
 use Rattle.land_core.specs.Grants.{grant_of}
 use Rattle.land_core.specs.declared.role.Role.TheVariants.{Citizen}
 use Rattle.land_core.specs.declared.act.Enrol.{Enrol}
@@ -17,8 +18,11 @@ enrol_refusals r stamp = (TooMany, lacks_numbers r 1) ∷ (ClockOut, is_none sta
 -- the party stands under the next number and holds the role citizen
 abbrev pub enrol_change : Register → Enrol → Change
 enrol_change r it = record {
-  put = record { parties = (r.next, record { kind = it.kind; name = it.name }) ∷ []; roles = grant_of r.next Citizen ∷ []; members = [] };
-  ended = record { parties = []; roles = []; members = [] };
+  put = record no_put {
+    parties = (r.next, record { kind = it.kind; name = it.name }) ∷ [];
+    roles = grant_of r.next Citizen ∷ [];
+  };
+  ended = no_ended;
   next = r.next + 1;
 }
 

@@ -1,5 +1,6 @@
 -- Granting: a single party gets a role that it does not hold.
 use Rattle.std.specs.Prelude.{ℤ, Bool, not, List, [], ◌∷◌, Option, is_none}
+use Rattle.land_core.specs.Changes.{no_put, no_ended}
 use Rattle.land_core.specs.Register.{has_single_party, holds}
 use Rattle.land_core.specs.declared.change.Change.{Change}
 use Rattle.land_core.specs.declared.change.Done.{Done}
@@ -17,8 +18,8 @@ grant_refusals r it stamp =
 -- the role begins
 abbrev pub grant_change : Register → Grant → Change
 grant_change r it = record {
-  put = record { parties = []; roles = it ∷ []; members = [] };
-  ended = record { parties = []; roles = []; members = [] };
+  put = record no_put { roles = it ∷ [] };
+  ended = no_ended;
   next = r.next;
 }
 

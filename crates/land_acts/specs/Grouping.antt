@@ -1,5 +1,6 @@
 -- Grouping: single parties, each with its share, become the members of a new group, which has no roles.
 use Rattle.std.specs.Prelude.{◌+◌, ℤ, Bool, not, List, [], ◌∷◌, Option, is_none}
+use Rattle.land_core.specs.Changes.{no_put, no_ended}
 use Rattle.land_core.specs.declared.act.NewGroup.{NewGroup}
 use Rattle.land_core.specs.declared.change.Change.{Change}
 use Rattle.land_core.specs.declared.change.Done.{Done}
@@ -24,8 +25,11 @@ group_refusals r it stamp =
 -- the group stands under the next number, and so do its members
 abbrev pub group_change : Register → NewGroup → Change
 group_change r it = record {
-  put = record { parties = (r.next, record { kind = Group; name = it.name }) ∷ []; roles = []; members = (r.next, members_of_list it.members) ∷ [] };
-  ended = record { parties = []; roles = []; members = [] };
+  put = record no_put {
+    parties = (r.next, record { kind = Group; name = it.name }) ∷ [];
+    members = (r.next, members_of_list it.members) ∷ [];
+  };
+  ended = no_ended;
   next = r.next + 1;
 }
 

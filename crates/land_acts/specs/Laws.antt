@@ -1,5 +1,5 @@
 -- Laws over the definitions alone.
-use Rattle.std.specs.Prelude.{◌≡◌, ◌≤◌, true, Option, Ok, ℤ}
+use Rattle.std.specs.Prelude.{◌≡◌, ◌≢◌, ◌≤◌, true, Option, Some, None, Ok, ℤ}
 use Rattle.land_core.specs.Acts.{is_well_formed}
 use Rattle.land_core.specs.Register.{holds}
 use Rattle.land_core.specs.Soundness.{IsSound}
@@ -17,20 +17,27 @@ use Rattle.land_core.specs.declared.register.Register.{Register}
 abbrev pub SlicesSuffice : Type 0
 SlicesSuffice = (r : Register) (caller : Caller) (a : Act) (stamp : Option ℤ) → outcome_of (slice_of r caller a) caller a stamp ≡ outcome_of r caller a stamp
 
--- an act is accepted, of a caller that holds its role, with a change
-pub record IsAccepted (r : Register) (change : Change) : Type 0 where
+-- a change is what a well-formed act of a caller that holds its role makes of a register, with a stamp
+pub record IsAccepted (r : Register) (change : Change) (stamp : ℤ) : Type 0 where
   pub caller : Caller
   pub act : Act
-  pub stamp : Option ℤ
   pub done : Done
   pub well_formed : is_well_formed act ≡ true
   pub role_held : holds r caller.party caller.role ≡ true
-  pub outcome : outcome_of r caller act stamp ≡ Ok (New change done)
+  pub outcome : outcome_of r caller act (Some stamp) ≡ Ok (New change done)
 
 -- an accepted act leaves a sound register sound, and no number is given anew
 abbrev pub AcceptedKeepsSound : Type 0
-AcceptedKeepsSound = (r : Register) (change : Change) → IsSound r → IsAccepted r change → IsSound (after change r) × (r.next ≤ change.next)
+AcceptedKeepsSound = (r : Register) (change : Change) (stamp : ℤ) → IsSound r → IsAccepted r change stamp → IsSound (after change r) × (r.next ≤ change.next)
 
 -- an accepted act puts and ends no key twice
 abbrev pub AcceptedNamesKeysOnce : Type 0
-AcceptedNamesKeysOnce = (r : Register) (change : Change) → IsAccepted r change → NamesKeysOnce change
+AcceptedNamesKeysOnce = (r : Register) (change : Change) (stamp : ℤ) → IsAccepted r change stamp → NamesKeysOnce change
+
+-- an accepted act is told with the stamp of its change
+abbrev pub AcceptedTellsStamp : Type 0
+AcceptedTellsStamp = (r : Register) (change : Change) (stamp : ℤ) → (h : IsAccepted r change stamp) → h.done.stamp ≡ stamp
+
+-- without a stamp every act is refused
+abbrev pub NothingWithoutStamp : Type 0
+NothingWithoutStamp = (r : Register) (caller : Caller) (a : Act) (change : Change) (done : Done) → outcome_of r caller a None ≢ Ok (New change done)

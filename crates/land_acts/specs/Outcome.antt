@@ -1,19 +1,23 @@
 -- What an act leads to: the least refusal whose condition holds, else a change of the register.
-use Rattle.std.specs.Prelude.{◌≡◌, Bool, List, [], ◌∷◌, Option, Some, None, Result, Ok, Err, unwrap_or, ℤ, pos, if◌then◌else◌}
+use Rattle.std.specs.Prelude.{◌≡◌, Bool, List, [], ◌∷◌, Option, Some, None, Result, Ok, Err, ℤ, if◌then◌else◌}
+use Rattle.land_acts.specs.Burdening.{burden_refusals, burden_change, burden_done}
 use Rattle.land_acts.specs.Enrolment.{enrol_refusals, enrol_change, enrol_done}
 use Rattle.land_acts.specs.Granting.{grant_refusals, grant_change, grant_done}
 use Rattle.land_acts.specs.Grouping.{group_refusals, group_change, group_done}
+use Rattle.land_acts.specs.Lifting.{lift_refusals, lift_change, lift_done}
+use Rattle.land_acts.specs.Registering.{register_refusals, register_change, register_done}
 use Rattle.land_acts.specs.Regrouping.{regroup_refusals, regroup_change, regroup_done}
 use Rattle.land_acts.specs.Revoking.{revoke_refusals, revoke_change, revoke_done}
 use Rattle.land_core.specs.declared.caller.Caller.{Caller}
 use Rattle.land_core.specs.declared.act.Act.{Act}
-use Rattle.land_core.specs.declared.act.Act.TheVariants.{Enrol, Group, Regroup, Grant, Revoke}
+use Rattle.land_core.specs.declared.act.Act.TheVariants.{Enrol, Group, Regroup, Grant, Revoke, Register as RegisterUnit, Burden, Lift}
 use Rattle.land_core.specs.declared.change.Change.{Change}
 use Rattle.land_core.specs.declared.change.Done.{Done}
 use Rattle.land_core.specs.declared.register.Register.{Register}
 use Rattle.land_acts.specs.declared.refusal.Refusal.{Refusal}
+use Rattle.land_acts.specs.declared.refusal.Refusal.TheVariants.{ClockOut}
 use Rattle.land_acts.specs.declared.refusal.Planned.{Planned}
-use Rattle.land_acts.specs.declared.refusal.Planned.TheVariants.{New}
+use Rattle.land_acts.specs.declared.refusal.Planned.TheVariants.{New, Repeat}
 
 -- the refusals of an act, each with whether its condition holds, the least number first
 abbrev pub refusals_of : Register → Caller → Act → Option ℤ → List (Refusal × Bool)
@@ -22,6 +26,9 @@ refusals_of r caller (Group it) stamp = group_refusals r it stamp
 refusals_of r caller (Regroup it) stamp = regroup_refusals r it stamp
 refusals_of r caller (Grant it) stamp = grant_refusals r it stamp
 refusals_of r caller (Revoke it) stamp = revoke_refusals r it stamp
+refusals_of r caller (RegisterUnit it) stamp = register_refusals r it stamp
+refusals_of r caller (Burden it) stamp = burden_refusals r it stamp
+refusals_of r caller (Lift it) stamp = lift_refusals r it stamp
 
 -- what an act changes where it is not refused
 abbrev pub change_of : Register → Caller → Act → Change
@@ -30,6 +37,9 @@ change_of r caller (Group it) = group_change r it
 change_of r caller (Regroup it) = regroup_change r it
 change_of r caller (Grant it) = grant_change r it
 change_of r caller (Revoke it) = revoke_change r it
+change_of r caller (RegisterUnit it) = register_change r it
+change_of r caller (Burden it) = burden_change r it
+change_of r caller (Lift it) = lift_change r it
 
 -- what the caller is told of an act that is not refused
 abbrev pub done_of : Register → Caller → Act → ℤ → Done
@@ -38,20 +48,38 @@ done_of r caller (Group it) stamp = group_done r stamp
 done_of r caller (Regroup it) stamp = regroup_done it stamp
 done_of r caller (Grant it) stamp = grant_done it stamp
 done_of r caller (Revoke it) stamp = revoke_done it stamp
+done_of r caller (RegisterUnit it) stamp = register_done r it stamp
+done_of r caller (Burden it) stamp = burden_done r stamp
+done_of r caller (Lift it) stamp = lift_done it stamp
 
 -- the first whose condition holds
 abbrev pub first_that_holds : List (Refusal × Bool) → Option Refusal
 first_that_holds [] = None
 first_that_holds (line ∷ lines) = if line.1 then Some line.0 else first_that_holds lines
 
-abbrev pub refused_else : Option Refusal → Planned → Result Planned Refusal
-refused_else None planned = Ok planned
-refused_else (Some refusal) planned = Err refusal
+abbrev pub refused_else : Option Refusal → Result Planned Refusal → Result Planned Refusal
+refused_else None else_planned = else_planned
+refused_else (Some refusal) else_planned = Err refusal
+
+-- the plan of an act that nothing refuses; without a stamp there is no moment for its change
+abbrev pub stamped : Change → (ℤ → Done) → Option ℤ → Result Planned Refusal
+stamped change done (Some stamp) = Ok (New change (done stamp))
+stamped change done None = Err ClockOut
+
+-- what the caller was told of an act that it repeats: no act that stands today is one that can be repeated
+abbrev pub repeated_done : Register → Caller → Act → Option Done
+repeated_done r caller a = None
+
+-- a repeat is told what was told before, whatever else holds
+abbrev pub repeated_else : Option Done → Result Planned Refusal → Result Planned Refusal
+repeated_else None else_planned = else_planned
+repeated_else (Some done) else_planned = Ok (Repeat done)
 
 -- the outcome of an act with a stamp, or with none where there is no moment left for a change
 abbrev pub outcome_of : Register → Caller → Act → Option ℤ → Result Planned Refusal
 outcome_of r caller a stamp =
-    refused_else (first_that_holds (refusals_of r caller a stamp)) (New (change_of r caller a) (done_of r caller a (unwrap_or stamp (pos 0))))
+    repeated_else (repeated_done r caller a)
+    (refused_else (first_that_holds (refusals_of r caller a stamp)) (stamped (change_of r caller a) (λ at. done_of r caller a at) stamp))
 
 -- no refusal holds, at some stamp or none
 pub record IsUnrefused (r : Register) (caller : Caller) (a : Act) : Type 0 where

@@ -1,17 +1,20 @@
 -- What planning reads of a register, and what all plans have in common.
-use Rattle.std.specs.Prelude.{ℕ, ◌+◌, ℤ, Bool, [], not, ◌&&◌, nat_lt, nat_eq}
+use Rattle.std.specs.Prelude.{ℕ, ◌+◌, ℤ, Bool, List, [], ◌∷◌, not, ◌&&◌, nat_lt, nat_eq}
 use Rattle.std.specs.List.{list_any}
 use Rattle.land_core.specs.Grants.{grants_in}
 use Rattle.land_core.specs.Role.{is_role}
-use Rattle.land_core.specs.declared.change.Change.{Change}
 use Rattle.land_core.specs.declared.change.Done.{Done}
 use Rattle.land_core.specs.declared.register.Register.{Register}
 use Rattle.land_core.specs.declared.role.Role.TheVariants.{StateAdministrator}
+use Rattle.land_core.specs.declared.source.SourceKind.TheVariants.{Administrative}
+use Rattle.land_core.specs.declared.source.SourceRecord.{SourceRecord}
 use Rattle.land_acts.specs.declared.refusal.Refusal.{Refusal}
-use Rattle.land_acts.specs.declared.refusal.Refusal.TheVariants.{NoSuchParty, SharesTooFine, TooMany, SharesNotWhole, RoleHeld, RoleNotHeld, ClockOut, LastAdministrator, SameParty, NoMemory}
+use Rattle.land_acts.specs.declared.refusal.Refusal.TheVariants.{NoSuchUnit, NoSuchRight, NoSuchParty, SharesTooFine, TooMany, SharesNotWhole, RoleHeld, RoleNotHeld, ClockOut, LastAdministrator, SameParty, NoMemory}
 
 -- the number that a caller is told for a refusal
 abbrev pub number_of : Refusal → ℕ
+number_of NoSuchUnit = 202
+number_of NoSuchRight = 204
 number_of NoSuchParty = 205
 number_of SharesTooFine = 207
 number_of TooMany = 210
@@ -31,14 +34,10 @@ lacks_numbers r count = nat_lt 1000000001 (r.next + count)
 abbrev pub has_administrator_beside : Register → ℕ → Bool
 has_administrator_beside r n = list_any (λ grant. is_role grant.role StateAdministrator && not (nat_eq grant.party n)) (grants_in r.roles)
 
--- the change that puts and ends nothing
-abbrev pub no_change : (next : ℕ) → Change
-no_change next = record {
-  put = record { parties = []; roles = []; members = [] };
-  ended = record { parties = []; roles = []; members = [] };
-  next = next;
-}
+-- the administrative source that a document is, under its number (LA_AdministrativeSource)
+abbrev pub document_source : (number : ℕ) → (document : List ℕ) → List (ℕ × SourceRecord)
+document_source number document = (number, record { kind = Administrative; title = document }) ∷ []
 
--- what is told of an act on a party that makes nothing
-abbrev pub told_of : (party : ℕ) → ℤ → Done
-told_of party stamp = record { number = party; made = []; stamp = stamp }
+-- what is told of an act on an object that makes nothing
+abbrev pub told_of : (number : ℕ) → ℤ → Done
+told_of number stamp = record { number = number; made = []; stamp = stamp }

@@ -1,5 +1,6 @@
 -- Regrouping: the listed members take the place of those that a group has.
 use Rattle.std.specs.Prelude.{ℤ, Bool, not, ◌||◌, List, [], ◌∷◌, Option, is_none}
+use Rattle.land_core.specs.Changes.{no_put, no_ended}
 use Rattle.land_core.specs.Register.{has_group}
 use Rattle.land_core.specs.declared.act.Regroup.{Regroup}
 use Rattle.land_core.specs.declared.change.Change.{Change}
@@ -23,8 +24,8 @@ regroup_refusals r it stamp =
 -- the listed members stand under the group's number, and no others
 abbrev pub regroup_change : Register → Regroup → Change
 regroup_change r it = record {
-  put = record { parties = []; roles = []; members = (it.group, members_of_list it.members) ∷ [] };
-  ended = record { parties = []; roles = []; members = [] };
+  put = record no_put { members = (it.group, members_of_list it.members) ∷ [] };
+  ended = no_ended;
   next = r.next;
 }
 

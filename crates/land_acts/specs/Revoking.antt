@@ -1,5 +1,6 @@
 -- Revoking: a role of a single party ends. The last state administrator stays one.
 use Rattle.std.specs.Prelude.{ℤ, Bool, not, ◌&&◌, List, [], ◌∷◌, Option, is_none}
+use Rattle.land_core.specs.Changes.{no_put, no_ended}
 use Rattle.land_core.specs.Register.{has_single_party, holds}
 use Rattle.land_core.specs.Role.{is_role}
 use Rattle.land_core.specs.declared.change.Change.{Change}
@@ -23,8 +24,8 @@ revoke_refusals r it stamp =
 -- the role ends
 abbrev pub revoke_change : Register → Grant → Change
 revoke_change r it = record {
-  put = record { parties = []; roles = []; members = [] };
-  ended = record { parties = []; roles = it ∷ []; members = [] };
+  put = no_put;
+  ended = record no_ended { roles = it ∷ [] };
   next = r.next;
 }
 

@@ -3,7 +3,7 @@ ghost use Rattle.std.specs.Prelude.{◌≡◌, ◌≤◌, ◌+◌, IfOk};
 ghost use Rattle.land_acts.specs.Enrolment.{enrol_refusals, enrol_change, enrol_done};
 ghost use Rattle.land_acts.specs.Outcome.{first_that_holds};
 
-use crate::plan::{lacks_numbers, no_change};
+use crate::plan::lacks_numbers;
 use crate::refusal::Refusal;
 use crate::slice::Slice;
 use land_core::act::Enrol;
@@ -47,13 +47,18 @@ pub(crate) fn planned(
         party: number,
         role: Role::Citizen,
     };
-    let mut change = no_change(alloc, number + 1);
-    change.put.parties.push((number, party))?;
-    change.put.roles.push(citizen)?;
-    let done = Done {
-        number,
-        made: Sequence::of_one(alloc, number)?,
-        stamp,
-    };
-    Ok((change, done))
+    let parties = Sequence::of_one(alloc, (number, party))?;
+    let roles = Sequence::of_one(alloc, citizen)?;
+    let made = Sequence::of_one(alloc, number)?;
+    let mut change = Change::nothing(alloc, number + 1);
+    change.put.parties = parties;
+    change.put.roles = roles;
+    Ok((
+        change,
+        Done {
+            number,
+            made,
+            stamp,
+        },
+    ))
 }

@@ -3,11 +3,12 @@ ghost use Rattle.std.specs.Prelude.{◌≡◌, IfOk};
 ghost use Rattle.land_acts.specs.Granting.{grant_refusals, grant_change, grant_done};
 ghost use Rattle.land_acts.specs.Outcome.{first_that_holds};
 
-use crate::plan::{no_change, told_of};
+use crate::plan::told_of;
 use crate::refusal::Refusal;
 use crate::slice::Slice;
 use land_core::change::{Change, Done};
 use land_core::roles::Grant;
+use land_core::sequence::Sequence;
 use std::alloc::{AllocError, Global};
 
 /// The least refusal of a grant whose condition holds.
@@ -34,7 +35,8 @@ pub(crate) fn planned(
 ) -> Result<(Change, Done), AllocError>
     ensures { IfOk result (λ planned. (planned.0 ≡ grant_change slice.now it.now) × (planned.1 ≡ grant_done it.now stamp)) }
 {
-    let mut change = no_change(alloc, slice.next);
-    change.put.roles.push(*it)?;
+    let roles = Sequence::of_one(alloc, *it)?;
+    let mut change = Change::nothing(alloc, slice.next);
+    change.put.roles = roles;
     Ok((change, told_of(alloc, it.party, stamp)))
 }

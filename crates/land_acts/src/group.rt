@@ -3,7 +3,7 @@ ghost use Rattle.std.specs.Prelude.{◌≡◌, ◌≤◌, IfOk};
 ghost use Rattle.land_acts.specs.Grouping.{group_refusals, group_change, group_done};
 ghost use Rattle.land_acts.specs.Outcome.{first_that_holds};
 
-use crate::plan::{lacks_numbers, no_change};
+use crate::plan::lacks_numbers;
 use crate::refusal::Refusal;
 use crate::sharing::{lists_stranger, lists_twice, members_of_list, wholeness};
 use crate::slice::Slice;
@@ -60,14 +60,19 @@ pub(crate) fn planned(
         kind: PartyKind::Group,
         name: it.name.copy(alloc)?,
     };
+    let parties = Sequence::of_one(alloc, (number, party))?;
     let members = members_of_list(alloc, it.members.as_slice())?;
-    let mut change = no_change(alloc, number + 1);
-    change.put.parties.push((number, party))?;
-    change.put.members.push((number, members))?;
-    let done = Done {
-        number,
-        made: Sequence::of_one(alloc, number)?,
-        stamp,
-    };
-    Ok((change, done))
+    let members = Sequence::of_one(alloc, (number, members))?;
+    let made = Sequence::of_one(alloc, number)?;
+    let mut change = Change::nothing(alloc, number + 1);
+    change.put.parties = parties;
+    change.put.members = members;
+    Ok((
+        change,
+        Done {
+            number,
+            made,
+            stamp,
+        },
+    ))
 }

@@ -1,15 +1,17 @@
 //! The acts of the office: when each is refused, what it changes, and what its caller is told.
 #![tactic(auto)]
 
+mod burden;
 mod enrol;
+mod first_rights;
 mod grant;
 mod group;
 pub mod laws;
+mod lift;
 pub mod plan;
 pub mod refusal;
+mod register;
 mod regroup;
 mod revoke;
 mod sharing;
 pub mod slice;
-#[cfg(test)]
-mod tests;

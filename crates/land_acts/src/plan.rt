@@ -2,15 +2,18 @@
 ghost use Rattle.std.specs.Prelude.{◌≡◌, ◌≢◌, true, IfOk};
 ghost use Rattle.land_core.specs.Acts.{is_well_formed};
 ghost use Rattle.land_acts.specs.Outcome.{outcome_of, refusals_of, first_that_holds, change_of, done_of, IsUnrefused};
-ghost use Rattle.land_acts.specs.Planning.{lacks_numbers, no_change, told_of};
+ghost use Rattle.land_acts.specs.Planning.{document_source, lacks_numbers, told_of};
 
 use crate::refusal::{Planned, Refusal};
 use crate::slice::Slice;
-use crate::{enrol, grant, group, regroup, revoke};
+use crate::{burden, enrol, grant, group, lift, register, regroup, revoke};
 use land_core::act::Act;
 use land_core::caller::Caller;
-use land_core::change::{Change, Done, Ended, Put};
+use land_core::change::{Change, Done};
+use land_core::duplicate::Duplicate;
 use land_core::sequence::Sequence;
+use land_core::source::{SourceKind, SourceRecord};
+use land_core::text::Text;
 use std::alloc::{AllocError, Global};
 
 /// What an act leads to, over a slice of the register: the least refusal whose condition holds, else the change and
@@ -25,15 +28,14 @@ pub fn plan(
     requires { is_well_formed act.now ≡ true }
     ensures { result ≢ Err Refusal.NoMemory → result ≡ outcome_of slice.now caller act.now stamp }
 {
-    match first_refusal(alloc, slice, caller, act, stamp) {
-        Ok(None) => {}
-        Ok(Some(refusal)) => return Err(refusal),
-        Err(_) => return Err(Refusal::NoMemory),
+    if let Some(refusal) = first_refusal(alloc, slice, caller, act, stamp)? {
+        return Err(refusal);
     }
-    match planned(alloc, slice, caller, act, stamp.unwrap_or(0)) {
-        Ok((change, done)) => Ok(Planned::New(change, done)),
-        Err(_) => Err(Refusal::NoMemory),
-    }
+    let Some(stamp) = stamp else {
+        return Err(Refusal::ClockOut);
+    };
+    let (change, done) = planned(alloc, slice, caller, act, stamp)?;
+    Ok(Planned::New(change, done))
 }
 
 /// The least refusal whose condition holds.
@@ -44,6 +46,7 @@ fn first_refusal(
     act: &Act,
     stamp: Option<i64>,
 ) -> Result<Option<Refusal>, AllocError>
+    requires { is_well_formed act.now ≡ true }
     ensures { IfOk result (λ first. first ≡ first_that_holds (refusals_of slice.now caller act.now stamp)) }
 {
     match act {
@@ -52,6 +55,9 @@ fn first_refusal(
         Act::Regroup(it) => regroup::refusal(alloc, slice, it, stamp),
         Act::Grant(it) => Ok(grant::refusal(slice, it, stamp)),
         Act::Revoke(it) => Ok(revoke::refusal(slice, it, stamp)),
+        Act::Register(it) => register::refusal(alloc, slice, it, stamp),
+        Act::Burden(it) => Ok(burden::refusal(slice, it, stamp)),
+        Act::Lift(it) => Ok(lift::refusal(slice, it, stamp)),
     }
 }
 
@@ -63,7 +69,8 @@ fn planned(
     act: &Act,
     stamp: i64,
 ) -> Result<(Change, Done), AllocError>
-    requires { IsUnrefused slice.now caller act.now }
+    requires formed { is_well_formed act.now ≡ true }
+    requires unrefused { IsUnrefused slice.now caller act.now }
     ensures { IfOk result (λ it. (it.0 ≡ change_of slice.now caller act.now) × (it.1 ≡ done_of slice.now caller act.now stamp)) }
 {
     match act {
@@ -72,41 +79,40 @@ fn planned(
         Act::Regroup(it) => regroup::planned(alloc, slice, it, stamp),
         Act::Grant(it) => grant::planned(alloc, slice, it, stamp),
         Act::Revoke(it) => revoke::planned(alloc, slice, it, stamp),
+        Act::Register(it) => register::planned(alloc, slice, it, stamp),
+        Act::Burden(it) => burden::planned(alloc, slice, it, stamp),
+        Act::Lift(it) => lift::planned(alloc, slice, it, stamp),
     }
 }
 
 /// Whether there are too few numbers left for so many new objects.
-pub(crate) fn lacks_numbers(slice: &Slice, count: u32) -> bool
+pub(crate) fn lacks_numbers(slice: &Slice, count: u64) -> bool
     ensures { result ≡ lacks_numbers slice.now count }
 {
     1_000_000_001 < u128::from(slice.next) + u128::from(count)
 }
 
-/// A change that puts and ends nothing. It takes no memory.
-pub(crate) fn no_change(alloc: Global, next: u64) -> Change
-    ensures { result ≡ no_change next }
+/// The administrative source that a document is, under its number.
+pub(crate) fn document_source(
+    alloc: Global,
+    number: u64,
+    document: &Text,
+) -> Result<Sequence<(u64, SourceRecord)>, AllocError>
+    ensures { IfOk result (λ it. it ≡ document_source number document.now) }
 {
-    Change {
-        put: Put {
-            parties: Sequence::new(alloc),
-            roles: Sequence::new(alloc),
-            members: Sequence::new(alloc),
-        },
-        ended: Ended {
-            parties: Sequence::new(alloc),
-            roles: Sequence::new(alloc),
-            members: Sequence::new(alloc),
-        },
-        next,
-    }
+    let record = SourceRecord {
+        kind: SourceKind::Administrative,
+        title: document.copy(alloc)?,
+    };
+    Sequence::of_one(alloc, (number, record))
 }
 
-/// What is told of an act on a party that makes nothing. It takes no memory.
-pub(crate) fn told_of(alloc: Global, party: u64, stamp: i64) -> Done
-    ensures { result ≡ told_of party stamp }
+/// What is told of an act on an object that makes nothing. It takes no memory.
+pub(crate) fn told_of(alloc: Global, number: u64, stamp: i64) -> Done
+    ensures { result ≡ told_of number stamp }
 {
     Done {
-        number: party,
+        number,
         made: Sequence::new(alloc),
         stamp,
     }

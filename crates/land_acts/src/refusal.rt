@@ -2,10 +2,15 @@
 ghost use Rattle.std.specs.Prelude.{◌≡◌};
 
 use land_core::change::{Change, Done};
+use std::alloc::AllocError;
 
 /// Why an act is refused.
 #[derive(Clone, Copy, Debug, PartialEq, Eq)]
 pub enum Refusal {
+    /// 202: a unit that is named does not stand.
+    NoSuchUnit,
+    /// 204: an entry that is named does not stand, or is not of the class that is asked for.
+    NoSuchRight,
     /// 205: a party that is named does not stand, or is not of the kind that is asked for.
     NoSuchParty,
     /// 207: the shares have no common denominator up to 1_000_000_000.
@@ -36,6 +41,8 @@ impl Refusal {
         ensures { result ≡ number_of self }
     {
         match self {
+            Refusal::NoSuchUnit => 202,
+            Refusal::NoSuchRight => 204,
             Refusal::NoSuchParty => 205,
             Refusal::SharesTooFine => 207,
             Refusal::TooMany => 210,
@@ -47,6 +54,16 @@ impl Refusal {
             Refusal::SameParty => 219,
             Refusal::NoMemory => 501,
         }
+    }
+}
+
+impl From<AllocError> for Refusal {
+    ghost use Rattle.land_acts.specs.declared.refusal.Refusal.TheVariants.{NoMemory};
+
+    ghost from_gives = { λ _ refusal. refusal ≡ NoMemory };
+
+    fn from(_error: AllocError) -> Refusal {
+        Refusal::NoMemory
     }
 }
 

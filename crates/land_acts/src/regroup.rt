@@ -3,12 +3,13 @@ ghost use Rattle.std.specs.Prelude.{◌≡◌, IfOk};
 ghost use Rattle.land_acts.specs.Regrouping.{regroup_refusals, regroup_change, regroup_done};
 ghost use Rattle.land_acts.specs.Outcome.{first_that_holds};
 
-use crate::plan::{no_change, told_of};
+use crate::plan::told_of;
 use crate::refusal::Refusal;
 use crate::sharing::{lists_stranger, lists_twice, members_of_list, wholeness};
 use crate::slice::Slice;
 use land_core::act::Regroup;
 use land_core::change::{Change, Done};
+use land_core::sequence::Sequence;
 use land_fraction::Whole;
 use std::alloc::{AllocError, Global};
 
@@ -49,7 +50,8 @@ pub(crate) fn planned(
     ensures { IfOk result (λ planned. (planned.0 ≡ regroup_change slice.now it.now) × (planned.1 ≡ regroup_done it.now stamp)) }
 {
     let members = members_of_list(alloc, it.members.as_slice())?;
-    let mut change = no_change(alloc, slice.next);
-    change.put.members.push((it.group, members))?;
+    let members = Sequence::of_one(alloc, (it.group, members))?;
+    let mut change = Change::nothing(alloc, slice.next);
+    change.put.members = members;
     Ok((change, told_of(alloc, it.group, stamp)))
 }

@@ -4,12 +4,13 @@ ghost use Rattle.land_acts.specs.Revoking.{revoke_refusals, revoke_change, revok
 ghost use Rattle.land_acts.specs.Outcome.{first_that_holds};
 ghost use Rattle.land_acts.specs.Planning.{has_administrator_beside};
 
-use crate::plan::{no_change, told_of};
+use crate::plan::told_of;
 use crate::refusal::Refusal;
 use crate::slice::Slice;
 use land_core::change::{Change, Done};
 use land_core::role::Role;
 use land_core::roles::Grant;
+use land_core::sequence::Sequence;
 use std::alloc::{AllocError, Global};
 
 /// The least refusal of a revocation whose condition holds.
@@ -45,7 +46,8 @@ pub(crate) fn planned(
 ) -> Result<(Change, Done), AllocError>
     ensures { IfOk result (λ planned. (planned.0 ≡ revoke_change slice.now it.now) × (planned.1 ≡ revoke_done it.now stamp)) }
 {
-    let mut change = no_change(alloc, slice.next);
-    change.ended.roles.push(*it)?;
+    let roles = Sequence::of_one(alloc, *it)?;
+    let mut change = Change::nothing(alloc, slice.next);
+    change.ended.roles = roles;
     Ok((change, told_of(alloc, it.party, stamp)))
 }

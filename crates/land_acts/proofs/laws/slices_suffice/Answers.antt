@@ -1,19 +1,23 @@
 use Rattle.std.proofs.Common.{refl}
-use Rattle.land_core.specs.declared.act.Act.TheVariants.{Enrol, Group, Regroup, Grant, Revoke}
+use Rattle.land_core.specs.declared.act.Act.TheVariants.{Enrol, Group, Regroup, Grant, Revoke, Register as RegisterUnit, Burden, Lift}
 use Rattle.land_acts.specs.Laws.{SlicesSuffice}
 use Rattle.land_acts.proofs.Numbers.{same_number}
-use Rattle.land_acts.proofs.SlicedWords.{single_same, group_same, holds_same, stranger_same, beside_same, names_group, names_members}
+use Rattle.land_acts.proofs.SlicedWords.{single_same, group_same, holds_same, stranger_same, beside_same, names_group, names_members, stands_same, absent_same, unit_same, count_same, burden_same}
 use Rattle.land_acts.proofs.laws.slices_suffice.Goals as goal
 
 same_outcome : SlicesSuffice
 same_outcome r caller (Enrol it) stamp = refl
 same_outcome r caller (Group it) stamp = rw (stranger_same r caller (Group it) it.members (λ n listed. listed)) refl
 same_outcome r caller (Regroup it) stamp =
-    rw (group_same r caller (Regroup it) it.group (names_group it), stranger_same r caller (Regroup it) it.members (names_members it)) refl
+    rw (group_same r caller (Regroup it) it.group (names_group r it), stranger_same r caller (Regroup it) it.members (names_members r it)) refl
 same_outcome r caller (Grant it) stamp =
     rw (single_same r caller (Grant it) it.party (same_number it.party), holds_same r caller (Grant it) it.party it.role (same_number it.party)) refl
 same_outcome r caller (Revoke it) stamp =
     rw (single_same r caller (Revoke it) it.party (same_number it.party), holds_same r caller (Revoke it) it.party it.role (same_number it.party), beside_same r caller (Revoke it) it.party) refl
+same_outcome r caller (RegisterUnit it) stamp = rw (absent_same r caller (RegisterUnit it) it.rights (λ n listed. listed)) refl
+same_outcome r caller (Burden it) stamp =
+    rw (unit_same r caller (Burden it) it.unit (same_number it.unit), stands_same r caller (Burden it) it.party (same_number it.party), count_same r caller (Burden it) it.unit (same_number it.unit)) refl
+same_outcome r caller (Lift it) stamp = rw (burden_same r caller (Lift it) it.rrr (same_number it.rrr)) refl
 
 pub returns : goal.returns
 returns c = same_outcome

@@ -1,0 +1,49 @@
+-- Burdening: a unit gets a restriction or a responsibility of a party.
+use Rattle.std.specs.Prelude.{ℕ, ◌+◌, ℤ, Bool, not, ◌||◌, nat_lt, List, [], ◌∷◌, Option, is_none}
+use Rattle.land_core.specs.Changes.{no_put, no_ended}
+use Rattle.land_core.specs.Entries.{has}
+use Rattle.land_core.specs.Units.{rrr_count}
+use Rattle.land_core.specs.declared.act.Burden.{Burden}
+use Rattle.land_core.specs.declared.act.BurdenClass.{BurdenClass}
+use Rattle.land_core.specs.declared.act.BurdenClass.TheVariants as burden
+use Rattle.land_core.specs.declared.change.Change.{Change}
+use Rattle.land_core.specs.declared.change.Done.{Done}
+use Rattle.land_core.specs.declared.register.Register.{Register}
+use Rattle.land_core.specs.declared.rrr.Class.{Class}
+use Rattle.land_core.specs.declared.rrr.Class.TheVariants as class
+use Rattle.land_acts.specs.declared.refusal.Refusal.{Refusal}
+use Rattle.land_acts.specs.declared.refusal.Refusal.TheVariants.{NoSuchUnit, NoSuchParty, TooMany, ClockOut}
+use Rattle.land_acts.specs.Planning.{document_source, lacks_numbers}
+
+-- whether a unit would have more than 256 entries with so many more
+abbrev pub would_crowd : Register → (unit more : ℕ) → Bool
+would_crowd r unit more = nat_lt 256 (rrr_count r unit + more)
+
+-- its refusals, each with whether its condition holds, the least number first
+abbrev pub burden_refusals : Register → Burden → Option ℤ → List (Refusal × Bool)
+burden_refusals r it stamp =
+    (NoSuchUnit, not (has r.units it.unit))
+    ∷ (NoSuchParty, not (has r.parties it.party))
+    ∷ (TooMany, lacks_numbers r 2 || would_crowd r it.unit 1)
+    ∷ (ClockOut, is_none stamp)
+    ∷ []
+
+-- the entry that says the words
+abbrev pub class_of : BurdenClass → (words : List ℕ) → Class
+class_of burden.Restriction words = class.Restriction words
+class_of burden.Responsibility words = class.Responsibility words
+
+-- the source stands under the next number, and then the entry, which comes from it
+abbrev pub burden_change : Register → Burden → Change
+burden_change r it = record {
+  put = record no_put {
+    rrrs = (r.next + 1, record { unit = it.unit; party = it.party; class = class_of it.class it.words; source = r.next }) ∷ [];
+    sources = document_source r.next it.document;
+  };
+  ended = no_ended;
+  next = r.next + 2;
+}
+
+-- the act is about the entry
+abbrev pub burden_done : Register → ℤ → Done
+burden_done r stamp = record { number = r.next + 1; made = r.next ∷ (r.next + 1) ∷ []; stamp = stamp }

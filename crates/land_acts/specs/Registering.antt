@@ -1,0 +1,56 @@
+-- Registering: a unit is entered with its first parcels and rights.
+use Rattle.std.specs.Prelude.{ℕ, ◌+◌, ℤ, Bool, not, ◌&&◌, List, [], ◌∷◌, length, map as map_list, Option, is_none}
+use Rattle.land_core.specs.Changes.{no_put, no_ended}
+use Rattle.land_core.specs.declared.act.NewParcel.{NewParcel}
+use Rattle.land_core.specs.declared.act.NewRight.{NewRight}
+use Rattle.land_core.specs.declared.act.NewUnit.{NewUnit}
+use Rattle.land_core.specs.declared.change.Change.{Change}
+use Rattle.land_core.specs.declared.change.Done.{Done}
+use Rattle.land_core.specs.declared.parcel.ParcelRecord.{ParcelRecord}
+use Rattle.land_core.specs.declared.register.Register.{Register}
+use Rattle.land_core.specs.declared.rrr.Class.TheVariants.{Right}
+use Rattle.land_core.specs.declared.rrr.RrrRecord.{RrrRecord}
+use Rattle.land_acts.specs.declared.refusal.Refusal.{Refusal}
+use Rattle.land_acts.specs.declared.refusal.Refusal.TheVariants.{NoSuchParty, SharesTooFine, TooMany, SharesNotWhole, ClockOut, SameParty}
+use Rattle.land_acts.specs.FirstRights.{lists_absent, are_types_too_fine, are_types_whole, has_right_twice}
+use Rattle.land_acts.specs.Numbering.{numbered, numbers_from}
+use Rattle.land_acts.specs.Planning.{document_source, lacks_numbers}
+
+-- how many objects are new: the source, the unit, the parcels and the rights
+abbrev pub new_count : NewUnit → ℕ
+new_count it = 2 + length it.parcels + length it.rights
+
+-- its refusals, each with whether its condition holds, the least number first
+abbrev pub register_refusals : Register → NewUnit → Option ℤ → List (Refusal × Bool)
+register_refusals r it stamp =
+    (NoSuchParty, lists_absent r it.rights)
+    ∷ (SharesTooFine, it.checked && are_types_too_fine it.rights)
+    ∷ (TooMany, lacks_numbers r (new_count it))
+    ∷ (SharesNotWhole, it.checked && not (are_types_whole it.rights))
+    ∷ (ClockOut, is_none stamp)
+    ∷ (SameParty, has_right_twice it.rights)
+    ∷ []
+
+-- a parcel and a right as the register keeps them
+abbrev pub parcel_of : (unit source : ℕ) → NewParcel → ParcelRecord
+parcel_of unit source parcel = record { unit = unit; label = parcel.label; outline = parcel.outline; source = source }
+
+abbrev pub right_of : (unit source : ℕ) → NewRight → RrrRecord
+right_of unit source right = record { unit = unit; party = right.party; class = Right right.right_type right.share; source = source }
+
+-- the source stands under the next number, then the unit, the parcels and the rights; all come from the source
+abbrev pub register_change : Register → NewUnit → Change
+register_change r it = record {
+  put = record no_put {
+    units = (r.next + 1, record { name = it.name; checked = it.checked }) ∷ [];
+    parcels = numbered (r.next + 2) (map_list (parcel_of (r.next + 1) r.next) it.parcels);
+    rrrs = numbered (r.next + 2 + length it.parcels) (map_list (right_of (r.next + 1) r.next) it.rights);
+    sources = document_source r.next it.document;
+  };
+  ended = no_ended;
+  next = r.next + new_count it;
+}
+
+-- the act is about the unit
+abbrev pub register_done : Register → NewUnit → ℤ → Done
+register_done r it stamp = record { number = r.next + 1; made = numbers_from r.next (new_count it); stamp = stamp }

@@ -1,0 +1,86 @@
+//! Burdening a unit.
+ghost use Rattle.std.specs.Prelude.{◌≡◌, ◌≤◌, IfOk};
+ghost use Rattle.land_acts.specs.Burdening.{burden_refusals, burden_change, burden_done, class_of, would_crowd};
+ghost use Rattle.land_acts.specs.Outcome.{first_that_holds};
+
+use crate::plan::{document_source, lacks_numbers};
+use crate::refusal::Refusal;
+use crate::slice::Slice;
+use land_core::act::{Burden, BurdenClass};
+use land_core::change::{Change, Done};
+use land_core::contents::rrr_count;
+use land_core::duplicate::Duplicate;
+use land_core::kind::Kind;
+use land_core::rrr::{Class, RrrRecord};
+use land_core::sequence::Sequence;
+use land_core::text::Text;
+use std::alloc::{AllocError, Global};
+
+/// The least refusal of a burden whose condition holds.
+pub(crate) fn refusal(slice: &Slice, it: &Burden, stamp: Option<i64>) -> Option<Refusal>
+    ensures { result ≡ first_that_holds (burden_refusals slice.now it.now stamp) }
+{
+    if !slice.stands(Kind::Unit, it.unit) {
+        Some(Refusal::NoSuchUnit)
+    } else if !slice.stands(Kind::Party, it.party) {
+        Some(Refusal::NoSuchParty)
+    } else if lacks_numbers(slice, 2) || would_crowd(slice, it.unit) {
+        Some(Refusal::TooMany)
+    } else if stamp.is_none() {
+        Some(Refusal::ClockOut)
+    } else {
+        None
+    }
+}
+
+/// Whether a unit would have more than 256 entries with one more.
+fn would_crowd(slice: &Slice, unit: u64) -> bool
+    ensures { result ≡ would_crowd slice.now unit 1 }
+{
+    256 <= rrr_count(slice, unit)
+}
+
+/// The source and the entry, under the next numbers.
+pub(crate) fn planned(
+    alloc: Global,
+    slice: &Slice,
+    it: &Burden,
+    stamp: i64,
+) -> Result<(Change, Done), AllocError>
+    requires { slice.now.next ≤ 999_999_999 }
+    ensures { IfOk result (λ planned. (planned.0 ≡ burden_change slice.now it.now) × (planned.1 ≡ burden_done slice.now stamp)) }
+{
+    let source = slice.next;
+    let number = source + 1;
+    let sources = document_source(alloc, source, &it.document)?;
+    let entry = RrrRecord {
+        unit: it.unit,
+        party: it.party,
+        class: class_of(it.class, it.words.copy(alloc)?),
+        source,
+    };
+    let rrrs = Sequence::of_one(alloc, (number, entry))?;
+    let mut made = Sequence::of_one(alloc, source)?;
+    made.push(number)?;
+    let mut change = Change::nothing(alloc, source + 2);
+    change.put.sources = sources;
+    change.put.rrrs = rrrs;
+    Ok((
+        change,
+        Done {
+            number,
+            made,
+            stamp,
+        },
+    ))
+}
+
+/// The entry that says the words.
+fn class_of(class: BurdenClass, words: Text) -> Class
+    ensures { result ≡ class_of class words }
+{
+    match class {
+        BurdenClass::Restriction => Class::Restriction { words },
+        BurdenClass::Responsibility => Class::Responsibility { words },
+    }
+}

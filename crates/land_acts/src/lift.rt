@@ -1,0 +1,61 @@
+//! Lifting a burden.
+ghost use Rattle.std.specs.Prelude.{◌≡◌, IfOk};
+ghost use Rattle.land_acts.specs.Lifting.{has_burden, is_burden, lift_refusals, lift_change, lift_done};
+ghost use Rattle.land_acts.specs.Outcome.{first_that_holds};
+
+use crate::plan::told_of;
+use crate::refusal::Refusal;
+use crate::slice::Slice;
+use land_core::act::Lift;
+use land_core::change::{Change, Done};
+use land_core::rrr::Class;
+use land_core::sequence::Sequence;
+use std::alloc::{AllocError, Global};
+
+/// The least refusal of a lift whose condition holds.
+pub(crate) fn refusal(slice: &Slice, it: &Lift, stamp: Option<i64>) -> Option<Refusal>
+    ensures { result ≡ first_that_holds (lift_refusals slice.now it.now stamp) }
+{
+    if !has_burden(slice, it.rrr) {
+        Some(Refusal::NoSuchRight)
+    } else if stamp.is_none() {
+        Some(Refusal::ClockOut)
+    } else {
+        None
+    }
+}
+
+/// Whether a burden stands at a number.
+fn has_burden(slice: &Slice, number: u64) -> bool
+    ensures { result ≡ has_burden slice.now number }
+{
+    match slice.rrrs.get(number) {
+        Some(entry) => is_burden(&entry.class),
+        None => false,
+    }
+}
+
+/// Whether an entry is a restriction or a responsibility.
+fn is_burden(class: &Class) -> bool
+    ensures { result ≡ is_burden class.now }
+{
+    match class {
+        Class::Restriction { .. } | Class::Responsibility { .. } => true,
+        Class::Right { .. } | Class::Mortgage { .. } => false,
+    }
+}
+
+/// The end of the entry.
+pub(crate) fn planned(
+    alloc: Global,
+    slice: &Slice,
+    it: &Lift,
+    stamp: i64,
+) -> Result<(Change, Done), AllocError>
+    ensures { IfOk result (λ planned. (planned.0 ≡ lift_change slice.now it.now) × (planned.1 ≡ lift_done it.now stamp)) }
+{
+    let rrrs = Sequence::of_one(alloc, it.rrr)?;
+    let mut change = Change::nothing(alloc, slice.next);
+    change.ended.rrrs = rrrs;
+    Ok((change, told_of(alloc, it.rrr, stamp)))
+}

@@ -1,0 +1,159 @@
+//! Entering a unit with its first parcels and rights.
+ghost use Rattle.std.specs.Prelude.{◌≡◌, ◌≤◌, ◌+◌, true, length, map as map_list, IfOk};
+ghost use Rattle.land_core.specs.Acts.{is_new_unit};
+ghost use Rattle.land_acts.specs.Numbering.{numbered, numbers_from};
+ghost use Rattle.land_acts.specs.Outcome.{first_that_holds};
+ghost use Rattle.land_acts.specs.Registering.{new_count, parcel_of, register_refusals, register_change, register_done, right_of};
+
+use crate::first_rights::{are_types_too_fine, are_types_whole, has_right_twice, lists_absent};
+use crate::plan::{document_source, lacks_numbers};
+use crate::refusal::Refusal;
+use crate::slice::Slice;
+use land_core::act::{NewParcel, NewRight, NewUnit};
+use land_core::change::{Change, Done};
+use land_core::duplicate::Duplicate;
+use land_core::parcel::ParcelRecord;
+use land_core::rrr::{Class, RrrRecord};
+use land_core::sequence::{NumberList, Sequence};
+use land_core::unit::UnitRecord;
+use land_shape::Ring;
+use std::alloc::{AllocError, Global};
+
+/// The least refusal of a registration whose condition holds.
+pub(crate) fn refusal(
+    alloc: Global,
+    slice: &Slice,
+    it: &NewUnit,
+    stamp: Option<i64>,
+) -> Result<Option<Refusal>, AllocError>
+    requires { is_new_unit it.now ≡ true }
+    ensures { IfOk result (λ first. first ≡ first_that_holds (register_refusals slice.now it.now stamp)) }
+{
+    let rights = it.rights.as_slice();
+    if lists_absent(slice, rights) {
+        Ok(Some(Refusal::NoSuchParty))
+    } else if it.checked && are_types_too_fine(alloc, rights)? {
+        Ok(Some(Refusal::SharesTooFine))
+    } else if lacks_numbers(slice, new_count(it)) {
+        Ok(Some(Refusal::TooMany))
+    } else if it.checked && !are_types_whole(alloc, rights)? {
+        Ok(Some(Refusal::SharesNotWhole))
+    } else if stamp.is_none() {
+        Ok(Some(Refusal::ClockOut))
+    } else if has_right_twice(rights) {
+        Ok(Some(Refusal::SameParty))
+    } else {
+        Ok(None)
+    }
+}
+
+/// How many objects are new: the source, the unit, the parcels and the rights.
+fn new_count(it: &NewUnit) -> u64
+    requires { is_new_unit it.now ≡ true }
+    ensures { result ≡ new_count it.now }
+{
+    2 + it.parcels.as_slice().len() as u64 + it.rights.as_slice().len() as u64
+}
+
+/// The source, the unit, its parcels and its rights, under the next numbers.
+pub(crate) fn planned(
+    alloc: Global,
+    slice: &Slice,
+    it: &NewUnit,
+    stamp: i64,
+) -> Result<(Change, Done), AllocError>
+    requires formed { is_new_unit it.now ≡ true }
+    requires room { slice.now.next + new_count it.now ≤ 1_000_000_001 }
+    ensures { IfOk result (λ planned. (planned.0 ≡ register_change slice.now it.now) × (planned.1 ≡ register_done slice.now it.now stamp)) }
+{
+    let source = slice.next;
+    let unit = source + 1;
+    let count = new_count(it);
+    let first_right = source + 2 + it.parcels.as_slice().len() as u64;
+    let sources = document_source(alloc, source, &it.document)?;
+    let record = UnitRecord {
+        name: it.name.copy(alloc)?,
+        checked: it.checked,
+    };
+    let units = Sequence::of_one(alloc, (unit, record))?;
+    let parcels = placed_parcels(alloc, it.parcels.as_slice(), unit, source, source + 2)?;
+    let rrrs = placed_rights(alloc, it.rights.as_slice(), unit, source, first_right)?;
+    let made = numbers_from(alloc, source, count)?;
+    let mut change = Change::nothing(alloc, source + count);
+    change.put.sources = sources;
+    change.put.units = units;
+    change.put.parcels = parcels;
+    change.put.rrrs = rrrs;
+    Ok((
+        change,
+        Done {
+            number: unit,
+            made,
+            stamp,
+        },
+    ))
+}
+
+/// The parcels as the register keeps them, under the numbers from `first` on.
+fn placed_parcels(
+    alloc: Global,
+    parcels: &[NewParcel],
+    unit: u64,
+    source: u64,
+    first: u64,
+) -> Result<Sequence<(u64, ParcelRecord)>, AllocError>
+    requires { first + length parcels.now ≤ 1_000_000_001 }
+    ensures { IfOk result (λ it. it ≡ numbered first (map_list (parcel_of unit source) parcels.now)) }
+{
+    let mut placed = Sequence::new(alloc);
+    let mut number = first;
+    for parcel in parcels {
+        let record = ParcelRecord {
+            unit,
+            label: parcel.label.copy(alloc)?,
+            outline: Ring::copy(&parcel.outline)?,
+            source,
+        };
+        placed.push((number, record))?;
+        number += 1;
+    }
+    Ok(placed)
+}
+
+/// The rights as the register keeps them, under the numbers from `first` on.
+fn placed_rights(
+    alloc: Global,
+    rights: &[NewRight],
+    unit: u64,
+    source: u64,
+    first: u64,
+) -> Result<Sequence<(u64, RrrRecord)>, AllocError>
+    requires { first + length rights.now ≤ 1_000_000_001 }
+    ensures { IfOk result (λ it. it ≡ numbered first (map_list (right_of unit source) rights.now)) }
+{
+    let mut placed = Sequence::new(alloc);
+    let mut number = first;
+    for right in rights {
+        let record = RrrRecord {
+            unit,
+            party: right.party,
+            class: Class::Right {
+                right_type: right.right_type,
+                share: right.share,
+            },
+            source,
+        };
+        placed.push((number, record))?;
+        number += 1;
+    }
+    Ok(placed)
+}
+
+/// So many numbers from `first` on.
+fn numbers_from(alloc: Global, first: u64, count: u64) -> Result<NumberList, AllocError>
+    requires { first + count ≤ 1_000_000_001 }
+    ensures { IfOk result (λ it. it ≡ numbers_from first count) }
+{
+    let numbers = (first..first + count).collect::<Vec<u64>>(alloc)?;
+    Ok(Sequence::from_vec(numbers))
+}
