@@ -1,0 +1,5 @@
+pub mod Denials
+pub mod Seeing
+pub mod SightDenials
+pub mod SightLaws
+pub mod Ties

@@ -1,0 +1,142 @@
+-- What the denial of a view tells.
+use Rattle.std.proofs.Common.{◌≡◌, ℕ, Bool, true, false, ◌||◌, ◌&&◌, not, cond, Option, Some, None, refl, subst, arith}
+use Rattle.std.specs.Prelude.{is_some, nat_eq}
+use Rattle.std.specs.Option.{option_map_or}
+use Rattle.std.specs.Cmp.{nat_cmp_total}
+use Rattle.std.specs.FinMap as map
+use Rattle.std.specs.FinMap.{nat_cmp-IsAntisymmetric}
+use Rattle.std.proofs.lemmas.Bool.{false≢true}
+use Rattle.std.proofs.lemmas.Bool.Decides.{nat_tests}
+use Rattle.land_core.specs.Entries.{has}
+use Rattle.land_core.specs.Members.{Members}
+use Rattle.land_core.specs.Register.{is_member, is_single}
+use Rattle.land_core.specs.Soundness.{IsSound, are_loose}
+use Rattle.land_core.specs.declared.caller.Caller.{Caller}
+use Rattle.land_core.specs.declared.kind.Kind.{Kind}
+use Rattle.land_core.specs.declared.kind.Kind.TheVariants as kind
+use Rattle.land_core.specs.declared.party.PartyRecord.{PartyRecord}
+use Rattle.land_core.specs.declared.register.Register.{Register}
+use Rattle.land_core.specs.declared.role.Role.{Role}
+use Rattle.land_core.specs.declared.role.Role.TheVariants.{Citizen, Conveyancer, Notary, Bank, CertifiedSurveyor, StateAdministrator}
+use Rattle.land_core.specs.declared.soundness.Unsound.TheVariants.{Reference}
+use Rattle.land_core.proofs.Booleans.{both_of, or_false, not_false}
+use Rattle.land_core.proofs.Reflection.{none_at, some_passes}
+use Rattle.land_core.proofs.SoundRegisters.{refers}
+use Rattle.land_rules.specs.Laws.{DenialsTellSight, told_by_sight}
+use Rattle.land_rules.specs.Relations.{is_told_to_holder}
+use Rattle.land_rules.specs.Rules.{first_denial, is_allowed, is_party_in_sight, is_rrr_in_sight, is_told_to_bank, is_told_to_conveyancer, sees, view_rules}
+use Rattle.land_rules.specs.declared.verdict.Verdict.{Verdict}
+use Rattle.land_rules.specs.declared.verdict.Verdict.TheVariants.{Allowed, Denied}
+
+-- a verdict that allows or denies by one rule
+abbrev tells : Verdict → ℕ → Type 0
+tells v k = v ≡ cond (is_allowed v) Allowed (Denied k)
+
+-- by rule 27 alone
+absent : (there : Bool) → tells (cond (not there) (Denied 27) Allowed) 27
+absent true = refl
+absent false = refl
+
+absent_itself : (itself there : Bool) → tells (cond (not there) (Denied 27) Allowed) (cond itself 27 27)
+absent_itself true there = absent there
+absent_itself false there = absent there
+
+-- by a relation that nobody has to what does not stand
+related : (there has : Bool) (k : ℕ) → tells (cond (not (there && has)) (Denied k) (cond (not there) (Denied 27) Allowed)) k
+related true true k = refl
+related true false k = refl
+related false has k = refl
+
+-- by a test of what stands
+tested : {V : Type 0} (passes : V → Bool) (found : Option V) (k : ℕ) → tells (cond (not (option_map_or passes found false)) (Denied k) (cond (not (is_some found)) (Denied 27) Allowed)) k
+tested passes None k = refl
+tested passes (Some v) k = elim (passes v) as (λ b. tells (cond (not b) (Denied k) Allowed) k) [ true ↦ refl | false ↦ refl ]
+
+-- by being another, where what is seen stands
+met : (itself seen there : Bool) (k : ℕ) → (seen ≡ true → there ≡ true) → tells (cond (not (itself || seen)) (Denied k) (cond (not there) (Denied 27) Allowed)) (cond itself 27 k)
+met true seen true k h = refl
+met true seen false k h = refl
+met false true true k h = refl
+met false true false k h = absurd (false≢true (h refl))
+met false false there k h = refl
+
+met_twice : (itself one seen there : Bool) (k : ℕ) → (one ≡ true → there ≡ true) → (seen ≡ true → there ≡ true)
+    → tells (cond (not (itself || one || seen)) (Denied k) (cond (not there) (Denied 27) Allowed)) (cond itself 27 k)
+met_twice true one seen true k g h = refl
+met_twice true one seen false k g h = refl
+met_twice false true seen true k g h = refl
+met_twice false true seen false k g h = absurd (false≢true (g refl))
+met_twice false false true true k g h = refl
+met_twice false false true false k g h = absurd (false≢true (h refl))
+met_twice false false false there k g h = refl
+
+apart : (itself there : Bool) (k : ℕ) → tells (cond (not itself) (Denied k) (cond (not there) (Denied 27) Allowed)) (cond itself 27 k)
+apart true true k = refl
+apart true false k = refl
+apart false there k = refl
+
+number_is : (n k : ℕ) → nat_eq n k ≡ true → n ≡ k
+number_is n k h = grind (arith, nat_tests)
+
+module _ (at : Register) (sound : IsSound at) where
+  -- groups with members stand
+  group_stands : (party group : ℕ) → is_member at group party ≡ true → has at.parties group ≡ true
+  group_stands party group h = found (map.get at.members group) refl h
+    where
+      is_there : (o : Option PartyRecord) → option_map_or (λ p. not (is_single p.kind)) o false ≡ true → is_some o ≡ true
+      is_there None h = h
+      is_there (Some p) h = refl
+
+      found : (o : Option Members) → map.get at.members group ≡ o → option_map_or (λ members. has members party) o false ≡ true → has at.parties group ≡ true
+      found None e h = absurd (false≢true h)
+      found (Some members) e h =
+          let whole = none_at nat_cmp_total nat_cmp-IsAntisymmetric (λ n m. are_loose at n m) at.members group members (refers at (sound Reference)).members e in
+          is_there (map.get at.parties group) (not_false _ (or_false _ _ whole).0)
+
+  -- parties of entries stand
+  party_stands : (caller : Caller) (party : ℕ) → is_party_in_sight at caller party ≡ true → has at.parties party ≡ true
+  party_stands caller party h =
+      let it = some_passes nat_cmp_total nat_cmp-IsAntisymmetric (λ n e. nat_eq e.party party && is_rrr_in_sight at caller n) at.rrrs h in
+      let stands =
+      none_at nat_cmp_total nat_cmp-IsAntisymmetric (λ n e. not (has at.units e.unit && has at.parties e.party && has at.sources e.source)) at.rrrs it.key it.value (refers at (sound Reference)).rrrs it.there in
+      subst (λ (n : ℕ). has at.parties n ≡ true) (number_is it.value.party party (both_of _ _ it.passes).0) (both_of _ _ (both_of _ _ (not_false _ stands)).0).1
+
+  told : (party : ℕ) (role : Role) (k : Kind) (n : ℕ) → let caller : Caller = record { party = party; role = role } in first_denial (view_rules at caller k n) ≡ told_by_sight (sees at caller k n) caller k n
+  told party Citizen kind.Party n = let caller : Caller = record { party = party; role = Citizen } in
+      met_twice (nat_eq n party) (is_member at n party) (is_party_in_sight at caller n) (has at.parties n) 13 (group_stands party n) (party_stands caller n)
+  told party Citizen kind.Unit n = related (has at.units n) _ 11
+  told party Citizen kind.Parcel n = absent (has at.parcels n)
+  told party Citizen kind.Rrr n = tested (is_told_to_holder at party) (map.get at.rrrs n) 12
+  told party Citizen kind.Source n = refl
+  told party Conveyancer kind.Party n = let caller : Caller = record { party = party; role = Conveyancer } in
+      met (nat_eq n party) (is_party_in_sight at caller n) (has at.parties n) 21 (party_stands caller n)
+  told party Conveyancer kind.Unit n = refl
+  told party Conveyancer kind.Parcel n = absent (has at.parcels n)
+  told party Conveyancer kind.Rrr n = let caller : Caller = record { party = party; role = Conveyancer } in
+      tested (is_told_to_conveyancer at caller) (map.get at.rrrs n) 20
+  told party Conveyancer kind.Source n = refl
+  told party Notary kind.Party n = absent_itself (nat_eq n party) (has at.parties n)
+  told party Notary kind.Unit n = absent (has at.units n)
+  told party Notary kind.Parcel n = absent (has at.parcels n)
+  told party Notary kind.Rrr n = absent (has at.rrrs n)
+  told party Notary kind.Source n = absent (has at.sources n)
+  told party Bank kind.Party n = let caller : Caller = record { party = party; role = Bank } in
+      met (nat_eq n party) (is_party_in_sight at caller n) (has at.parties n) 17 (party_stands caller n)
+  told party Bank kind.Unit n = related (has at.units n) _ 15
+  told party Bank kind.Parcel n = absent (has at.parcels n)
+  told party Bank kind.Rrr n = let caller : Caller = record { party = party; role = Bank } in
+      tested (is_told_to_bank at caller) (map.get at.rrrs n) 16
+  told party Bank kind.Source n = refl
+  told party CertifiedSurveyor kind.Party n = apart (nat_eq n party) (has at.parties n) 24
+  told party CertifiedSurveyor kind.Unit n = refl
+  told party CertifiedSurveyor kind.Parcel n = absent (has at.parcels n)
+  told party CertifiedSurveyor kind.Rrr n = refl
+  told party CertifiedSurveyor kind.Source n = refl
+  told party StateAdministrator kind.Party n = absent_itself (nat_eq n party) (has at.parties n)
+  told party StateAdministrator kind.Unit n = absent (has at.units n)
+  told party StateAdministrator kind.Parcel n = absent (has at.parcels n)
+  told party StateAdministrator kind.Rrr n = absent (has at.rrrs n)
+  told party StateAdministrator kind.Source n = absent (has at.sources n)
+
+pub denials_tell_sight : DenialsTellSight
+denials_tell_sight at sound caller k n = told at sound caller.party caller.role k n

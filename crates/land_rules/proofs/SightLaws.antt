@@ -1,0 +1,235 @@
+-- What holdings, ended entries and mortgages give to see.
+use Rattle.std.proofs.Common.{◌≡◌, ℕ, Bool, true, false, ◌||◌, ◌&&◌, not, cond, Option, Some, None, refl, sym, ap, ◌∙◌, subst, arith}
+use Rattle.std.specs.Prelude.{◌≢◌, is_some, nat_eq}
+use Rattle.std.specs.Option.{option_map_or}
+use Rattle.std.specs.Cmp.{nat_cmp_total}
+use Rattle.std.specs.FinMap as map
+use Rattle.std.specs.FinMap.{nat_cmp-IsAntisymmetric}
+use Rattle.std.proofs.lemmas.Bool.{false≢true}
+use Rattle.std.proofs.lemmas.Bool.Decides.{nat_tests}
+use Rattle.land_core.specs.Entries.{some}
+use Rattle.land_core.specs.Register.{stands, is_member}
+use Rattle.land_core.specs.Units.{is_right_of}
+use Rattle.land_core.specs.declared.kind.Kind.TheVariants as kind
+use Rattle.land_core.specs.declared.register.Register.{Register}
+use Rattle.land_core.specs.declared.rrr.Class.{Class}
+use Rattle.land_core.specs.declared.rrr.Class.TheVariants.{Right, Restriction, Responsibility, Mortgage}
+use Rattle.land_core.specs.declared.rrr.RightType.TheVariants.{Ownership}
+use Rattle.land_core.specs.declared.rrr.RrrRecord.{RrrRecord}
+use Rattle.land_core.proofs.Booleans.{both_of}
+use Rattle.land_core.proofs.Reflection.{some_at, some_passes, none_passes}
+use Rattle.land_rules.proofs.Denials.{eq-itself}
+use Rattle.land_rules.specs.Laws.{citizen}
+use Rattle.land_rules.specs.Relations.{holds_as, is_credit, is_creditor_on, is_held_ownership, is_held_right, is_holder, is_mortgage, is_owner, is_right, is_told_to_creditor, is_told_to_holder}
+use Rattle.land_rules.specs.Rules.{first_denial, is_allowed, is_told_to_bank, is_unit_in_sight, rrr_rules, sees, unit_rules}
+use Rattle.land_rules.specs.SightLaws.{BanksSeeByTheirMortgages, EndedEntriesGiveNoSight, HasEntry, HoldsNone, IsOfOthers, IsOpenToBank, MembersHold, OwnersAloneSeeMortgages, bank}
+use Rattle.land_rules.specs.declared.verdict.Verdict.{Verdict}
+use Rattle.land_rules.specs.declared.verdict.Verdict.TheVariants.{Allowed, Denied}
+
+-- ---- tests
+
+number_is : (n k : ℕ) → nat_eq n k ≡ true → n ≡ k
+number_is n k h = grind (arith, nat_tests)
+
+number_at : (n k : ℕ) → n ≡ k → nat_eq n k ≡ true
+number_at n k e = subst (λ (m : ℕ). nat_eq n m ≡ true) e (eq-itself n)
+
+number_apart : (n k : ℕ) → n ≢ k → nat_eq n k ≡ false
+number_apart n k h = elim (nat_eq n k) as (λ b. nat_eq n k ≡ b → b ≡ false) [ true ↦ λ e. absurd (h (number_is n k e)) | false ↦ λ e. refl ] refl
+
+all_three : (a b c : Bool) → a ≡ true → b ≡ true → c ≡ true → (a && b && c) ≡ true
+all_three true true true e f g = refl
+all_three true true false e f g = absurd (false≢true g)
+all_three true false c e f g = absurd (false≢true f)
+all_three false b c e f g = absurd (false≢true e)
+
+both : (a b : Bool) → a ≡ true → b ≡ true → (a && b) ≡ true
+both true b e f = f
+both false b e f = absurd (false≢true e)
+
+or_right : (a b : Bool) → b ≡ true → (a || b) ≡ true
+or_right true b e = refl
+or_right false b e = e
+
+-- a conjunction fails where its last part fails whenever the others hold
+last_fails : (a b c : Bool) → (a ≡ true → b ≡ true → c ≡ false) → (a && b && c) ≡ false
+last_fails true true c h = h refl refl
+last_fails true false c h = refl
+last_fails false b c h = refl
+
+and_false : (a b : Bool) → b ≡ false → (a && b) ≡ false
+and_false true b e = e
+and_false false b e = refl
+
+-- ---- a citizen that may ask is told what the sight rules say
+
+may_ask : (stands holds past : Bool) (v : Verdict) → (stands && holds) ≡ true → cond (not stands) (Denied 1) (cond (not holds) (Denied 2) (cond (past && false) (Denied 3) v)) ≡ v
+may_ask true true true v e = refl
+may_ask true true false v e = refl
+may_ask true false past v e = absurd (false≢true e)
+may_ask false holds past v e = absurd (false≢true e)
+
+shown_by : (there has : Bool) (k : ℕ) → (there && has) ≡ true → cond (not (there && has)) (Denied k) (cond (not there) (Denied 27) Allowed) ≡ Allowed
+shown_by true true k e = refl
+shown_by true false k e = absurd (false≢true e)
+shown_by false has k e = absurd (false≢true e)
+
+module _ (at : Register) (party : ℕ) where
+  unit_shown : (unit : ℕ) → is_holder at party unit ≡ true → first_denial (unit_rules at (citizen party) unit) ≡ Allowed
+  unit_shown unit h = shown_by (stands at kind.Unit unit) (some (λ n e. is_held_right at party unit e) at.rrrs) 11 h
+
+  unit_denied : (unit : ℕ) → is_holder at party unit ≡ false → first_denial (unit_rules at (citizen party) unit) ≡ Denied 11
+  unit_denied unit h = ap (λ b. cond (not b) (Denied 11) (cond (not (stands at kind.Unit unit)) (Denied 27) Allowed)) h
+
+  -- what is told of an entry that stands
+  entry_told : (number : ℕ) (e : RrrRecord) → map.get at.rrrs number ≡ Some e → first_denial (rrr_rules at (citizen party) number) ≡ cond (not (is_told_to_holder at party e)) (Denied 12) Allowed
+  entry_told number e there = ap (λ o. cond (not (option_map_or (is_told_to_holder at party) o false)) (Denied 12) (cond (not (is_some o)) (Denied 27) Allowed)) there
+
+  entry_shown : (number : ℕ) (e : RrrRecord) → map.get at.rrrs number ≡ Some e → is_told_to_holder at party e ≡ true → first_denial (rrr_rules at (citizen party) number) ≡ Allowed
+  entry_shown number e there told = entry_told number e there ∙ ap (λ b. cond (not b) (Denied 12) Allowed) told
+
+  entry_denied : (number : ℕ) (e : RrrRecord) → map.get at.rrrs number ≡ Some e → is_told_to_holder at party e ≡ false → first_denial (rrr_rules at (citizen party) number) ≡ Denied 12
+  entry_denied number e there told = entry_told number e there ∙ ap (λ b. cond (not b) (Denied 12) Allowed) told
+
+  -- who is a member of a group holds what is held in its name, and nobody holds what is held in the name of others
+  holds_as_member : (group named : ℕ) → is_member at group party ≡ true → named ≡ group → holds_as at party named ≡ true
+  holds_as_member group named member is = or_right (nat_eq named party) (is_member at named party) (subst (λ (g : ℕ). is_member at g party ≡ true) (sym is) member)
+
+  holds_as_other : (named : ℕ) → IsOfOthers at party named → holds_as at party named ≡ false
+  holds_as_other named h = ap (λ b. b || is_member at named party) (number_apart named party h.other) ∙ h.outside
+
+  member_is_holder : (group unit : ℕ) → is_member at group party ≡ true → stands at kind.Unit unit ≡ true → HasEntry is_right at group unit → is_holder at party unit ≡ true
+  member_is_holder group unit member there it =
+      both _ _ there (some_at nat_cmp_total nat_cmp-IsAntisymmetric (λ n e. is_held_right at party unit e) at.rrrs it.number it.entry it.stands.there
+      (all_three _ _ _ (number_at it.entry.unit unit it.stands.of_unit) it.class (holds_as_member group it.entry.party member it.name)))
+
+  no_holder : (unit : ℕ) → HoldsNone is_right at party unit → is_holder at party unit ≡ false
+  no_holder unit none =
+      and_false _ _ (none_passes nat_cmp_total nat_cmp-IsAntisymmetric (λ n e. is_held_right at party unit e) at.rrrs (λ n e there.
+      last_fails _ _ _ (λ here right. holds_as_other e.party (none n e (record { there = there; of_unit = number_is e.unit unit here }) right))))
+
+  no_owner : (unit : ℕ) → HoldsNone (is_right_of Ownership) at party unit → is_owner at party unit ≡ false
+  no_owner unit none =
+      and_false _ _ (none_passes nat_cmp_total nat_cmp-IsAntisymmetric (λ n e. is_held_ownership at party unit e) at.rrrs (λ n e there.
+      last_fails _ _ _ (λ here right. holds_as_other e.party (none n e (record { there = there; of_unit = number_is e.unit unit here }) right))))
+
+  -- an ownership is a right
+  right_from_ownership : (class : Class) → is_right_of Ownership class ≡ true → is_right class ≡ true
+  right_from_ownership (Right type share) h = refl
+  right_from_ownership (Restriction words) h = absurd (false≢true h)
+  right_from_ownership (Responsibility words) h = absurd (false≢true h)
+  right_from_ownership (Mortgage amount currency rank) h = absurd (false≢true h)
+
+  pub owner_is_holder : (unit : ℕ) → is_owner at party unit ≡ true → is_holder at party unit ≡ true
+  owner_is_holder unit h =
+      let parts = both_of _ _ h in
+      let it = some_passes nat_cmp_total nat_cmp-IsAntisymmetric (λ n e. is_held_ownership at party unit e) at.rrrs parts.1 in
+      let tests = both_of _ _ it.passes in
+      both _ _ parts.0 (some_at nat_cmp_total nat_cmp-IsAntisymmetric (λ n e. is_held_right at party unit e) at.rrrs it.key it.value it.there
+      (all_three _ _ _ (both_of _ _ tests.0).0 (right_from_ownership it.value.class (both_of _ _ tests.0).1) tests.1))
+
+  told_no_mortgage : (unit : ℕ) (e : RrrRecord) → is_holder at party unit ≡ true → e.unit ≡ unit → is_mortgage e.class ≡ false → is_told_to_holder at party e ≡ true
+  told_no_mortgage unit e holder of_unit class =
+      both _ _ (subst (λ (n : ℕ). is_holder at party n ≡ true) (sym of_unit) holder) (ap (λ b. not b || is_owner at party e.unit) class)
+
+  told_as_owner : (unit : ℕ) (e : RrrRecord) → is_owner at party unit ≡ true → e.unit ≡ unit → is_told_to_holder at party e ≡ true
+  told_as_owner unit e owner of_unit =
+      let owns : is_owner at party e.unit ≡ true = subst (λ (n : ℕ). is_owner at party n ≡ true) (sym of_unit) owner in
+      both _ _ (owner_is_holder e.unit owns) (or_right _ _ owns)
+
+  not_told : (unit : ℕ) (e : RrrRecord) → is_owner at party unit ≡ false → e.unit ≡ unit → is_mortgage e.class ≡ true → is_told_to_holder at party e ≡ false
+  not_told unit e owner of_unit class =
+      and_false _ _ (ap (λ b. not b || is_owner at party e.unit) class ∙ subst (λ (n : ℕ). is_owner at party n ≡ false) (sym of_unit) owner)
+
+pub members_hold : MembersHold
+members_hold now at party group unit moment past asks member there it =
+    let holder = member_is_holder at party group unit member there it in
+    record {
+      holder = holder;
+      unit_shown = may_ask _ _ past _ asks ∙ unit_shown at party unit holder;
+      entries_shown = λ number e is class. may_ask _ _ past _ asks ∙ entry_shown at party number e is.there (told_no_mortgage at party unit e holder is.of_unit class);
+    }
+
+pub ended_entries : EndedEntriesGiveNoSight
+ended_entries now at party unit moment past asks none = may_ask _ _ past _ asks ∙ unit_denied at party unit (no_holder at party unit none)
+
+pub owners_alone : OwnersAloneSeeMortgages
+owners_alone now at party unit number e moment past asks is class = record {
+  owner = λ owner. may_ask _ _ past _ asks ∙ entry_shown at party number e is.there (told_as_owner at party unit e owner is.of_unit);
+  other = λ none. may_ask _ _ past _ asks ∙ entry_denied at party number e is.there (not_told at party unit e (no_owner at party unit none) is.of_unit class);
+}
+
+-- ---- banks
+
+-- what is shown passes its test
+unit_passes : (there has : Bool) → is_allowed (cond (not (there && has)) (Denied 15) (cond (not there) (Denied 27) Allowed)) ≡ (there && has)
+unit_passes true true = refl
+unit_passes true false = refl
+unit_passes false has = refl
+
+entry_passes : (passes : RrrRecord → Bool) (found : Option RrrRecord)
+    → is_allowed (cond (not (option_map_or passes found false)) (Denied 16) (cond (not (is_some found)) (Denied 27) Allowed)) ≡ option_map_or passes found false
+entry_passes passes None = refl
+entry_passes passes (Some e) = elim (passes e) as (λ b. is_allowed (cond (not b) (Denied 16) Allowed) ≡ b) [ true ↦ refl | false ↦ refl ]
+
+module _ (at : Register) (party : ℕ) where
+  sees_unit : (unit : ℕ) → sees at (bank party) kind.Unit unit ≡ is_creditor_on at party unit
+  sees_unit unit = unit_passes (stands at kind.Unit unit) (some (λ n e. is_credit party unit e) at.rrrs)
+
+  has_mortgage : (unit : ℕ) → is_creditor_on at party unit ≡ true → (stands at kind.Unit unit ≡ true) × HasEntry is_mortgage at party unit
+  has_mortgage unit h =
+      let parts = both_of _ _ h in
+      let it = some_passes nat_cmp_total nat_cmp-IsAntisymmetric (λ n e. is_credit party unit e) at.rrrs parts.1 in
+      let tests = both_of _ _ it.passes in
+      let more = both_of _ _ tests.0 in (
+        parts.0,
+        record {
+          number = it.key;
+          entry = it.value;
+          stands = record { there = it.there; of_unit = number_is it.value.unit unit more.0 };
+          class = more.1;
+          name = number_is it.value.party party tests.1;
+        },
+      )
+
+  is_creditor : (unit : ℕ) → stands at kind.Unit unit ≡ true → HasEntry is_mortgage at party unit → is_creditor_on at party unit ≡ true
+  is_creditor unit there it =
+      both _ _ there (some_at nat_cmp_total nat_cmp-IsAntisymmetric (λ n e. is_credit party unit e) at.rrrs it.number it.entry it.stands.there
+      (all_three _ _ _ (number_at it.entry.unit unit it.stands.of_unit) it.class (number_at it.entry.party party it.name)))
+
+  sees_entry : (number : ℕ) → sees at (bank party) kind.Rrr number ≡ option_map_or (is_told_to_bank at (bank party)) (map.get at.rrrs number) false
+  sees_entry number = entry_passes (is_told_to_bank at (bank party)) (map.get at.rrrs number)
+
+  -- no mortgage of another
+  own_from : (mortgage own : Bool) → (not mortgage || own) ≡ true → mortgage ≡ true → own ≡ true
+  own_from true own h e = h
+  own_from false own h e = absurd (false≢true e)
+
+  own_back : (mortgage own : Bool) → (mortgage ≡ true → own ≡ true) → (not mortgage || own) ≡ true
+  own_back true own h = h refl
+  own_back false own h = refl
+
+  is_open : (number : ℕ) → sees at (bank party) kind.Rrr number ≡ true → IsOpenToBank at party number
+  is_open number h = found (map.get at.rrrs number) refl (sym (sees_entry number) ∙ h)
+    where
+      found : (o : Option RrrRecord) → map.get at.rrrs number ≡ o → option_map_or (is_told_to_bank at (bank party)) o false ≡ true → IsOpenToBank at party number
+      found None e h = absurd (false≢true h)
+      found (Some entry) e h =
+          let parts = both_of (is_unit_in_sight at (bank party) entry.unit) (is_told_to_creditor party entry) h in
+          record {
+            entry = entry;
+            there = e;
+            in_sight = parts.0;
+            own = λ class. number_is entry.party party (own_from (is_mortgage entry.class) _ parts.1 class);
+          }
+
+  sees_open : (number : ℕ) → IsOpenToBank at party number → sees at (bank party) kind.Rrr number ≡ true
+  sees_open number it =
+      sees_entry number ∙ ap (λ o. option_map_or (is_told_to_bank at (bank party)) o false) it.there
+      ∙ both _ _ it.in_sight (own_back (is_mortgage it.entry.class) _ (λ class. number_at it.entry.party party (it.own class)))
+
+pub banks_see : BanksSeeByTheirMortgages
+banks_see at party = record {
+  units = λ unit. (λ h. has_mortgage at party unit (sym (sees_unit at party unit) ∙ h), λ h. sees_unit at party unit ∙ is_creditor at party unit h.0 h.1);
+  entries = λ number. (is_open at party number, sees_open at party number);
+}

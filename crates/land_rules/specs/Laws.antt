@@ -1,0 +1,100 @@
+-- Laws over the definitions alone.
+use Rattle.std.specs.Prelude.{◌≡◌, ℕ, ◌<◌, ◌↔◌, Bool, true, false, Option, ℤ, nat_eq, if◌then◌else◌}
+use Rattle.std.specs.List.{list_any}
+use Rattle.land_core.specs.Register.{stands, holds, is_member}
+use Rattle.land_core.specs.Soundness.{IsSound}
+use Rattle.land_core.specs.declared.ask.Ask.{Ask}
+use Rattle.land_core.specs.declared.ask.Ask.TheVariants as ask
+use Rattle.land_core.specs.declared.caller.Caller.{Caller}
+use Rattle.land_core.specs.declared.kind.Kind.{Kind}
+use Rattle.land_core.specs.declared.kind.Kind.TheVariants as kind
+use Rattle.land_core.specs.declared.register.Register.{Register}
+use Rattle.land_core.specs.declared.role.Role.{Role}
+use Rattle.land_core.specs.declared.role.Role.TheVariants.{Citizen, Conveyancer, Notary, Bank, CertifiedSurveyor, StateAdministrator}
+use Rattle.land_rules.specs.Rules.{rules_on, verdict_of, denies, first_denial, rise_above, ascends, sees, seen_of, is_party_in_sight, view_rules}
+use Rattle.land_rules.specs.declared.verdict.Verdict.{Verdict}
+use Rattle.land_rules.specs.declared.verdict.Verdict.TheVariants.{Allowed, Denied}
+
+-- the rules on every ask stand in rising order, from rule 1 on
+abbrev pub RulesRise : Type 0
+RulesRise = (now at : Register) (caller : Caller) (a : Ask) (past : Bool) → rise_above 0 (rules_on now at caller a past) ≡ true
+
+-- a rule denies and no lesser one does
+pub record IsLeastDenial (now at : Register) (caller : Caller) (a : Ask) (past : Bool) (k : ℕ) : Type 0 where
+  pub holds : denies k (rules_on now at caller a past) ≡ true
+  pub least : (j : ℕ) → j < k → denies j (rules_on now at caller a past) ≡ false
+
+-- the verdict is a rule's number exactly where that rule is the least that denies, and it allows exactly where none denies
+pub record VerdictIsLeast (now at : Register) (caller : Caller) (a : Ask) (past : Bool) : Type 0 where
+  pub denied : (k : ℕ) → (verdict_of now at caller a past ≡ Denied k) ↔ IsLeastDenial now at caller a past k
+  pub allowed : (verdict_of now at caller a past ≡ Allowed) ↔ ((k : ℕ) → denies k (rules_on now at caller a past) ≡ false)
+
+abbrev pub VerdictsAreLeast : Type 0
+VerdictsAreLeast = (now at : Register) (caller : Caller) (a : Ask) (past : Bool) → VerdictIsLeast now at caller a past
+
+-- what is seen ascends, each number once, and a number is among it exactly where no rule denies its view
+pub record SeenIsExact (at : Register) (caller : Caller) (k : Kind) : Type 0 where
+  pub ascending : ascends (seen_of at caller k) ≡ true
+  pub exact : (n : ℕ) → list_any (nat_eq n) (seen_of at caller k) ≡ sees at caller k n
+
+abbrev pub SeenIsExactly : Type 0
+SeenIsExactly = (at : Register) (caller : Caller) (k : Kind) → SeenIsExact at caller k
+
+-- a party in the role of a citizen
+abbrev pub citizen : ℕ → Caller
+citizen party = record { party = party; role = Citizen }
+
+-- what the policy says of a citizen's view of a group, whatever the register is now: it is shown to its members at the
+-- asked moment, and to no other party that is not the group itself and sees it in nothing else
+pub record GroupIsSeen (now at : Register) (party group : ℕ) (moment : Option ℤ) (past : Bool) : Type 0 where
+  pub member : is_member at group party ≡ true → stands at kind.Party group ≡ true → verdict_of now at (citizen party) (ask.View kind.Party group moment) past ≡ Allowed
+  pub other : nat_eq group party ≡ false → is_member at group party ≡ false → is_party_in_sight at (citizen party) group ≡ false
+      → verdict_of now at (citizen party) (ask.View kind.Party group moment) past ≡ Denied 13
+
+-- members at the asked moment see their group, and others do not; the register now only says that the caller is a citizen
+abbrev pub MembersSeeGroups : Type 0
+MembersSeeGroups = (now at : Register) (party group : ℕ) (moment : Option ℤ) (past : Bool) → stands now kind.Party party ≡ true → holds now party Citizen ≡ true
+    → GroupIsSeen now at party group moment past
+
+-- the rule that denies a role the view of what is out of its sight
+abbrev pub rule_of_role : Role → Kind → ℕ
+rule_of_role Citizen kind.Party = 13
+rule_of_role Citizen kind.Unit = 11
+rule_of_role Citizen kind.Parcel = 27
+rule_of_role Citizen kind.Rrr = 12
+rule_of_role Citizen kind.Source = 26
+rule_of_role Conveyancer kind.Party = 21
+rule_of_role Conveyancer kind.Unit = 19
+rule_of_role Conveyancer kind.Parcel = 27
+rule_of_role Conveyancer kind.Rrr = 20
+rule_of_role Conveyancer kind.Source = 26
+rule_of_role Notary k = 27
+rule_of_role Bank kind.Party = 17
+rule_of_role Bank kind.Unit = 15
+rule_of_role Bank kind.Parcel = 27
+rule_of_role Bank kind.Rrr = 16
+rule_of_role Bank kind.Source = 26
+rule_of_role CertifiedSurveyor kind.Party = 24
+rule_of_role CertifiedSurveyor kind.Unit = 23
+rule_of_role CertifiedSurveyor kind.Parcel = 27
+rule_of_role CertifiedSurveyor kind.Rrr = 23
+rule_of_role CertifiedSurveyor kind.Source = 26
+rule_of_role StateAdministrator k = 27
+
+-- whether a caller looks for itself
+abbrev pub is_itself : Caller → Kind → ℕ → Bool
+is_itself caller kind.Party number = nat_eq number caller.party
+is_itself caller kind.Unit number = false
+is_itself caller kind.Parcel number = false
+is_itself caller kind.Rrr number = false
+is_itself caller kind.Source number = false
+
+-- what is in sight is shown. Of what is not, the number of the denial depends on role, kind and caller alone: it is the rule of
+-- the role for the kind, with the exception of a caller that looks for itself where it does not stand, which is told rule 27
+abbrev pub told_by_sight : (sight : Bool) → Caller → Kind → ℕ → Verdict
+told_by_sight sight caller k number = if sight then Allowed else Denied (if is_itself caller k number then 27 else rule_of_role caller.role k)
+
+-- the denial of a view in a sound register tells nothing else of the register than that the object is out of sight
+abbrev pub DenialsTellSight : Type 0
+DenialsTellSight = (at : Register) → IsSound at → (caller : Caller) (k : Kind) (number : ℕ)
+    → first_denial (view_rules at caller k number) ≡ told_by_sight (sees at caller k number) caller k number

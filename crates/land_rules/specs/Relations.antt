@@ -1,0 +1,67 @@
+-- What a party is to the objects of a register.
+use Rattle.std.specs.Prelude.{ℕ, Bool, false, not, ◌&&◌, ◌||◌, nat_eq, is_some}
+use Rattle.std.specs.Option.{option_map_or}
+use Rattle.std.specs.FinMap as map
+use Rattle.land_core.specs.Entries.{some}
+use Rattle.land_core.specs.Register.{stands, is_member}
+use Rattle.land_core.specs.Units.{is_right_of, rank_of, type_of}
+use Rattle.land_core.specs.declared.kind.Kind.TheVariants as kind
+use Rattle.land_core.specs.declared.register.Register.{Register}
+use Rattle.land_core.specs.declared.rrr.Class.{Class}
+use Rattle.land_core.specs.declared.rrr.RightType.TheVariants.{Ownership}
+use Rattle.land_core.specs.declared.rrr.RrrRecord.{RrrRecord}
+
+-- whether an entry is a right, and whether it is a mortgage
+abbrev pub is_right : Class → Bool
+is_right class = is_some (type_of class)
+
+abbrev pub is_mortgage : Class → Bool
+is_mortgage class = is_some (rank_of class)
+
+-- whether a group is one of which the party is a member
+abbrev pub is_member_of : Register → (party group : ℕ) → Bool
+is_member_of at party group = is_member at group party
+
+-- whether a party holds what is held in a name: it is named itself, or is a member of the group that is named
+abbrev pub holds_as : Register → (party named : ℕ) → Bool
+holds_as at party named = nat_eq named party || is_member_of at party named
+
+-- whether an entry is a right in a unit that the party holds
+abbrev pub is_held_right : Register → (party unit : ℕ) → RrrRecord → Bool
+is_held_right at party unit e = nat_eq e.unit unit && is_right e.class && holds_as at party e.party
+
+-- whether an entry is an ownership of a unit that the party holds
+abbrev pub is_held_ownership : Register → (party unit : ℕ) → RrrRecord → Bool
+is_held_ownership at party unit e = nat_eq e.unit unit && is_right_of Ownership e.class && holds_as at party e.party
+
+-- whether an entry is a mortgage on a unit of which the party is the creditor
+abbrev pub is_credit : (party unit : ℕ) → RrrRecord → Bool
+is_credit party unit e = nat_eq e.unit unit && is_mortgage e.class && nat_eq e.party party
+
+-- a holder in a unit has one of its rights, itself or as a member of a group
+abbrev pub is_holder : Register → (party unit : ℕ) → Bool
+is_holder at party unit = stands at kind.Unit unit && some (λ n e. is_held_right at party unit e) at.rrrs
+
+-- an owner has one of its rights of ownership
+abbrev pub is_owner : Register → (party unit : ℕ) → Bool
+is_owner at party unit = stands at kind.Unit unit && some (λ n e. is_held_ownership at party unit e) at.rrrs
+
+-- a creditor on a unit has a mortgage on it
+abbrev pub is_creditor_on : Register → (party unit : ℕ) → Bool
+is_creditor_on at party unit = stands at kind.Unit unit && some (λ n e. is_credit party unit e) at.rrrs
+
+-- whether a party lodged what is still undecided about a unit: no act lodges anything yet
+abbrev pub is_lodger_on : Register → (party unit : ℕ) → Bool
+is_lodger_on at party unit = false
+
+-- whether an entry stands at a number and passes a test
+abbrev pub is_rrr_where : (RrrRecord → Bool) → Register → (number : ℕ) → Bool
+is_rrr_where passes at number = option_map_or passes (map.get at.rrrs number) false
+
+-- a holder in a unit is told its entries, and of its mortgages if it is an owner
+abbrev pub is_told_to_holder : Register → (party : ℕ) → RrrRecord → Bool
+is_told_to_holder at party e = is_holder at party e.unit && (not (is_mortgage e.class) || is_owner at party e.unit)
+
+-- a creditor is told of no mortgage of another
+abbrev pub is_told_to_creditor : (party : ℕ) → RrrRecord → Bool
+is_told_to_creditor party e = not (is_mortgage e.class) || nat_eq e.party party

@@ -1,0 +1,203 @@
+-- The policy, rule by rule. A rule is a number and whether it denies; rules are read in rising order.
+use Rattle.std.specs.Prelude.{ℕ, Bool, true, false, not, ◌&&◌, ◌||◌, List, [], ◌∷◌, ◌++◌, nat_eq, nat_lt, if◌then◌else◌}
+use Rattle.std.specs.List.{list_any, list_all}
+use Rattle.land_core.specs.Entries.{some, numbers_where}
+use Rattle.land_core.specs.Register.{stands, holds}
+use Rattle.land_core.specs.Role.{is_role}
+use Rattle.land_core.specs.declared.caller.Caller.{Caller}
+use Rattle.land_core.specs.declared.kind.Kind.{Kind}
+use Rattle.land_core.specs.declared.kind.Kind.TheVariants as kind
+use Rattle.land_core.specs.declared.role.Role.TheVariants.{Citizen, Conveyancer, Notary, Bank, CertifiedSurveyor, StateAdministrator}
+use Rattle.land_core.specs.declared.act.Act.{Act}
+use Rattle.land_core.specs.declared.act.Act.TheVariants as act
+use Rattle.land_core.specs.declared.ask.Ask.{Ask}
+use Rattle.land_core.specs.declared.ask.Ask.TheVariants as ask
+use Rattle.land_core.specs.declared.register.Register.{Register}
+use Rattle.land_core.specs.declared.rrr.RrrRecord.{RrrRecord}
+use Rattle.land_rules.specs.Relations.{is_creditor_on, is_holder, is_lodger_on, is_member_of, is_rrr_where, is_told_to_creditor, is_told_to_holder}
+use Rattle.land_rules.specs.declared.verdict.Verdict.{Verdict}
+use Rattle.land_rules.specs.declared.verdict.Verdict.TheVariants.{Allowed, Denied}
+
+abbrev pub Rules : Type 0
+Rules = List (ℕ × Bool)
+
+-- the first rule that denies
+abbrev pub first_denial : Rules → Verdict
+first_denial [] = Allowed
+first_denial (rule ∷ rules) = if rule.1 then Denied rule.0 else first_denial rules
+
+abbrev pub is_allowed : Verdict → Bool
+is_allowed Allowed = true
+is_allowed (Denied k) = false
+
+-- ---- standing rules: who may ask, read in the register now
+
+-- roles that are told of the present alone
+abbrev pub is_of_the_present : Caller → Bool
+is_of_the_present caller = is_role caller.role Bank || is_role caller.role Conveyancer || is_role caller.role CertifiedSurveyor
+
+abbrev pub caller_rules : (now : Register) → Caller → (past : Bool) → Rules
+caller_rules now caller past =
+    -- the caller is no party of the register now
+    (1, not (stands now kind.Party caller.party))
+    -- the caller does not hold the role that it names now
+    ∷ (2, not (holds now caller.party caller.role))
+    -- a past moment is asked for in role bank, conveyancer or certified surveyor
+    ∷ (3, past && is_of_the_present caller)
+    ∷ []
+
+-- acts of the office: to enrol, to group and regroup, to grant and revoke roles, to register and burden units, to lift burdens
+abbrev pub is_office_act : Act → Bool
+is_office_act (act.Enrol it) = true
+is_office_act (act.Group it) = true
+is_office_act (act.Regroup it) = true
+is_office_act (act.Grant it) = true
+is_office_act (act.Revoke it) = true
+is_office_act (act.Register it) = true
+is_office_act (act.Burden it) = true
+is_office_act (act.Lift it) = true
+
+abbrev pub act_rules : (now : Register) → Caller → Act → Rules
+act_rules now caller a =
+    -- an act of the office is asked for in another role than state administrator
+    (4, is_office_act a && not (is_role caller.role StateAdministrator))
+    ∷ []
+
+abbrev pub standing_rules : (now : Register) → Caller → Ask → (past : Bool) → Rules
+standing_rules now caller (ask.View k number at) past = caller_rules now caller past
+standing_rules now caller (ask.List k at) past = caller_rules now caller past
+standing_rules now caller (ask.Sheet unit at) past = caller_rules now caller past
+standing_rules now caller (ask.Do it) past = caller_rules now caller past ++ act_rules now caller it
+
+-- ---- sight rules: what may be seen, read in the register at the asked moment
+
+abbrev pub unit_rules : (at : Register) → Caller → (number : ℕ) → Rules
+unit_rules at caller number =
+    -- a citizen sees the units in which it is a holder
+    (11, is_role caller.role Citizen && not (is_holder at caller.party number))
+    -- a bank sees the units on which it is a creditor
+    ∷ (15, is_role caller.role Bank && not (is_creditor_on at caller.party number))
+    -- a conveyancer sees the units about which it lodged what is still undecided
+    ∷ (19, is_role caller.role Conveyancer && not (is_lodger_on at caller.party number))
+    -- a certified surveyor sees no unit
+    ∷ (23, is_role caller.role CertifiedSurveyor)
+    -- nobody sees what does not stand
+    ∷ (27, not (stands at kind.Unit number))
+    ∷ []
+
+abbrev pub is_unit_in_sight : (at : Register) → Caller → (number : ℕ) → Bool
+is_unit_in_sight at caller number = is_allowed (first_denial (unit_rules at caller number))
+
+-- a bank is told the entries of a unit in its sight, but no mortgage of another
+abbrev pub is_told_to_bank : (at : Register) → Caller → RrrRecord → Bool
+is_told_to_bank at caller e = is_unit_in_sight at caller e.unit && is_told_to_creditor caller.party e
+
+-- a conveyancer is told the entries of a unit in its sight
+abbrev pub is_told_to_conveyancer : (at : Register) → Caller → RrrRecord → Bool
+is_told_to_conveyancer at caller e = is_unit_in_sight at caller e.unit
+
+abbrev pub rrr_rules : (at : Register) → Caller → (number : ℕ) → Rules
+rrr_rules at caller number =
+    -- a citizen sees the entries of a unit in which it is a holder, and its mortgages if it is an owner
+    (12, is_role caller.role Citizen && not (is_rrr_where (is_told_to_holder at caller.party) at number))
+    -- a bank sees the entries of a unit in its sight, but no mortgage of another creditor
+    ∷ (16, is_role caller.role Bank && not (is_rrr_where (is_told_to_bank at caller) at number))
+    -- a conveyancer sees the entries of a unit in its sight
+    ∷ (20, is_role caller.role Conveyancer && not (is_rrr_where (is_told_to_conveyancer at caller) at number))
+    -- a certified surveyor sees no entry
+    ∷ (23, is_role caller.role CertifiedSurveyor)
+    -- nobody sees what does not stand
+    ∷ (27, not (stands at kind.Rrr number))
+    ∷ []
+
+abbrev pub is_rrr_in_sight : (at : Register) → Caller → (number : ℕ) → Bool
+is_rrr_in_sight at caller number = is_allowed (first_denial (rrr_rules at caller number))
+
+-- whether a party is that of an entry in the caller's sight
+abbrev pub is_party_in_sight : (at : Register) → Caller → (party : ℕ) → Bool
+is_party_in_sight at caller party = some (λ n e. nat_eq e.party party && is_rrr_in_sight at caller n) at.rrrs
+
+abbrev pub party_rules : (at : Register) → Caller → (number : ℕ) → Rules
+party_rules at caller number =
+    let itself = nat_eq number caller.party in
+    let in_sight = is_party_in_sight at caller number in
+    -- a citizen sees itself, its groups, and the parties of what is in its sight
+    (13, is_role caller.role Citizen && not (itself || is_member_of at caller.party number || in_sight))
+    -- a bank sees itself and the parties of what is in its sight
+    ∷ (17, is_role caller.role Bank && not (itself || in_sight))
+    -- a conveyancer sees itself and the parties of what is in its sight
+    ∷ (21, is_role caller.role Conveyancer && not (itself || in_sight))
+    -- a certified surveyor sees itself
+    ∷ (24, is_role caller.role CertifiedSurveyor && not itself)
+    -- nobody sees what does not stand
+    ∷ (27, not (stands at kind.Party number))
+    ∷ []
+
+abbrev pub parcel_rules : (at : Register) → (number : ℕ) → Rules
+parcel_rules at number =
+    -- all see the parcels that stand
+    (27, not (stands at kind.Parcel number))
+    ∷ []
+
+-- roles that see sources
+abbrev pub is_told_sources : Caller → Bool
+is_told_sources caller = is_role caller.role Notary || is_role caller.role StateAdministrator
+
+abbrev pub source_rules : (at : Register) → Caller → (number : ℕ) → Rules
+source_rules at caller number =
+    -- notaries and state administrators see the sources
+    (26, not (is_told_sources caller))
+    -- nobody sees what does not stand
+    ∷ (27, not (stands at kind.Source number))
+    ∷ []
+
+abbrev pub view_rules : (at : Register) → Caller → Kind → (number : ℕ) → Rules
+view_rules at caller kind.Party number = party_rules at caller number
+view_rules at caller kind.Unit number = unit_rules at caller number
+view_rules at caller kind.Parcel number = parcel_rules at number
+view_rules at caller kind.Rrr number = rrr_rules at caller number
+view_rules at caller kind.Source number = source_rules at caller number
+
+-- a sheet is judged as the view of its unit; a list is denied by standing rules alone, and so is an act
+abbrev pub sight_rules : (at : Register) → Caller → Ask → Rules
+sight_rules at caller (ask.View k number moment) = view_rules at caller k number
+sight_rules at caller (ask.List k moment) = []
+sight_rules at caller (ask.Sheet unit moment) = view_rules at caller kind.Unit unit
+sight_rules at caller (ask.Do it) = []
+
+-- ---- the verdict
+
+-- all rules on what is asked
+abbrev pub rules_on : (now at : Register) → Caller → Ask → (past : Bool) → Rules
+rules_on now at caller a past = standing_rules now caller a past ++ sight_rules at caller a
+
+abbrev pub verdict_of : (now at : Register) → Caller → Ask → (past : Bool) → Verdict
+verdict_of now at caller a past = first_denial (rules_on now at caller a past)
+
+-- whether a rule of these denies
+abbrev pub denies : ℕ → Rules → Bool
+denies k rules = list_any (λ rule. nat_eq rule.0 k && rule.1) rules
+
+-- whether the numbers of rules rise, from above a number on
+abbrev pub rise_above : ℕ → Rules → Bool
+rise_above low [] = true
+rise_above low (rule ∷ rules) = nat_lt low rule.0 && rise_above rule.0 rules
+
+-- ---- what is seen
+
+-- whether no rule denies a view
+abbrev pub sees : (at : Register) → Caller → Kind → (number : ℕ) → Bool
+sees at caller k number = is_allowed (first_denial (view_rules at caller k number))
+
+-- whether each number of a list is below all that follow it
+abbrev pub ascends : List ℕ → Bool
+ascends [] = true
+ascends (n ∷ ns) = list_all (nat_lt n) ns && ascends ns
+
+-- the numbers of a kind that the caller sees, ascending, each once
+abbrev pub seen_of : (at : Register) → Caller → Kind → List ℕ
+seen_of at caller kind.Party = numbers_where (λ n x. sees at caller kind.Party n) at.parties
+seen_of at caller kind.Unit = numbers_where (λ n x. sees at caller kind.Unit n) at.units
+seen_of at caller kind.Parcel = numbers_where (λ n x. sees at caller kind.Parcel n) at.parcels
+seen_of at caller kind.Rrr = numbers_where (λ n x. sees at caller kind.Rrr n) at.rrrs
+seen_of at caller kind.Source = numbers_where (λ n x. sees at caller kind.Source n) at.sources

@@ -1,0 +1,95 @@
+-- Laws for a reader of the policy: what holdings, ended entries and mortgages give to see.
+use Rattle.std.specs.Prelude.{◌≡◌, ◌≢◌, ℕ, ◌↔◌, Bool, true, false, ◌&&◌, Option, Some, ℤ}
+use Rattle.std.specs.FinMap as map
+use Rattle.land_core.specs.Register.{stands, holds, is_member}
+use Rattle.land_core.specs.Units.{is_right_of}
+use Rattle.land_core.specs.declared.ask.Ask.TheVariants as ask
+use Rattle.land_core.specs.declared.caller.Caller.{Caller}
+use Rattle.land_core.specs.declared.kind.Kind.{Kind}
+use Rattle.land_core.specs.declared.kind.Kind.TheVariants as kind
+use Rattle.land_core.specs.declared.register.Register.{Register}
+use Rattle.land_core.specs.declared.role.Role.TheVariants.{Citizen, Bank}
+use Rattle.land_core.specs.declared.rrr.Class.{Class}
+use Rattle.land_core.specs.declared.rrr.RightType.TheVariants.{Ownership}
+use Rattle.land_core.specs.declared.rrr.RrrRecord.{RrrRecord}
+use Rattle.land_rules.specs.Laws.{citizen}
+use Rattle.land_rules.specs.Relations.{is_holder, is_mortgage, is_owner, is_right}
+use Rattle.land_rules.specs.Rules.{sees, verdict_of}
+use Rattle.land_rules.specs.declared.verdict.Verdict.{Verdict}
+use Rattle.land_rules.specs.declared.verdict.Verdict.TheVariants.{Allowed, Denied}
+
+-- whether a party may ask in the role of a citizen
+abbrev pub is_citizen : (now : Register) → (party : ℕ) → Bool
+is_citizen now party = stands now kind.Party party && holds now party Citizen
+
+-- what a citizen is told when it views an object
+abbrev pub citizen_told : (now at : Register) → (party : ℕ) → Kind → (number : ℕ) → Option ℤ → (past : Bool) → Verdict
+citizen_told now at party k number moment past = verdict_of now at (citizen party) (ask.View k number moment) past
+
+-- an entry stands at a number, and it is one of a unit
+pub record IsEntryOf (at : Register) (unit number : ℕ) (e : RrrRecord) : Type 0 where
+  pub there : map.get at.rrrs number ≡ Some e
+  pub of_unit : e.unit ≡ unit
+
+-- an entry of some classes stands in a unit in the name of a party
+pub record HasEntry (is_of : Class → Bool) (at : Register) (named unit : ℕ) : Type 0 where
+  pub number : ℕ
+  pub entry : RrrRecord
+  pub stands : IsEntryOf at unit number entry
+  pub class : is_of entry.class ≡ true
+  pub name : entry.party ≡ named
+
+-- a name is that of another party, and of no group of which the party is a member
+pub record IsOfOthers (at : Register) (party named : ℕ) : Type 0 where
+  pub other : named ≢ party
+  pub outside : is_member at named party ≡ false
+
+-- all entries of some classes in a unit are those of others
+abbrev pub HoldsNone : (is_of : Class → Bool) → Register → (party unit : ℕ) → Type 0
+HoldsNone is_of at party unit = (number : ℕ) (e : RrrRecord) → IsEntryOf at unit number e → is_of e.class ≡ true → IsOfOthers at party e.party
+
+-- a holder is shown the unit, and all its entries that are no mortgages
+pub record IsToldAsHolder (now at : Register) (party unit : ℕ) (moment : Option ℤ) (past : Bool) : Type 0 where
+  pub holder : is_holder at party unit ≡ true
+  pub unit_shown : citizen_told now at party kind.Unit unit moment past ≡ Allowed
+  pub entries_shown : (number : ℕ) (e : RrrRecord) → IsEntryOf at unit number e → is_mortgage e.class ≡ false → citizen_told now at party kind.Rrr number moment past ≡ Allowed
+
+-- who holds through a group holds: where a group has a right in a unit at the asked moment, its members then are holders
+abbrev pub MembersHold : Type 0
+MembersHold = (now at : Register) (party group unit : ℕ) (moment : Option ℤ) (past : Bool) → is_citizen now party ≡ true
+    → is_member at group party ≡ true → stands at kind.Unit unit ≡ true → HasEntry is_right at group unit → IsToldAsHolder now at party unit moment past
+
+-- an ended entry gives no sight: where a citizen has no right in a unit at the asked moment, rule 11 denies the unit, whatever
+-- the register now says of it
+abbrev pub EndedEntriesGiveNoSight : Type 0
+EndedEntriesGiveNoSight = (now at : Register) (party unit : ℕ) (moment : Option ℤ) (past : Bool) → is_citizen now party ≡ true
+    → HoldsNone is_right at party unit → citizen_told now at party kind.Unit unit moment past ≡ Denied 11
+
+-- what a citizen is told of a mortgage on a unit: an owner sees it, and rule 12 denies it to a party without an ownership there,
+-- a lessee among them
+pub record MortgageIsTold (now at : Register) (party unit number : ℕ) (moment : Option ℤ) (past : Bool) : Type 0 where
+  pub owner : is_owner at party unit ≡ true → citizen_told now at party kind.Rrr number moment past ≡ Allowed
+  pub other : HoldsNone (is_right_of Ownership) at party unit → citizen_told now at party kind.Rrr number moment past ≡ Denied 12
+
+abbrev pub OwnersAloneSeeMortgages : Type 0
+OwnersAloneSeeMortgages = (now at : Register) (party unit number : ℕ) (e : RrrRecord) (moment : Option ℤ) (past : Bool) → is_citizen now party ≡ true
+    → IsEntryOf at unit number e → is_mortgage e.class ≡ true → MortgageIsTold now at party unit number moment past
+
+-- a party in the role of a bank
+abbrev pub bank : ℕ → Caller
+bank party = record { party = party; role = Bank }
+
+-- an entry stands in a unit that the bank sees, and is no mortgage of another
+pub record IsOpenToBank (at : Register) (party number : ℕ) : Type 0 where
+  pub entry : RrrRecord
+  pub there : map.get at.rrrs number ≡ Some entry
+  pub in_sight : sees at (bank party) kind.Unit entry.unit ≡ true
+  pub own : is_mortgage entry.class ≡ true → entry.party ≡ party
+
+-- a bank sees the units that stand and on which it has a mortgage, their entries without the mortgages of others, and no more
+pub record BankSees (at : Register) (party : ℕ) : Type 0 where
+  pub units : (unit : ℕ) → (sees at (bank party) kind.Unit unit ≡ true) ↔ ((stands at kind.Unit unit ≡ true) × HasEntry is_mortgage at party unit)
+  pub entries : (number : ℕ) → (sees at (bank party) kind.Rrr number ≡ true) ↔ IsOpenToBank at party number
+
+abbrev pub BanksSeeByTheirMortgages : Type 0
+BanksSeeByTheirMortgages = (at : Register) (party : ℕ) → BankSees at party

@@ -1,0 +1,50 @@
+//! Laws, each stated over the definitions alone.
+ghost use Rattle.land_rules.specs.Laws.{RulesRise, VerdictsAreLeast, SeenIsExactly, MembersSeeGroups, DenialsTellSight};
+ghost use Rattle.land_rules.specs.SightLaws.{MembersHold, EndedEntriesGiveNoSight, OwnersAloneSeeMortgages, BanksSeeByTheirMortgages};
+
+/// The rules on every ask stand in rising order.
+pub fn rules_rise()
+    ensures { RulesRise }
+{}
+
+/// A verdict names the least rule that denies, and allows exactly where none does.
+pub fn verdicts_are_least()
+    ensures { VerdictsAreLeast }
+{}
+
+/// What is seen ascends, and a number is among it exactly where no rule denies its view.
+pub fn seen_is_exact()
+    ensures { SeenIsExactly }
+{}
+
+/// A group is shown to the citizens that are its members at the asked moment, whatever they are now.
+pub fn members_see_their_groups()
+    ensures { MembersSeeGroups }
+{}
+
+/// Who holds through a group holds: the members that a group has at the asked moment see the units in which it has a
+/// right then, and their entries that are no mortgages.
+pub fn members_hold()
+    ensures { MembersHold }
+{}
+
+/// An ended entry gives no sight: rule 11 denies a citizen the units in which it has no right at the asked moment.
+pub fn ended_entries_give_no_sight()
+    ensures { EndedEntriesGiveNoSight }
+{}
+
+/// A citizen sees the mortgages of the units that it owns; a lessee, or anyone else, is denied them by rule 12.
+pub fn owners_alone_see_mortgages()
+    ensures { OwnersAloneSeeMortgages }
+{}
+
+/// A bank sees the units of its own mortgages and their entries, but no mortgage of another.
+pub fn banks_see_by_their_mortgages()
+    ensures { BanksSeeByTheirMortgages }
+{}
+
+/// In a sound register what is in sight is shown. The denial of what is not tells by its number the caller's role and the
+/// kind alone, but for a caller that does not stand and looks for itself.
+pub fn denials_tell_sight()
+    ensures { DenialsTellSight }
+{}

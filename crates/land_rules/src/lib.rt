@@ -1,0 +1,7 @@
+//! The policy: who may see and do what, rule by rule.
+#![tactic(auto)]
+
+pub mod laws;
+mod relations;
+pub mod rules;
+pub mod verdict;

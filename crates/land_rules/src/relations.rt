@@ -1,0 +1,119 @@
+//! What a party is to the objects of a register.
+ghost use Rattle.std.specs.Prelude.{◌≡◌};
+ghost use Rattle.land_core.specs.Entries.{some};
+ghost use Rattle.land_rules.specs.Relations.{holds_as, is_credit, is_creditor_on, is_held_ownership, is_held_right, is_holder, is_lodger_on, is_member_of, is_mortgage, is_owner, is_right, is_told_to_creditor, is_told_to_holder};
+
+use land_core::kind::Kind;
+use land_core::register::Register;
+use land_core::rrr::{Class, RightType, RrrRecord};
+
+fn is_right(class: &Class) -> bool
+    ensures { result ≡ is_right class.now }
+{
+    class.right_type().is_some()
+}
+
+pub(crate) fn is_mortgage(class: &Class) -> bool
+    ensures { result ≡ is_mortgage class.now }
+{
+    class.rank().is_some()
+}
+
+/// Whether a group is one of which the party is a member.
+pub(crate) fn is_member_of(at: &Register, party: u64, group: u64) -> bool
+    ensures { result ≡ is_member_of at.now party group }
+{
+    at.is_member(group, party)
+}
+
+/// Whether a party holds what is held in a name: it is named itself, or is a member of the group that is named.
+fn holds_as(at: &Register, party: u64, named: u64) -> bool
+    ensures { result ≡ holds_as at.now party named }
+{
+    named == party || is_member_of(at, party, named)
+}
+
+pub(crate) fn is_held_right(at: &Register, party: u64, unit: u64, entry: &RrrRecord) -> bool
+    ensures { result ≡ is_held_right at.now party unit entry.now }
+{
+    entry.unit == unit && is_right(&entry.class) && holds_as(at, party, entry.party)
+}
+
+pub(crate) fn is_held_ownership(at: &Register, party: u64, unit: u64, entry: &RrrRecord) -> bool
+    ensures { result ≡ is_held_ownership at.now party unit entry.now }
+{
+    entry.is_right_in(unit, RightType::Ownership) && holds_as(at, party, entry.party)
+}
+
+pub(crate) fn is_credit(party: u64, unit: u64, entry: &RrrRecord) -> bool
+    ensures { result ≡ is_credit party unit entry.now }
+{
+    entry.unit == unit && is_mortgage(&entry.class) && entry.party == party
+}
+
+fn has_held_right(at: &Register, party: u64, unit: u64) -> bool
+    ensures { result ≡ some (λ n e. is_held_right at.now party unit e) at.now.rrrs }
+{
+    at.rrrs
+        .iter()
+        .any(|(_, entry)| is_held_right(at, party, unit, entry))
+}
+
+fn has_held_ownership(at: &Register, party: u64, unit: u64) -> bool
+    ensures { result ≡ some (λ n e. is_held_ownership at.now party unit e) at.now.rrrs }
+{
+    at.rrrs
+        .iter()
+        .any(|(_, entry)| is_held_ownership(at, party, unit, entry))
+}
+
+fn has_credit(at: &Register, party: u64, unit: u64) -> bool
+    ensures { result ≡ some (λ n e. is_credit party unit e) at.now.rrrs }
+{
+    at.rrrs
+        .iter()
+        .any(|(_, entry)| is_credit(party, unit, entry))
+}
+
+/// Whether a party has one of the rights in a unit, itself or as a member of a group.
+pub(crate) fn is_holder(at: &Register, party: u64, unit: u64) -> bool
+    ensures { result ≡ is_holder at.now party unit }
+{
+    at.stands(Kind::Unit, unit) && has_held_right(at, party, unit)
+}
+
+/// Whether a party owns a unit or a share of it, itself or as a member of a group.
+fn is_owner(at: &Register, party: u64, unit: u64) -> bool
+    ensures { result ≡ is_owner at.now party unit }
+{
+    at.stands(Kind::Unit, unit) && has_held_ownership(at, party, unit)
+}
+
+/// Whether a party is the creditor of a mortgage on a unit.
+pub(crate) fn is_creditor_on(at: &Register, party: u64, unit: u64) -> bool
+    ensures { result ≡ is_creditor_on at.now party unit }
+{
+    at.stands(Kind::Unit, unit) && has_credit(at, party, unit)
+}
+
+/// Whether a party lodged what is still undecided about a unit. No act lodges anything yet.
+pub(crate) fn is_lodger_on(at: &Register, party: u64, unit: u64) -> bool
+    ensures { result ≡ is_lodger_on at.now party unit }
+{
+    false
+}
+
+/// Whether a party may be told an entry as a holder in its unit: a mortgage, only if it is an owner.
+pub(crate) fn is_told_to_holder(at: &Register, party: u64, entry: &RrrRecord) -> bool
+    ensures { result ≡ is_told_to_holder at.now party entry.now }
+{
+    is_holder(at, party, entry.unit)
+        && (!is_mortgage(&entry.class) || is_owner(at, party, entry.unit))
+}
+
+/// Whether a party may be told an entry as a creditor: no mortgage of another.
+pub(crate) fn is_told_to_creditor(party: u64, entry: &RrrRecord) -> bool
+    ensures { result ≡ is_told_to_creditor party entry.now }
+{
+    !is_mortgage(&entry.class) || entry.party == party
+}

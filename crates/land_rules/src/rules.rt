@@ -1,0 +1,85 @@
+//! The verdict on an ask, rule by rule, and what a caller sees.
+ghost use Rattle.std.specs.Prelude.{◌≡◌, IfOk};
+ghost use Rattle.land_core.specs.Entries.{numbers_where};
+ghost use Rattle.land_rules.specs.Rules.{verdict_of, first_denial, sight_rules, sees, seen_of};
+
+mod holdings;
+mod lists;
+mod sight;
+mod standing;
+
+use crate::verdict::Verdict;
+use land_core::ask::Ask;
+use land_core::caller::Caller;
+use land_core::kind::Kind;
+use land_core::records::Records;
+use land_core::register::Register;
+use land_core::sequence::{NumberList, Sequence};
+use std::alloc::{AllocError, Global};
+
+/// What the policy says of an ask: the least rule that denies it, or that it is allowed. Standing rules read the
+/// register now, sight rules the register at the asked moment; `past` says that this moment is before now.
+pub fn verdict(now: &Register, at: &Register, caller: Caller, ask: &Ask, past: bool) -> Verdict
+    ensures { result ≡ verdict_of now.now at.now caller ask.now past }
+{
+    match standing::verdict(now, caller, ask, past) {
+        Verdict::Allowed => sight_verdict(at, caller, ask),
+        denied => denied,
+    }
+}
+
+fn sight_verdict(at: &Register, caller: Caller, ask: &Ask) -> Verdict
+    ensures { result ≡ first_denial (sight_rules at.now caller ask.now) }
+{
+    match ask {
+        Ask::View { kind, number, .. } => sight::verdict(at, caller, *kind, *number),
+        Ask::Sheet { unit, .. } => sight::verdict(at, caller, Kind::Unit, *unit),
+        Ask::List { .. } | Ask::Do(_) => Verdict::Allowed,
+    }
+}
+
+/// The numbers of a kind that the caller sees in a register, ascending. What the caller holds is collected once, in passes
+/// over the entries, and then each object is asked for by look-ups.
+pub fn seen(
+    alloc: Global,
+    at: &Register,
+    caller: Caller,
+    kind: Kind,
+) -> Result<NumberList, AllocError>
+    ensures { IfOk result (λ it. it ≡ seen_of at.now caller kind) }
+{
+    match kind {
+        Kind::Party => lists::parties(alloc, at, caller),
+        Kind::Unit => lists::units(alloc, at, caller),
+        Kind::Parcel => seen_among(alloc, &at.parcels, at, caller, kind),
+        Kind::Rrr => lists::entries(alloc, at, caller),
+        Kind::Source => seen_among(alloc, &at.sources, at, caller, kind),
+    }
+}
+
+/// The numbers among those of records of a kind that the caller sees, ascending: for kinds and roles whose sight takes no
+/// search of the entries.
+fn seen_among<V>(
+    alloc: Global,
+    records: &Records<V>,
+    at: &Register,
+    caller: Caller,
+    kind: Kind,
+) -> Result<NumberList, AllocError>
+    ensures { IfOk result (λ it. it ≡ numbers_where (λ n x. sees at.now caller kind n) records.now) }
+{
+    let mut seen = Sequence::new(alloc);
+    for (number, _) in records.iter() {
+        if sees(at, caller, kind, *number) {
+            seen.push(*number)?;
+        }
+    }
+    Ok(seen)
+}
+
+/// Whether no sight rule denies the view of an object.
+pub fn sees(at: &Register, caller: Caller, kind: Kind, number: u64) -> bool
+    ensures { result ≡ sees at.now caller kind number }
+{
+    sight::verdict(at, caller, kind, number).is_allowed()
+}

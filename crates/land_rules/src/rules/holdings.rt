@@ -1,0 +1,85 @@
+//! What a caller holds in a register. A list collects it once, in passes over the entries, and then asks for each object.
+ghost use Rattle.std.specs.Prelude.{◌≡◌, IfOk};
+ghost use Rattle.land_rules.specs.Holdings.{AreHoldings, AreTied, is_tied};
+
+use crate::relations::{is_credit, is_held_ownership, is_held_right};
+use land_core::caller::Caller;
+use land_core::kind::Kind;
+use land_core::register::Register;
+use land_core::role::Role;
+use land_core::rrr::RrrRecord;
+use std::alloc::{AllocError, Global};
+use std::collections::BTreeSet;
+
+/// What ties a party to a unit.
+#[derive(Clone, Copy)]
+enum Tie {
+    /// A right that it holds.
+    Holder,
+    /// An ownership that it holds.
+    Owner,
+    /// A mortgage of which it is the creditor.
+    Creditor,
+}
+
+/// The units to which a caller is tied, as far as the sight of its role depends on them.
+#[derive(Drop)]
+pub(crate) struct Holdings {
+    /// A citizen's: the units in which it is a holder.
+    pub(crate) held: BTreeSet<u64>,
+    /// A citizen's: the units in which it is an owner.
+    pub(crate) owned: BTreeSet<u64>,
+    /// A bank's: the units on which it is a creditor.
+    pub(crate) credited: BTreeSet<u64>,
+}
+
+impl Holdings {
+    /// The holdings of a caller.
+    pub(crate) fn of(alloc: Global, at: &Register, caller: Caller) -> Result<Holdings, AllocError>
+        ensures { IfOk result (λ it. AreHoldings at.now caller it) }
+    {
+        let mut holdings = Holdings {
+            held: BTreeSet::new(alloc),
+            owned: BTreeSet::new(alloc),
+            credited: BTreeSet::new(alloc),
+        };
+        if caller.role == Role::Citizen {
+            holdings.held = tied_units(alloc, at, caller.party, Tie::Holder)?;
+            holdings.owned = tied_units(alloc, at, caller.party, Tie::Owner)?;
+        }
+        if caller.role == Role::Bank {
+            holdings.credited = tied_units(alloc, at, caller.party, Tie::Creditor)?;
+        }
+        Ok(holdings)
+    }
+}
+
+/// The units that stand and to which entries tie a party.
+fn tied_units(
+    alloc: Global,
+    at: &Register,
+    party: u64,
+    tie: Tie,
+) -> Result<BTreeSet<u64>, AllocError>
+    ensures { IfOk result (λ it. AreTied tie at.now party it) }
+{
+    let mut units = BTreeSet::new(alloc);
+    for (_, entry) in at.rrrs.iter() {
+        if is_tied(at, party, tie, entry) {
+            units.insert(entry.unit)?;
+        }
+    }
+    Ok(units)
+}
+
+/// Whether an entry ties a party to its unit, which stands.
+fn is_tied(at: &Register, party: u64, tie: Tie, entry: &RrrRecord) -> bool
+    ensures { result ≡ is_tied tie at.now party entry.now.unit entry.now }
+{
+    at.stands(Kind::Unit, entry.unit)
+        && match tie {
+            Tie::Holder => is_held_right(at, party, entry.unit, entry),
+            Tie::Owner => is_held_ownership(at, party, entry.unit, entry),
+            Tie::Creditor => is_credit(party, entry.unit, entry),
+        }
+}

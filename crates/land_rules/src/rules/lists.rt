@@ -1,0 +1,168 @@
+//! What a caller sees of units, entries and parties. What its sight of them depends on is collected once, then each
+//! object is asked for by look-ups.
+ghost use Rattle.std.specs.Prelude.{◌≡◌, IfOk, true};
+ghost use Rattle.land_core.specs.declared.kind.Kind.TheVariants as kind;
+ghost use Rattle.land_rules.specs.Holdings.{AreHoldings, AreMet, meets_parties};
+ghost use Rattle.land_rules.specs.Rules.{sees, seen_of};
+
+use crate::relations::{is_member_of, is_mortgage, is_told_to_creditor};
+use crate::rules::holdings::Holdings;
+use crate::rules::{seen_among, sees};
+use land_core::caller::Caller;
+use land_core::kind::Kind;
+use land_core::register::Register;
+use land_core::role::Role;
+use land_core::sequence::{NumberList, Sequence};
+use std::alloc::{AllocError, Global};
+use std::collections::BTreeSet;
+
+/// The units that a caller sees, ascending.
+pub(crate) fn units(alloc: Global, at: &Register, caller: Caller) -> Result<NumberList, AllocError>
+    ensures { IfOk result (λ it. it ≡ seen_of at.now caller kind.Unit) }
+{
+    let holdings = Holdings::of(alloc, at, caller)?;
+    let mut seen = Sequence::new(alloc);
+    for (number, _) in at.units.iter() {
+        if sees_unit(at, caller, &holdings, *number) {
+            seen.push(*number)?;
+        }
+    }
+    Ok(seen)
+}
+
+/// The entries that a caller sees, ascending.
+pub(crate) fn entries(
+    alloc: Global,
+    at: &Register,
+    caller: Caller,
+) -> Result<NumberList, AllocError>
+    ensures { IfOk result (λ it. it ≡ seen_of at.now caller kind.Rrr) }
+{
+    let holdings = Holdings::of(alloc, at, caller)?;
+    let mut seen = Sequence::new(alloc);
+    for (number, _) in at.rrrs.iter() {
+        if sees_entry(at, caller, &holdings, *number) {
+            seen.push(*number)?;
+        }
+    }
+    Ok(seen)
+}
+
+/// The parties that a caller sees, ascending.
+pub(crate) fn parties(
+    alloc: Global,
+    at: &Register,
+    caller: Caller,
+) -> Result<NumberList, AllocError>
+    ensures { IfOk result (λ it. it ≡ seen_of at.now caller kind.Party) }
+{
+    if !meets_parties(caller) {
+        return seen_among(alloc, &at.parties, at, caller, Kind::Party);
+    }
+    let met = met_parties(alloc, at, caller)?;
+    parties_by(alloc, at, caller, &met)
+}
+
+/// Whether a role sees the parties of the entries in its sight.
+fn meets_parties(caller: Caller) -> bool
+    ensures { result ≡ meets_parties caller }
+{
+    caller.role == Role::Citizen || caller.role == Role::Bank || caller.role == Role::Conveyancer
+}
+
+/// The parties of the entries in the sight of a caller.
+fn met_parties(alloc: Global, at: &Register, caller: Caller) -> Result<BTreeSet<u64>, AllocError>
+    ensures { IfOk result (λ it. AreMet at.now caller it) }
+{
+    let holdings = Holdings::of(alloc, at, caller)?;
+    let mut met = BTreeSet::new(alloc);
+    for (number, entry) in at.rrrs.iter() {
+        if sees_entry(at, caller, &holdings, *number) {
+            met.insert(entry.party)?;
+        }
+    }
+    Ok(met)
+}
+
+/// The parties that a caller sees, which met these in the entries that it sees.
+fn parties_by(
+    alloc: Global,
+    at: &Register,
+    caller: Caller,
+    met: &BTreeSet<u64>,
+) -> Result<NumberList, AllocError>
+    requires met { AreMet at.now caller met.now }
+    requires role { meets_parties caller ≡ true }
+    ensures { IfOk result (λ it. it ≡ seen_of at.now caller kind.Party) }
+{
+    let mut seen = Sequence::new(alloc);
+    for (number, _) in at.parties.iter() {
+        if sees_party(at, caller, met, *number) {
+            seen.push(*number)?;
+        }
+    }
+    Ok(seen)
+}
+
+/// Whether a caller with these holdings sees a unit. The sight of other roles than citizen and bank takes no entries.
+fn sees_unit(at: &Register, caller: Caller, holdings: &Holdings, number: u64) -> bool
+    requires { AreHoldings at.now caller holdings.now }
+    ensures { result ≡ sees at.now caller kind.Unit number }
+{
+    match caller.role {
+        Role::Citizen => holdings.held.contains(&number),
+        Role::Bank => holdings.credited.contains(&number),
+        _ => sees(at, caller, Kind::Unit, number),
+    }
+}
+
+/// Whether a caller with these holdings sees an entry. The sight of other roles than citizen and bank takes no others.
+fn sees_entry(at: &Register, caller: Caller, holdings: &Holdings, number: u64) -> bool
+    requires { AreHoldings at.now caller holdings.now }
+    ensures { result ≡ sees at.now caller kind.Rrr number }
+{
+    match caller.role {
+        Role::Citizen => citizen_sees_entry(at, caller, holdings, number),
+        Role::Bank => bank_sees_entry(at, caller, holdings, number),
+        _ => sees(at, caller, Kind::Rrr, number),
+    }
+}
+
+fn citizen_sees_entry(at: &Register, caller: Caller, holdings: &Holdings, number: u64) -> bool
+    requires holdings { AreHoldings at.now caller holdings.now }
+    requires role { caller.role ≡ Role.Citizen }
+    ensures { result ≡ sees at.now caller kind.Rrr number }
+{
+    match at.rrrs.get(number) {
+        Some(entry) => {
+            holdings.held.contains(&entry.unit)
+                && (!is_mortgage(&entry.class) || holdings.owned.contains(&entry.unit))
+        }
+        None => false,
+    }
+}
+
+fn bank_sees_entry(at: &Register, caller: Caller, holdings: &Holdings, number: u64) -> bool
+    requires holdings { AreHoldings at.now caller holdings.now }
+    requires role { caller.role ≡ Role.Bank }
+    ensures { result ≡ sees at.now caller kind.Rrr number }
+{
+    match at.rrrs.get(number) {
+        Some(entry) => {
+            holdings.credited.contains(&entry.unit) && is_told_to_creditor(caller.party, entry)
+        }
+        None => false,
+    }
+}
+
+/// Whether a caller that met these parties in the entries that it sees sees a party.
+fn sees_party(at: &Register, caller: Caller, met: &BTreeSet<u64>, number: u64) -> bool
+    requires met { AreMet at.now caller met.now }
+    requires role { meets_parties caller ≡ true }
+    ensures { result ≡ sees at.now caller kind.Party number }
+{
+    at.stands(Kind::Party, number)
+        && (number == caller.party
+            || caller.role == Role::Citizen && is_member_of(at, caller.party, number)
+            || met.contains(&number))
+}

@@ -1,0 +1,27 @@
+//! Sight rules: what may be seen, by the register at the asked moment.
+ghost use Rattle.std.specs.Prelude.{◌≡◌};
+ghost use Rattle.land_rules.specs.Rules.{first_denial, view_rules};
+
+mod parcel;
+mod party;
+mod rrr;
+mod source;
+mod unit;
+
+use crate::verdict::Verdict;
+use land_core::caller::Caller;
+use land_core::kind::Kind;
+use land_core::register::Register;
+
+/// The least sight rule that denies a view.
+pub(crate) fn verdict(at: &Register, caller: Caller, kind: Kind, number: u64) -> Verdict
+    ensures { result ≡ first_denial (view_rules at.now caller kind number) }
+{
+    match kind {
+        Kind::Party => party::verdict(at, caller, number),
+        Kind::Unit => unit::verdict(at, caller, number),
+        Kind::Parcel => parcel::verdict(at, number),
+        Kind::Rrr => rrr::verdict(at, caller, number),
+        Kind::Source => source::verdict(at, caller, number),
+    }
+}

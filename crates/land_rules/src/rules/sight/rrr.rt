@@ -1,0 +1,62 @@
+//! The sight of entries.
+ghost use Rattle.std.specs.Prelude.{◌≡◌};
+ghost use Rattle.land_rules.specs.Relations.{is_rrr_where, is_told_to_holder};
+ghost use Rattle.land_rules.specs.Rules.{first_denial, is_rrr_in_sight, is_told_to_bank, is_told_to_conveyancer, rrr_rules};
+
+use super::unit;
+use crate::relations::{is_told_to_creditor, is_told_to_holder};
+use crate::verdict::Verdict;
+use land_core::caller::Caller;
+use land_core::kind::Kind;
+use land_core::register::Register;
+use land_core::role::Role;
+
+/// The least rule that denies the view of an entry.
+pub(crate) fn verdict(at: &Register, caller: Caller, number: u64) -> Verdict
+    ensures { result ≡ first_denial (rrr_rules at.now caller number) }
+{
+    if caller.role == Role::Citizen && !is_told_to_citizen(at, caller, number) {
+        Verdict::Denied(12)
+    } else if caller.role == Role::Bank && !is_told_to_bank(at, caller, number) {
+        Verdict::Denied(16)
+    } else if caller.role == Role::Conveyancer && !is_told_to_conveyancer(at, caller, number) {
+        Verdict::Denied(20)
+    } else if caller.role == Role::CertifiedSurveyor {
+        Verdict::Denied(23)
+    } else if !at.stands(Kind::Rrr, number) {
+        Verdict::Denied(27)
+    } else {
+        Verdict::Allowed
+    }
+}
+
+/// Whether no rule denies the view of an entry.
+pub(crate) fn is_in_sight(at: &Register, caller: Caller, number: u64) -> bool
+    ensures { result ≡ is_rrr_in_sight at.now caller number }
+{
+    verdict(at, caller, number).is_allowed()
+}
+
+fn is_told_to_citizen(at: &Register, caller: Caller, number: u64) -> bool
+    ensures { result ≡ is_rrr_where (is_told_to_holder at.now caller.party) at.now number }
+{
+    at.rrrs
+        .get(number)
+        .is_some_and(|entry| is_told_to_holder(at, caller.party, entry))
+}
+
+fn is_told_to_bank(at: &Register, caller: Caller, number: u64) -> bool
+    ensures { result ≡ is_rrr_where (is_told_to_bank at.now caller) at.now number }
+{
+    at.rrrs.get(number).is_some_and(|entry| {
+        unit::is_in_sight(at, caller, entry.unit) && is_told_to_creditor(caller.party, entry)
+    })
+}
+
+fn is_told_to_conveyancer(at: &Register, caller: Caller, number: u64) -> bool
+    ensures { result ≡ is_rrr_where (is_told_to_conveyancer at.now caller) at.now number }
+{
+    at.rrrs
+        .get(number)
+        .is_some_and(|entry| unit::is_in_sight(at, caller, entry.unit))
+}
