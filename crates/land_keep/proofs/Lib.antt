@@ -1,6 +1,5 @@
-pub mod GroupSight
+mod OpenKeepers
 pub mod Past
-pub mod Policy
 pub mod Steps
 pub mod Timelines
 pub mod TwoRegisters

@@ -1,11 +1,11 @@
--- A change leaves what stood before its stamp.
-use Rattle.std.proofs.Common.{◌≡◌, false, cond, [], ◌∷◌, ◌++◌, Option, Some, None, refl, ap, ◌∙◌, arith}
-use Rattle.std.specs.Prelude.{ℤ, ◌<ℤ◌, int_le, fold, unwrap_or, if◌then◌else◌}
+-- A change leaves what stood before its stamp, and stands from then on.
+use Rattle.std.proofs.Common.{◌≡◌, true, false, cond, [], ◌∷◌, ◌++◌, Option, Some, None, refl, ap, ◌∙◌, arith}
+use Rattle.std.specs.Prelude.{ℤ, ◌<ℤ◌, ◌≤ℤ◌, int_le, fold, unwrap_or, if◌then◌else◌}
 use Rattle.std.specs.Option.{option_map}
 use Rattle.std.proofs.lemmas.Int.{ints}
 use Rattle.land_core.specs.Changes.{after}
 use Rattle.land_core.specs.Register.{nothing}
-use Rattle.land_keep.specs.Laws.{PastStays}
+use Rattle.land_keep.specs.Laws.{PastStays, ChangeStands}
 use Rattle.land_keep.specs.Timeline.{Timeline, register_at, version_at, last_register}
 use Rattle.land_keep.specs.declared.timeline.Version.{Version}
 
@@ -25,3 +25,14 @@ before_stays tl w t less =
 
 pub past_stays : PastStays
 past_stays tl change stamp t less = before_stays tl (record { stamp = stamp; register = after change (last_register tl) }) t less
+
+not_after : (t stamp : ℤ) → stamp ≤ℤ t → int_le stamp t ≡ true
+not_after t stamp less = grind (arith, ints)
+
+from_stamp : (tl : Timeline) (w : Version) (t : ℤ) → w.stamp ≤ℤ t → register_at (tl ++ w ∷ []) t ≡ w.register
+from_stamp tl w t less =
+    ap (λ (o : Option Version). unwrap_or (option_map (λ (v : Version). v.register) o) nothing)
+    (found_last t None tl w ∙ ap (λ b. cond b (Some w) (version_at tl t)) (not_after t w.stamp less))
+
+pub change_stands : ChangeStands
+change_stands tl change stamp t less = from_stamp tl (record { stamp = stamp; register = after change (last_register tl) }) t less

@@ -1,24 +1,24 @@
 -- Runs go on by one step, and what is prepared leads to the machine's step.
-use Rattle.std.proofs.Common.{◌≡◌, true, false, cond, ◌||◌, List, [], ◌∷◌, ◌++◌, Option, Some, None, Result, Ok, Err, refl, sym, ap, subst, arith}
-use Rattle.std.specs.Prelude.{ℤ, pos, ◌+ℤ◌, ◌≤ℤ◌, ◌<ℤ◌, int_lt, unwrap_or}
-use Rattle.std.specs.Int.{int_max}
+use Rattle.std.proofs.Common.{◌≡◌, true, false, List, [], ◌∷◌, ◌++◌, Option, Some, None, Result, Ok, Err, refl, sym, subst, arith}
+use Rattle.std.specs.Prelude.{ℤ, ◌≤ℤ◌, ◌<ℤ◌, int_lt}
 use Rattle.std.proofs.lemmas.Int.{ints}
 use Rattle.land_core.specs.Acts.{is_well_formed}
 use Rattle.land_core.specs.Register.{holds}
+use Rattle.land_acts.specs.Laws.{IsAccepted}
 use Rattle.land_acts.specs.Outcome.{outcome_of}
+use Rattle.land_acts.proofs.Accepted.{nothing_unstamped, tells_stamp}
 use Rattle.land_core.specs.declared.caller.Caller.{Caller}
 use Rattle.land_core.specs.declared.act.Act.{Act}
-use Rattle.land_core.specs.declared.act.Act.TheVariants as act
 use Rattle.land_core.specs.declared.ask.Request.{Request}
-use Rattle.land_keep.specs.declared.verdict.Verdict.TheVariants.{Allowed}
+use Rattle.land_rules.specs.declared.verdict.Verdict.TheVariants.{Allowed}
 use Rattle.land_acts.specs.declared.refusal.Refusal.{Refusal}
 use Rattle.land_acts.specs.declared.refusal.Planned.{Planned}
 use Rattle.land_acts.specs.declared.refusal.Planned.TheVariants.{New, Repeat}
-use Rattle.land_core.specs.declared.register.Register.{Register}
 use Rattle.land_keep.specs.declared.reply.Reply.{Reply}
 use Rattle.land_keep.specs.Timeline.{Timeline, last_stamp, last_register}
 use Rattle.land_keep.specs.Machine.{Run, State, Element, step, allowed, acted, verdict_at, moment_of, now_of, stamp_of}
-use Rattle.land_keep.specs.Keeping.{Leads, preparation}
+use Rattle.land_keep.specs.Keeping.{CanWrite, Leads, preparation}
+use Rattle.land_keep.specs.Moments.{last_moment, stamp_after}
 
 -- a run goes on by one request
 pub run_more : {C : Type 0} (reads : C → ℤ → C → Type 0) (from mid to : State C) (reading : ℤ) (qs : List Request) (q : Request) (rs : List Reply) (r : Reply)
@@ -38,42 +38,24 @@ pub step_allowed : (clock : ℤ) (request : Request) (tl : Timeline)
     → step clock request tl ≡ allowed clock request.caller request.ask (moment_of request.ask (now_of clock tl)) tl
 step_allowed clock request tl late free = rw (late, free) refl
 
-not_ok : {f : Refusal} {p : Planned} → Err f ≡ Ok p → ⊥
-not_ok e = cc
-
--- an act without a stamp is refused
-pub without_stamp : (r : Register) (caller : Caller) (a : Act) (p : Planned) → outcome_of r caller a None ≡ Ok p → ⊥
-without_stamp r caller (act.Enrol it) p e = grind (arith)
-without_stamp r caller (act.Group it) p e = grind (arith)
-without_stamp r caller (act.Regroup it) p e = grind (arith)
-without_stamp r caller (act.Grant it) p e = grind (arith)
-without_stamp r caller (act.Revoke it) p e = grind (arith)
-
-pub stamp_bounds : (clock last s : ℤ)
-    → cond (int_lt (pos 4102444799999) clock || int_lt (pos 4102444799999) (last +ℤ pos 1)) None (Some (int_max (int_max clock (pos 0)) (last +ℤ pos 1))) ≡ Some s
-    → (s ≤ℤ pos 4102444799999) × (last <ℤ s)
+-- a stamp is a moment after the last one
+pub stamp_bounds : (clock last s : ℤ) → stamp_after clock last ≡ Some s → (s ≤ℤ last_moment) × (last <ℤ s)
 stamp_bounds clock last s e = (grind (arith, ints), grind (arith, ints))
 
 -- what is prepared for an outcome leads to it
-pub leads_to : (tl : Timeline) (clock : ℤ) (caller : Caller) (a : Act) (s : ℤ) (p : Result Planned Refusal)
+pub leads_to : (tl : Timeline) (clock : ℤ) (caller : Caller) (a : Act) (p : Result Planned Refusal)
     → is_well_formed a ≡ true → holds (last_register tl) caller.party caller.role ≡ true
-    → s ≡ unwrap_or (stamp_of clock tl) (pos 0) → outcome_of (last_register tl) caller a (stamp_of clock tl) ≡ p
-    → Leads (preparation p s) (acted p s tl) tl
-leads_to tl clock caller a s (Err refusal) wf role s_is e = record { reply = refl; timeline = refl; can_finish = tt }
-leads_to tl clock caller a s (Ok (Repeat done)) wf role s_is e = record { reply = refl; timeline = refl; can_finish = tt }
-leads_to tl clock caller a s (Ok (New change done)) wf role s_is e =
-    let stamped = has_stamp (stamp_of clock tl) s s_is (λ none. without_stamp (last_register tl) caller a (New change done) (subst (λ (o : Option ℤ). outcome_of (last_register tl) caller a o ≡ Ok (New change done)) none e)) in
-    let bounds = stamp_bounds clock (last_stamp tl) s stamped in
-    record {
-      reply = refl;
-      timeline = refl;
-      can_finish = record {
-        moment = bounds.0;
-        later = bounds.1;
-        made = record { caller = caller; act = a; done = done; well_formed = wf; role_held = role; outcome = subst (λ (o : Option ℤ). outcome_of (last_register tl) caller a o ≡ Ok (New change done)) stamped e };
-      };
-    }
+    → outcome_of (last_register tl) caller a (stamp_of clock tl) ≡ p
+    → Leads (preparation p) (acted p tl) tl
+leads_to tl clock caller a (Err refusal) wf role e = record { reply = refl; timeline = refl; can_finish = tt }
+leads_to tl clock caller a (Ok (Repeat done)) wf role e = record { reply = refl; timeline = refl; can_finish = tt }
+leads_to tl clock caller a (Ok (New change done)) wf role e =
+    record { reply = refl; timeline = refl; can_finish = written_at (stamp_of clock tl) refl e }
   where
-    has_stamp : (o : Option ℤ) (s : ℤ) → s ≡ unwrap_or o (pos 0) → (o ≡ None → ⊥) → o ≡ Some s
-    has_stamp None s is never = absurd (never refl)
-    has_stamp (Some x) s is never = ap Some (sym is)
+    written_at : (o : Option ℤ) → stamp_of clock tl ≡ o → outcome_of (last_register tl) caller a o ≡ Ok (New change done) → CanWrite tl change done.stamp
+    written_at None is e = absurd (nothing_unstamped (last_register tl) caller a change done e)
+    written_at (Some s) is e =
+        let bounds = stamp_bounds clock (last_stamp tl) s is in
+        let accepted : IsAccepted (last_register tl) change s = record { caller = caller; act = a; done = done; well_formed = wf; role_held = role; outcome = e } in
+        subst (λ (at : ℤ). CanWrite tl change at) (sym (tells_stamp (last_register tl) change s accepted))
+        (record { moment = bounds.0; later = bounds.1; made = accepted })

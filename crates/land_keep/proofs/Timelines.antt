@@ -4,11 +4,11 @@ use Rattle.std.specs.Prelude.{ℤ, pos, ◌<ℤ◌, ◌≤ℤ◌, slice_get}
 use Rattle.std.specs.List.{AllByRecursion}
 use Rattle.std.proofs.lemmas.Int.{ints}
 use Rattle.land_core.specs.Changes.{after}
-use Rattle.land_acts.specs.Laws.{IsAccepted}
 use Rattle.land_core.specs.Soundness.{IsSound}
 use Rattle.land_acts.proofs.Accepted.{accepted_sound}
 use Rattle.land_keep.specs.Laws.{WritingKeepsSound}
-use Rattle.land_keep.specs.Timeline.{Timeline, IsSoundTimeline, IsMoment, Rises, last_from, last_version, last_stamp, last_moment}
+use Rattle.land_keep.specs.Moments.{IsMoment, last_moment}
+use Rattle.land_keep.specs.Timeline.{Timeline, IsSoundTimeline, Rises, last_from, last_version, last_stamp}
 use Rattle.land_keep.specs.declared.timeline.Version.{Version}
 
 -- what is at the last place of a list
@@ -38,16 +38,7 @@ written_sound (v ∷ vs) change stamp sound can =
     let last = last_from v vs in
     let IsSoundVersion : Version → Type 0 = λ it. IsSound it.register in
     let IsAtMoment : Version → Type 0 = λ it. IsMoment it.stamp in
-    let accepted : IsAccepted last.register change = record {
-      caller = can.made.caller;
-      act = can.made.act;
-      stamp = Some stamp;
-      done = can.made.done;
-      well_formed = can.made.well_formed;
-      role_held = can.made.role_held;
-      outcome = can.made.outcome;
-    } in
-    let kept = accepted_sound last.register change (all_last IsSoundVersion v vs sound.sound) accepted in
+    let kept = accepted_sound last.register change stamp (all_last IsSoundVersion v vs sound.sound) can.made in
     let before : IsMoment last.stamp = all_last IsAtMoment v vs sound.moments in
     let w : Version = record { stamp = stamp; register = after change last.register } in
     record {

@@ -6,19 +6,21 @@ use Rattle.land_core.specs.declared.ask.Ask.TheVariants as ask
 use Rattle.land_core.specs.declared.caller.Caller.{Caller}
 use Rattle.land_core.specs.declared.register.Register.{Register}
 use Rattle.land_keep.specs.Laws.{ReadsLookAtTwoRegisters, IsRead}
-use Rattle.land_keep.specs.Machine.{Next, now_of, moment_of, step, viewed, judged}
-use Rattle.land_keep.specs.Rules.{verdict_of, seen_of}
+use Rattle.land_keep.specs.Machine.{Next, now_of, moment_of, step, viewed, shown_sheet, judged}
+use Rattle.land_keep.specs.Sheets.{view_at}
+use Rattle.land_rules.specs.Rules.{verdict_of, seen_of}
 use Rattle.land_keep.specs.Timeline.{Timeline, register_at, last_register}
 use Rattle.land_keep.specs.declared.reply.Reply.{Reply}
 use Rattle.land_keep.specs.declared.reply.Reply.TheVariants as reply
-use Rattle.land_keep.specs.declared.verdict.Verdict.{Verdict}
-use Rattle.land_keep.specs.declared.verdict.Verdict.TheVariants.{Allowed, Denied}
+use Rattle.land_rules.specs.declared.verdict.Verdict.{Verdict}
+use Rattle.land_rules.specs.declared.verdict.Verdict.TheVariants.{Allowed, Denied}
 
 -- what an allowed read shows
-abbrev shows : Register → Caller → Ask → Reply
-shows at caller (ask.View k number moment) = viewed at k number
-shows at caller (ask.List k moment) = reply.Numbers (seen_of at caller k)
-shows at caller (ask.Do it) = reply.Fault 0
+abbrev shows : (now : ℤ) → Register → Caller → Ask → Reply
+shows now at caller (ask.View k number moment) = viewed at k number
+shows now at caller (ask.List k moment) = reply.Numbers (seen_of at caller k)
+shows now at caller (ask.Sheet unit moment) = shown_sheet (view_at at caller unit (unwrap_or moment now))
+shows now at caller (ask.Do it) = reply.Fault 0
 
 abbrev by_verdict : Verdict → Reply → Reply
 by_verdict Allowed r = r
@@ -27,7 +29,7 @@ by_verdict (Denied k) r = reply.Denied k
 -- the reply to a read
 abbrev told : ℤ → Register → Register → Caller → Ask → Reply
 told now last at caller a =
-    cond (int_lt now (moment_of a now)) (reply.Fault 135) (by_verdict (verdict_of last at caller a (int_lt (moment_of a now) now)) (shows at caller a))
+    cond (int_lt now (moment_of a now)) (reply.Fault 135) (by_verdict (verdict_of last at caller a (int_lt (moment_of a now) now)) (shows now at caller a))
 
 reply_of : (late : Bool) (v : Verdict) (r : Reply) (tl : Timeline) → (cond late (let it : Next = (reply.Fault 135, tl) in it) (judged v (r, tl) tl)).0 ≡ cond late (reply.Fault 135) (by_verdict v r)
 reply_of true v r tl = refl
@@ -44,6 +46,10 @@ step_told clock caller (ask.List k moment) tl read =
     let now = now_of clock tl in
     let t = unwrap_or moment now in
     reply_of (int_lt now t) (verdict_of (last_register tl) (register_at tl t) caller (ask.List k moment) (int_lt t now)) (reply.Numbers (seen_of (register_at tl t) caller k)) tl
+step_told clock caller (ask.Sheet unit moment) tl read =
+    let now = now_of clock tl in
+    let t = unwrap_or moment now in
+    reply_of (int_lt now t) (verdict_of (last_register tl) (register_at tl t) caller (ask.Sheet unit moment) (int_lt t now)) (shown_sheet (view_at (register_at tl t) caller unit t)) tl
 step_told clock caller (ask.Do it) tl read = absurd read
 
 pub reads_alike : ReadsLookAtTwoRegisters

@@ -1,20 +1,15 @@
 -- What a keeper of the timeline may be asked, how its faults go, and what is prepared for a request.
 use Rattle.std.specs.Prelude.{◌≡◌, Bool, true, false, Option, Some, None, Result, Ok, Err, ℤ, ◌<ℤ◌, ◌≤ℤ◌, MatchOption}
-use Rattle.land_core.specs.Acts.{is_well_formed}
-use Rattle.land_acts.specs.Outcome.{outcome_of}
+use Rattle.land_acts.specs.Laws.{IsAccepted}
 use Rattle.land_acts.specs.Planning.{number_of}
-use Rattle.land_core.specs.Register.{holds}
-use Rattle.land_core.specs.declared.act.Act.{Act}
 use Rattle.land_core.specs.declared.ask.Request.{Request}
-use Rattle.land_core.specs.declared.caller.Caller.{Caller}
 use Rattle.land_core.specs.declared.change.Change.{Change}
-use Rattle.land_core.specs.declared.change.Done.{Done}
 use Rattle.land_acts.specs.declared.refusal.Planned.{Planned}
 use Rattle.land_acts.specs.declared.refusal.Planned.TheVariants.{New, Repeat}
 use Rattle.land_acts.specs.declared.refusal.Refusal.{Refusal}
-use Rattle.land_core.specs.declared.register.Register.{Register}
 use Rattle.land_keep.specs.Machine.{Next, step, written}
-use Rattle.land_keep.specs.Timeline.{Timeline, last_stamp, last_register, last_moment}
+use Rattle.land_keep.specs.Moments.{last_moment}
+use Rattle.land_keep.specs.Timeline.{Timeline, last_stamp, last_register}
 use Rattle.land_keep.specs.declared.prepared.Prepared.{Prepared}
 use Rattle.land_keep.specs.declared.prepared.Writing.{Writing}
 use Rattle.land_keep.specs.declared.reply.Reply.TheVariants as reply
@@ -30,20 +25,11 @@ Closes false after (Err NoMemory) = after ≡ false
 Closes false after (Err Store) = after ≡ true
 Closes false after (Err Closed) = ⊥
 
--- a well-formed act of a caller that holds its role makes the change, with the stamp
-pub record Makes (r : Register) (change : Change) (stamp : ℤ) : Type 0 where
-  pub caller : Caller
-  pub act : Act
-  pub done : Done
-  pub well_formed : is_well_formed act ≡ true
-  pub role_held : holds r caller.party caller.role ≡ true
-  pub outcome : outcome_of r caller act (Some stamp) ≡ Ok (New change done)
-
 -- a change may be written: its stamp is a moment after the last one, and an act makes it of the last register
 pub record CanWrite (tl : Timeline) (change : Change) (stamp : ℤ) : Type 0 where
   pub moment : stamp ≤ℤ last_moment
   pub later : last_stamp tl <ℤ stamp
-  pub made : Makes (last_register tl) change stamp
+  pub made : IsAccepted (last_register tl) change stamp
 
 -- ---- what is prepared
 
@@ -66,7 +52,7 @@ abbrev pub IsPrepared : Prepared → ℤ → Request → Timeline → Type 0
 IsPrepared p clock request tl = Leads p (step clock request tl) tl
 
 -- what is prepared for the outcome of an act
-abbrev pub preparation : Result Planned Refusal → ℤ → Prepared
-preparation (Ok (New change done)) stamp = record { reply = reply.Done done; writing = Some (record { change = change; stamp = stamp }) }
-preparation (Ok (Repeat done)) stamp = record { reply = reply.Done done; writing = None }
-preparation (Err refusal) stamp = record { reply = reply.Refused (number_of refusal); writing = None }
+abbrev pub preparation : Result Planned Refusal → Prepared
+preparation (Ok (New change done)) = record { reply = reply.Done done; writing = Some (record { change = change; stamp = done.stamp }) }
+preparation (Ok (Repeat done)) = record { reply = reply.Done done; writing = None }
+preparation (Err refusal) = record { reply = reply.Refused (number_of refusal); writing = None }

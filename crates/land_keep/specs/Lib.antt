@@ -1,8 +1,8 @@
--- Definitions of the policy, of the machine and of its keepers.
+-- Definitions of the machine and of its keepers.
 pub mod Faults
 pub mod Keeping
 pub mod Laws
 pub mod Machine
-pub mod Relations
-pub mod Rules
+pub mod Moments
+pub mod Sheets
 pub mod Timeline

@@ -1,6 +1,5 @@
 -- The register machine: what it replies to a request, and the timeline that it leaves.
-use Rattle.std.specs.Prelude.{◌≡◌, ℕ, Bool, true, false, ◌||◌, List, [], ◌∷◌, ◌++◌, Option, Some, None, Result, Ok, Err, ℤ, pos, ◌+ℤ◌, int_lt, unwrap_or, ◌⊎◌, if◌then◌else◌}
-use Rattle.std.specs.Int.{int_min, int_max}
+use Rattle.std.specs.Prelude.{◌≡◌, ℕ, Bool, true, false, List, [], ◌∷◌, ◌++◌, Option, Some, None, Result, Ok, Err, ℤ, int_lt, unwrap_or, ◌⊎◌, if◌then◌else◌}
 use Rattle.land_core.specs.Changes.{after}
 use Rattle.land_acts.specs.Outcome.{outcome_of}
 use Rattle.land_acts.specs.Planning.{number_of}
@@ -16,33 +15,30 @@ use Rattle.land_acts.specs.declared.refusal.Planned.{Planned}
 use Rattle.land_acts.specs.declared.refusal.Planned.TheVariants.{New, Repeat}
 use Rattle.land_acts.specs.declared.refusal.Refusal.{Refusal}
 use Rattle.land_core.specs.declared.register.Register.{Register}
-use Rattle.land_keep.specs.Rules.{verdict_of, seen_of}
-use Rattle.land_keep.specs.Timeline.{Timeline, register_at, last_stamp, last_register, last_moment}
+use Rattle.land_rules.specs.Rules.{verdict_of, seen_of}
+use Rattle.land_keep.specs.Moments.{now_after, stamp_after}
+use Rattle.land_keep.specs.Timeline.{Timeline, register_at, last_stamp, last_register}
+use Rattle.land_keep.specs.Sheets.{view_at}
 use Rattle.land_keep.specs.declared.reply.Reply.{Reply}
 use Rattle.land_keep.specs.declared.reply.Reply.TheVariants as reply
-use Rattle.land_keep.specs.declared.verdict.Verdict.{Verdict}
-use Rattle.land_keep.specs.declared.verdict.Verdict.TheVariants.{Allowed, Denied}
+use Rattle.land_keep.specs.declared.view.View.{View}
+use Rattle.land_rules.specs.declared.verdict.Verdict.{Verdict}
+use Rattle.land_rules.specs.declared.verdict.Verdict.TheVariants.{Allowed, Denied}
 
 -- ---- moments
 
--- a reading below 0 counts as 0
-abbrev pub reading_of : ℤ → ℤ
-reading_of clock = int_max clock (pos 0)
-
--- now, for a read: the clock, but no moment before the last stamp, and none after the last moment
+-- now, for a read, and the stamp of a change, by a reading of the clock
 abbrev pub now_of : ℤ → Timeline → ℤ
-now_of clock tl = int_max (int_min (reading_of clock) last_moment) (last_stamp tl)
+now_of clock tl = now_after clock (last_stamp tl)
 
--- the stamp of a change: the clock, but after the last stamp. There is none past the last moment.
 abbrev pub stamp_of : ℤ → Timeline → Option ℤ
-stamp_of clock tl =
-    if int_lt last_moment clock || int_lt last_moment (last_stamp tl +ℤ pos 1) then None
-    else Some (int_max (reading_of clock) (last_stamp tl +ℤ pos 1))
+stamp_of clock tl = stamp_after clock (last_stamp tl)
 
 -- the moment that an ask names
 abbrev pub at_of : Ask → Option ℤ
 at_of (ask.View k number at) = at
 at_of (ask.List k at) = at
+at_of (ask.Sheet unit at) = at
 at_of (ask.Do it) = None
 
 -- the asked moment: the one that is named, else now
@@ -64,22 +60,27 @@ shown (Some it) = reply.Object it
 abbrev pub viewed : (at : Register) → Kind → ℕ → Reply
 viewed at k number = shown (object_at at k number)
 
+-- a unit that is asked for stands where the policy allows its view
+abbrev pub shown_sheet : Option View → Reply
+shown_sheet None = reply.Denied 27
+shown_sheet (Some it) = reply.Sheet it
+
 -- the timeline with a change of the last register, from its stamp on
 abbrev pub written : Timeline → Change → ℤ → Timeline
 written tl change stamp = tl ++ record { stamp = stamp; register = after change (last_register tl) } ∷ []
 
--- what an allowed act leads to
-abbrev pub acted : Result Planned Refusal → ℤ → Timeline → Next
-acted (Ok (New change done)) stamp tl = (reply.Done done, written tl change stamp)
-acted (Ok (Repeat done)) stamp tl = (reply.Done done, tl)
-acted (Err refusal) stamp tl = (reply.Refused (number_of refusal), tl)
+-- what an allowed act leads to: a change stands from the stamp on that its caller is told
+abbrev pub acted : Result Planned Refusal → Timeline → Next
+acted (Ok (New change done)) tl = (reply.Done done, written tl change done.stamp)
+acted (Ok (Repeat done)) tl = (reply.Done done, tl)
+acted (Err refusal) tl = (reply.Refused (number_of refusal), tl)
 
 -- what is allowed, at an asked moment t; an act looks at the last register alone
 abbrev pub allowed : (clock : ℤ) → Caller → Ask → (t : ℤ) → Timeline → Next
 allowed clock caller (ask.View k number at) t tl = (viewed (register_at tl t) k number, tl)
 allowed clock caller (ask.List k at) t tl = (reply.Numbers (seen_of (register_at tl t) caller k), tl)
-allowed clock caller (ask.Do it) t tl =
-    acted (outcome_of (last_register tl) caller it (stamp_of clock tl)) (unwrap_or (stamp_of clock tl) (pos 0)) tl
+allowed clock caller (ask.Sheet unit at) t tl = (shown_sheet (view_at (register_at tl t) caller unit t), tl)
+allowed clock caller (ask.Do it) t tl = acted (outcome_of (last_register tl) caller it (stamp_of clock tl)) tl
 
 -- what is denied changes nothing
 abbrev pub judged : Verdict → Next → Timeline → Next

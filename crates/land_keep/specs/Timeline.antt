@@ -1,18 +1,15 @@
 -- The register through time: stamps, and the register from each on (LADM: VersionedObject).
-use Rattle.std.specs.Prelude.{◌≤◌, List, [], ◌∷◌, Option, Some, None, ℤ, pos, ◌<ℤ◌, ◌≤ℤ◌, int_le, fold, unwrap_or, if◌then◌else◌}
+use Rattle.std.specs.Prelude.{◌≤◌, List, [], ◌∷◌, Option, Some, None, ℤ, pos, ◌<ℤ◌, int_le, fold, unwrap_or, if◌then◌else◌}
 use Rattle.std.specs.Option.{option_map}
 use Rattle.std.specs.List.{AllByRecursion}
 use Rattle.land_core.specs.Register.{nothing, new_register}
 use Rattle.land_core.specs.Soundness.{IsSound}
 use Rattle.land_core.specs.declared.register.Register.{Register}
+use Rattle.land_keep.specs.Moments.{IsMoment}
 use Rattle.land_keep.specs.declared.timeline.Version.{Version}
 
 abbrev pub Timeline : Type 0
 Timeline = List Version
-
--- the end of the year 2099 in UTC, in milliseconds since 1970
-abbrev pub last_moment : ℤ
-last_moment = pos 4102444799999
 
 -- a new office has the new register from the first moment on
 abbrev pub new_timeline : Timeline
@@ -52,9 +49,6 @@ Rises before (v ∷ vs) = (before.stamp <ℤ v.stamp) × (before.register.next �
 abbrev pub IsRising : Timeline → Type 0
 IsRising [] = ⊥
 IsRising (v ∷ vs) = Rises v vs
-
-abbrev pub IsMoment : ℤ → Type 0
-IsMoment t = (pos 0 ≤ℤ t) × (t ≤ℤ last_moment)
 
 -- a sound timeline begins, its stamps are moments and rise, its next numbers never fall, and each of its registers is sound
 pub record IsSoundTimeline (tl : Timeline) : Type 0 where

@@ -4,11 +4,13 @@ ghost use Rattle.land_core.specs.Register.{object_at};
 ghost use Rattle.land_acts.specs.Slices.{slice_of};
 ghost use Rattle.land_keep.specs.Keeping.{Closes, CanWrite};
 ghost use Rattle.land_keep.specs.Machine.{verdict_at, moment_of, written};
-ghost use Rattle.land_keep.specs.Rules.{seen_of};
-ghost use Rattle.land_keep.specs.Timeline.{Timeline, IsSoundTimeline, last_stamp, last_register, register_at, last_moment};
+ghost use Rattle.land_rules.specs.Rules.{seen_of};
+ghost use Rattle.land_keep.specs.Sheets.{view_at};
+ghost use Rattle.land_keep.specs.Moments.{last_moment};
+ghost use Rattle.land_keep.specs.Timeline.{Timeline, IsSoundTimeline, last_stamp, last_register, register_at};
 
 use crate::store_fault::StoreFault;
-use crate::verdict::Verdict;
+use crate::view::View;
 use land_acts::slice::Slice;
 use land_core::act::Act;
 use land_core::ask::Ask;
@@ -17,6 +19,7 @@ use land_core::change::Change;
 use land_core::kind::Kind;
 use land_core::object::Object;
 use land_core::sequence::NumberList;
+use land_rules::verdict::Verdict;
 use std::alloc::Global;
 
 /// A keeper of the register through time, which contracts see as a sound timeline and whether its store is closed.
@@ -73,6 +76,18 @@ pub trait Keeper {
         at: i64,
     ) -> Result<Option<Object>, StoreFault>
         ensures value { IfOk result (λ it. it ≡ object_at (register_at (timeline self.old) at) kind number) }
+        ensures same { timeline self.new ≡ timeline self.old }
+        ensures closes { Closes (closed self.old) (closed self.new) result };
+
+    /// The unit that stands at a moment, as a caller sees it, or `None`.
+    fn view(
+        &mut self,
+        alloc: Global,
+        caller: Caller,
+        unit: u64,
+        at: i64,
+    ) -> Result<Option<View>, StoreFault>
+        ensures value { IfOk result (λ it. it ≡ view_at (register_at (timeline self.old) at) caller unit at) }
         ensures same { timeline self.new ≡ timeline self.old }
         ensures closes { Closes (closed self.old) (closed self.new) result };
 

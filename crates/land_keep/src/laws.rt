@@ -1,25 +1,5 @@
 //! Laws, each stated over the definitions alone.
-ghost use Rattle.land_keep.specs.Laws.{RulesRise, VerdictsAreLeast, SeenIsExactly, MembersSeeGroups, WritingKeepsSound, PastStays, ReadsLookAtTwoRegisters};
-
-/// The rules on every ask stand in rising order.
-pub fn rules_rise()
-    ensures { RulesRise }
-{}
-
-/// A verdict names the least rule that denies, and allows exactly where none does.
-pub fn verdicts_are_least()
-    ensures { VerdictsAreLeast }
-{}
-
-/// What is seen ascends, and a number is among it exactly where no rule denies its view.
-pub fn seen_is_exact()
-    ensures { SeenIsExactly }
-{}
-
-/// A group is shown to the citizens that are its members at the asked moment, whatever they are now.
-pub fn members_see_their_groups()
-    ensures { MembersSeeGroups }
-{}
+ghost use Rattle.land_keep.specs.Laws.{WritingKeepsSound, PastStays, ChangeStands, OpenKeepersLackMemoryAlone, ReadsLookAtTwoRegisters};
 
 /// A timeline stays sound after each change that may be written.
 pub fn writing_keeps_soundness()
@@ -29,6 +9,16 @@ pub fn writing_keeps_soundness()
 /// A change leaves the register at each moment before its stamp as it was.
 pub fn the_past_stays()
     ensures { PastStays }
+{}
+
+/// From its stamp on, the register is the last one with the change made.
+pub fn a_change_stands_from_its_stamp_on()
+    ensures { ChangeStands }
+{}
+
+/// A keeper that stays open answers, or had no memory; the keeper in memory always stays open.
+pub fn open_keepers_lack_memory_alone()
+    ensures { OpenKeepersLackMemoryAlone }
 {}
 
 /// The reply to a read is told by now, the last register and the register at the asked moment alone.

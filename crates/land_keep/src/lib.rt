@@ -1,5 +1,4 @@
-//! The register machine: who may see what and at which moment, what a request leads to, and the keepers of the
-//! register through time.
+//! The register machine: what a request leads to, and the keepers of the register through time.
 #![tactic(auto)]
 
 pub mod clock;
@@ -10,9 +9,8 @@ mod moments;
 pub mod plain_keeper;
 pub mod prepared;
 pub mod reply;
-pub mod rules;
 pub mod store_fault;
 #[cfg(test)]
 mod tests;
 pub mod timeline;
-pub mod verdict;
+pub mod view;

@@ -1,5 +1,5 @@
 //! The register machine over any keeper: a request is prepared, finished, answered; requests are run in turn.
-ghost use Rattle.std.specs.Prelude.{◌≡◌, ◌≢◌, true, false, pos, unwrap_or, IfOk, OnOk, OnErr, All, IsTrue, ◌↔◌};
+ghost use Rattle.std.specs.Prelude.{◌≡◌, ◌≢◌, true, false, IfOk, OnOk, OnErr, All, IsTrue, ◌↔◌};
 ghost use Rattle.land_core.specs.Acts.{is_well_formed, is_well_formed_request};
 ghost use Rattle.land_acts.specs.Outcome.{outcome_of};
 ghost use Rattle.land_core.specs.Register.{holds};
@@ -13,13 +13,13 @@ use crate::moments::{named_moment, now_at, stamp_at};
 use crate::prepared::{Prepared, Writing};
 use crate::reply::Reply;
 use crate::store_fault::StoreFault;
-use crate::verdict::Verdict;
 use land_acts::laws::slices_suffice;
 use land_acts::plan::plan;
 use land_acts::refusal::{Planned, Refusal};
 use land_core::act::Act;
 use land_core::ask::{Ask, Request};
 use land_core::caller::Caller;
+use land_rules::verdict::Verdict;
 use std::alloc::{AllocError, Global};
 
 /// Finds the reply to a request and what has to be written for it, and changes nothing.
@@ -76,6 +76,10 @@ fn prepare_allowed<K: Keeper>(
             *kind,
             at,
         )?))),
+        Ask::Sheet { unit, .. } => Ok(told(match keeper.view(alloc, request.caller, *unit, at)? {
+            Some(view) => Reply::Sheet(view),
+            None => Reply::Denied(27),
+        })),
         Ask::Do(act) => prepare_act(alloc, keeper, clock, request.caller, act),
     }
 }
@@ -92,7 +96,7 @@ fn prepare_act<K: Keeper>(
     requires well_formed { is_well_formed act.now ≡ true }
     requires role_held { holds (last_register (K.timeline keeper.old)) caller.party caller.role ≡ true }
     ensures prepared { IfOk result (λ it. Leads it
-        (acted (outcome_of (last_register (K.timeline keeper.old)) caller act.now (stamp_of clock (K.timeline keeper.old))) (unwrap_or (stamp_of clock (K.timeline keeper.old)) (pos 0)) (K.timeline keeper.old))
+        (acted (outcome_of (last_register (K.timeline keeper.old)) caller act.now (stamp_of clock (K.timeline keeper.old))) (K.timeline keeper.old))
         (K.timeline keeper.old)) }
     ensures same { K.timeline keeper.new ≡ K.timeline keeper.old }
     ensures closes { Closes (K.closed keeper.old) (K.closed keeper.new) result }
@@ -100,19 +104,22 @@ fn prepare_act<K: Keeper>(
     let stamp = stamp_at(clock, keeper.last());
     let slice = keeper.slice(alloc, caller, act)?;
     slices_suffice();
-    prepared_by(plan(alloc, &slice, caller, act, stamp), stamp.unwrap_or(0))
+    prepared_by(plan(alloc, &slice, caller, act, stamp))
 }
 
 /// What is prepared for the outcome of an act.
-fn prepared_by(outcome: Result<Planned, Refusal>, stamp: i64) -> Result<Prepared, StoreFault>
-    ensures ok { IfOk result (λ it. (outcome ≢ Err Refusal.NoMemory) × (it ≡ preparation outcome stamp)) }
+fn prepared_by(outcome: Result<Planned, Refusal>) -> Result<Prepared, StoreFault>
+    ensures ok { IfOk result (λ it. (outcome ≢ Err Refusal.NoMemory) × (it ≡ preparation outcome)) }
     ensures err { OnErr result (result ≡ Err StoreFault.NoMemory) }
 {
     match outcome {
-        Ok(Planned::New(change, done)) => Ok(Prepared {
-            reply: Reply::Done(done),
-            writing: Some(Writing { change, stamp }),
-        }),
+        Ok(Planned::New(change, done)) => {
+            let stamp = done.stamp;
+            Ok(Prepared {
+                reply: Reply::Done(done),
+                writing: Some(Writing { change, stamp }),
+            })
+        }
         Ok(Planned::Repeat(done)) => Ok(told(Reply::Done(done))),
         Err(Refusal::NoMemory) => Err(StoreFault::NoMemory),
         Err(refusal) => Ok(told(Reply::Refused(refusal.number()))),

@@ -1,15 +1,15 @@
 //! The plain keeper: the list of whole registers, in memory.
 ghost use Rattle.std.specs.Prelude.{◌≡◌, ◌∷◌, ◌++◌, [], false, unwrap_or, IfOk, OnOk, OnErr};
 ghost use Rattle.std.specs.Option.{option_copied, option_map};
-ghost use Rattle.land_keep.specs.Timeline.{IsSoundTimeline, new_timeline, version_at, last_version};
+ghost use Rattle.land_core.specs.Register.{nothing};
+ghost use Rattle.land_keep.specs.Timeline.{IsSoundTimeline, new_timeline, version_at, last_version, register_at, last_register};
 
 use crate::keeper::Keeper;
 use crate::laws::writing_keeps_soundness;
 use crate::moments::named_moment;
-use crate::rules::{seen, verdict};
 use crate::store_fault::StoreFault;
 use crate::timeline::Version;
-use crate::verdict::Verdict;
+use crate::view::{View, view_of};
 use land_acts::slice::{Slice, slice_of};
 use land_core::act::Act;
 use land_core::ask::Ask;
@@ -19,6 +19,8 @@ use land_core::kind::Kind;
 use land_core::object::Object;
 use land_core::register::Register;
 use land_core::sequence::NumberList;
+use land_rules::rules::{seen, verdict};
+use land_rules::verdict::Verdict;
 use std::alloc::{AllocError, Global};
 use std::marker::Model;
 
@@ -62,6 +64,23 @@ impl PlainKeeper {
         self.versions.last()
     }
 
+    /// The last register. A sound timeline has one; an empty one would stand in for it.
+    fn last_register<'a>(&'a self, empty: &'a Register) -> &'a Register
+        requires { empty.now ≡ nothing }
+        ensures register { result.now ≡ last_register self.now }
+        ensures sound { IsSoundTimeline self.now }
+    {
+        register_of(self.last_version(), empty)
+    }
+
+    /// The register at a moment: before the first stamp it is the empty one.
+    fn register_at<'a>(&'a self, t: i64, empty: &'a Register) -> &'a Register
+        requires { empty.now ≡ nothing }
+        ensures { result.now ≡ register_at self.now t }
+    {
+        register_of(self.version_at(t), empty)
+    }
+
     /// Appends a version that keeps the timeline sound. After want of memory nothing has changed.
     fn append(&mut self, version: Version) -> Result<(), AllocError>
         requires { IsSoundTimeline (self.old ++ version ∷ []) }
@@ -89,6 +108,7 @@ impl PlainKeeper {
 impl Keeper for PlainKeeper {
     ghost use Rattle.land_core.specs.Register.{object_at};
     ghost use Rattle.land_acts.specs.Slices.{slice_of};
+    ghost use Rattle.land_keep.specs.Sheets.{view_at};
     ghost use Rattle.land_keep.specs.Timeline.{last_stamp};
 
     ghost timeline = { λ a. a };
@@ -115,8 +135,8 @@ impl Keeper for PlainKeeper {
     ) -> Result<Verdict, StoreFault> {
         let at = named_moment(ask).unwrap_or(now);
         let nothing = Register::nothing(alloc);
-        let last = register_of(self.last_version(), &nothing);
-        let then = register_of(self.version_at(at), &nothing);
+        let last = self.last_register(&nothing);
+        let then = self.register_at(at, &nothing);
         Ok(verdict(last, then, caller, ask, at < now))
     }
 
@@ -128,11 +148,8 @@ impl Keeper for PlainKeeper {
         at: i64,
     ) -> Result<NumberList, StoreFault> {
         let nothing = Register::nothing(alloc);
-        let then = register_of(self.version_at(at), &nothing);
-        match seen(alloc, then, caller, kind) {
-            Ok(numbers) => Ok(numbers),
-            Err(_) => Err(StoreFault::NoMemory),
-        }
+        let then = self.register_at(at, &nothing);
+        Ok(seen(alloc, then, caller, kind)?)
     }
 
     fn object(
@@ -143,43 +160,44 @@ impl Keeper for PlainKeeper {
         at: i64,
     ) -> Result<Option<Object>, StoreFault> {
         let nothing = Register::nothing(alloc);
-        let then = register_of(self.version_at(at), &nothing);
-        match then.object(alloc, kind, number) {
-            Ok(object) => Ok(object),
-            Err(_) => Err(StoreFault::NoMemory),
-        }
+        let then = self.register_at(at, &nothing);
+        Ok(then.object(alloc, kind, number)?)
+    }
+
+    fn view(
+        &mut self,
+        alloc: Global,
+        caller: Caller,
+        unit: u64,
+        at: i64,
+    ) -> Result<Option<View>, StoreFault> {
+        let nothing = Register::nothing(alloc);
+        let then = self.register_at(at, &nothing);
+        Ok(view_of(alloc, then, caller, unit, at)?)
     }
 
     fn slice(&mut self, alloc: Global, caller: Caller, act: &Act) -> Result<Slice, StoreFault> {
         let nothing = Register::nothing(alloc);
-        let last = register_of(self.last_version(), &nothing);
-        match slice_of(alloc, last, caller, act) {
-            Ok(slice) => Ok(slice),
-            Err(_) => Err(StoreFault::NoMemory),
-        }
+        let last = self.last_register(&nothing);
+        Ok(slice_of(alloc, last, caller, act)?)
     }
 
     fn write(&mut self, alloc: Global, change: &Change, stamp: i64) -> Result<(), StoreFault> {
         let nothing = Register::nothing(alloc);
-        let last = register_of(self.last_version(), &nothing);
-        let register = match last.changed(alloc, change) {
-            Ok(register) => register,
-            Err(_) => return Err(StoreFault::NoMemory),
-        };
+        let last = self.last_register(&nothing);
+        let register = last.changed(alloc, change)?;
         writing_keeps_soundness();
-        match self.append(Version { stamp, register }) {
-            Ok(()) => Ok(()),
-            Err(_) => Err(StoreFault::NoMemory),
-        }
+        self.append(Version { stamp, register })?;
+        Ok(())
     }
 }
 
-/// The register of a version, or the one that holds nothing.
-fn register_of<'a>(version: Option<&'a Version>, nothing: &'a Register) -> &'a Register
-    ensures { result.now ≡ unwrap_or (option_map (λ v. v.register) (option_copied version.entry)) nothing.now }
+/// The register of a version, or the empty one.
+fn register_of<'a>(version: Option<&'a Version>, empty: &'a Register) -> &'a Register
+    ensures { result.now ≡ unwrap_or (option_map (λ v. v.register) (option_copied version.entry)) empty.now }
 {
     match version {
         Some(version) => &version.register,
-        None => nothing,
+        None => empty,
     }
 }

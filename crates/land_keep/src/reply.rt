@@ -1,4 +1,5 @@
 //! What callers are told.
+use crate::view::View;
 use land_core::change::Done;
 use land_core::object::Object;
 use land_core::sequence::NumberList;
@@ -10,6 +11,8 @@ pub enum Reply {
     Object(Object),
     /// The numbers of a kind that the caller sees, ascending.
     Numbers(NumberList),
+    /// A unit, for its title sheet.
+    Sheet(View),
     /// An act was done, or had been done before.
     Done(Done),
     /// The policy denies it: the least rule that does.

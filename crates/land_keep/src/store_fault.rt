@@ -1,6 +1,8 @@
 //! Faults of a keeper's store.
 ghost use Rattle.std.specs.Prelude.{◌≡◌};
 
+use std::alloc::AllocError;
+
 /// Why a keeper gives no answer. Nothing has changed.
 #[derive(Clone, Copy, Debug, PartialEq, Eq)]
 pub enum StoreFault {
@@ -24,5 +26,15 @@ impl StoreFault {
             StoreFault::Store => 502,
             StoreFault::Closed => 503,
         }
+    }
+}
+
+impl From<AllocError> for StoreFault {
+    ghost use Rattle.land_keep.specs.declared.store_fault.StoreFault.TheVariants.{NoMemory};
+
+    ghost from_gives = { λ _ fault. fault ≡ NoMemory };
+
+    fn from(_error: AllocError) -> StoreFault {
+        StoreFault::NoMemory
     }
 }

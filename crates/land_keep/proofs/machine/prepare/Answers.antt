@@ -3,7 +3,7 @@ use Rattle.std.specs.Prelude.{int_lt, FitsSigned}
 use Rattle.std.specs.Int.{w64}
 use Rattle.std.proofs.lemmas.Int.{to_z-of_z}
 use Rattle.land_keep.specs.Machine.{now_of, moment_of, verdict_at}
-use Rattle.land_keep.specs.declared.verdict.Verdict.TheVariants.{Allowed}
+use Rattle.land_rules.specs.declared.verdict.Verdict.TheVariants.{Allowed}
 use Rattle.land_keep.proofs.Steps.{step_allowed}
 use Rattle.land_keep.proofs.machine.prepare.Goals as goal
 

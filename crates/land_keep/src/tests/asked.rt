@@ -1,0 +1,180 @@
+//! What rows ask for, and the acts and asks made of it.
+use super::facts::{Right, Share, text};
+use land_core::act::{
+    Act, Burden, BurdenClass, Enrol, Lift, NewGroup, NewParcel, NewRight, NewUnit, Regroup,
+};
+use land_core::ask::Ask;
+use land_core::caller::Caller;
+use land_core::kind::{Kind, PartyKind};
+use land_core::member::Member;
+use land_core::role::Role;
+use land_core::roles::Grant;
+use land_core::sequence::Sequence;
+use land_fraction::Fraction;
+use land_shape::read_wkt;
+use std::alloc::{AllocError, Global};
+use std::test::Fail;
+
+/// An act of a row.
+pub(super) enum RowAct {
+    Enrol(PartyKind, &'static str),
+    Group(&'static str, &'static [Share]),
+    Regroup(u64, &'static [Share]),
+    Grant(u64, Role),
+    Revoke(u64, Role),
+    /// A unit, its shares checked or not, with so many parcels and these rights.
+    Register(bool, usize, &'static [Right]),
+    /// The class of a burden, its unit and its party.
+    Burden(BurdenClass, u64, u64),
+    Lift(u64),
+}
+
+/// What a row asks.
+pub(super) enum RowAsk {
+    Do(RowAct),
+    View(Kind, u64, Option<i64>),
+    List(Kind, Option<i64>),
+    Sheet(u64, Option<i64>),
+}
+
+pub(super) const OFFICE: Caller = Caller {
+    party: 1,
+    role: Role::StateAdministrator,
+};
+
+/// What is written in a first registration: the unit's name, its document's title, and its parcels' label.
+#[derive(Drop)]
+pub(super) struct Words<'a> {
+    pub name: &'a str,
+    pub document: &'a str,
+    pub label: &'a str,
+}
+
+pub(super) const GARDEN: Words<'static> = Words {
+    name: "Garden",
+    document: "Deed 1",
+    label: "12",
+};
+
+fn members(alloc: Global, shares: &[Share]) -> Result<Sequence<Member>, Fail> {
+    let mut members = Sequence::new(alloc);
+    for (party, n, d) in shares {
+        members.push(Member {
+            party: *party,
+            share: Fraction::new(*n, *d)?,
+        })?;
+    }
+    Ok(members)
+}
+
+fn square(alloc: Global, label: &str) -> Result<NewParcel, Fail> {
+    Ok(NewParcel {
+        label: text(alloc, label)?,
+        outline: read_wkt(alloc, "POLYGON ((0 0, 10000 0, 10000 10000, 0 10000, 0 0))")?,
+    })
+}
+
+/// Squares of ten metres, so many of them.
+fn squares(alloc: Global, count: usize, label: &str) -> Result<Sequence<NewParcel>, Fail> {
+    let mut parcels = Sequence::new(alloc);
+    for _ in 0..count {
+        parcels.push(square(alloc, label)?)?;
+    }
+    Ok(parcels)
+}
+
+fn rights(alloc: Global, rows: &[Right]) -> Result<Sequence<NewRight>, Fail> {
+    let mut rights = Sequence::new(alloc);
+    for (party, right_type, n, d) in rows {
+        rights.push(NewRight {
+            party: *party,
+            right_type: *right_type,
+            share: Fraction::new(*n, *d)?,
+        })?;
+    }
+    Ok(rights)
+}
+
+pub(super) fn new_unit(
+    alloc: Global,
+    words: &Words<'_>,
+    checked: bool,
+    count: usize,
+    rows: &[Right],
+) -> Result<NewUnit, Fail> {
+    Ok(NewUnit {
+        name: text(alloc, words.name)?,
+        checked,
+        document: text(alloc, words.document)?,
+        parcels: squares(alloc, count, words.label)?,
+        rights: rights(alloc, rows)?,
+    })
+}
+
+pub(super) fn new_burden(
+    alloc: Global,
+    class: BurdenClass,
+    unit: u64,
+    party: u64,
+) -> Result<Burden, AllocError> {
+    Ok(Burden {
+        unit,
+        party,
+        class,
+        words: text(alloc, "No well")?,
+        document: text(alloc, "Order")?,
+    })
+}
+
+/// The act of a row.
+pub(super) fn act(alloc: Global, it: &RowAct) -> Result<Act, Fail> {
+    Ok(match it {
+        RowAct::Enrol(kind, name) => Act::Enrol(Enrol {
+            kind: *kind,
+            name: text(alloc, name)?,
+        }),
+        RowAct::Group(name, shares) => Act::Group(NewGroup {
+            name: text(alloc, name)?,
+            members: members(alloc, shares)?,
+        }),
+        RowAct::Regroup(group, shares) => Act::Regroup(Regroup {
+            group: *group,
+            members: members(alloc, shares)?,
+        }),
+        RowAct::Grant(party, role) => Act::Grant(Grant {
+            party: *party,
+            role: *role,
+        }),
+        RowAct::Revoke(party, role) => Act::Revoke(Grant {
+            party: *party,
+            role: *role,
+        }),
+        RowAct::Register(checked, count, rights) => {
+            Act::Register(new_unit(alloc, &GARDEN, *checked, *count, rights)?)
+        }
+        RowAct::Burden(class, unit, party) => {
+            Act::Burden(new_burden(alloc, *class, *unit, *party)?)
+        }
+        RowAct::Lift(rrr) => Act::Lift(Lift { rrr: *rrr }),
+    })
+}
+
+/// What a row asks, as it is asked.
+pub(super) fn ask(alloc: Global, it: &RowAsk) -> Result<Ask, Fail> {
+    Ok(match it {
+        RowAsk::Do(it) => Ask::Do(act(alloc, it)?),
+        RowAsk::View(kind, number, at) => Ask::View {
+            kind: *kind,
+            number: *number,
+            at: *at,
+        },
+        RowAsk::List(kind, at) => Ask::List {
+            kind: *kind,
+            at: *at,
+        },
+        RowAsk::Sheet(unit, at) => Ask::Sheet {
+            unit: *unit,
+            at: *at,
+        },
+    })
+}

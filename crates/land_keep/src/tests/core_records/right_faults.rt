@@ -1,0 +1,177 @@
+//! Each fault of rights and mortgages, and what lies just beside it.
+use super::garden::{ANNA, BEN, DEED, GARDEN, ORCHARD, RECORDS, SAM, WITH_ORCHARD, WITHOUT_RIGHTS};
+use super::{Case, PERSONS, assert_faults};
+use crate::tests::facts::{Fact, Held, Right, fault, register_of, tell};
+use land_core::register::Register;
+use land_core::rrr::RightType::{Lease, Ownership, Usufruct};
+use land_core::soundness::Unsound;
+use std::alloc::Global;
+use std::process::Abort;
+use std::test::Fail;
+
+/// Puts rights of the garden into a register, under the numbers from its next one on.
+fn tell_rights(alloc: Global, register: &mut Register, rights: &[Right]) -> Result<(), Fail> {
+    for (party, right_type, n, d) in rights {
+        let right = Held::Right(*right_type, *n, *d);
+        let number = register.next;
+        tell(
+            alloc,
+            register,
+            &Fact::Rrr(number, GARDEN, *party, DEED, right),
+        )?;
+        register.next = number.saturating_add(1);
+    }
+    Ok(())
+}
+
+/// The fault of the garden, its shares checked or not, with these rights and no others.
+fn held(alloc: Global, checked: bool, rights: &[Right]) -> Result<Option<Unsound>, Fail> {
+    let unit = [Fact::Unit(GARDEN, "Garden", checked)];
+    let mut register = register_of(alloc, &[PERSONS, RECORDS, WITHOUT_RIGHTS, &unit])?;
+    tell_rights(alloc, &mut register, rights)?;
+    Ok(fault(alloc, &register)?)
+}
+
+/// Rights, and the faults of the garden where its shares are checked and where they are not.
+struct Holding(&'static [Right], Option<Unsound>, Option<Unsound>);
+
+fn assert_held(rt: &impl Abort, alloc: Global, holdings: &[Holding]) -> Result<(), Fail> {
+    for (place, it) in holdings.iter().enumerate() {
+        assert!(rt; held(alloc, true, it.0)? == it.1, "checked {place}");
+        assert!(rt; held(alloc, false, it.0)? == it.2, "unchecked {place}");
+    }
+    Ok(())
+}
+
+const HALVES: &[Right] = &[(ANNA, Ownership, 1, 2), (BEN, Ownership, 1, 2)];
+
+const HALF_AND_THIRD: &[Right] = &[(ANNA, Ownership, 1, 2), (BEN, Ownership, 1, 3)];
+
+const TOO_MUCH: &[Right] = &[(ANNA, Ownership, 1, 1), (BEN, Ownership, 1, 3)];
+
+const TOO_FINE: &[Right] = &[
+    (ANNA, Ownership, 1, 3),
+    (BEN, Ownership, 1, 3),
+    (SAM, Ownership, 333_333_333, 1_000_000_000),
+];
+
+const LEASED_IN_PART: &[Right] = &[(ANNA, Ownership, 1, 1), (BEN, Lease, 1, 2)];
+
+const USED_IN_PART: &[Right] = &[(ANNA, Ownership, 1, 1), (BEN, Usufruct, 1, 2)];
+
+const OF_TWO_TYPES: &[Right] = &[(ANNA, Ownership, 1, 2), (BEN, Lease, 1, 2)];
+
+const ALL_OF_ANNA: &[Right] = &[
+    (ANNA, Ownership, 1, 1),
+    (ANNA, Lease, 1, 1),
+    (ANNA, Usufruct, 1, 1),
+];
+
+const SHARES: Option<Unsound> = Some(Unsound::Shares);
+
+const WHOLES: &[Holding] = &[
+    Holding(HALVES, None, None),
+    Holding(ALL_OF_ANNA, None, None),
+    Holding(HALF_AND_THIRD, SHARES, None),
+    Holding(TOO_MUCH, SHARES, None),
+    Holding(TOO_FINE, SHARES, None),
+    Holding(LEASED_IN_PART, SHARES, None),
+    Holding(USED_IN_PART, SHARES, None),
+    Holding(OF_TWO_TYPES, SHARES, None),
+];
+
+#[test]
+fn shares_make_a_whole_in_a_checked_unit(rt: HostRuntime) -> Result<(), Fail> {
+    assert_held(&rt, rt.alloc(), WHOLES)
+}
+
+const OWNED_TWICE: &[Right] = &[(ANNA, Ownership, 1, 2), (ANNA, Ownership, 1, 2)];
+
+const LEASED_TWICE: &[Right] = &[
+    (ANNA, Ownership, 1, 1),
+    (BEN, Lease, 1, 2),
+    (BEN, Lease, 1, 2),
+];
+
+const USED_TWICE: &[Right] = &[
+    (BEN, Usufruct, 1, 2),
+    (ANNA, Ownership, 1, 1),
+    (BEN, Usufruct, 1, 2),
+];
+
+const LEASED_BY_TWO: &[Right] = &[
+    (ANNA, Ownership, 1, 1),
+    (BEN, Lease, 1, 2),
+    (SAM, Lease, 1, 2),
+];
+
+const TWICE: Option<Unsound> = Some(Unsound::Twice);
+
+const TYPES: &[Holding] = &[
+    Holding(OWNED_TWICE, TWICE, TWICE),
+    Holding(LEASED_TWICE, TWICE, TWICE),
+    Holding(USED_TWICE, TWICE, TWICE),
+    Holding(LEASED_BY_TWO, None, None),
+    Holding(ALL_OF_ANNA, None, None),
+];
+
+#[test]
+fn a_party_has_one_right_of_a_type(rt: HostRuntime) -> Result<(), Fail> {
+    assert_held(&rt, rt.alloc(), TYPES)
+}
+
+const TWO_UNITS: &[Case] = &[Case(
+    &[
+        Fact::Rrr(17, ORCHARD, SAM, DEED, Held::Right(Lease, 1, 1)),
+        Fact::Next(20),
+    ],
+    None,
+)];
+
+#[test]
+fn a_party_has_rights_of_one_type_in_two_units(rt: HostRuntime) -> Result<(), Fail> {
+    assert_faults(
+        &rt,
+        rt.alloc(),
+        &[PERSONS, RECORDS, WITH_ORCHARD],
+        TWO_UNITS,
+    )
+}
+
+const RANK: Option<Unsound> = Some(Unsound::Rank);
+
+const RANKS: &[Case] = &[
+    Case(
+        &[Fact::Rrr(17, GARDEN, BEN, DEED, Held::Mortgage(1))],
+        TWICE,
+    ),
+    Case(&[Fact::Rrr(17, GARDEN, BEN, DEED, Held::Mortgage(2))], None),
+    Case(
+        &[Fact::Rrr(17, ORCHARD, BEN, DEED, Held::Mortgage(1))],
+        None,
+    ),
+    Case(&[Fact::Rrr(17, GARDEN, BEN, DEED, Held::Mortgage(0))], RANK),
+    Case(
+        &[Fact::Rrr(17, ORCHARD, BEN, DEED, Held::Mortgage(0))],
+        RANK,
+    ),
+    Case(
+        &[Fact::Rrr(17, GARDEN, BEN, DEED, Held::Mortgage(19))],
+        None,
+    ),
+    Case(
+        &[Fact::Rrr(17, GARDEN, BEN, DEED, Held::Mortgage(20))],
+        RANK,
+    ),
+];
+
+#[test]
+fn mortgages_of_a_unit_have_ranks_of_their_own(rt: HostRuntime) -> Result<(), Fail> {
+    let twenty = &[Fact::Next(20)];
+    assert_faults(
+        &rt,
+        rt.alloc(),
+        &[PERSONS, RECORDS, WITH_ORCHARD, twenty],
+        RANKS,
+    )
+}

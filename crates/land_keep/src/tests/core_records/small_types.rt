@@ -1,0 +1,70 @@
+//! The small types give back what they were made of.
+use crate::tests::facts::text;
+use land_core::duplicate::Duplicate;
+use land_core::records::Records;
+use land_core::role::Role;
+use land_core::roles::{Grant, Roles};
+use land_core::sequence::Sequence;
+use std::alloc::{AllocError, Global};
+use std::test::Fail;
+
+fn is_text_given_back(alloc: Global, given: &str) -> Result<bool, AllocError> {
+    let copy = text(alloc, given)?.copy(alloc)?;
+    Ok(copy.into_string().as_str() == given)
+}
+
+#[test]
+fn a_text_is_given_back(rt: HostRuntime) -> Result<(), Fail> {
+    assert!(&rt; is_text_given_back(rt.alloc(), "Anna")?);
+    Ok(())
+}
+
+fn is_list_given_back(alloc: Global, given: &[u64]) -> Result<bool, AllocError> {
+    let copy = Sequence::from_vec(given.to_vec(alloc)?).copy(alloc)?;
+    Ok(copy.into_vec().as_slice() == given)
+}
+
+fn is_list_of_one(alloc: Global, given: u64) -> Result<bool, AllocError> {
+    let one = Sequence::of_one(alloc, given)?;
+    Ok(one.as_slice() == [given].as_slice())
+}
+
+#[test]
+fn a_list_is_given_back(rt: HostRuntime) -> Result<(), Fail> {
+    assert!(&rt; is_list_given_back(rt.alloc(), &[3, 1, 2])? && is_list_of_one(rt.alloc(), 7)?);
+    Ok(())
+}
+
+/// Records of which one has ended.
+fn records(alloc: Global) -> Result<Records<u64>, AllocError> {
+    let mut records = Records::new(alloc);
+    records.insert(7, 70)?;
+    records.insert(8, 80)?;
+    records.remove(7);
+    Ok(Records::from_map(records.into_map()))
+}
+
+#[test]
+fn records_are_given_back(rt: HostRuntime) -> Result<(), Fail> {
+    let records = records(rt.alloc())?;
+    assert!(&rt; records.get(7) == None && records.get(8) == Some(&80));
+    Ok(())
+}
+
+const GRANT: Grant = Grant {
+    party: 2,
+    role: Role::Bank,
+};
+
+fn granted(alloc: Global) -> Result<Roles, AllocError> {
+    let mut roles = Roles::new(alloc);
+    roles.insert(GRANT)?;
+    Ok(Roles::from_set(roles.into_set()))
+}
+
+#[test]
+fn roles_are_given_back(rt: HostRuntime) -> Result<(), Fail> {
+    let roles = granted(rt.alloc())?;
+    assert!(&rt; roles.contains(GRANT) && !Roles::new(rt.alloc()).contains(GRANT));
+    Ok(())
+}

@@ -1,0 +1,117 @@
+//! The policy told by hand over a register of two units: what each role is shown of it, and by which rule it is denied
+//! the rest.
+mod lists;
+mod standing;
+mod views;
+
+use super::facts::{Fact, Held, Share, fault, register_of};
+use land_core::caller::Caller;
+use land_core::kind::PartyKind::{Group, NaturalPerson, NonNaturalPerson};
+use land_core::register::Register;
+use land_core::role::Role;
+use land_core::rrr::RightType::{Lease, Ownership};
+use land_rules::verdict::Verdict;
+use std::alloc::Global;
+use std::test::Fail;
+
+const OFFICE: u64 = 1;
+
+const ANNA: u64 = 2;
+
+const BEN: u64 = 3;
+
+const NORTH: u64 = 4;
+
+const NORA: u64 = 5;
+
+const LENA: u64 = 6;
+
+/// The group of Anna and Ben.
+const FAMILY: u64 = 7;
+
+const SOUTH: u64 = 8;
+
+const SAM: u64 = 9;
+
+/// A unit with parcel 12: owned by Anna and Ben's group (15), leased to Lena (16), with a restriction for the office (17),
+/// mortgages of the banks North (18) and South (19).
+const FARM: u64 = 10;
+
+/// A unit with parcel 13: owned by Nora (20).
+const HOUSE: u64 = 11;
+
+/// The source of everything.
+const DEED: u64 = 14;
+
+/// Where nothing stands.
+const ABSENT: u64 = 77;
+
+const HALVES: &[Share] = &[(ANNA, 1, 2), (BEN, 1, 2)];
+
+const PARTIES: &[Fact] = &[
+    Fact::Party(ANNA, NaturalPerson, "Anna"),
+    Fact::Party(BEN, NaturalPerson, "Ben"),
+    Fact::Party(NORTH, NonNaturalPerson, "Bank North"),
+    Fact::Party(NORA, NaturalPerson, "Nora"),
+    Fact::Party(LENA, NaturalPerson, "Lena"),
+    Fact::Party(FAMILY, Group, "Anna and Ben"),
+    Fact::Party(SOUTH, NonNaturalPerson, "Bank South"),
+    Fact::Party(SAM, NaturalPerson, "Sam"),
+    Fact::Members(FAMILY, HALVES),
+];
+
+const ROLES: &[Fact] = &[
+    Fact::Grant(OFFICE, Role::Citizen),
+    Fact::Grant(ANNA, Role::Citizen),
+    Fact::Grant(BEN, Role::Citizen),
+    Fact::Grant(NORTH, Role::Citizen),
+    Fact::Grant(NORA, Role::Citizen),
+    Fact::Grant(LENA, Role::Citizen),
+    Fact::Grant(SOUTH, Role::Citizen),
+    Fact::Grant(SAM, Role::Citizen),
+    Fact::Grant(NORTH, Role::Bank),
+    Fact::Grant(SOUTH, Role::Bank),
+    Fact::Grant(NORA, Role::Notary),
+    Fact::Grant(LENA, Role::Conveyancer),
+    Fact::Grant(SAM, Role::CertifiedSurveyor),
+];
+
+const UNITS: &[Fact] = &[
+    Fact::Source(DEED),
+    Fact::Unit(FARM, "Farm", true),
+    Fact::Unit(HOUSE, "House", true),
+    Fact::Parcel(12, FARM, "1/1", DEED),
+    Fact::Parcel(13, HOUSE, "1/2", DEED),
+    Fact::Rrr(15, FARM, FAMILY, DEED, Held::Right(Ownership, 1, 1)),
+    Fact::Rrr(16, FARM, LENA, DEED, Held::Right(Lease, 1, 1)),
+    Fact::Rrr(17, FARM, OFFICE, DEED, Held::Restriction),
+    Fact::Rrr(18, FARM, NORTH, DEED, Held::Mortgage(1)),
+    Fact::Rrr(19, FARM, SOUTH, DEED, Held::Mortgage(2)),
+    Fact::Rrr(20, HOUSE, NORA, DEED, Held::Right(Ownership, 1, 1)),
+    Fact::Next(21),
+];
+
+fn caller(party: u64, role: Role) -> Caller {
+    Caller { party, role }
+}
+
+/// What is told by the number of the rule that denies, or by 0 where none does.
+fn told(rule: u8) -> Verdict {
+    if rule == 0 {
+        Verdict::Allowed
+    } else {
+        Verdict::Denied(rule)
+    }
+}
+
+/// A register with the farm and the house.
+fn farm_and_house(alloc: Global) -> Result<Register, Fail> {
+    register_of(alloc, &[PARTIES, ROLES, UNITS])
+}
+
+#[test]
+fn the_farm_and_the_house_are_soundly_registered(rt: HostRuntime) -> Result<(), Fail> {
+    let register = farm_and_house(rt.alloc())?;
+    assert!(&rt; fault(rt.alloc(), &register)? == None);
+    Ok(())
+}

@@ -1,0 +1,116 @@
+//! The steps that other rows begin with.
+use super::asked::OFFICE;
+use super::asked::RowAct::{Enrol, Grant, Group, Register};
+use super::asked::RowAsk::Do;
+use super::facts::{Right, Share};
+use super::rows::Row;
+use land_core::caller::Caller;
+use land_core::kind::PartyKind::{NaturalPerson, NonNaturalPerson};
+use land_core::role::Role::{Bank, CertifiedSurveyor, Citizen, Notary};
+use land_core::rrr::RightType::{Lease, Ownership};
+
+pub(super) const ANNA: Caller = Caller {
+    party: 2,
+    role: Citizen,
+};
+
+pub(super) const BEN: Caller = Caller {
+    party: 3,
+    role: Citizen,
+};
+
+pub(super) const BANK: Caller = Caller {
+    party: 4,
+    role: Bank,
+};
+
+/// The bank, looking after its own holdings.
+pub(super) const BANK_ITSELF: Caller = Caller {
+    party: 4,
+    role: Citizen,
+};
+
+pub(super) const NORA: Caller = Caller {
+    party: 5,
+    role: Notary,
+};
+
+pub(super) const NORA_HERSELF: Caller = Caller {
+    party: 5,
+    role: Citizen,
+};
+
+pub(super) const SURVEYOR: Caller = Caller {
+    party: 6,
+    role: CertifiedSurveyor,
+};
+
+pub(super) const SAM: Caller = Caller {
+    party: 6,
+    role: Citizen,
+};
+
+const ANNA_A_THIRD: &[Share] = &[(2, 1, 3), (3, 2, 3)];
+
+/// Anna, Ben and the bank are enrolled.
+pub(super) const ENROLLED: &[Row] = &[
+    Row(
+        1000,
+        OFFICE,
+        Do(Enrol(NaturalPerson, "Anna")),
+        "done 2 made [2] at 1000",
+    ),
+    Row(
+        1000,
+        OFFICE,
+        Do(Enrol(NaturalPerson, "Ben")),
+        "done 3 made [3] at 1001",
+    ),
+    Row(
+        1000,
+        OFFICE,
+        Do(Enrol(NonNaturalPerson, "Bank, \"North\"")),
+        "done 4 made [4] at 1002",
+    ),
+];
+
+/// The bank has its role, Nora and Sam are enrolled and have theirs, and Anna and Ben become a group.
+pub(super) const GROUPED: &[Row] = &[
+    Row(1000, OFFICE, Do(Grant(4, Bank)), "done 4 made [] at 1003"),
+    Row(
+        1000,
+        OFFICE,
+        Do(Enrol(NaturalPerson, "Nora")),
+        "done 5 made [5] at 1004",
+    ),
+    Row(1000, OFFICE, Do(Grant(5, Notary)), "done 5 made [] at 1005"),
+    Row(
+        1000,
+        OFFICE,
+        Do(Enrol(NaturalPerson, "Sam")),
+        "done 6 made [6] at 1006",
+    ),
+    Row(
+        1000,
+        OFFICE,
+        Do(Grant(6, CertifiedSurveyor)),
+        "done 6 made [] at 1007",
+    ),
+    Row(
+        1000,
+        OFFICE,
+        Do(Group("Anna and Ben", ANNA_A_THIRD)),
+        "done 7 made [7] at 1008",
+    ),
+];
+
+/// Anna a quarter, the group of Anna and Ben the rest, and Sam's lease.
+pub(super) const SHARED: &[Right] = &[(2, Ownership, 1, 4), (7, Ownership, 3, 4), (6, Lease, 1, 1)];
+
+/// The garden is registered.
+pub(super) const REGISTERED: &[Row] = &[Row(
+    1000,
+    OFFICE,
+    Do(Register(true, 1, SHARED)),
+    "done 9 made [8, 9, 10, 11, 12, 13] at 1009",
+)];
