@@ -1,19 +1,4 @@
 -- Definitions of the program.
 pub mod Arguments
-pub mod Bodies
-pub mod Decimals
-pub mod Faults
-pub mod Fields
-pub mod Frame
-pub mod Items
-pub mod Laws
 pub mod Program
 pub mod ProgramFaults
-pub mod Reading
-pub mod Replies
-pub mod RequestFaults
-pub mod Responses
-pub mod Routes
-pub mod Serving
-pub mod Stream
-pub mod Target

@@ -4,11 +4,11 @@ use Rattle.std.specs.Io.KnownBytes.{Appends}
 use Rattle.land_keep.specs.Machine.{State}
 use Rattle.land_keep.specs.Timeline.{new_timeline}
 use Rattle.land.specs.ProgramFaults.{fault_of}
-use Rattle.land.specs.Serving.{IsServedOne}
+use Rattle.land_desk.specs.Serving.{IsServedOne}
 use Rattle.land.specs.declared.arguments.Command.{Command}
 use Rattle.land.specs.declared.arguments.Command.TheVariants.{Talk}
-use Rattle.land.specs.declared.first.serve.DeskFault.{DeskFault}
-use Rattle.land.specs.declared.first.serve.Served.{Served}
+use Rattle.land_desk.specs.declared.serve.DeskFault.{DeskFault}
+use Rattle.land_desk.specs.declared.serve.Served.{Served}
 use Rattle.land.specs.declared.program_fault.ProgramFault.{ProgramFault}
 use Rattle.land.specs.declared.program_fault.ProgramFault.TheVariants.{Words}
 use Rattle.land.specs.declared.set_clock.SetClock.{SetClock}

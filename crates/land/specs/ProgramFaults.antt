@@ -2,8 +2,8 @@
 use Rattle.std.specs.Prelude.{◌≡◌, ◌≢◌, ◌⊎◌, ℕ, List, codes}
 use Rattle.std.specs.declared.io.ErrorKind.{ErrorKind}
 use Rattle.std.specs.declared.io.ErrorKind.TheVariants.{OutOfMemory}
-use Rattle.land.specs.declared.first.serve.DeskFault.{DeskFault}
-use Rattle.land.specs.declared.first.serve.DeskFault.TheVariants as desk
+use Rattle.land_desk.specs.declared.serve.DeskFault.{DeskFault}
+use Rattle.land_desk.specs.declared.serve.DeskFault.TheVariants as desk
 use Rattle.land.specs.declared.program_fault.ProgramFault.{ProgramFault}
 use Rattle.land.specs.declared.program_fault.ProgramFault.TheVariants as program
 

@@ -2,7 +2,7 @@
 ghost use Rattle.std.specs.Prelude.{◌≡◌, map, string_bytes};
 ghost use Rattle.land.specs.Arguments.{command_of, moment_in};
 
-use crate::first::numbers::read_decimal;
+use land_wire::decimals::read_decimal;
 
 /// The last moment that there is: the end of the year 2099 in UTC.
 const LAST_MOMENT: i64 = 4_102_444_799_999;
@@ -40,68 +40,5 @@ fn read_moment(text: &str) -> Option<i64>
         Some(moment)
     } else {
         None
-    }
-}
-
-#[cfg(test)]
-mod tests {
-    use super::*;
-    use std::alloc::{AllocError, Global};
-    use std::test::Fail;
-
-    /// What these words ask for.
-    fn asked(alloc: Global, row: &[&str]) -> Result<Option<Command>, AllocError> {
-        let mut words = Vec::new(alloc);
-        for word in row {
-            words.push(String::from_str(alloc, word)?)?;
-        }
-        Ok(read_words(&words))
-    }
-
-    #[test]
-    fn talk_is_given_a_moment(rt: HostRuntime) -> Result<(), Fail> {
-        for (text, clock) in [
-            ("0", 0),
-            ("1000", 1000),
-            ("0000000001000", 1000),
-            ("4102444799999", 4_102_444_799_999),
-        ] {
-            let command = asked(rt.alloc(), &["talk", "--clock", text])?;
-            assert_eq!(rt; command, Some(Command::Talk { clock }));
-        }
-        Ok(())
-    }
-
-    #[test]
-    fn other_words_are_refused(rt: HostRuntime) -> Result<(), Fail> {
-        let rows: [&[&str]; 9] = [
-            &[],
-            &["talk"],
-            &["talk", "--clock"],
-            &["talk", "--clock", "1000", "1000"],
-            &["--clock", "1000", "talk"],
-            &["Talk", "--clock", "1000"],
-            &["talk", "--Clock", "1000"],
-            &["talk", "clock", "1000"],
-            &["talk", "--clock=1000", ""],
-        ];
-        for row in rows {
-            assert_eq!(rt; asked(rt.alloc(), row)?, None);
-        }
-        for text in [
-            "",
-            "+1",
-            "-1",
-            "1.0",
-            "1 ",
-            "1e3",
-            "x",
-            "00000000000001",
-            "4102444800000",
-        ] {
-            let command = asked(rt.alloc(), &["talk", "--clock", text])?;
-            assert_eq!(rt; command, None, "{text}");
-        }
-        Ok(())
     }
 }

@@ -6,14 +6,15 @@ ghost use Rattle.land.specs.Arguments.{command_of};
 ghost use Rattle.land.specs.Program.{IsTalk, IsDone};
 
 mod arguments;
-mod first;
 mod program_fault;
 mod set_clock;
+#[cfg(test)]
+mod tests;
 
 use crate::arguments::{Command, read_words};
-use crate::first::serve::{DeskFault, Served, serve_one};
 use crate::program_fault::ProgramFault;
 use crate::set_clock::SetClock;
+use land_desk::serve::{DeskFault, Served, serve_one};
 use land_keep::plain_keeper::PlainKeeper;
 use std::alloc::Global;
 use std::env;

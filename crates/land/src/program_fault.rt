@@ -3,7 +3,7 @@ ghost use Rattle.std.specs.Prelude.{◌≡◌, Some};
 ghost use Rattle.std.specs.IoError.{error_kind};
 ghost use Rattle.land.specs.ProgramFaults.{fault_of, IsFaultOfWords, status_of, text_of};
 
-use crate::first::serve::DeskFault;
+use land_desk::serve::DeskFault;
 use std::alloc::AllocError;
 use std::fmt::{self, Display, Formatter, Write};
 use std::io;

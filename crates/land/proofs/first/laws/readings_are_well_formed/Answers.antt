@@ -1,5 +1,0 @@
-use Rattle.land.proofs.WellFormed.{reading-well_formed}
-use Rattle.land.proofs.first.laws.readings_are_well_formed.Goals as goal
-
-pub returns : goal.returns
-returns c = reading-well_formed

@@ -1,9 +1,0 @@
-use Rattle.land.proofs.StoreHeads.{closing_head, open_head}
-use Rattle.std.proofs.Common.{sym}
-use Rattle.land.proofs.first.response.store_head.Goals as goal
-
-pub returns-then-closing : goal.returns-then-closing
-returns-then-closing c = λ fault h. rw c.if-closing.true (sym (closing_head fault h))
-
-pub returns-else-closing : goal.returns-else-closing
-returns-else-closing c = λ fault h. rw c.if-closing.false (sym (open_head fault h))

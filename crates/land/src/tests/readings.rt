@@ -1,0 +1,83 @@
+//! Requests as they are read, where a reply does not show it.
+use crate::tests::office::ANNA;
+use http_header::HeaderMap;
+use land_core::act::Act;
+use land_core::ask::{Ask, Request};
+use land_core::kind::{Kind, PartyKind};
+use land_core::role::Role;
+use land_wire::fields::append_field;
+use land_wire::reading::read_request;
+use std::alloc::Global;
+use std::test::Fail;
+
+/// The fields that name the office as the caller.
+fn office_fields(alloc: Global) -> Result<HeaderMap, Fail> {
+    let mut fields = HeaderMap::new(alloc);
+    append_field(alloc, &mut fields, b"Register-Party", b"1").map_err(|_| "no memory")?;
+    append_field(alloc, &mut fields, b"Register-Role", b"stateAdministrator").map_err(
+        |_| "no memory",
+    )?;
+    Ok(fields)
+}
+
+/// The request that the office puts with this method, target and body.
+fn read(alloc: Global, method: &[u8], target: &[u8], body: &[u8]) -> Result<Request, Fail> {
+    let fields = office_fields(alloc)?;
+    let request = read_request(alloc, method, target, &fields, body);
+    Ok(request.map_err(|_| "no memory, or no request")?)
+}
+
+fn is_by_the_office(request: &Request) -> bool {
+    request.caller.party == 1 && request.caller.role == Role::StateAdministrator
+}
+
+fn is_list(request: &Request) -> bool {
+    matches!(
+        &request.ask,
+        Ask::List {
+            kind: Kind::Party,
+            at: None
+        }
+    )
+}
+
+fn is_view_of_9(request: &Request) -> bool {
+    matches!(
+        &request.ask,
+        Ask::View {
+            kind: Kind::Party,
+            number: 9,
+            at: None
+        }
+    )
+}
+
+fn is_enrolment_of_anna(request: &Request) -> bool {
+    match &request.ask {
+        Ask::Do(Act::Enrol(enrol)) => {
+            enrol.kind == PartyKind::NaturalPerson && enrol.name.as_str() == "Anna"
+        }
+        _ => false,
+    }
+}
+
+#[test]
+fn a_list_is_read(rt: HostRuntime) -> Result<(), Fail> {
+    let request = read(rt.alloc(), b"GET", b"/parties?", b"\xff{")?;
+    assert!(rt; is_by_the_office(&request) && is_list(&request));
+    Ok(())
+}
+
+#[test]
+fn a_view_is_read(rt: HostRuntime) -> Result<(), Fail> {
+    let request = read(rt.alloc(), b"GET", b"/parties/0000000000009", b"")?;
+    assert!(rt; is_by_the_office(&request) && is_view_of_9(&request));
+    Ok(())
+}
+
+#[test]
+fn an_enrolment_is_read(rt: HostRuntime) -> Result<(), Fail> {
+    let request = read(rt.alloc(), b"POST", b"/acts/enrol", ANNA)?;
+    assert!(rt; is_by_the_office(&request) && is_enrolment_of_anna(&request));
+    Ok(())
+}

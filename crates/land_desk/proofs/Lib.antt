@@ -1,0 +1,10 @@
+-- Lemmas of streams and of serving them.
+pub mod ExchangeLemmas
+pub mod FrameLemmas
+pub mod HeaderLemmas
+pub mod ItemLemmas
+pub mod ListingLemmas
+pub mod ServingLemmas
+pub mod StoreHeads
+pub mod StreamLemmas
+pub mod TargetLemmas

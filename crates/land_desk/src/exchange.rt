@@ -1,0 +1,162 @@
+//! One request and its answer: the answer's bytes are made before a change is written.
+ghost use Rattle.std.specs.Prelude.{◌≡◌, ◌||◌, ◌⊎◌, true, false, MatchOption, IfOk, Result};
+ghost use Rattle.land_core.specs.Acts.{is_well_formed_request};
+ghost use Rattle.land_core.specs.declared.ask.Request.{Request as AskedRequest};
+ghost use Rattle.land_keep.specs.Machine.{State};
+ghost use Rattle.land_keep.specs.declared.reply.Reply.TheVariants as reply;
+ghost use Rattle.land_desk.specs.FrameFaults.{number_of};
+ghost use Rattle.land_wire.specs.Reading.{asks_sheet};
+ghost use Rattle.land_wire.specs.Replies.{is_sheet};
+ghost use Rattle.land_wire.specs.RequestFaults.{Gives};
+ghost use Rattle.land_keep.specs.Faults.{number_of as keep_number};
+ghost use Rattle.land_desk.specs.Serving.{closes, Heard, Told, IsAnswer, answer_bytes};
+
+use crate::frame_fault::FrameFault;
+use crate::response::{Status, response_bytes, store_response};
+use land_core::ask::Request;
+use land_keep::clock::Clock;
+use land_keep::keeper::Keeper;
+use land_keep::machine::{finish, prepare};
+use land_keep::reply::Reply;
+use land_keep::store_fault::StoreFault;
+use land_wire::request_fault::RequestFault;
+use land_wire::text::reply_text;
+use std::alloc::Global;
+
+/// The bytes of an answer.
+#[derive(Debug, Drop)]
+pub enum AnswerBytes {
+    /// Made for this reply.
+    Made(Vec<u8>),
+    /// Those of a store fault, which are always at hand.
+    Kept(&'static [u8]),
+}
+
+impl AnswerBytes {
+    /// The bytes.
+    pub fn as_slice(&self) -> &[u8]
+        ensures { result.now ≡ answer_bytes self.now }
+    {
+        match self {
+            AnswerBytes::Made(bytes) => bytes.as_slice(),
+            AnswerBytes::Kept(bytes) => bytes,
+        }
+    }
+}
+
+/// The bytes of an answer, and whether the connection ends after it.
+#[derive(Debug, Drop)]
+pub struct Answer {
+    /// What is written.
+    pub bytes: AnswerBytes,
+    /// Whether the connection ends.
+    pub last: bool,
+}
+
+/// Answers a request that was read, or the fault in it. Where there is no room for the answer's bytes it is 501, and
+/// nothing is changed.
+pub fn exchange<K: Keeper, C: Clock>(
+    alloc: Global,
+    keeper: &mut K,
+    clock: &mut C,
+    request: Result<Request, RequestFault>,
+    ends: bool,
+    head: bool,
+) -> Answer
+    requires well_formed { IfOk request (λ asked. is_well_formed_request asked ≡ true) }
+    requires no_sheet { IfOk request (λ asked. asks_sheet asked.ask ≡ false) }
+    ensures { (q : Result AskedRequest RequestFault) → Gives (λ asked. asked) request q → (r : Reply)
+        × Told C.reads q
+        (record { closed = K.closed keeper.old; timeline = K.timeline keeper.old; clock = clock.old }) r
+        (record { closed = K.closed keeper.new; timeline = K.timeline keeper.new; clock = clock.new })
+        × IsAnswer result r ends head }
+{
+    match request {
+        Err(RequestFault::NoMemory) => failed(StoreFault::NoMemory, ends, head),
+        Err(fault) => answered_or_failed(alloc, &Reply::Fault(fault.number()), ends, head),
+        Ok(request) => exchange_request(alloc, keeper, clock, &request, ends, head),
+    }
+}
+
+/// Answers a request that was read.
+fn exchange_request<K: Keeper, C: Clock>(
+    alloc: Global,
+    keeper: &mut K,
+    clock: &mut C,
+    request: &Request,
+    ends: bool,
+    head: bool,
+) -> Answer
+    requires well_formed { is_well_formed_request request.now ≡ true }
+    requires no_sheet { asks_sheet request.now.ask ≡ false }
+    ensures { (r : Reply)
+        × Heard C.reads (Ok request.now)
+        (record { closed = K.closed keeper.old; timeline = K.timeline keeper.old; clock = clock.old }) r
+        (record { closed = K.closed keeper.new; timeline = K.timeline keeper.new; clock = clock.new })
+        × IsAnswer result r ends head }
+{
+    let reading = clock.read();
+    let prepared = match prepare(alloc, keeper, reading, request) {
+        Err(fault) => return failed(fault, ends, head),
+        Ok(prepared) => prepared,
+    };
+    let Some(answer) = answered(alloc, prepared.reply(), ends, head) else {
+        return failed(StoreFault::NoMemory, ends, head);
+    };
+    match finish(alloc, keeper, prepared) {
+        Err(fault) => failed(fault, ends, head),
+        Ok(_) => answer,
+    }
+}
+
+/// Answers an item that is a fault of framing: the connection ends after it.
+pub fn refuse(alloc: Global, fault: FrameFault) -> Answer
+    ensures { (r : Reply) × ((r ≡ reply.Fault (number_of fault)) ⊎ (r ≡ reply.Store 501)) × IsAnswer result r true false }
+{
+    answered_or_failed(alloc, &Reply::Fault(fault.number()), true, false)
+}
+
+fn answered_or_failed(alloc: Global, wanted: &Reply, ends: bool, head: bool) -> Answer
+    requires { is_sheet wanted.now ≡ false }
+    ensures { (r : Reply) × ((r ≡ wanted.now) ⊎ (r ≡ reply.Store 501)) × IsAnswer result r ends head }
+{
+    match answered(alloc, wanted, ends, head) {
+        Some(answer) => answer,
+        None => failed(StoreFault::NoMemory, ends, head),
+    }
+}
+
+/// The answer of a reply, or none where there is no room for its bytes.
+fn answered(alloc: Global, reply: &Reply, ends: bool, head: bool) -> Option<Answer>
+    requires { is_sheet reply.now ≡ false }
+    ensures { MatchOption result (Unit {0}) (λ a. IsAnswer a reply.now ends head) }
+{
+    let last = ends || closes(reply);
+    let text = reply_text(alloc, reply).ok()?;
+    let bytes = response_bytes(alloc, Status::of(reply), text.as_str(), last, head).ok()?;
+    Some(Answer {
+        bytes: AnswerBytes::Made(bytes),
+        last,
+    })
+}
+
+/// The answer of a store fault, which wants no memory.
+fn failed(fault: StoreFault, ends: bool, head: bool) -> Answer
+    ensures { IsAnswer result (reply.Store (keep_number fault)) ends head }
+{
+    let last = ends || fault != StoreFault::NoMemory;
+    Answer {
+        bytes: AnswerBytes::Kept(store_response(fault.number(), last, head)),
+        last,
+    }
+}
+
+/// Whether a reply ends the connection by itself.
+fn closes(reply: &Reply) -> bool
+    ensures { result ≡ closes reply.now }
+{
+    match reply {
+        Reply::Store(number) => *number == 502 || *number == 503,
+        _ => false,
+    }
+}

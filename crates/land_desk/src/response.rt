@@ -1,0 +1,127 @@
+//! The bytes of replies on the wire.
+ghost use Rattle.std.specs.Prelude.{◌≡◌, ℕ, IfOk, Some, true, false};
+ghost use Rattle.land_wire.specs.Replies.{IsStoreFault};
+ghost use Rattle.land_desk.specs.Responses.{reply_bytes, response, status_of, status_text};
+ghost use Rattle.land_keep.specs.declared.reply.Reply.TheVariants as reply;
+
+use land_keep::reply::Reply;
+use std::alloc::{AllocError, Global};
+
+/// The status of a reply (RFC 9110, section 15).
+#[derive(Clone, Copy, Debug, PartialEq, Eq)]
+pub enum Status {
+    /// 200: an object, numbers, a title sheet, or an act that was done.
+    Ok,
+    /// 400: a fault of the request.
+    BadRequest,
+    /// 403: a denial.
+    Forbidden,
+    /// 409: a refusal.
+    Conflict,
+    /// 503: a fault of the store.
+    Unavailable,
+}
+
+impl Status {
+    /// The status of a reply.
+    pub fn of(reply: &Reply) -> Status
+        ensures { result ≡ status_of reply.now }
+    {
+        match reply {
+            Reply::Object(_) | Reply::Numbers(_) | Reply::Sheet(_) | Reply::Done(_) => Status::Ok,
+            Reply::Denied(_) => Status::Forbidden,
+            Reply::Fault(_) => Status::BadRequest,
+            Reply::Refused(_) => Status::Conflict,
+            Reply::Store(_) => Status::Unavailable,
+        }
+    }
+
+    /// Its code and phrase.
+    pub fn text(self) -> &'static str
+        ensures { result.now ≡ status_text self }
+    {
+        match self {
+            Status::Ok => "200 OK",
+            Status::BadRequest => "400 Bad Request",
+            Status::Forbidden => "403 Forbidden",
+            Status::Conflict => "409 Conflict",
+            Status::Unavailable => "503 Service Unavailable",
+        }
+    }
+}
+
+/// The bytes of a reply on the wire, with `body` as the reply's text: `closing` where the connection ends after it,
+/// `head` where the request was a HEAD, whose answer has no body.
+#[tactic(auto, unfolding(crate::specs::Responses::response))]
+pub fn response_bytes(
+    alloc: Global,
+    status: Status,
+    body: &str,
+    closing: bool,
+    head: bool,
+) -> Result<Vec<u8>, AllocError>
+    ensures { IfOk result (λ bytes. bytes.items ≡ response status body.now closing head) }
+{
+    let status = status.text();
+    let length = body.len();
+    let connection = if closing { "Connection: close\r\n" } else { "" };
+    let shown = if head { "" } else { body };
+    let text = format!(in alloc;
+        "HTTP/1.1 {status}\r\nContent-Type: application/json\r\nContent-Length: {length}\r\n{connection}\r\n{shown}"
+    )?;
+    Ok(text.into_bytes())
+}
+
+/// The bytes on the wire of the reply that tells the store fault 501, 502 or 503, without memory, since it is sent
+/// where memory is wanting. `closing` and `head` are those of `response_bytes`.
+pub fn store_response(number: u16, closing: bool, head: bool) -> &'static [u8]
+    requires { IsStoreFault number }
+    ensures { reply_bytes (reply.Store number) closing head ≡ Some result.now }
+{
+    if head {
+        store_head(closing).as_bytes()
+    } else if closing {
+        last_store_response(number).as_bytes()
+    } else {
+        store_response_before_others(number).as_bytes()
+    }
+}
+
+// The answer to a HEAD is the same for the three faults.
+fn store_head(closing: bool) -> &'static str
+    ensures { (fault : ℕ) → IsStoreFault fault → reply_bytes (reply.Store fault) closing true ≡ Some result.now }
+{
+    if closing {
+        "HTTP/1.1 503 Service Unavailable\r\nContent-Type: application/json\r\nContent-Length: 13\r\nConnection: close\r\n\r\n"
+    } else {
+        "HTTP/1.1 503 Service Unavailable\r\nContent-Type: application/json\r\nContent-Length: 13\r\n\r\n"
+    }
+}
+
+fn last_store_response(number: u16) -> &'static str
+    requires { IsStoreFault number }
+    ensures { reply_bytes (reply.Store number) true false ≡ Some result.now }
+{
+    match number {
+        501 =>
+            "HTTP/1.1 503 Service Unavailable\r\nContent-Type: application/json\r\nContent-Length: 13\r\nConnection: close\r\n\r\n{\"store\":501}",
+        502 =>
+            "HTTP/1.1 503 Service Unavailable\r\nContent-Type: application/json\r\nContent-Length: 13\r\nConnection: close\r\n\r\n{\"store\":502}",
+        _ =>
+            "HTTP/1.1 503 Service Unavailable\r\nContent-Type: application/json\r\nContent-Length: 13\r\nConnection: close\r\n\r\n{\"store\":503}",
+    }
+}
+
+fn store_response_before_others(number: u16) -> &'static str
+    requires { IsStoreFault number }
+    ensures { reply_bytes (reply.Store number) false false ≡ Some result.now }
+{
+    match number {
+        501 =>
+            "HTTP/1.1 503 Service Unavailable\r\nContent-Type: application/json\r\nContent-Length: 13\r\n\r\n{\"store\":501}",
+        502 =>
+            "HTTP/1.1 503 Service Unavailable\r\nContent-Type: application/json\r\nContent-Length: 13\r\n\r\n{\"store\":502}",
+        _ =>
+            "HTTP/1.1 503 Service Unavailable\r\nContent-Type: application/json\r\nContent-Length: 13\r\n\r\n{\"store\":503}",
+    }
+}

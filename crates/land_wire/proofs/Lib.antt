@@ -1,0 +1,6 @@
+-- Lemmas of what requests and replies say.
+pub mod DecimalLemmas
+pub mod FieldNames
+pub mod PartyPaths
+pub mod ReplyTexts
+pub mod WellFormed

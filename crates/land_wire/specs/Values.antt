@@ -1,0 +1,39 @@
+-- Values in JSON, and texts that are made of others.
+use Rattle.std.specs.Prelude.{ℕ, List, [], ◌∷◌, ◌++◌, map, codes}
+use Rattle.serde_json.specs.Data.{Data, unsigned, number, string, array, object, no_members, member}
+use Rattle.serde_json.specs.View.{items_of}
+use Rattle.serde_json.specs.Written.{compact_text}
+use Rattle.land_fraction.specs.Ratio.{Ratio}
+use Rattle.land_fraction.specs.Text.{text_of}
+
+abbrev pub number_data : ℕ → Data
+number_data n = number (unsigned n)
+
+abbrev pub numbers_data : List ℕ → Data
+numbers_data numbers = array (items_of (map number_data numbers))
+
+-- a share as it is printed
+abbrev pub share_data : Ratio → Data
+share_data share = string (text_of share)
+
+-- an object with one member
+abbrev pub one_member : List ℕ → Data → Data
+one_member key value = object (member key value no_members)
+
+-- ---- texts
+
+-- texts with commas between
+abbrev pub after_comma : List (List ℕ) → List ℕ
+after_comma [] = []
+after_comma (text ∷ texts) = codes "," ++ (text ++ after_comma texts)
+
+abbrev pub with_commas : List (List ℕ) → List ℕ
+with_commas [] = []
+with_commas (text ∷ texts) = text ++ after_comma texts
+
+abbrev pub quoted_word : List ℕ → List ℕ
+quoted_word word = codes "\"" ++ (word ++ codes "\"")
+
+-- a share as JSON writes it
+abbrev pub share_text : Ratio → List ℕ
+share_text share = compact_text (share_data share)

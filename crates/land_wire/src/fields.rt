@@ -1,0 +1,121 @@
+//! The fields of a head: a header map, and who asks by it.
+ghost use Rattle.std.specs.Prelude.{◌≡◌, OnOk, OnErr};
+ghost use Rattle.std.specs.Result.{IsErrOf};
+ghost use Rattle.http_header.specs.FieldName.{IsFieldName};
+ghost use Rattle.http_header.specs.FieldValue.{IsFieldValue};
+ghost use Rattle.http_header.specs.HeaderMap.{RefusesAppend, get_all};
+ghost use Rattle.http_header.specs.Token.{lowercase};
+ghost use Rattle.land_wire.specs.RequestFaults.{seen_by};
+ghost use Rattle.land_wire.specs.Fields.{caller_in, only_value, party_in, role_in, role_of, with_field};
+
+use crate::decimals::read_number;
+use crate::request_fault::RequestFault;
+use crate::words::is_word;
+use http_header::{
+    HeaderMap, HeaderMapError, HeaderName, HeaderNameError, HeaderValue, HeaderValueError,
+};
+use land_core::caller::Caller;
+use land_core::role::Role;
+use std::alloc::Global;
+
+/// Why a field is not taken.
+#[derive(Clone, Copy, Debug, PartialEq, Eq)]
+pub enum FieldFault {
+    /// Its name is no token (RFC 9110, section 5.1) of at most 65_535 bytes.
+    Name,
+    /// Its value has a byte that no value holds (RFC 9110, section 5.5).
+    Value,
+    /// The map holds no more names or values.
+    Full,
+    /// There was no memory.
+    NoMemory,
+}
+
+/// Adds a field of a head to a header map. After a fault the map is as before.
+pub fn append_field(
+    alloc: Global,
+    fields: &mut HeaderMap,
+    name: &[u8],
+    value: &[u8],
+) -> Result<(), FieldFault>
+    ensures ok { OnOk result (fields.new ≡ with_field fields.old (name.now, value.now)) }
+    ensures err { OnErr result (fields.new ≡ fields.old) }
+    ensures name { IsErrOf result FieldFault.Name → ¬ (IsFieldName name.now) }
+    ensures value { IsErrOf result FieldFault.Value → ¬ (IsFieldValue value.now) }
+    ensures full { IsErrOf result FieldFault.Full → RefusesAppend fields.old (lowercase name.now) }
+{
+    let name = match HeaderName::from_bytes(alloc, name) {
+        Ok(name) => name,
+        Err(HeaderNameError::Invalid) => return Err(FieldFault::Name),
+        Err(HeaderNameError::OutOfMemory) => return Err(FieldFault::NoMemory),
+    };
+    let value = match HeaderValue::from_bytes(alloc, value) {
+        Ok(value) => value,
+        Err(HeaderValueError::Invalid) => return Err(FieldFault::Value),
+        Err(HeaderValueError::OutOfMemory) => return Err(FieldFault::NoMemory),
+    };
+    match fields.append(name, value) {
+        Ok(_) => Ok(()),
+        Err(HeaderMapError::MaxSizeReached) => Err(FieldFault::Full),
+        Err(HeaderMapError::OutOfMemory) => Err(FieldFault::NoMemory),
+    }
+}
+
+/// Who asks, by the fields `Register-Party` and `Register-Role`, whose names are in any letter case: a party's
+/// number, else 132, and the word of a role, else 134. Either field absent or more than once is fault 131. The party
+/// comes first.
+pub fn read_caller(fields: &HeaderMap) -> Result<Caller, RequestFault>
+    ensures { result ≡ caller_in fields.now }
+{
+    let party = read_party(fields)?;
+    let role = read_role(fields)?;
+    Ok(Caller { party, role })
+}
+
+/// The number in the field `Register-Party`: else fault 131, where it is absent or stands more than once, or 132.
+pub fn read_party(fields: &HeaderMap) -> Result<u64, RequestFault>
+    ensures { result ≡ party_in fields.now }
+{
+    read_number(only_value(fields, "register-party")?)
+}
+
+/// The role in the field `Register-Role`: else fault 131, where it is absent or stands more than once, or 134.
+pub fn read_role(fields: &HeaderMap) -> Result<Role, RequestFault>
+    ensures { result ≡ role_in fields.now }
+{
+    role_of(only_value(fields, "register-role")?)
+}
+
+fn only_value<'m>(fields: &'m HeaderMap, name: &str) -> Result<&'m [u8], RequestFault>
+    ensures { seen_by (λ value. value.now) result ≡ only_value (get_all fields.now (lowercase name.now)) }
+{
+    let all = fields.get_all(name);
+    let mut values = all.iter();
+    let Some(value) = values.next() else {
+        return Err(RequestFault::Field);
+    };
+    match values.next() {
+        Some(_) => Err(RequestFault::Field),
+        None => Ok(value.as_bytes()),
+    }
+}
+
+fn role_of(word: &[u8]) -> Result<Role, RequestFault>
+    ensures { result ≡ role_of word.now }
+{
+    if is_word(word, "citizen") {
+        Ok(Role::Citizen)
+    } else if is_word(word, "conveyancer") {
+        Ok(Role::Conveyancer)
+    } else if is_word(word, "notary") {
+        Ok(Role::Notary)
+    } else if is_word(word, "bank") {
+        Ok(Role::Bank)
+    } else if is_word(word, "certifiedSurveyor") {
+        Ok(Role::CertifiedSurveyor)
+    } else if is_word(word, "stateAdministrator") {
+        Ok(Role::StateAdministrator)
+    } else {
+        Err(RequestFault::Role)
+    }
+}
