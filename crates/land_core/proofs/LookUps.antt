@@ -3,17 +3,22 @@ use Rattle.std.proofs.Common.{◌≡◌, ◌≢◌, ℕ, ◌<◌, ◌≤◌, Boo
 use Rattle.std.proofs.lemmas.Bool.{false≢true, lt-ltb, le-ltb, ltb-true, ltb-false, eqb-true, eq-eqb}
 use Rattle.std.proofs.lemmas.Bool.Decides.{nat_tests}
 use Rattle.std.specs.Cmp.{nat_cmp_total}
+use Rattle.std.proofs.lemmas.Slice.Eq.{bytes_eq-Decides}
+use Rattle.std.specs.Str.{bytes_eq}
 use Rattle.std.specs.FinMap as map
 use Rattle.std.specs.FinMap.{FinMap, nat_cmp-IsAntisymmetric}
 use Rattle.std.specs.Ordering.{nat_cmp}
+use Rattle.land_core.specs.Contents.{is_well_formed_content}
 use Rattle.land_core.specs.Entries.{has, some}
 use Rattle.land_core.specs.Grants.{grant_of}
-use Rattle.land_core.specs.Laws.{AreOfGroup, EntryRefers, GoTogether, HasOwner, HasParcel, IsInUse, IsSoundByLookUps, IsSoundUnit, ParcelRefers, SoundnessByLookUps}
+use Rattle.land_core.specs.Laws.{AreOfGroup, EntryRefers, GoTogether, HasOwner, HasParcel, IsInUse, IsSoundByLookUps, IsSoundUnit, MutationRefers, ParcelRefers, SoundnessByLookUps}
 use Rattle.land_core.specs.Members.{are_group_shares, is_group_size, is_yes}
+use Rattle.land_core.specs.Mutations.{share_a_reference}
 use Rattle.land_core.specs.Register.{holds, shares_of}
 use Rattle.land_core.specs.Role.{is_role, place_of, role_at, role_at_place}
-use Rattle.land_core.specs.Soundness.{IsSound, clashes_later, has_clash, is_loose_rank, is_used}
+use Rattle.land_core.specs.Soundness.{IsSound, clashes_later, has_clash, has_reused_reference, is_loose_mutation, is_loose_rank, is_reused_later, is_used}
 use Rattle.land_core.specs.Units.{are_of_one_rank, are_of_one_type, are_whole_or_none, do_clash, has_owner, has_parcel, has_whole_shares, is_right_in, is_right_of, is_type, parcel_count, rank_of, rrr_count, type_of, type_shares}
+use Rattle.land_core.specs.declared.mutation.MutationRecord.{MutationRecord}
 use Rattle.land_core.specs.declared.parcel.ParcelRecord.{ParcelRecord}
 use Rattle.land_core.specs.declared.register.Register.{Register}
 use Rattle.land_core.specs.declared.role.Role.{Role}
@@ -23,7 +28,7 @@ use Rattle.land_core.specs.declared.rrr.Class.TheVariants.{Right, Restriction, R
 use Rattle.land_core.specs.declared.rrr.RightType.{RightType}
 use Rattle.land_core.specs.declared.rrr.RightType.TheVariants.{Ownership, Lease, Usufruct}
 use Rattle.land_core.specs.declared.rrr.RrrRecord.{RrrRecord}
-use Rattle.land_core.specs.declared.soundness.Unsound.TheVariants.{Reference, Shares, Group, Bare, Crowded, Twice, Rank, Administrator, Memory}
+use Rattle.land_core.specs.declared.soundness.Unsound.TheVariants.{Reference, Shares, Group, Bare, Crowded, Twice, Rank, Administrator, Reused, Memory}
 use Rattle.land_core.specs.declared.unit.UnitRecord.{UnitRecord}
 use Rattle.land_fraction.specs.Laws.{WholenessLaw}
 use Rattle.land_fraction.specs.Ratio.{Ratio}
@@ -54,7 +59,7 @@ used : (r : Register) (n : ℕ) → IsInUse r n → is_used r n ≡ true
 used r n h = both (nat_lt 0 n) (nat_lt n r.next) (lt-ltb 0 n h.positive) (lt-ltb n r.next h.below)
 
 -- types of rights are one where the test says so
-one_type : (a b : RightType) → is_type a b ≡ true → a ≡ b
+pub one_type : (a b : RightType) → is_type a b ≡ true → a ≡ b
 one_type Ownership Ownership h = refl
 one_type Ownership Lease h = absurd (false≢true h)
 one_type Ownership Usufruct h = absurd (false≢true h)
@@ -65,7 +70,7 @@ one_type Usufruct Ownership h = absurd (false≢true h)
 one_type Usufruct Lease h = absurd (false≢true h)
 one_type Usufruct Usufruct h = refl
 
-type_itself : (a : RightType) → is_type a a ≡ true
+pub type_itself : (a : RightType) → is_type a a ≡ true
 type_itself Ownership = refl
 type_itself Lease = refl
 type_itself Usufruct = refl
@@ -188,6 +193,41 @@ entry_refers r e h =
     let first = both_of (has r.units e.unit) (has r.parties e.party) it.0 in
     record { unit = first.0; party = first.1; source = it.1 }
 
+mutation_refers : (r : Register) (m : MutationRecord) → is_loose_mutation r m ≡ false → MutationRefers r m
+mutation_refers r m h =
+    let it = both_of (has r.parties m.lodger && has r.sources m.source) (is_well_formed_content m.content) (not_false _ h) in
+    let first = both_of (has r.parties m.lodger) (has r.sources m.source) it.0 in
+    record { lodger = first.0; source = first.1; content = it.1 }
+
+mutation_fast : (r : Register) (m : MutationRecord) → MutationRefers r m → is_loose_mutation r m ≡ false
+mutation_fast r m h =
+    ap not (both (has r.parties m.lodger && has r.sources m.source) (is_well_formed_content m.content) (both (has r.parties m.lodger) (has r.sources m.source) h.lodger h.source) h.content)
+
+-- pairs of mutations, the lesser number first or last
+references_from : (r : Register) → has_reused_reference r ≡ false → (m n : ℕ) (it other : MutationRecord) → map.get r.mutations m ≡ Some it → map.get r.mutations n ≡ Some other → m ≢ n
+    → it.lodger ≡ other.lodger → it.reference ≢ other.reference
+references_from r none m n it other is that apart lodger reference =
+    elim (nat_lt m n) as (λ b. nat_lt m n ≡ b → ⊥) [
+      | true ↦ λ before. clash m n it other is that before lodger reference
+      | false ↦ λ after.
+          let le : n ≤ m = ltb-false m n after in
+          let lt : n < m = omega arith in
+          clash n m other it that is (lt-ltb n m lt) (sym lodger) (sym reference)
+    ] refl
+  where
+    clash : (m n : ℕ) (it other : MutationRecord) → map.get r.mutations m ≡ Some it → map.get r.mutations n ≡ Some other → nat_lt m n ≡ true → it.lodger ≡ other.lodger → it.reference ≡ other.reference → ⊥
+    clash m n it other is that before lodger reference =
+        false≢true (sym (at (λ n other. nat_lt m n && share_a_reference it other) r.mutations (at (λ m it. is_reused_later r m it) r.mutations none m it is) n other that)
+        ∙ both (nat_lt m n) (share_a_reference it other) before (both (nat_eq it.lodger other.lodger) (bytes_eq it.reference other.reference) (eq-eqb it.lodger other.lodger lodger) ((bytes_eq-Decides it.reference other.reference).1 reference)))
+
+reference_to : (n m : ℕ) (it other : MutationRecord) → (n ≢ m → it.lodger ≡ other.lodger → it.reference ≢ other.reference) → (nat_lt n m && share_a_reference it other) ≡ false
+reference_to n m it other h = untrue (nat_lt n m && share_a_reference it other) (λ both_hold.
+    let parts = both_of (nat_lt n m) (share_a_reference it other) both_hold in
+    let before : n < m = ltb-true n m parts.0 in
+    let apart : n ≢ m = omega arith in
+    let same = both_of (nat_eq it.lodger other.lodger) (bytes_eq it.reference other.reference) parts.1 in
+    h apart (eqb-true it.lodger other.lodger same.0) ((bytes_eq-Decides it.reference other.reference).0 same.1))
+
 -- pairs of entries, the lesser number first or last
 pairs_from : (r : Register) → has_clash r ≡ false → (m n : ℕ) (e f : RrrRecord) → map.get r.rrrs m ≡ Some e → map.get r.rrrs n ≡ Some f → m ≢ n → e.unit ≡ f.unit → GoTogether e f
 pairs_from r none m n e f is that other unit =
@@ -297,14 +337,17 @@ module _ (law : WholenessLaw) where
         numbers_of_parcels = λ n v is. in_use r n (used_from r r.parcels numbers.parcels n v is);
         numbers_of_entries = λ n v is. in_use r n (used_from r r.rrrs numbers.rrrs n v is);
         numbers_of_sources = λ n v is. in_use r n (used_from r r.sources numbers.sources n v is);
+        numbers_of_mutations = λ n v is. in_use r n (used_from r r.mutations numbers.mutations n v is);
         roles = λ party role h. single_from r parts.grants (grant_of party role) (granted (map.get r.roles (grant_of party role)) h);
         members = λ group members is. let it = members_from r parts.members group members is in record { grouped = it.grouped; single = it.single };
         parcels = λ n p is. parcel_refers r p (at (λ n p. not (has r.units p.unit && has r.sources p.source)) r.parcels parts.parcels n p is);
         entries = λ n e is. entry_refers r e (at (λ n e. not (has r.units e.unit && has r.parties e.party && has r.sources e.source)) r.rrrs parts.rrrs n e is);
+        mutations = λ n m is. mutation_refers r m (at (λ n m. is_loose_mutation r m) r.mutations parts.mutations n m is);
         groups = λ n p is group. group_from (shares_of r n) (whole_from r (sound Group) n p is group);
         units = unit_from r sound;
         pairs = pairs_from r (sound Twice);
         ranks = λ n e rank is at_rank. in_use r rank (not_false _ (sym (ap (is_loose_rank r) at_rank) ∙ at (λ n e. is_loose_rank r (rank_of e.class)) r.rrrs (sound Rank) n e is));
+        references = references_from r (sound Reused);
         administrator = (
           administrator.key.party,
           subst (λ (role : Role). holds r administrator.key.party role ≡ true) (administers administrator.key.role administrator.passes) (ap is_some administrator.there),
@@ -322,6 +365,7 @@ module _ (law : WholenessLaw) where
           parcels = unused_from r r.parcels (λ n v is. used r n (h.numbers_of_parcels n v is));
           rrrs = unused_from r r.rrrs (λ n v is. used r n (h.numbers_of_entries n v is));
           sources = unused_from r r.sources (λ n v is. used r n (h.numbers_of_sources n v is));
+          mutations = unused_from r r.mutations (λ n v is. used r n (h.numbers_of_mutations n v is));
         });
         grants = loose_from r (λ g is. h.roles g.party g.role (ap is_some is));
         members = loose_members_from r (λ group members is. let it = h.members group members is in record { grouped = it.grouped; single = it.single });
@@ -330,6 +374,7 @@ module _ (law : WholenessLaw) where
         rrrs = each (λ n e. not (has r.units e.unit && has r.parties e.party && has r.sources e.source)) r.rrrs (λ n e is.
             let it = h.entries n e is in
             ap not (both (has r.units e.unit && has r.parties e.party) (has r.sources e.source) (both (has r.units e.unit) (has r.parties e.party) it.unit it.party) it.source));
+        mutations = each (λ n m. is_loose_mutation r m) r.mutations (λ n m is. mutation_fast r m (h.mutations n m is));
       })
   look_ups_to r h Shares = each (λ n u. u.checked && not (has_whole_shares r n)) r.units (λ n u is. unit_in_parts r n u (h.units n u is))
   look_ups_to r h Group = unbroken_from r (λ n p is group. group_to (shares_of r n) (h.groups n p is group))
@@ -345,6 +390,9 @@ module _ (law : WholenessLaw) where
   look_ups_to r h Rank = each (λ n e. is_loose_rank r (rank_of e.class)) r.rrrs (λ n e is. rank_to r (rank_of e.class) (λ rank at_rank. h.ranks n e rank is at_rank))
   look_ups_to r h Administrator =
       ap not (administrator_at r (grant_of h.administrator.0 StateAdministrator) (granted (map.get r.roles (grant_of h.administrator.0 StateAdministrator)) h.administrator.1) refl)
+  look_ups_to r h Reused =
+      each (λ n m. is_reused_later r n m) r.mutations (λ n m is. each (λ k other. nat_lt n k && share_a_reference m other) r.mutations (λ k other later.
+      reference_to n k m other (h.references n k m other is later)))
   look_ups_to r h Memory = refl
 
   pub by_look_ups : SoundnessByLookUps

@@ -10,13 +10,13 @@ use Rattle.std.specs.FinMap.{nat_cmp-IsAntisymmetric}
 use Rattle.land_core.specs.Entries.{has}
 use Rattle.land_core.specs.Grants.{grant_cmp, grant_of}
 use Rattle.land_core.specs.Register.{nothing, new_register, has_single_party, is_single}
-use Rattle.land_core.specs.Soundness.{IsSound, is_used, is_loose_rank, clashes_later}
+use Rattle.land_core.specs.Soundness.{IsSound, is_used, is_loose_rank, is_loose_mutation, is_reused_later, clashes_later}
 use Rattle.land_core.specs.Units.{has_whole_shares, has_parcel, has_owner, parcel_count, rrr_count, rank_of}
 use Rattle.land_core.specs.declared.kind.PartyKind.TheVariants.{NonNaturalPerson}
 use Rattle.land_core.specs.declared.party.PartyRecord.{PartyRecord}
 use Rattle.land_core.specs.declared.role.Role.TheVariants.{StateAdministrator}
 use Rattle.land_core.specs.declared.roles.Grant.{Grant}
-use Rattle.land_core.specs.declared.soundness.Unsound.TheVariants.{Reference, Shares, Group, Bare, Crowded, Twice, Rank, Administrator, Memory}
+use Rattle.land_core.specs.declared.soundness.Unsound.TheVariants.{Reference, Shares, Group, Bare, Crowded, Twice, Rank, Administrator, Reused, Memory}
 use Rattle.land_core.proofs.FiniteMaps.{is_equal, none_is_not_some}
 use Rattle.land_core.proofs.FiniteSets.{grants_total, exact_grants}
 use Rattle.land_core.proofs.SoundRegisters.{are_used_back, none_in_empty, refers_back, loose_from, unused_from, loose_members_from, unbroken_from, single_put, apart_itself, administrator_at}
@@ -45,6 +45,7 @@ new_is_sound Reference =
       parcels = none_in_empty (λ n p. not (is_used new_register n));
       rrrs = none_in_empty (λ n e. not (is_used new_register n));
       sources = none_in_empty (λ n s. not (is_used new_register n));
+      mutations = none_in_empty (λ n m. not (is_used new_register n));
     }) in
     refers_back new_register (record {
       room = refl;
@@ -53,11 +54,13 @@ new_is_sound Reference =
       members = members;
       parcels = none_in_empty (λ n p. not (has new_register.units p.unit && has new_register.sources p.source));
       rrrs = none_in_empty (λ n e. not (has new_register.units e.unit && has new_register.parties e.party && has new_register.sources e.source));
+      mutations = none_in_empty (λ n m. is_loose_mutation new_register m);
     })
 new_is_sound Shares = none_in_empty (λ n u. u.checked && not (has_whole_shares new_register n))
 new_is_sound Bare = none_in_empty (λ n u. not (has_parcel new_register n && has_owner new_register n))
 new_is_sound Crowded = none_in_empty (λ n u. nat_lt 256 (parcel_count new_register n) || nat_lt 256 (rrr_count new_register n))
 new_is_sound Twice = none_in_empty (clashes_later new_register)
+new_is_sound Reused = none_in_empty (is_reused_later new_register)
 new_is_sound Rank = none_in_empty (λ n e. is_loose_rank new_register (rank_of e.class))
 new_is_sound Group =
     unbroken_from new_register (λ n p is group. absurd (

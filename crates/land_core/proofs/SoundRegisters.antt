@@ -12,7 +12,7 @@ use Rattle.land_core.specs.Grants.{grants_in}
 use Rattle.land_core.specs.Members.{Members, are_group_shares}
 use Rattle.land_core.specs.Register.{has_single_party, has_group, is_single, shares_of}
 use Rattle.land_core.specs.Role.{is_role}
-use Rattle.land_core.specs.Soundness.{IsSound, has_fault, is_past_the_numbers, is_used, has_unused, has_unused_number, has_loose_grant, has_loose_members, has_loose_member, has_loose_parcel, has_loose_rrr, are_loose, has_broken_group, has_administrator}
+use Rattle.land_core.specs.Soundness.{IsSound, has_fault, is_past_the_numbers, is_used, has_unused, has_unused_number, has_loose_grant, has_loose_members, has_loose_member, has_loose_parcel, has_loose_rrr, has_loose_mutation, are_loose, has_broken_group, has_administrator}
 use Rattle.land_core.specs.declared.party.PartyRecord.{PartyRecord}
 use Rattle.land_core.specs.declared.register.Register.{Register}
 use Rattle.land_core.specs.declared.role.Role.TheVariants.{StateAdministrator}
@@ -24,7 +24,7 @@ use Rattle.land_core.proofs.FiniteMaps.{none_is_not_some}
 use Rattle.land_core.proofs.FiniteSets.{grants_total, exact_grants}
 use Rattle.land_core.proofs.Reflection.{Passes, some_passes, some_at, none_passes, none_at, list_any-map}
 
--- what a register without faults of reference has: the six parts of that fault
+-- what a register without faults of reference has: the seven parts of that fault
 pub record Refers (r : Register) : Type 0 where
   pub room : is_past_the_numbers r ≡ false
   pub numbers : has_unused_number r ≡ false
@@ -32,24 +32,27 @@ pub record Refers (r : Register) : Type 0 where
   pub members : has_loose_members r ≡ false
   pub parcels : has_loose_parcel r ≡ false
   pub rrrs : has_loose_rrr r ≡ false
+  pub mutations : has_loose_mutation r ≡ false
 
 pub refers : (r : Register) → has_fault Reference r ≡ false → Refers r
 refers r h =
-    let rrrs = or_false (is_past_the_numbers r || has_unused_number r || has_loose_grant r || has_loose_members r || has_loose_parcel r) (has_loose_rrr r) h in
+    let mutations = or_false (is_past_the_numbers r || has_unused_number r || has_loose_grant r || has_loose_members r || has_loose_parcel r || has_loose_rrr r) (has_loose_mutation r) h in
+    let rrrs = or_false (is_past_the_numbers r || has_unused_number r || has_loose_grant r || has_loose_members r || has_loose_parcel r) (has_loose_rrr r) mutations.0 in
     let parcels = or_false (is_past_the_numbers r || has_unused_number r || has_loose_grant r || has_loose_members r) (has_loose_parcel r) rrrs.0 in
     let members = or_false (is_past_the_numbers r || has_unused_number r || has_loose_grant r) (has_loose_members r) parcels.0 in
     let grants = or_false (is_past_the_numbers r || has_unused_number r) (has_loose_grant r) members.0 in
     let numbers = or_false (is_past_the_numbers r) (has_unused_number r) grants.0 in
-    record { room = numbers.0; numbers = numbers.1; grants = grants.1; members = members.1; parcels = parcels.1; rrrs = rrrs.1 }
+    record { room = numbers.0; numbers = numbers.1; grants = grants.1; members = members.1; parcels = parcels.1; rrrs = rrrs.1; mutations = mutations.1 }
 
 pub refers_back : (r : Register) → Refers r → has_fault Reference r ≡ false
 refers_back r h =
-    ap (λ b. b || has_unused_number r || has_loose_grant r || has_loose_members r || has_loose_parcel r || has_loose_rrr r) h.room
-    ∙ ap (λ b. b || has_loose_grant r || has_loose_members r || has_loose_parcel r || has_loose_rrr r) h.numbers
-    ∙ ap (λ b. b || has_loose_members r || has_loose_parcel r || has_loose_rrr r) h.grants
-    ∙ ap (λ b. b || has_loose_parcel r || has_loose_rrr r) h.members
-    ∙ ap (λ b. b || has_loose_rrr r) h.parcels
-    ∙ h.rrrs
+    ap (λ b. b || has_unused_number r || has_loose_grant r || has_loose_members r || has_loose_parcel r || has_loose_rrr r || has_loose_mutation r) h.room
+    ∙ ap (λ b. b || has_loose_grant r || has_loose_members r || has_loose_parcel r || has_loose_rrr r || has_loose_mutation r) h.numbers
+    ∙ ap (λ b. b || has_loose_members r || has_loose_parcel r || has_loose_rrr r || has_loose_mutation r) h.grants
+    ∙ ap (λ b. b || has_loose_parcel r || has_loose_rrr r || has_loose_mutation r) h.members
+    ∙ ap (λ b. b || has_loose_rrr r || has_loose_mutation r) h.parcels
+    ∙ ap (λ b. b || has_loose_mutation r) h.rrrs
+    ∙ h.mutations
 
 -- numbers in use of each map that has objects
 pub record AreUsed (r : Register) : Type 0 where
@@ -58,22 +61,25 @@ pub record AreUsed (r : Register) : Type 0 where
   pub parcels : has_unused r r.parcels ≡ false
   pub rrrs : has_unused r r.rrrs ≡ false
   pub sources : has_unused r r.sources ≡ false
+  pub mutations : has_unused r r.mutations ≡ false
 
 pub are_used : (r : Register) → has_unused_number r ≡ false → AreUsed r
 are_used r h =
-    let sources = or_false (has_unused r r.parties || has_unused r r.units || has_unused r r.parcels || has_unused r r.rrrs) (has_unused r r.sources) h in
+    let mutations = or_false (has_unused r r.parties || has_unused r r.units || has_unused r r.parcels || has_unused r r.rrrs || has_unused r r.sources) (has_unused r r.mutations) h in
+    let sources = or_false (has_unused r r.parties || has_unused r r.units || has_unused r r.parcels || has_unused r r.rrrs) (has_unused r r.sources) mutations.0 in
     let rrrs = or_false (has_unused r r.parties || has_unused r r.units || has_unused r r.parcels) (has_unused r r.rrrs) sources.0 in
     let parcels = or_false (has_unused r r.parties || has_unused r r.units) (has_unused r r.parcels) rrrs.0 in
     let units = or_false (has_unused r r.parties) (has_unused r r.units) parcels.0 in
-    record { parties = units.0; units = units.1; parcels = parcels.1; rrrs = rrrs.1; sources = sources.1 }
+    record { parties = units.0; units = units.1; parcels = parcels.1; rrrs = rrrs.1; sources = sources.1; mutations = mutations.1 }
 
 pub are_used_back : (r : Register) → AreUsed r → has_unused_number r ≡ false
 are_used_back r h =
-    ap (λ b. b || has_unused r r.units || has_unused r r.parcels || has_unused r r.rrrs || has_unused r r.sources) h.parties
-    ∙ ap (λ b. b || has_unused r r.parcels || has_unused r r.rrrs || has_unused r r.sources) h.units
-    ∙ ap (λ b. b || has_unused r r.rrrs || has_unused r r.sources) h.parcels
-    ∙ ap (λ b. b || has_unused r r.sources) h.rrrs
-    ∙ h.sources
+    ap (λ b. b || has_unused r r.units || has_unused r r.parcels || has_unused r r.rrrs || has_unused r r.sources || has_unused r r.mutations) h.parties
+    ∙ ap (λ b. b || has_unused r r.parcels || has_unused r r.rrrs || has_unused r r.sources || has_unused r r.mutations) h.units
+    ∙ ap (λ b. b || has_unused r r.rrrs || has_unused r r.sources || has_unused r r.mutations) h.parcels
+    ∙ ap (λ b. b || has_unused r r.sources || has_unused r r.mutations) h.rrrs
+    ∙ ap (λ b. b || has_unused r r.mutations) h.sources
+    ∙ h.mutations
 
 -- nothing in an empty map passes a test
 pub none_in_empty : {V : Type 0} (p : ℕ → V → Bool) → some p map.empty ≡ false

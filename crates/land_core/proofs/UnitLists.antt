@@ -1,15 +1,13 @@
 -- What is listed under the units of a register says what the whole register says.
-use Rattle.std.proofs.Common.{◌≡◌, ℕ, ◌<◌, Bool, true, false, cond, not, ◌||◌, ◌&&◌, nat_eq, nat_lt, List, [], ◌∷◌, length, suc, Option, Some, None, is_some, refl, sym, ap, ◌∙◌, subst, arith}
+use Rattle.std.proofs.Common.{◌≡◌, ℕ, Bool, true, false, cond, not, ◌||◌, ◌&&◌, nat_eq, nat_lt, List, [], ◌∷◌, length, suc, Option, Some, None, is_some, refl, sym, ap, ◌∙◌, subst, arith}
 use Rattle.std.proofs.Math.Dec.{eqb-suc-zero}
-use Rattle.std.proofs.lemmas.Bool.{false≢true, lt-ltb, le-ltb, ltb-true, eqb-true, eq-eqb}
+use Rattle.std.proofs.lemmas.Bool.{false≢true, eqb-true, eq-eqb}
 use Rattle.std.proofs.lemmas.Bool.Decides.{nat_tests}
 use Rattle.std.specs.Cmp.{nat_cmp_total}
 use Rattle.std.specs.FinMap as map
-use Rattle.std.specs.FinMap.{FinMap, is_sorted, nat_cmp-IsAntisymmetric}
-use Rattle.std.specs.FinMap.Entries.{below_all}
-use Rattle.std.specs.List.{AllByRecursion, filter_map, list_any, cons_option}
-use Rattle.std.specs.Ordering.{nat_cmp, is_lt}
-use Rattle.std.specs.declared.cmp.Ordering.TheVariants.{Less, Equal, Greater}
+use Rattle.std.specs.FinMap.{FinMap, nat_cmp-IsAntisymmetric}
+use Rattle.std.specs.List.{filter_map, list_any, cons_option}
+use Rattle.std.specs.Ordering.{nat_cmp}
 use Rattle.std.specs.Prelude.{filter}
 use Rattle.land_core.specs.ByUnit.{IsByUnit, claim_in, claim_of, claimed_share, claimed_shares, claims_in, do_claims_clash, have_clash, is_bare, is_claim_of, is_crowded, is_in_parts, placed, under}
 use Rattle.land_core.specs.Entries.{some, has}
@@ -23,7 +21,8 @@ use Rattle.land_core.specs.declared.rrr.RightType.TheVariants.{Ownership, Lease,
 use Rattle.land_core.specs.declared.rrr.RrrRecord.{RrrRecord}
 use Rattle.land_core.specs.declared.soundness.by_unit.ByUnit.{ByUnit}
 use Rattle.land_core.specs.declared.unit.UnitRecord.{UnitRecord}
-use Rattle.land_core.proofs.Booleans.{T_true, both_of, not_false, or_true}
+use Rattle.land_core.proofs.Booleans.{both_of, not_false, or_true}
+use Rattle.land_core.proofs.Pairs.{later_pairs, list_any_same, some_pair}
 use Rattle.land_core.proofs.Reflection.{none_at, some_at, some_passes}
 
 module _ {X Y : Type 0} (place : X → ℕ) (says : X → Y) (unit : ℕ) where
@@ -67,19 +66,10 @@ module _ {X Y : Type 0} (place : X → ℕ) (says : X → Y) (unit : ℕ) where
         | false ↦ rest
       ]
 
--- tests that agree pass alike
-pub list_any_same : {X : Type 0} (p q : X → Bool) → ((x : X) → p x ≡ q x) → (xs : List X) → list_any p xs ≡ list_any q xs
-list_any_same p q h [] = refl
-list_any_same p q h (x ∷ xs) = ap (λ b. b || list_any p xs) (h x) ∙ ap (λ b. q x || b) (list_any_same p q h xs)
-
+-- takings that agree take alike
 pub filter_map_same : {X Y : Type 0} (p q : X → Option Y) → ((x : X) → p x ≡ q x) → (xs : List X) → filter_map p xs ≡ filter_map q xs
 filter_map_same p q h [] = refl
 filter_map_same p q h (x ∷ xs) = ap (λ o. cons_option o (filter_map p xs)) (h x) ∙ ap (cons_option (q x)) (filter_map_same p q h xs)
-
--- where each item of a list passes two tests alike
-list_any_alike : {X : Type 0} (p q : X → Bool) (xs : List X) → AllByRecursion (λ x. p x ≡ q x) xs → list_any p xs ≡ list_any q xs
-list_any_alike p q [] h = refl
-list_any_alike p q (x ∷ xs) h = ap (λ b. b || list_any p xs) h.0 ∙ ap (λ b. q x || b) (list_any_alike p q xs h.1)
 
 -- what a claim says of a right is what its entry says
 right_claimed : (type : RightType) (party : ℕ) (class : Class) → is_claim_of type (claim_in party class) ≡ is_right_of type class
@@ -119,51 +109,6 @@ clash_claimed p q (Mortgage amount currency rank) (Mortgage other money place) =
 some_same : {V : Type 0} (p q : ℕ → V → Bool) → ((n : ℕ) (v : V) → p n v ≡ q n v) → (m : FinMap nat_cmp V) → some p m ≡ some q m
 some_same p q h m = list_any_same (λ e. p e.0 e.1) (λ e. q e.0 e.1) (λ e. h e.0 e.1) (map.entries m)
 
--- entries in the order of their numbers, of which one does not go together with a later one
-clash_in_order : List (ℕ × RrrRecord) → Bool
-clash_in_order [] = false
-clash_in_order (e ∷ es) = list_any (λ f. do_clash e.1 f.1) es || clash_in_order es
-
--- two numbers that are in order
-less : (m n : ℕ) → is_lt (nat_cmp m n) ≡ true → m < n
-less m n h = ltb-true m n (elim (nat_lt m n) as (λ b. is_lt (cond b Less (cond (nat_eq m n) Equal Greater)) ≡ true → b ≡ true) [ true ↦ λ e. refl | false ↦ λ e. absurd (false≢true (sym (not_less (nat_eq m n)) ∙ e)) ] h)
-  where
-    not_less : (b : Bool) → is_lt (cond b Equal Greater) ≡ false
-    not_less true = refl
-    not_less false = refl
-
--- what a later entry is to the first, and the first to it
-first_test : (e : ℕ × RrrRecord) (es : List (ℕ × RrrRecord)) → below_all nat_cmp e.0 es ≡ true → AllByRecursion (λ f. (nat_lt e.0 f.0 && do_clash e.1 f.1) ≡ do_clash e.1 f.1) es
-first_test e [] h = tt
-first_test e (f ∷ fs) h = (
-  ap (λ t. t && do_clash e.1 f.1) (lt-ltb e.0 f.0 (less e.0 f.0 (both_of _ _ h).0)),
-  first_test e fs (both_of _ _ h).1,
-)
-
-back_test : (e : ℕ × RrrRecord) (all es : List (ℕ × RrrRecord)) → below_all nat_cmp e.0 es ≡ true
-    → AllByRecursion (λ f. (nat_lt f.0 e.0 && do_clash f.1 e.1 || list_any (λ x. nat_lt f.0 x.0 && do_clash f.1 x.1) all) ≡ list_any (λ x. nat_lt f.0 x.0 && do_clash f.1 x.1) all) es
-back_test e all [] h = tt
-back_test e all (f ∷ fs) h =
-    let lt : e.0 < f.0 = less e.0 f.0 (both_of _ _ h).0 in (
-      ap (λ t. t && do_clash f.1 e.1 || list_any (λ x. nat_lt f.0 x.0 && do_clash f.1 x.1) all) (le-ltb f.0 e.0 (omega arith)),
-      back_test e all fs (both_of _ _ h).1,
-    )
-
--- among entries in order a greater number is a later one
-in_order : (es : List (ℕ × RrrRecord)) → is_sorted nat_cmp es ≡ true → list_any (λ e. list_any (λ f. nat_lt e.0 f.0 && do_clash e.1 f.1) es) es ≡ clash_in_order es
-unfolding clash_in_order
-in_order [] s = refl
-in_order (e ∷ es) s =
-    let below = (both_of _ _ s).0 in
-    let first : (nat_lt e.0 e.0 && do_clash e.1 e.1 || list_any (λ f. nat_lt e.0 f.0 && do_clash e.1 f.1) es) ≡ list_any (λ f. do_clash e.1 f.1) es =
-    ap (λ t. t && do_clash e.1 e.1 || list_any (λ f. nat_lt e.0 f.0 && do_clash e.1 f.1) es) (le-ltb e.0 e.0 (omega arith))
-    ∙ list_any_alike (λ f. nat_lt e.0 f.0 && do_clash e.1 f.1) (λ f. do_clash e.1 f.1) es (first_test e es below) in
-    let rest : list_any (λ f. nat_lt f.0 e.0 && do_clash f.1 e.1 || list_any (λ x. nat_lt f.0 x.0 && do_clash f.1 x.1) es) es ≡ clash_in_order es =
-    list_any_alike (λ f. nat_lt f.0 e.0 && do_clash f.1 e.1 || list_any (λ x. nat_lt f.0 x.0 && do_clash f.1 x.1) es) (λ f. list_any (λ x. nat_lt f.0 x.0 && do_clash f.1 x.1) es) es (back_test e es es below)
-    ∙ in_order es (both_of _ _ s).1 in
-    ap (λ t. t || list_any (λ f. nat_lt f.0 e.0 && do_clash f.1 e.1 || list_any (λ x. nat_lt f.0 x.0 && do_clash f.1 x.1) es) es) first
-    ∙ ap (λ t. list_any (λ f. do_clash e.1 f.1) es || t) rest
-
 -- an entry clashes with the later ones of its unit
 same_number : (a b : ℕ) → nat_eq a b ≡ nat_eq b a
 same_number a b = grind (arith, nat_tests)
@@ -177,14 +122,13 @@ in_its_unit e es =
     ∙ ap (λ t. nat_eq e.1.unit f.1.unit && t) (sym (clash_claimed e.1.party f.1.party e.1.class f.1.class))) es
 
 -- the claims of a unit clash only where entries do
-from_unit : (unit : ℕ) (es : List (ℕ × RrrRecord)) → have_clash (claims_in es unit) ≡ true → clash_in_order es ≡ true
-unfolding clash_in_order
+from_unit : (unit : ℕ) (es : List (ℕ × RrrRecord)) → have_clash (claims_in es unit) ≡ true → some_pair do_clash es ≡ true
 from_unit unit [] h = absurd (false≢true h)
 from_unit unit (e ∷ es) h =
-    elim (nat_eq e.1.unit unit) as (λ b. nat_eq e.1.unit unit ≡ b → have_clash (cons_option (cond b (Some (claim_of e.1)) None) (claims_in es unit)) ≡ true → (list_any (λ f. do_clash e.1 f.1) es || clash_in_order es) ≡ true) [
+    elim (nat_eq e.1.unit unit) as (λ b. nat_eq e.1.unit unit ≡ b → have_clash (cons_option (cond b (Some (claim_of e.1)) None) (claims_in es unit)) ≡ true → (list_any (λ f. do_clash e.1 f.1) es || some_pair do_clash es) ≡ true) [
       | true ↦ λ here h.
           let is : list_any (do_claims_clash (claim_of e.1)) (claims_in es unit) ≡ list_any (λ f. do_clash e.1 f.1) es = subst (λ (u : ℕ). list_any (do_claims_clash (claim_of e.1)) (claims_in es u) ≡ list_any (λ f. do_clash e.1 f.1) es) (eqb-true e.1.unit unit here) (in_its_unit e es) in
-          elim (list_any (λ f. do_clash e.1 f.1) es) as (λ b. (b || have_clash (claims_in es unit)) ≡ true → (b || clash_in_order es) ≡ true) [
+          elim (list_any (λ f. do_clash e.1 f.1) es) as (λ b. (b || have_clash (claims_in es unit)) ≡ true → (b || some_pair do_clash es) ≡ true) [
             | true ↦ λ h. refl
             | false ↦ λ h. from_unit unit es h
           ] (ap (λ b. b || have_clash (claims_in es unit)) (sym is) ∙ h)
@@ -197,11 +141,10 @@ record ClashesIn (es : List (ℕ × RrrRecord)) : Type 0 where
   has : list_any (λ e. nat_eq e.1.unit unit) es ≡ true
   clash : have_clash (claims_in es unit) ≡ true
 
-to_unit : (es : List (ℕ × RrrRecord)) → clash_in_order es ≡ true → ClashesIn es
-unfolding clash_in_order
+to_unit : (es : List (ℕ × RrrRecord)) → some_pair do_clash es ≡ true → ClashesIn es
 to_unit [] h = absurd (false≢true h)
 to_unit (e ∷ es) h =
-    elim (list_any (λ f. do_clash e.1 f.1) es) as (λ b. list_any (λ f. do_clash e.1 f.1) es ≡ b → (b || clash_in_order es) ≡ true → ClashesIn (e ∷ es)) [
+    elim (list_any (λ f. do_clash e.1 f.1) es) as (λ b. list_any (λ f. do_clash e.1 f.1) es ≡ b → (b || some_pair do_clash es) ≡ true → ClashesIn (e ∷ es)) [
       | true ↦ λ first h. record {
         unit = e.1.unit;
         has = ap (λ b. b || list_any (λ f. nat_eq f.1.unit e.1.unit) es) (eq-eqb e.1.unit e.1.unit refl);
@@ -282,8 +225,8 @@ module _ (b : ByUnit) (r : Register) (listed : IsByUnit b r) where
   pub parts_same : some (λ n u. u.checked && is_in_parts b n) r.units ≡ has_unit_in_parts r
   parts_same = some_same (λ n u. u.checked && is_in_parts b n) (λ n u. u.checked && not (has_whole_shares r n)) (λ n u. ap (λ t. u.checked && t) (whole_listed n)) r.units
 
-  clashes : has_clash r ≡ clash_in_order (map.entries r.rrrs)
-  clashes = in_order (map.entries r.rrrs) (T_true _ (map.entries_sorted r.rrrs))
+  clashes : has_clash r ≡ some_pair do_clash (map.entries r.rrrs)
+  clashes = later_pairs do_clash r.rrrs
 
   -- where each entry is in a unit that stands
   pub clash_same : has_loose_rrr r ≡ false → some (λ n (u : UnitRecord). have_clash (under b.claims n)) r.units ≡ has_clash r

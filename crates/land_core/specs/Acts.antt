@@ -1,13 +1,16 @@
 -- Acts and requests within the limits of their fields.
 use Rattle.std.specs.Prelude.{ℕ, Bool, true, List, length, nat_le, ◌&&◌}
 use Rattle.std.specs.List.{list_all, list_any}
+use Rattle.land_core.specs.Contents.{is_well_formed_content}
 use Rattle.land_core.specs.Members.{is_group_size}
+use Rattle.land_core.specs.Numbers.{is_number}
 use Rattle.land_core.specs.Register.{is_single}
-use Rattle.land_core.specs.Texts.{is_name, is_title, are_words, is_label}
+use Rattle.land_core.specs.Texts.{is_name, is_title, are_words, is_label, is_reference}
 use Rattle.land_core.specs.Units.{is_type}
 use Rattle.land_core.specs.declared.act.Act.{Act}
-use Rattle.land_core.specs.declared.act.Act.TheVariants.{Enrol, Group, Regroup, Grant, Revoke, Register, Burden as ActBurden, Lift as ActLift}
+use Rattle.land_core.specs.declared.act.Act.TheVariants.{Enrol, Group, Regroup, Grant, Revoke, Register, Burden as ActBurden, Lift as ActLift, Lodge, Approve, Refuse}
 use Rattle.land_core.specs.declared.act.Burden.{Burden}
+use Rattle.land_core.specs.declared.act.Lodging.{Lodging}
 use Rattle.land_core.specs.declared.act.NewParcel.{NewParcel}
 use Rattle.land_core.specs.declared.act.NewRight.{NewRight}
 use Rattle.land_core.specs.declared.act.NewUnit.{NewUnit}
@@ -20,10 +23,6 @@ use Rattle.land_core.specs.declared.rrr.RightType.TheVariants.{Ownership}
 -- a first registration has 1 to 64 parcels and 1 to 64 rights
 abbrev pub is_first_count : ℕ → Bool
 is_first_count count = nat_le 1 count && nat_le count 64
-
--- objects are named by the numbers 1 to 1_000_000_000
-abbrev pub is_number : ℕ → Bool
-is_number n = nat_le 1 n && nat_le n 1000000000
 
 -- whether each of some members is named by a number
 abbrev pub name_numbers : List Member → Bool
@@ -60,6 +59,10 @@ is_new_unit it = is_name it.name && is_title it.document && are_parcels it.parce
 abbrev pub is_burden : Burden → Bool
 is_burden it = is_number it.unit && is_number it.party && are_words it.words && is_title it.document
 
+-- a lodging has a reference, a document and a content
+abbrev pub is_lodging : Lodging → Bool
+is_lodging it = is_reference it.reference && is_title it.document && is_well_formed_content it.content
+
 -- who is enrolled is a single party with a name
 abbrev pub is_well_formed : Act → Bool
 is_well_formed (Enrol it) = is_single it.kind && is_name it.name
@@ -70,6 +73,9 @@ is_well_formed (Revoke it) = is_number it.party
 is_well_formed (Register it) = is_new_unit it
 is_well_formed (ActBurden it) = is_burden it
 is_well_formed (ActLift it) = is_number it.rrr
+is_well_formed (Lodge it) = is_lodging it
+is_well_formed (Approve it) = is_number it.mutation
+is_well_formed (Refuse it) = is_number it.mutation
 
 -- a read has no limits: what does not stand is denied
 abbrev pub is_well_formed_ask : Ask → Bool

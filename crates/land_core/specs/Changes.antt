@@ -10,10 +10,10 @@ use Rattle.land_core.specs.declared.register.Register.{Register}
 
 -- nothing that is put, and nothing that ends
 abbrev pub no_put : Put
-no_put = record { parties = []; roles = []; members = []; units = []; parcels = []; rrrs = []; sources = [] }
+no_put = record { parties = []; roles = []; members = []; units = []; parcels = []; rrrs = []; sources = []; mutations = [] }
 
 abbrev pub no_ended : Ended
-no_ended = record { parties = []; roles = []; members = []; units = []; parcels = []; rrrs = []; sources = [] }
+no_ended = record { parties = []; roles = []; members = []; units = []; parcels = []; rrrs = []; sources = []; mutations = [] }
 
 -- the change that puts and ends nothing
 abbrev pub no_change : (next : ℕ) → Change
@@ -29,6 +29,7 @@ after change r = record {
   parcels = updated r.parcels change.put.parcels change.ended.parcels;
   rrrs = updated r.rrrs change.put.rrrs change.ended.rrrs;
   sources = updated r.sources change.put.sources change.ended.sources;
+  mutations = updated r.mutations change.put.mutations change.ended.mutations;
   next = change.next;
 }
 
@@ -41,3 +42,4 @@ pub record NamesKeysOnce (change : Change) : Type 0 where
   pub parcels : are_distinct nat_eq (map_list (λ e. e.0) change.put.parcels ++ change.ended.parcels) ≡ true
   pub rrrs : are_distinct nat_eq (map_list (λ e. e.0) change.put.rrrs ++ change.ended.rrrs) ≡ true
   pub sources : are_distinct nat_eq (map_list (λ e. e.0) change.put.sources ++ change.ended.sources) ≡ true
+  pub mutations : are_distinct nat_eq (map_list (λ e. e.0) change.put.mutations ++ change.ended.mutations) ≡ true

@@ -4,10 +4,12 @@ use Rattle.std.specs.FinMap as map
 use Rattle.std.specs.FinMap.{FinMap}
 use Rattle.std.specs.Option.{IsSome}
 use Rattle.std.specs.Ordering.{nat_cmp}
+use Rattle.land_core.specs.Contents.{is_well_formed_content}
 use Rattle.land_core.specs.Members.{Members}
 use Rattle.land_core.specs.Register.{has_group, has_single_party, holds, is_single, shares_of}
 use Rattle.land_core.specs.Soundness.{IsSound}
 use Rattle.land_core.specs.Units.{parcel_count, rank_of, rrr_count, type_of, type_shares}
+use Rattle.land_core.specs.declared.mutation.MutationRecord.{MutationRecord}
 use Rattle.land_core.specs.declared.parcel.ParcelRecord.{ParcelRecord}
 use Rattle.land_core.specs.declared.party.PartyRecord.{PartyRecord}
 use Rattle.land_core.specs.declared.register.Register.{Register}
@@ -40,6 +42,12 @@ pub record EntryRefers (r : Register) (entry : RrrRecord) : Type 0 where
   pub unit : Stands r.units entry.unit
   pub party : Stands r.parties entry.party
   pub source : Stands r.sources entry.source
+
+-- the lodger and the source of a mutation stand, and its content keeps its limits
+pub record MutationRefers (r : Register) (mutation : MutationRecord) : Type 0 where
+  pub lodger : Stands r.parties mutation.lodger
+  pub source : Stands r.sources mutation.source
+  pub content : is_well_formed_content mutation.content ≡ true
 
 -- who has members is a group, and its members are single parties
 pub record GroupRefers (r : Register) (group : ℕ) (members : Members) : Type 0 where
@@ -89,14 +97,17 @@ pub record IsSoundByLookUps (r : Register) : Type 0 where
   pub numbers_of_parcels : (n : ℕ) (parcel : ParcelRecord) → map.get r.parcels n ≡ Some parcel → IsInUse r n
   pub numbers_of_entries : (n : ℕ) (entry : RrrRecord) → map.get r.rrrs n ≡ Some entry → IsInUse r n
   pub numbers_of_sources : (n : ℕ) (source : SourceRecord) → map.get r.sources n ≡ Some source → IsInUse r n
+  pub numbers_of_mutations : (n : ℕ) (mutation : MutationRecord) → map.get r.mutations n ≡ Some mutation → IsInUse r n
   pub roles : (party : ℕ) (role : Role) → holds r party role ≡ true → has_single_party r party ≡ true
   pub members : (group : ℕ) (members : Members) → map.get r.members group ≡ Some members → GroupRefers r group members
   pub parcels : (n : ℕ) (parcel : ParcelRecord) → map.get r.parcels n ≡ Some parcel → ParcelRefers r parcel
   pub entries : (n : ℕ) (entry : RrrRecord) → map.get r.rrrs n ≡ Some entry → EntryRefers r entry
+  pub mutations : (n : ℕ) (mutation : MutationRecord) → map.get r.mutations n ≡ Some mutation → MutationRefers r mutation
   pub groups : (n : ℕ) (party : PartyRecord) → map.get r.parties n ≡ Some party → is_single party.kind ≡ false → AreOfGroup (shares_of r n)
   pub units : (n : ℕ) (unit : UnitRecord) → map.get r.units n ≡ Some unit → IsSoundUnit r n unit
   pub pairs : (m n : ℕ) (e f : RrrRecord) → map.get r.rrrs m ≡ Some e → map.get r.rrrs n ≡ Some f → m ≢ n → e.unit ≡ f.unit → GoTogether e f
   pub ranks : (n : ℕ) (entry : RrrRecord) (rank : ℕ) → map.get r.rrrs n ≡ Some entry → rank_of entry.class ≡ Some rank → IsInUse r rank
+  pub references : (m n : ℕ) (it other : MutationRecord) → map.get r.mutations m ≡ Some it → map.get r.mutations n ≡ Some other → m ≢ n → it.lodger ≡ other.lodger → it.reference ≢ other.reference
   pub administrator : (party : ℕ) × (holds r party StateAdministrator ≡ true)
 
 -- a register is sound exactly where its look-ups say so

@@ -2,10 +2,13 @@
 pub mod Acts
 pub mod ByUnit
 pub mod Changes
+pub mod Contents
 pub mod Entries
 pub mod Grants
 pub mod Laws
 pub mod Members
+pub mod Mutations
+pub mod Numbers
 pub mod Register
 pub mod Role
 pub mod Soundness

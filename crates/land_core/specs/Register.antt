@@ -13,6 +13,7 @@ use Rattle.land_core.specs.declared.kind.PartyKind.TheVariants.{NaturalPerson, N
 use Rattle.land_core.specs.declared.member.Member.{Member}
 use Rattle.land_core.specs.declared.role.Role.{Role}
 use Rattle.land_core.specs.declared.role.Role.TheVariants.{StateAdministrator}
+use Rattle.land_core.specs.declared.mutation.Mutation.{Mutation}
 use Rattle.land_core.specs.declared.register.Register.{Register}
 use Rattle.land_core.specs.declared.object.Object.{Object}
 use Rattle.land_core.specs.declared.parcel.Parcel.{Parcel}
@@ -33,6 +34,7 @@ nothing = record {
   parcels = map.empty;
   rrrs = map.empty;
   sources = map.empty;
+  mutations = map.empty;
   next = 2;
 }
 
@@ -46,6 +48,7 @@ new_register = record {
   parcels = map.empty;
   rrrs = map.empty;
   sources = map.empty;
+  mutations = map.empty;
   next = 2;
 }
 
@@ -56,6 +59,7 @@ stands r kind.Unit n = has r.units n
 stands r kind.Parcel n = has r.parcels n
 stands r kind.Rrr n = has r.rrrs n
 stands r kind.Source n = has r.sources n
+stands r kind.Mutation n = has r.mutations n
 
 -- whether a party holds a role
 abbrev pub holds : Register → ℕ → Role → Bool
@@ -106,6 +110,17 @@ rrr_at r n = option_map (λ e. record { number = n; unit = e.unit; party = e.par
 abbrev pub source_at : Register → ℕ → Option Source
 source_at r n = option_map (λ s. record { number = n; kind = s.kind; title = s.title }) (map.get r.sources n)
 
+abbrev pub mutation_at : Register → ℕ → Option Mutation
+mutation_at r n = option_map (λ m. record {
+  number = n;
+  lodger = m.lodger;
+  reference = m.reference;
+  source = m.source;
+  lodged = m.lodged;
+  state = m.state;
+  content = m.content;
+}) (map.get r.mutations n)
+
 -- the object of a kind that stands, as it is shown, or none
 abbrev pub object_at : Register → Kind → ℕ → Option Object
 object_at r kind.Party n = option_map object.Party (party_at r n)
@@ -113,3 +128,4 @@ object_at r kind.Unit n = option_map object.Unit (unit_at r n)
 object_at r kind.Parcel n = option_map object.Parcel (parcel_at r n)
 object_at r kind.Rrr n = option_map object.Rrr (rrr_at r n)
 object_at r kind.Source n = option_map object.Source (source_at r n)
+object_at r kind.Mutation n = option_map object.Mutation (mutation_at r n)

@@ -5,16 +5,19 @@ use Rattle.std.specs.FinMap.{FinMap}
 use Rattle.std.specs.List.{list_any}
 use Rattle.std.specs.Ordering.{nat_cmp}
 use Rattle.land_core.specs.Entries.{some, has}
+use Rattle.land_core.specs.Contents.{is_well_formed_content}
 use Rattle.land_core.specs.Grants.{grants_in}
 use Rattle.land_core.specs.Members.{Members, are_group_shares}
+use Rattle.land_core.specs.Mutations.{share_a_reference}
 use Rattle.land_core.specs.Register.{has_single_party, has_group, is_single, shares_of}
 use Rattle.land_core.specs.Role.{is_role}
 use Rattle.land_core.specs.declared.role.Role.TheVariants.{StateAdministrator}
+use Rattle.land_core.specs.declared.mutation.MutationRecord.{MutationRecord}
 use Rattle.land_core.specs.declared.register.Register.{Register}
 use Rattle.land_core.specs.declared.rrr.RrrRecord.{RrrRecord}
 use Rattle.land_core.specs.Units.{has_whole_shares, has_parcel, has_owner, parcel_count, rrr_count, do_clash, rank_of}
 use Rattle.land_core.specs.declared.soundness.Unsound.{Unsound}
-use Rattle.land_core.specs.declared.soundness.Unsound.TheVariants.{Reference, Shares, Group, Bare, Crowded, Twice, Rank, Administrator, Memory}
+use Rattle.land_core.specs.declared.soundness.Unsound.TheVariants.{Reference, Shares, Group, Bare, Crowded, Twice, Rank, Administrator, Reused, Memory}
 
 -- whether all numbers up to 1_000_000_000 are used and more
 abbrev pub is_past_the_numbers : Register → Bool
@@ -29,7 +32,7 @@ abbrev pub has_unused : {V : Type 0} → Register → FinMap nat_cmp V → Bool
 has_unused r records = some (λ n v. not (is_used r n)) records
 
 abbrev pub has_unused_number : Register → Bool
-has_unused_number r = has_unused r r.parties || has_unused r r.units || has_unused r r.parcels || has_unused r r.rrrs || has_unused r r.sources
+has_unused_number r = has_unused r r.parties || has_unused r r.units || has_unused r r.parcels || has_unused r r.rrrs || has_unused r r.sources || has_unused r r.mutations
 
 -- whether a role is that of no single party: of nobody, or of a group
 abbrev pub has_loose_grant : Register → Bool
@@ -53,6 +56,14 @@ has_loose_parcel r = some (λ n p. not (has r.units p.unit && has r.sources p.so
 -- whether an entry is in no unit, of no party or from no source that stands
 abbrev pub has_loose_rrr : Register → Bool
 has_loose_rrr r = some (λ n e. not (has r.units e.unit && has r.parties e.party && has r.sources e.source)) r.rrrs
+
+-- whether a mutation is of no lodger or from no source that stands, or asks for what is not within its limits; what a content names
+-- is no reference: it may have ended since, or never have stood
+abbrev pub is_loose_mutation : Register → MutationRecord → Bool
+is_loose_mutation r m = not (has r.parties m.lodger && has r.sources m.source && is_well_formed_content m.content)
+
+abbrev pub has_loose_mutation : Register → Bool
+has_loose_mutation r = some (λ n m. is_loose_mutation r m) r.mutations
 
 -- whether a group has not 2 to 64 members whose shares make a whole
 abbrev pub has_broken_group : Register → Bool
@@ -90,11 +101,20 @@ has_loose_rank r = some (λ n e. is_loose_rank r (rank_of e.class)) r.rrrs
 abbrev pub has_administrator : Register → Bool
 has_administrator r = list_any (λ grant. is_role grant.role StateAdministrator) (grants_in r.roles)
 
+-- whether a mutation of a greater number has the same lodger and reference
+abbrev pub is_reused_later : Register → ℕ → MutationRecord → Bool
+is_reused_later r n m = some (λ k other. nat_lt n k && share_a_reference m other) r.mutations
+
+-- whether two mutations have the same lodger and reference
+abbrev pub has_reused_reference : Register → Bool
+has_reused_reference r = some (λ n m. is_reused_later r n m) r.mutations
+
 -- whether the register has a fault
 abbrev pub has_fault : Unsound → Register → Bool
--- what a record refers to stands, numbers are in use, only groups have members, members are single parties, and groups have no roles
+-- what a record refers to stands, numbers are in use, only groups have members, members are single parties, groups have no roles, and
+-- contents keep their limits
 has_fault Reference r =
-    is_past_the_numbers r || has_unused_number r || has_loose_grant r || has_loose_members r || has_loose_parcel r || has_loose_rrr r
+    is_past_the_numbers r || has_unused_number r || has_loose_grant r || has_loose_members r || has_loose_parcel r || has_loose_rrr r || has_loose_mutation r
 -- in each checked unit the shares of each type of right that occurs make a whole
 has_fault Shares r = has_unit_in_parts r
 -- each group has 2 to 64 members whose shares make a whole
@@ -109,6 +129,8 @@ has_fault Twice r = has_clash r
 has_fault Rank r = has_loose_rank r
 -- somebody can administer the register
 has_fault Administrator r = not (has_administrator r)
+-- no party has lodged two mutations under one reference
+has_fault Reused r = has_reused_reference r
 -- want of memory is no fault of the register
 has_fault Memory r = false
 

@@ -24,3 +24,7 @@ are_words bytes = is_text 1 200 bytes
 -- a label has 1 to 40 characters
 abbrev pub is_label : List ℕ → Bool
 is_label bytes = is_text 1 40 bytes
+
+-- so has the reference by which a lodger calls a mutation
+abbrev pub is_reference : List ℕ → Bool
+is_reference bytes = is_text 1 40 bytes

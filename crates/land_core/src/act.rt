@@ -1,10 +1,11 @@
 //! Acts: what a caller asks the office to do.
 ghost use Rattle.std.specs.Prelude.{◌≡◌};
 ghost use Rattle.std.specs.List.{list_all};
-ghost use Rattle.land_core.specs.Acts.{is_number, are_members, name_numbers, are_parcels, have_labels, are_rights, have_parties, have_owner};
+ghost use Rattle.land_core.specs.Acts.{are_members, name_numbers, are_parcels, have_labels, are_rights, have_parties, have_owner};
 
+use crate::content::Content;
 use crate::kind::PartyKind;
-use crate::limits::{are_words, is_label, is_name, is_title};
+use crate::limits::{are_words, is_label, is_name, is_number, is_reference, is_title};
 use crate::member::Member;
 use crate::roles::Grant;
 use crate::rrr::RightType;
@@ -106,6 +107,24 @@ pub struct Lift {
     pub rrr: u64,
 }
 
+/// Lodges a mutation, which is decided later.
+#[derive(Debug, Drop)]
+pub struct Lodging {
+    /// What its lodger calls it: 1 to 40 characters, once for each lodger.
+    pub reference: Text,
+    /// The title of the document: 1 to 200 characters.
+    pub document: Text,
+    /// What it asks for.
+    pub content: Content,
+}
+
+/// Decides a mutation.
+#[derive(Clone, Copy, Debug, PartialEq, Eq)]
+pub struct Decision {
+    /// The mutation's number.
+    pub mutation: u64,
+}
+
 /// What a caller asks the office to do.
 #[derive(Debug, Drop)]
 pub enum Act {
@@ -125,6 +144,12 @@ pub enum Act {
     Burden(Burden),
     /// Lifts a burden.
     Lift(Lift),
+    /// Lodges a mutation.
+    Lodge(Lodging),
+    /// Approves a mutation: what it asks for is done.
+    Approve(Decision),
+    /// Refuses a mutation: what it asks for is not done.
+    Refuse(Decision),
 }
 
 impl Act {
@@ -142,6 +167,8 @@ impl Act {
             Act::Register(it) => it.is_well_formed(),
             Act::Burden(it) => it.is_well_formed(),
             Act::Lift(it) => is_number(it.rrr),
+            Act::Lodge(it) => it.is_well_formed(),
+            Act::Approve(it) | Act::Refuse(it) => is_number(it.mutation),
         }
     }
 }
@@ -169,6 +196,18 @@ impl Burden {
             && is_number(self.party)
             && are_words(self.words.as_str())
             && is_title(self.document.as_str())
+    }
+}
+
+impl Lodging {
+    ghost use Rattle.land_core.specs.Acts.{is_lodging};
+
+    fn is_well_formed(&self) -> bool
+        ensures { result ≡ is_lodging self.now }
+    {
+        is_reference(self.reference.as_str())
+            && is_title(self.document.as_str())
+            && self.content.is_well_formed()
     }
 }
 
@@ -218,11 +257,4 @@ fn name_numbers(members: &[Member]) -> bool
     ensures { result ≡ name_numbers members.now }
 {
     members.iter().all(|member| is_number(member.party))
-}
-
-/// Whether an object may be named by a number: 1 to 1_000_000_000.
-fn is_number(number: u64) -> bool
-    ensures { result ≡ is_number number }
-{
-    1 <= number && number <= 1_000_000_000
 }

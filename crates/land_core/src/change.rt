@@ -3,6 +3,7 @@ ghost use Rattle.std.specs.Prelude.{◌≡◌};
 ghost use Rattle.land_core.specs.Changes.{no_change};
 
 use crate::member::Members;
+use crate::mutation::MutationRecord;
 use crate::parcel::ParcelRecord;
 use crate::party::PartyRecord;
 use crate::roles::Grant;
@@ -29,6 +30,8 @@ pub struct Put {
     pub rrrs: Sequence<(u64, RrrRecord)>,
     /// Sources under their numbers.
     pub sources: Sequence<(u64, SourceRecord)>,
+    /// Mutations under their numbers.
+    pub mutations: Sequence<(u64, MutationRecord)>,
 }
 
 /// Keys of the register's maps whose entries end.
@@ -48,6 +51,8 @@ pub struct Ended {
     pub rrrs: NumberList,
     /// Numbers of sources.
     pub sources: NumberList,
+    /// Numbers of mutations.
+    pub mutations: NumberList,
 }
 
 /// What an act changes. No key of one map stands twice in it.
@@ -75,6 +80,7 @@ impl Change {
                 parcels: Sequence::new(alloc),
                 rrrs: Sequence::new(alloc),
                 sources: Sequence::new(alloc),
+                mutations: Sequence::new(alloc),
             },
             ended: Ended {
                 parties: Sequence::new(alloc),
@@ -84,6 +90,7 @@ impl Change {
                 parcels: Sequence::new(alloc),
                 rrrs: Sequence::new(alloc),
                 sources: Sequence::new(alloc),
+                mutations: Sequence::new(alloc),
             },
             next,
         }

@@ -13,6 +13,8 @@ pub enum Kind {
     Rrr,
     /// A source (LA_Source).
     Source,
+    /// A mutation: a change of a unit that is lodged, and then decided.
+    Mutation,
 }
 
 /// The type of a party (LA_PartyType).

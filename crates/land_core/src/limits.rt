@@ -1,8 +1,9 @@
-//! The limits of texts.
+//! The limits of texts and numbers.
 ghost use Rattle.std.specs.Prelude.{◌≡◌, length};
 ghost use Rattle.std.specs.List.{list_all};
 ghost use Rattle.std.specs.Str.{chars};
-ghost use Rattle.land_core.specs.Texts.{are_words, is_label, is_title, is_text, is_name, is_plain};
+ghost use Rattle.land_core.specs.Numbers.{is_number};
+ghost use Rattle.land_core.specs.Texts.{are_words, is_label, is_reference, is_title, is_text, is_name, is_plain};
 
 /// Whether a text is a name: 1 to 200 characters, no control character of ASCII among them.
 pub fn is_name(text: &str) -> bool
@@ -30,6 +31,20 @@ pub fn is_label(text: &str) -> bool
     ensures { result ≡ is_label text.now }
 {
     is_text(text, 1, 40)
+}
+
+/// Whether a lodger may call a mutation so: 1 to 40 characters.
+pub fn is_reference(text: &str) -> bool
+    ensures { result ≡ is_reference text.now }
+{
+    is_text(text, 1, 40)
+}
+
+/// Whether an object may be named by a number: 1 to 1_000_000_000.
+pub fn is_number(number: u64) -> bool
+    ensures { result ≡ is_number number }
+{
+    1 <= number && number <= 1_000_000_000
 }
 
 /// Whether a text has `least` to `most` characters (Unicode scalar values) and no control character of ASCII.

@@ -1,5 +1,6 @@
 //! Objects as they are shown.
 use crate::duplicate::Duplicate;
+use crate::mutation::Mutation;
 use crate::parcel::Parcel;
 use crate::party::Party;
 use crate::rrr::Rrr;
@@ -20,6 +21,8 @@ pub enum Object {
     Rrr(Rrr),
     /// A source.
     Source(Source),
+    /// A mutation.
+    Mutation(Mutation),
 }
 
 impl Duplicate for Object {
@@ -30,6 +33,7 @@ impl Duplicate for Object {
             Object::Parcel(parcel) => Ok(Object::Parcel(parcel.copy(alloc)?)),
             Object::Rrr(entry) => Ok(Object::Rrr(entry.copy(alloc)?)),
             Object::Source(source) => Ok(Object::Source(source.copy(alloc)?)),
+            Object::Mutation(mutation) => Ok(Object::Mutation(mutation.copy(alloc)?)),
         }
     }
 }

@@ -1,6 +1,6 @@
 //! The register: everything that stands now.
 ghost use Rattle.std.specs.Prelude.{◌≡◌, IfOk, OnOk, OnErr};
-ghost use Rattle.land_core.specs.Register.{new_register, nothing, stands, object_at, party_at, unit_at, parcel_at, rrr_at, source_at, holds, has_single_party, has_group, is_member, members_of, roles_of};
+ghost use Rattle.land_core.specs.Register.{new_register, nothing, stands, object_at, party_at, unit_at, parcel_at, rrr_at, source_at, mutation_at, holds, has_single_party, has_group, is_member, members_of, roles_of};
 ghost use Rattle.land_core.specs.Changes.{after};
 ghost use Rattle.land_core.specs.Soundness.{IsSound};
 
@@ -8,6 +8,7 @@ use crate::change::Change;
 use crate::duplicate::Duplicate;
 use crate::kind::{Kind, PartyKind};
 use crate::member::{Member, Members, listed};
+use crate::mutation::{Mutation, MutationRecord};
 use crate::object::Object;
 use crate::parcel::{Parcel, ParcelRecord};
 use crate::party::{Party, PartyRecord};
@@ -39,6 +40,8 @@ pub struct Register {
     pub rrrs: Records<RrrRecord>,
     /// Sources under their numbers (LA_Source).
     pub sources: Records<SourceRecord>,
+    /// Mutations under their numbers.
+    pub mutations: Records<MutationRecord>,
     /// The number that the next new object takes: 2 to 1_000_000_001 in a sound register.
     pub next: u64,
 }
@@ -75,6 +78,7 @@ impl Register {
             parcels: Records::new(alloc),
             rrrs: Records::new(alloc),
             sources: Records::new(alloc),
+            mutations: Records::new(alloc),
             next: 2,
         }
     }
@@ -93,6 +97,9 @@ impl Register {
             parcels: self.parcels.updated(alloc, &put.parcels, &ended.parcels)?,
             rrrs: self.rrrs.updated(alloc, &put.rrrs, &ended.rrrs)?,
             sources: self.sources.updated(alloc, &put.sources, &ended.sources)?,
+            mutations: self
+                .mutations
+                .updated(alloc, &put.mutations, &ended.mutations)?,
             next: change.next,
         })
     }
@@ -114,6 +121,7 @@ impl Register {
             Kind::Parcel => self.parcels.get(number).is_some(),
             Kind::Rrr => self.rrrs.get(number).is_some(),
             Kind::Source => self.sources.get(number).is_some(),
+            Kind::Mutation => self.mutations.get(number).is_some(),
         }
     }
 
@@ -162,6 +170,7 @@ impl Register {
             Kind::Parcel => self.parcel(alloc, number)?.map(Object::Parcel),
             Kind::Rrr => self.rrr(alloc, number)?.map(Object::Rrr),
             Kind::Source => self.source(alloc, number)?.map(Object::Source),
+            Kind::Mutation => self.mutation(alloc, number)?.map(Object::Mutation),
         };
         Ok(object)
     }
@@ -237,6 +246,23 @@ impl Register {
         }
     }
 
+    fn mutation(&self, alloc: Global, number: u64) -> Result<Option<Mutation>, AllocError>
+        ensures { IfOk result (λ it. it ≡ mutation_at self.now number) }
+    {
+        match self.mutations.get(number) {
+            Some(record) => Ok(Some(Mutation {
+                number,
+                lodger: record.lodger,
+                reference: record.reference.copy(alloc)?,
+                source: record.source,
+                lodged: record.lodged,
+                state: record.state,
+                content: record.content.copy(alloc)?,
+            })),
+            None => Ok(None),
+        }
+    }
+
     /// The members of a group, by ascending numbers.
     fn members_of(&self, alloc: Global, group: u64) -> Result<Sequence<Member>, AllocError>
         ensures { IfOk result (λ it. it ≡ members_of self.now group) }
@@ -280,6 +306,7 @@ impl Duplicate for Register {
             parcels: self.parcels.copy(alloc)?,
             rrrs: self.rrrs.copy(alloc)?,
             sources: self.sources.copy(alloc)?,
+            mutations: self.mutations.copy(alloc)?,
             next: self.next,
         })
     }

@@ -7,6 +7,7 @@ ghost use Rattle.land_core.specs.Soundness.{IsSound, has_fault, has_unused, has_
 mod by_unit;
 mod claim;
 mod groups;
+mod mutations;
 mod units;
 
 use crate::kind::{Kind, PartyKind};
@@ -14,6 +15,7 @@ use crate::member::{Members, shares_of};
 use crate::records::Records;
 use crate::register::Register;
 use crate::role::Role;
+use crate::soundness::mutations::{has_loose_mutation, has_reused_reference};
 use crate::soundness::units::check_units;
 use land_fraction::{Fraction, Whole, is_whole};
 use std::alloc::{AllocError, Global};
@@ -21,8 +23,8 @@ use std::alloc::{AllocError, Global};
 /// Why a register is not sound.
 #[derive(Clone, Copy, Debug, PartialEq, Eq)]
 pub enum Unsound {
-    /// A number is not in use, a role is that of nobody or of a group, a member that of no group or no single party, or what
-    /// a parcel or an entry refers to does not stand.
+    /// A number is not in use, a role is that of nobody or of a group, a member that of no group or no single party, what a
+    /// parcel, an entry or a mutation refers to does not stand, or a content is not within its limits.
     Reference,
     /// The shares of a type of right in a checked unit do not sum to one.
     Shares,
@@ -38,6 +40,8 @@ pub enum Unsound {
     Rank,
     /// No party is state administrator.
     Administrator,
+    /// A party has lodged two mutations under one reference.
+    Reused,
     /// There was no memory to tell.
     Memory,
 }
@@ -66,6 +70,9 @@ pub fn check(alloc: Global, register: &Register) -> Result<(), Unsound>
     if !has_administrator(register) {
         return Err(Unsound::Administrator);
     }
+    if has_reused_reference(alloc, register)? {
+        return Err(Unsound::Reused);
+    }
     check_units(alloc, register)
 }
 
@@ -78,6 +85,7 @@ fn has_reference_fault(register: &Register) -> bool
         || has_loose_members(register)
         || has_loose_parcel(register)
         || has_loose_rrr(register)
+        || has_loose_mutation(register)
 }
 
 fn has_unused_number(register: &Register) -> bool
@@ -88,6 +96,7 @@ fn has_unused_number(register: &Register) -> bool
         || has_unused(register, &register.parcels)
         || has_unused(register, &register.rrrs)
         || has_unused(register, &register.sources)
+        || has_unused(register, &register.mutations)
 }
 
 fn has_unused<T>(register: &Register, records: &Records<T>) -> bool

@@ -1,0 +1,192 @@
+//! What mutations ask for: the contents of lodgings.
+ghost use Rattle.std.specs.Prelude.{◌≡◌};
+ghost use Rattle.land_core.specs.Contents.{are_letters, is_amount, is_capital, is_currency, is_discharge, is_mortgage, is_same_discharge, is_same_mortgage, is_same_transfer, is_transfer};
+
+use crate::duplicate::Duplicate;
+use crate::limits::is_number;
+use crate::text::Text;
+use land_fraction::Fraction;
+use std::alloc::{AllocError, Global};
+
+/// A share of a unit goes from a right to a receiver.
+#[derive(Clone, Copy, Debug)]
+pub struct Transfer {
+    /// The unit's number.
+    pub unit: u64,
+    /// The number of the right that the share is taken from.
+    pub right: u64,
+    /// The number of the party that gets the share.
+    pub receiver: u64,
+    /// The share, a part of the whole and not of the right.
+    pub share: Fraction,
+}
+
+/// A unit becomes a security for a loan.
+#[derive(Debug, Drop)]
+pub struct Mortgage {
+    /// The unit's number.
+    pub unit: u64,
+    /// The number of the party that lends.
+    pub creditor: u64,
+    /// The amount in minor units: 1 to 1_000_000_000_000_000.
+    pub amount: u64,
+    /// The currency: three letters from A to Z (ISO 4217).
+    pub currency: Text,
+}
+
+/// A mortgage ends.
+#[derive(Clone, Copy, Debug)]
+pub struct Discharge {
+    /// The unit's number.
+    pub unit: u64,
+    /// The mortgage's number.
+    pub mortgage: u64,
+}
+
+/// What a mutation asks for.
+#[derive(Debug, Drop)]
+pub enum Content {
+    /// A share of a unit goes from a right to a receiver.
+    Transfer(Transfer),
+    /// A unit becomes a security for a loan.
+    Mortgage(Mortgage),
+    /// A mortgage ends.
+    Discharge(Discharge),
+}
+
+impl Content {
+    ghost use Rattle.land_core.specs.Contents.{is_same_content, is_well_formed_content, names_unit};
+
+    /// Whether it keeps the limits of its fields.
+    pub fn is_well_formed(&self) -> bool
+        ensures { result ≡ is_well_formed_content self.now }
+    {
+        match self {
+            Content::Transfer(it) => it.is_well_formed(),
+            Content::Mortgage(it) => it.is_well_formed(),
+            Content::Discharge(it) => it.is_well_formed(),
+        }
+    }
+
+    /// Whether two contents ask for the same.
+    pub fn is_same(&self, other: &Content) -> bool
+        ensures { result ≡ is_same_content self.now other.now }
+    {
+        match (self, other) {
+            (Content::Transfer(it), Content::Transfer(other)) => it.is_same(other),
+            (Content::Mortgage(it), Content::Mortgage(other)) => it.is_same(other),
+            (Content::Discharge(it), Content::Discharge(other)) => it.is_same(other),
+            _ => false,
+        }
+    }
+
+    /// Whether it names a unit.
+    pub fn names_unit(&self, unit: u64) -> bool
+        ensures { result ≡ names_unit unit self.now }
+    {
+        match self {
+            Content::Transfer(it) => it.unit == unit,
+            Content::Mortgage(it) => it.unit == unit,
+            Content::Discharge(it) => it.unit == unit,
+        }
+    }
+}
+
+impl Transfer {
+    fn is_well_formed(&self) -> bool
+        ensures { result ≡ is_transfer self.now }
+    {
+        is_number(self.unit) && is_number(self.right) && is_number(self.receiver)
+    }
+
+    fn is_same(&self, other: &Transfer) -> bool
+        ensures { result ≡ is_same_transfer self.now other.now }
+    {
+        self.unit == other.unit
+            && self.right == other.right
+            && self.receiver == other.receiver
+            && self.share.numerator() == other.share.numerator()
+            && self.share.denominator() == other.share.denominator()
+    }
+}
+
+impl Mortgage {
+    fn is_well_formed(&self) -> bool
+        ensures { result ≡ is_mortgage self.now }
+    {
+        is_number(self.unit)
+            && is_number(self.creditor)
+            && is_amount(self.amount)
+            && is_currency(self.currency.as_str())
+    }
+
+    fn is_same(&self, other: &Mortgage) -> bool
+        ensures { result ≡ is_same_mortgage self.now other.now }
+    {
+        self.unit == other.unit
+            && self.creditor == other.creditor
+            && self.amount == other.amount
+            && self.currency.as_str() == other.currency.as_str()
+    }
+}
+
+impl Discharge {
+    fn is_well_formed(&self) -> bool
+        ensures { result ≡ is_discharge self.now }
+    {
+        is_number(self.unit) && is_number(self.mortgage)
+    }
+
+    fn is_same(&self, other: &Discharge) -> bool
+        ensures { result ≡ is_same_discharge self.now other.now }
+    {
+        self.unit == other.unit && self.mortgage == other.mortgage
+    }
+}
+
+/// Whether so many minor units may be lent: 1 to 1_000_000_000_000_000.
+fn is_amount(amount: u64) -> bool
+    ensures { result ≡ is_amount amount }
+{
+    1 <= amount && amount <= 1_000_000_000_000_000
+}
+
+/// Whether a text is three letters from A to Z.
+fn is_currency(text: &str) -> bool
+    ensures { result ≡ is_currency text.now }
+{
+    text.len() == 3 && are_letters(text.as_bytes())
+}
+
+fn are_letters(bytes: &[u8]) -> bool
+    ensures { result ≡ are_letters bytes.now }
+{
+    bytes.iter().all(|byte| is_capital(*byte))
+}
+
+fn is_capital(byte: u8) -> bool
+    ensures { result ≡ is_capital byte }
+{
+    65 <= byte && byte <= 90
+}
+
+impl Duplicate for Content {
+    fn copy(&self, alloc: Global) -> Result<Content, AllocError> {
+        match self {
+            Content::Transfer(it) => Ok(Content::Transfer(*it)),
+            Content::Mortgage(it) => Ok(Content::Mortgage(it.copy(alloc)?)),
+            Content::Discharge(it) => Ok(Content::Discharge(*it)),
+        }
+    }
+}
+
+impl Duplicate for Mortgage {
+    fn copy(&self, alloc: Global) -> Result<Mortgage, AllocError> {
+        Ok(Mortgage {
+            unit: self.unit,
+            creditor: self.creditor,
+            amount: self.amount,
+            currency: self.currency.copy(alloc)?,
+        })
+    }
+}
