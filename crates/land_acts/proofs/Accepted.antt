@@ -1,14 +1,18 @@
 -- Accepted acts keep a register sound, and name no key twice.
-use Rattle.std.proofs.Common.{◌≡◌, ◌≤◌, true, ◌&&◌, not, Option, Some, None, Ok, [], ◌∷◌, length, refl, subst, arith}
-use Rattle.std.specs.Prelude.{ℤ, ◌||◌, ◌+◌, is_none, map as map_list}
-use Rattle.land_core.specs.Acts.{is_well_formed, are_members, is_number, name_numbers}
+use Rattle.std.proofs.Common.{◌≡◌, ◌≤◌, true, false, ◌&&◌, not, Some, None, Ok, [], ◌∷◌, length, refl, sym, subst, arith}
+use Rattle.std.specs.Prelude.{ℤ, ◌||◌, ◌+◌, map as map_list}
+use Rattle.std.specs.FinMap as map
+use Rattle.std.specs.Option.{option_map_or}
+use Rattle.land_core.specs.Acts.{is_well_formed, are_members, name_numbers}
 use Rattle.land_core.specs.Changes.{after, NamesKeysOnce}
+use Rattle.land_core.specs.Contents.{is_well_formed_content}
 use Rattle.land_core.specs.Entries.{has}
 use Rattle.land_core.specs.Members.{is_group_size}
+use Rattle.land_core.specs.Numbers.{is_number}
 use Rattle.land_core.specs.Register.{has_single_party, has_group, holds}
 use Rattle.land_core.specs.Role.{is_role}
 use Rattle.land_core.specs.Soundness.{IsSound}
-use Rattle.land_core.specs.Texts.{is_name}
+use Rattle.land_core.specs.Texts.{is_name, is_reference, is_title}
 use Rattle.land_core.specs.declared.act.Act.{Act}
 use Rattle.land_core.specs.declared.act.Act.TheVariants as act
 use Rattle.land_core.specs.declared.caller.Caller.{Caller}
@@ -17,19 +21,27 @@ use Rattle.land_core.specs.declared.change.Done.{Done}
 use Rattle.land_core.specs.declared.register.Register.{Register}
 use Rattle.land_core.specs.declared.role.Role.TheVariants.{StateAdministrator}
 use Rattle.land_core.proofs.Booleans.{both_of, or_false, not_false}
+use Rattle.land_fraction.specs.Laws.{WholenessLaw}
+use Rattle.land_fraction.specs.Wholeness.{IsWholeness}
+use Rattle.land_fraction.specs.declared.lists.Whole.{Whole}
+use Rattle.land_fraction.proofs.Wholes.{the_wholeness, wholeness-is}
 use Rattle.land_acts.specs.declared.refusal.Planned.TheVariants.{New}
-use Rattle.land_acts.specs.declared.refusal.Refusal.TheVariants.{NoSuchUnit, NoSuchRight, NoSuchParty, SharesTooFine, TooMany, SharesNotWhole, RoleHeld, RoleNotHeld, ClockOut, LastAdministrator, SameParty}
+use Rattle.land_acts.specs.declared.refusal.Refusal.TheVariants.{NotLodged, NoSuchUnit, NoSuchRight, NoSuchParty, SharesTooFine, TooMany, SharesNotWhole, ReferenceUsed, RoleHeld, RoleNotHeld, ClockOut, LastAdministrator, SameParty}
 use Rattle.land_acts.specs.Burdening.{would_crowd}
 use Rattle.land_acts.specs.FirstRights.{lists_absent, are_types_too_fine, are_types_whole, has_right_twice}
 use Rattle.land_acts.specs.Laws.{AcceptedKeepsSound, AcceptedNamesKeysOnce, AcceptedTellsStamp, NothingWithoutStamp}
+use Rattle.land_acts.specs.Deciding.{content_refusals, is_lodged}
 use Rattle.land_acts.specs.Lifting.{has_burden}
-use Rattle.land_acts.specs.Outcome.{outcome_of, first_that_holds, refusals_of, change_of, done_of}
+use Rattle.land_acts.specs.Lodging.{has_lodged_other}
+use Rattle.land_acts.specs.Outcome.{outcome_of, first_that_holds, refusals_of, change_of, done_of, repeated_done}
 use Rattle.land_acts.specs.Planning.{lacks_numbers, has_administrator_beside}
 use Rattle.land_acts.specs.Registering.{new_count, parcel_of, right_of}
 use Rattle.land_acts.specs.Sharing.{lists_stranger, are_too_fine, are_whole, lists_twice}
 use Rattle.land_acts.proofs.BurdenedUnits.{burdened_is_sound}
+use Rattle.land_acts.proofs.Approvals.{approve_grows, approve_once, approved_is_sound, caller_stands, refuse_grows, refuse_once, refused_is_sound}
 use Rattle.land_acts.proofs.GroupActs.{enrolled_is_sound, grouped_is_sound, regrouped_is_sound}
 use Rattle.land_acts.proofs.LiftedEntries.{lifted_is_sound}
+use Rattle.land_acts.proofs.LodgedMutations.{fresh, lodged_is_sound}
 use Rattle.land_acts.proofs.NewObjects.{numbered_once}
 use Rattle.land_acts.proofs.Outcomes.{IsPlanned, planned_from, unstamped, first_none}
 use Rattle.land_acts.proofs.RegisteredUnits.{registered_is_sound}
@@ -37,68 +49,78 @@ use Rattle.land_acts.proofs.RoleActs.{granted_is_sound, revoked_is_sound}
 
 -- ---- each act, where none of its refusals holds
 
-sound_after : (r : Register) (caller : Caller) (a : Act) (stamp : Option ℤ) → IsSound r → is_well_formed a ≡ true → first_that_holds (refusals_of r caller a stamp) ≡ None
-    → IsSound (after (change_of r caller a) r)
-sound_after r caller (act.Enrol it) stamp sound formed none =
-    enrolled_is_sound r it sound (both_of _ _ formed).0 (first_none TooMany (lacks_numbers r 1) ((ClockOut, is_none stamp) ∷ []) none).first
-sound_after r caller (act.Group it) stamp sound formed none =
-    let known = first_none NoSuchParty (lists_stranger r it.members) ((SharesTooFine, are_too_fine it.members) ∷ (TooMany, lacks_numbers r 1) ∷ (SharesNotWhole, not (are_whole it.members)) ∷ (ClockOut, is_none stamp) ∷ (SameParty, lists_twice it.members) ∷ []) none in
-    let fine = first_none SharesTooFine (are_too_fine it.members) ((TooMany, lacks_numbers r 1) ∷ (SharesNotWhole, not (are_whole it.members)) ∷ (ClockOut, is_none stamp) ∷ (SameParty, lists_twice it.members) ∷ []) known.rest in
-    let room = first_none TooMany (lacks_numbers r 1) ((SharesNotWhole, not (are_whole it.members)) ∷ (ClockOut, is_none stamp) ∷ (SameParty, lists_twice it.members) ∷ []) fine.rest in
-    let whole = first_none SharesNotWhole (not (are_whole it.members)) ((ClockOut, is_none stamp) ∷ (SameParty, lists_twice it.members) ∷ []) room.rest in
-    let stamped = first_none ClockOut (is_none stamp) ((SameParty, lists_twice it.members) ∷ []) whole.rest in
+sound_after : (law : WholenessLaw) (r : Register) (caller : Caller) (a : Act) (stamp : ℤ) → IsSound r → is_well_formed a ≡ true → holds r caller.party caller.role ≡ true → repeated_done r caller a ≡ None
+    → first_that_holds (refusals_of r caller a (Some stamp)) ≡ None → IsSound (after (change_of r caller a stamp) r)
+sound_after law r caller (act.Enrol it) stamp sound formed held new none =
+    enrolled_is_sound r it sound (both_of _ _ formed).0 (first_none TooMany (lacks_numbers r 1) ((ClockOut, false) ∷ []) none).first
+sound_after law r caller (act.Group it) stamp sound formed held new none =
+    let known = first_none NoSuchParty (lists_stranger r it.members) ((SharesTooFine, are_too_fine it.members) ∷ (TooMany, lacks_numbers r 1) ∷ (SharesNotWhole, not (are_whole it.members)) ∷ (ClockOut, false) ∷ (SameParty, lists_twice it.members) ∷ []) none in
+    let fine = first_none SharesTooFine (are_too_fine it.members) ((TooMany, lacks_numbers r 1) ∷ (SharesNotWhole, not (are_whole it.members)) ∷ (ClockOut, false) ∷ (SameParty, lists_twice it.members) ∷ []) known.rest in
+    let room = first_none TooMany (lacks_numbers r 1) ((SharesNotWhole, not (are_whole it.members)) ∷ (ClockOut, false) ∷ (SameParty, lists_twice it.members) ∷ []) fine.rest in
+    let whole = first_none SharesNotWhole (not (are_whole it.members)) ((ClockOut, false) ∷ (SameParty, lists_twice it.members) ∷ []) room.rest in
+    let stamped = first_none ClockOut false ((SameParty, lists_twice it.members) ∷ []) whole.rest in
     let once = first_none SameParty (lists_twice it.members) [] stamped.rest in
     let size : is_group_size (length it.members) ≡ true = (both_of _ (name_numbers it.members) (both_of (is_name it.name) (are_members it.members) formed).1).0 in
     grouped_is_sound r it sound size known.first room.first (not_false _ whole.first) once.first
-sound_after r caller (act.Regroup it) stamp sound formed none =
-    let known = first_none NoSuchParty (not (has_group r it.group) || lists_stranger r it.members) ((SharesTooFine, are_too_fine it.members) ∷ (SharesNotWhole, not (are_whole it.members)) ∷ (ClockOut, is_none stamp) ∷ (SameParty, lists_twice it.members) ∷ []) none in
-    let fine = first_none SharesTooFine (are_too_fine it.members) ((SharesNotWhole, not (are_whole it.members)) ∷ (ClockOut, is_none stamp) ∷ (SameParty, lists_twice it.members) ∷ []) known.rest in
-    let whole = first_none SharesNotWhole (not (are_whole it.members)) ((ClockOut, is_none stamp) ∷ (SameParty, lists_twice it.members) ∷ []) fine.rest in
-    let stamped = first_none ClockOut (is_none stamp) ((SameParty, lists_twice it.members) ∷ []) whole.rest in
+sound_after law r caller (act.Regroup it) stamp sound formed held new none =
+    let known = first_none NoSuchParty (not (has_group r it.group) || lists_stranger r it.members) ((SharesTooFine, are_too_fine it.members) ∷ (SharesNotWhole, not (are_whole it.members)) ∷ (ClockOut, false) ∷ (SameParty, lists_twice it.members) ∷ []) none in
+    let fine = first_none SharesTooFine (are_too_fine it.members) ((SharesNotWhole, not (are_whole it.members)) ∷ (ClockOut, false) ∷ (SameParty, lists_twice it.members) ∷ []) known.rest in
+    let whole = first_none SharesNotWhole (not (are_whole it.members)) ((ClockOut, false) ∷ (SameParty, lists_twice it.members) ∷ []) fine.rest in
+    let stamped = first_none ClockOut false ((SameParty, lists_twice it.members) ∷ []) whole.rest in
     let once = first_none SameParty (lists_twice it.members) [] stamped.rest in
     let parties = or_false (not (has_group r it.group)) (lists_stranger r it.members) known.first in
     let size : is_group_size (length it.members) ≡ true = (both_of _ (name_numbers it.members) (both_of (is_number it.group) (are_members it.members) formed).1).0 in
     regrouped_is_sound r it sound size (not_false _ parties.0) parties.1 (not_false _ whole.first) once.first
-sound_after r caller (act.Grant it) stamp sound formed none =
-    granted_is_sound r it sound (not_false _ (first_none NoSuchParty (not (has_single_party r it.party)) ((RoleHeld, holds r it.party it.role) ∷ (ClockOut, is_none stamp) ∷ []) none).first)
-sound_after r caller (act.Revoke it) stamp sound formed none =
+sound_after law r caller (act.Grant it) stamp sound formed held new none =
+    granted_is_sound r it sound (not_false _ (first_none NoSuchParty (not (has_single_party r it.party)) ((RoleHeld, holds r it.party it.role) ∷ (ClockOut, false) ∷ []) none).first)
+sound_after law r caller (act.Revoke it) stamp sound formed held new none =
     let last = is_role it.role StateAdministrator && not (has_administrator_beside r it.party) in
-    let known = first_none NoSuchParty (not (has_single_party r it.party)) ((RoleNotHeld, not (holds r it.party it.role)) ∷ (ClockOut, is_none stamp) ∷ (LastAdministrator, last) ∷ []) none in
-    let held = first_none RoleNotHeld (not (holds r it.party it.role)) ((ClockOut, is_none stamp) ∷ (LastAdministrator, last) ∷ []) known.rest in
-    let stamped = first_none ClockOut (is_none stamp) ((LastAdministrator, last) ∷ []) held.rest in
+    let known = first_none NoSuchParty (not (has_single_party r it.party)) ((RoleNotHeld, not (holds r it.party it.role)) ∷ (ClockOut, false) ∷ (LastAdministrator, last) ∷ []) none in
+    let held = first_none RoleNotHeld (not (holds r it.party it.role)) ((ClockOut, false) ∷ (LastAdministrator, last) ∷ []) known.rest in
+    let stamped = first_none ClockOut false ((LastAdministrator, last) ∷ []) held.rest in
     revoked_is_sound r it sound (first_none LastAdministrator last [] stamped.rest).first
-sound_after r caller (act.Register it) stamp sound formed none =
-    let known = first_none NoSuchParty (lists_absent r it.rights) ((SharesTooFine, it.checked && are_types_too_fine it.rights) ∷ (TooMany, lacks_numbers r (new_count it)) ∷ (SharesNotWhole, it.checked && not (are_types_whole it.rights)) ∷ (ClockOut, is_none stamp) ∷ (SameParty, has_right_twice it.rights) ∷ []) none in
-    let fine = first_none SharesTooFine (it.checked && are_types_too_fine it.rights) ((TooMany, lacks_numbers r (new_count it)) ∷ (SharesNotWhole, it.checked && not (are_types_whole it.rights)) ∷ (ClockOut, is_none stamp) ∷ (SameParty, has_right_twice it.rights) ∷ []) known.rest in
-    let room = first_none TooMany (lacks_numbers r (new_count it)) ((SharesNotWhole, it.checked && not (are_types_whole it.rights)) ∷ (ClockOut, is_none stamp) ∷ (SameParty, has_right_twice it.rights) ∷ []) fine.rest in
-    let whole = first_none SharesNotWhole (it.checked && not (are_types_whole it.rights)) ((ClockOut, is_none stamp) ∷ (SameParty, has_right_twice it.rights) ∷ []) room.rest in
-    let stamped = first_none ClockOut (is_none stamp) ((SameParty, has_right_twice it.rights) ∷ []) whole.rest in
+sound_after law r caller (act.Register it) stamp sound formed held new none =
+    let known = first_none NoSuchParty (lists_absent r it.rights) ((SharesTooFine, it.checked && are_types_too_fine it.rights) ∷ (TooMany, lacks_numbers r (new_count it)) ∷ (SharesNotWhole, it.checked && not (are_types_whole it.rights)) ∷ (ClockOut, false) ∷ (SameParty, has_right_twice it.rights) ∷ []) none in
+    let fine = first_none SharesTooFine (it.checked && are_types_too_fine it.rights) ((TooMany, lacks_numbers r (new_count it)) ∷ (SharesNotWhole, it.checked && not (are_types_whole it.rights)) ∷ (ClockOut, false) ∷ (SameParty, has_right_twice it.rights) ∷ []) known.rest in
+    let room = first_none TooMany (lacks_numbers r (new_count it)) ((SharesNotWhole, it.checked && not (are_types_whole it.rights)) ∷ (ClockOut, false) ∷ (SameParty, has_right_twice it.rights) ∷ []) fine.rest in
+    let whole = first_none SharesNotWhole (it.checked && not (are_types_whole it.rights)) ((ClockOut, false) ∷ (SameParty, has_right_twice it.rights) ∷ []) room.rest in
+    let stamped = first_none ClockOut false ((SameParty, has_right_twice it.rights) ∷ []) whole.rest in
     let once = first_none SameParty (has_right_twice it.rights) [] stamped.rest in
     registered_is_sound r it sound formed known.first room.first whole.first once.first
-sound_after r caller (act.Burden it) stamp sound formed none =
-    let unit = first_none NoSuchUnit (not (has r.units it.unit)) ((NoSuchParty, not (has r.parties it.party)) ∷ (TooMany, lacks_numbers r 2 || would_crowd r it.unit 1) ∷ (ClockOut, is_none stamp) ∷ []) none in
-    let party = first_none NoSuchParty (not (has r.parties it.party)) ((TooMany, lacks_numbers r 2 || would_crowd r it.unit 1) ∷ (ClockOut, is_none stamp) ∷ []) unit.rest in
-    let room = or_false (lacks_numbers r 2) (would_crowd r it.unit 1) (first_none TooMany (lacks_numbers r 2 || would_crowd r it.unit 1) ((ClockOut, is_none stamp) ∷ []) party.rest).first in
+sound_after law r caller (act.Burden it) stamp sound formed held new none =
+    let unit = first_none NoSuchUnit (not (has r.units it.unit)) ((NoSuchParty, not (has r.parties it.party)) ∷ (TooMany, lacks_numbers r 2 || would_crowd r it.unit 1) ∷ (ClockOut, false) ∷ []) none in
+    let party = first_none NoSuchParty (not (has r.parties it.party)) ((TooMany, lacks_numbers r 2 || would_crowd r it.unit 1) ∷ (ClockOut, false) ∷ []) unit.rest in
+    let room = or_false (lacks_numbers r 2) (would_crowd r it.unit 1) (first_none TooMany (lacks_numbers r 2 || would_crowd r it.unit 1) ((ClockOut, false) ∷ []) party.rest).first in
     burdened_is_sound r it sound (not_false _ unit.first) (not_false _ party.first) room.0 room.1
-sound_after r caller (act.Lift it) stamp sound formed none =
-    lifted_is_sound r it (not_false _ (first_none NoSuchRight (not (has_burden r it.rrr)) ((ClockOut, is_none stamp) ∷ []) none).first) sound
+sound_after law r caller (act.Lift it) stamp sound formed held new none =
+    lifted_is_sound r it (not_false _ (first_none NoSuchRight (not (has_burden r it.rrr)) ((ClockOut, false) ∷ []) none).first) sound
+sound_after law r caller (act.Lodge it) stamp sound formed held new none =
+    let room = first_none TooMany (lacks_numbers r 2) ((ReferenceUsed, has_lodged_other r caller it) ∷ (ClockOut, false) ∷ []) none in
+    let other = first_none ReferenceUsed (has_lodged_other r caller it) ((ClockOut, false) ∷ []) room.rest in
+    let content = (both_of (is_reference it.reference && is_title it.document) (is_well_formed_content it.content) formed).1 in
+    lodged_is_sound r caller it stamp sound (caller_stands r caller sound held) content room.first (fresh r caller it new other.first)
+sound_after law r caller (act.Approve it) stamp sound formed held new none = approved_is_sound law r stamp sound it (first_none NotLodged (not (is_lodged r it.mutation)) (option_map_or (λ m. content_refusals r m.content (Some stamp)) (map.get r.mutations it.mutation) []) none).rest
+sound_after law r caller (act.Refuse it) stamp sound formed held new none = refused_is_sound r it sound
 
-next_grows : (r : Register) (caller : Caller) (a : Act) → r.next ≤ (change_of r caller a).next
-next_grows r caller (act.Enrol it) = omega arith
-next_grows r caller (act.Group it) = omega arith
-next_grows r caller (act.Regroup it) = omega arith
-next_grows r caller (act.Grant it) = omega arith
-next_grows r caller (act.Revoke it) = omega arith
-next_grows r caller (act.Register it) = omega arith
-next_grows r caller (act.Burden it) = omega arith
-next_grows r caller (act.Lift it) = omega arith
+next_grows : (r : Register) (caller : Caller) (a : Act) (stamp : ℤ) → r.next ≤ (change_of r caller a stamp).next
+next_grows r caller (act.Enrol it) stamp = omega arith
+next_grows r caller (act.Group it) stamp = omega arith
+next_grows r caller (act.Regroup it) stamp = omega arith
+next_grows r caller (act.Grant it) stamp = omega arith
+next_grows r caller (act.Revoke it) stamp = omega arith
+next_grows r caller (act.Register it) stamp = omega arith
+next_grows r caller (act.Burden it) stamp = omega arith
+next_grows r caller (act.Lift it) stamp = omega arith
+next_grows r caller (act.Lodge it) stamp = omega arith
+next_grows r caller (act.Approve it) stamp = approve_grows r it
+next_grows r caller (act.Refuse it) stamp = refuse_grows r it
 
-names_once : (r : Register) (caller : Caller) (a : Act) → NamesKeysOnce (change_of r caller a)
-names_once r caller (act.Enrol it) = record { parties = refl; roles = refl; members = refl; units = refl; parcels = refl; rrrs = refl; sources = refl }
-names_once r caller (act.Group it) = record { parties = refl; roles = refl; members = refl; units = refl; parcels = refl; rrrs = refl; sources = refl }
-names_once r caller (act.Regroup it) = record { parties = refl; roles = refl; members = refl; units = refl; parcels = refl; rrrs = refl; sources = refl }
-names_once r caller (act.Grant it) = record { parties = refl; roles = refl; members = refl; units = refl; parcels = refl; rrrs = refl; sources = refl }
-names_once r caller (act.Register it) = record {
+names_once : (r : Register) (caller : Caller) (a : Act) (stamp : ℤ) → IsSound r → first_that_holds (refusals_of r caller a (Some stamp)) ≡ None → NamesKeysOnce (change_of r caller a stamp)
+names_once r caller (act.Enrol it) stamp sound none = record { parties = refl; roles = refl; members = refl; units = refl; parcels = refl; rrrs = refl; sources = refl; mutations = refl }
+names_once r caller (act.Group it) stamp sound none = record { parties = refl; roles = refl; members = refl; units = refl; parcels = refl; rrrs = refl; sources = refl; mutations = refl }
+names_once r caller (act.Regroup it) stamp sound none = record { parties = refl; roles = refl; members = refl; units = refl; parcels = refl; rrrs = refl; sources = refl; mutations = refl }
+names_once r caller (act.Grant it) stamp sound none = record { parties = refl; roles = refl; members = refl; units = refl; parcels = refl; rrrs = refl; sources = refl; mutations = refl }
+names_once r caller (act.Register it) stamp sound none = record {
   parties = refl;
   roles = refl;
   members = refl;
@@ -106,10 +128,14 @@ names_once r caller (act.Register it) = record {
   parcels = numbered_once (r.next + 2) (map_list (parcel_of (r.next + 1) r.next) it.parcels);
   rrrs = numbered_once (r.next + 2 + length it.parcels) (map_list (right_of (r.next + 1) r.next) it.rights);
   sources = refl;
+  mutations = refl;
 }
-names_once r caller (act.Burden it) = record { parties = refl; roles = refl; members = refl; units = refl; parcels = refl; rrrs = refl; sources = refl }
-names_once r caller (act.Lift it) = record { parties = refl; roles = refl; members = refl; units = refl; parcels = refl; rrrs = refl; sources = refl }
-names_once r caller (act.Revoke it) = record { parties = refl; roles = refl; members = refl; units = refl; parcels = refl; rrrs = refl; sources = refl }
+names_once r caller (act.Burden it) stamp sound none = record { parties = refl; roles = refl; members = refl; units = refl; parcels = refl; rrrs = refl; sources = refl; mutations = refl }
+names_once r caller (act.Lift it) stamp sound none = record { parties = refl; roles = refl; members = refl; units = refl; parcels = refl; rrrs = refl; sources = refl; mutations = refl }
+names_once r caller (act.Lodge it) stamp sound none = record { parties = refl; roles = refl; members = refl; units = refl; parcels = refl; rrrs = refl; sources = refl; mutations = refl }
+names_once r caller (act.Approve it) stamp sound none = approve_once r it stamp sound (first_none NotLodged (not (is_lodged r it.mutation)) (option_map_or (λ m. content_refusals r m.content (Some stamp)) (map.get r.mutations it.mutation) []) none).rest
+names_once r caller (act.Refuse it) stamp sound none = refuse_once r it
+names_once r caller (act.Revoke it) stamp sound none = record { parties = refl; roles = refl; members = refl; units = refl; parcels = refl; rrrs = refl; sources = refl; mutations = refl }
 
 -- the stamp is told with the change
 stamp_told : (r : Register) (caller : Caller) (a : Act) (stamp : ℤ) → (done_of r caller a stamp).stamp ≡ stamp
@@ -121,24 +147,30 @@ stamp_told r caller (act.Revoke it) stamp = refl
 stamp_told r caller (act.Register it) stamp = refl
 stamp_told r caller (act.Burden it) stamp = refl
 stamp_told r caller (act.Lift it) stamp = refl
+stamp_told r caller (act.Lodge it) stamp = refl
+stamp_told r caller (act.Approve it) stamp = refl
+stamp_told r caller (act.Refuse it) stamp = refl
 
 -- ---- any act
 
-planned : (r : Register) (caller : Caller) (a : Act) (stamp : ℤ) (change : Change) (done : Done) → outcome_of r caller a (Some stamp) ≡ Ok (New change done)
-    → IsPlanned (refusals_of r caller a (Some stamp)) (change_of r caller a) change (λ at. done_of r caller a at) done stamp
+pub planned : (r : Register) (caller : Caller) (a : Act) (stamp : ℤ) (change : Change) (done : Done) → outcome_of r caller a (Some stamp) ≡ Ok (New change done)
+    → IsPlanned (repeated_done r caller a) (refusals_of r caller a (Some stamp)) (λ at. change_of r caller a at) change (λ at. done_of r caller a at) done stamp
 planned r caller a stamp change done is =
-    planned_from (refusals_of r caller a (Some stamp)) (change_of r caller a) change (λ at. done_of r caller a at) done stamp is
+    planned_from (repeated_done r caller a) (refusals_of r caller a (Some stamp)) (λ at. change_of r caller a at) change (λ at. done_of r caller a at) done stamp is
+
+pub whole_law : WholenessLaw
+whole_law shares whole = (the_wholeness shares whole, λ e. subst (λ (w : Whole). IsWholeness shares w) (sym e) (wholeness-is shares))
 
 pub accepted_sound : AcceptedKeepsSound
 accepted_sound r change stamp sound h =
     let plan = planned r h.caller h.act stamp change h.done h.outcome in
     subst (λ (made : Change). IsSound (after made r) × (r.next ≤ made.next)) plan.same
-    (sound_after r h.caller h.act (Some stamp) sound h.well_formed plan.none_holds, next_grows r h.caller h.act)
+    (sound_after whole_law r h.caller h.act stamp sound h.well_formed h.role_held plan.new plan.none_holds, next_grows r h.caller h.act stamp)
 
 pub accepted_once : AcceptedNamesKeysOnce
-accepted_once r change stamp h =
+accepted_once r change stamp sound h =
     let plan = planned r h.caller h.act stamp change h.done h.outcome in
-    subst NamesKeysOnce plan.same (names_once r h.caller h.act)
+    subst NamesKeysOnce plan.same (names_once r h.caller h.act stamp sound plan.none_holds)
 
 pub tells_stamp : AcceptedTellsStamp
 tells_stamp r change stamp h =
@@ -147,4 +179,4 @@ tells_stamp r change stamp h =
 
 pub nothing_unstamped : NothingWithoutStamp
 nothing_unstamped r caller a change done is =
-    unstamped (refusals_of r caller a None) (change_of r caller a) change (λ at. done_of r caller a at) done is
+    unstamped (repeated_done r caller a) (refusals_of r caller a None) (λ at. change_of r caller a at) change (λ at. done_of r caller a at) done is

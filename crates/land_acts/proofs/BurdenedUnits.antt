@@ -1,4 +1,4 @@
--- Burdening keeps a register sound: a unit gets one more entry that is no right.
+-- A unit gets one more entry that is no right: the register stays sound, and so it does where a unit is burdened.
 use Rattle.std.proofs.Common.{◌≡◌, ℕ, ◌+◌, ◌<◌, ◌≤◌, Bool, true, false, cond, ◌&&◌, ◌||◌, not, Option, Some, None, List, [], ◌∷◌, ◌++◌, length, length-append, refl, sym, ap, ◌∙◌, subst, append-nil, arith}
 use Rattle.std.specs.Prelude.{filter, is_some, nat_eq, nat_lt}
 use Rattle.std.specs.List.{filter_map, cons_option}
@@ -10,7 +10,7 @@ use Rattle.std.proofs.lemmas.Bool.Decides.{nat_tests}
 use Rattle.std.proofs.lemmas.List.Elements.{filter-append, filter_map-append}
 use Rattle.land_core.specs.Changes.{after}
 use Rattle.land_core.specs.Entries.{has}
-use Rattle.land_core.specs.Soundness.{IsSound, is_used, clashes_later, is_loose_rank}
+use Rattle.land_core.specs.Soundness.{IsSound, has_unused, is_past_the_numbers, is_used, clashes_later, is_loose_rank}
 use Rattle.land_core.specs.Units.{share_in, share_of, is_right_in, do_clash, are_of_one_type, are_of_one_rank, type_of, rank_of, type_shares, are_whole_or_none, has_parcel, has_owner, parcel_count, rrr_count, has_whole_shares}
 use Rattle.land_core.specs.declared.act.Burden.{Burden}
 use Rattle.land_core.specs.declared.act.BurdenClass.{BurdenClass}
@@ -21,14 +21,15 @@ use Rattle.land_core.specs.declared.rrr.RightType.TheVariants.{Ownership, Lease,
 use Rattle.land_core.specs.declared.rrr.RrrRecord.{RrrRecord}
 use Rattle.land_core.specs.declared.source.SourceKind.TheVariants.{Administrative}
 use Rattle.land_core.specs.declared.source.SourceRecord.{SourceRecord}
-use Rattle.land_core.specs.declared.soundness.Unsound.TheVariants.{Reference, Shares, Group, Bare, Crowded, Twice, Rank, Administrator, Memory}
+use Rattle.land_core.specs.declared.soundness.Unsound.TheVariants.{Reference, Shares, Group, Bare, Crowded, Twice, Rank, Administrator, Reused, Memory}
 use Rattle.land_core.proofs.Booleans.{both_of, or_false, not_false}
 use Rattle.land_core.proofs.Reflection.{none_passes, none_at, some_passes, some_at}
 use Rattle.land_core.proofs.SoundRegisters.{refers, refers_back, are_used, are_used_back, used_from, unused_from, used_bounds, next_above_zero}
 use Rattle.land_fraction.specs.Ratio.{Ratio}
 use Rattle.land_acts.specs.Burdening.{burden_change, class_of, would_crowd}
 use Rattle.land_acts.specs.Planning.{lacks_numbers}
-use Rattle.land_acts.proofs.Growth.{used_grows, unused_grows, ranks_grow, has_stays, AreAnchored, anchored, anchored_back, placed, placed_back}
+use Rattle.land_acts.proofs.Growth.{used_grows, unused_grows, ranks_grow, has_stays, mutations_stay, AreAnchored, anchored, anchored_back, placed, placed_back}
+use Rattle.land_acts.proofs.LiftedEntries.{no_share}
 use Rattle.land_acts.proofs.NewObjects.{below_later, entries-last, below_next}
 use Rattle.land_acts.proofs.Numbers.{one_number, lesser_apart, tied_number}
 
@@ -52,19 +53,25 @@ module _ {V : Type 0} (m : FinMap nat_cmp V) (k : ℕ) (v : V) where
       same : Some v ≡ Some w → v ≡ w
       same e = cc
 
--- ---- a burden is no right and no mortgage
+-- ---- a new entry that is no right
 
-no_share : (type : RightType) (class : BurdenClass) (words : List ℕ) → share_of type (class_of class words) ≡ None
-no_share type burden.Restriction words = refl
-no_share type burden.Responsibility words = refl
+-- a register with a new entry and new sources
+abbrev pub entered : Register → (number : ℕ) → RrrRecord → (sources : FinMap nat_cmp SourceRecord) → (next : ℕ) → Register
+entered r number entry sources next = record r { rrrs = map.insert r.rrrs number entry; sources = sources; next = next }
 
-no_type : (class : BurdenClass) (words : List ℕ) → type_of (class_of class words) ≡ None
-no_type burden.Restriction words = refl
-no_type burden.Responsibility words = refl
-
-no_rank : (class : BurdenClass) (words : List ℕ) → rank_of (class_of class words) ≡ None
-no_rank burden.Restriction words = refl
-no_rank burden.Responsibility words = refl
+-- what the new entry has to be: it comes after all others, what it refers to stands, its unit has room for it, and it is no right; where
+-- it is a mortgage, no other one on its unit has its rank
+pub record Enters (r : Register) (number : ℕ) (entry : RrrRecord) (sources : FinMap nat_cmp SourceRecord) (next : ℕ) : Type 0 where
+  pub room : is_past_the_numbers (entered r number entry sources next) ≡ false
+  pub last : r.next ≤ number
+  pub below : number < next
+  pub numbers : has_unused (entered r number entry sources next) sources ≡ false
+  pub sources_stay : (n : ℕ) → has r.sources n ≡ true → has sources n ≡ true
+  pub anchored : AreAnchored (entered r number entry sources next) entry
+  pub few : would_crowd r entry.unit 1 ≡ false
+  pub no_right : type_of entry.class ≡ None
+  pub rank : is_loose_rank (entered r number entry sources next) (rank_of entry.class) ≡ false
+  pub ranked : (n : ℕ) (e : RrrRecord) → map.get r.rrrs n ≡ Some e → nat_eq e.unit entry.unit ≡ true → are_of_one_rank (rank_of e.class) (rank_of entry.class) ≡ false
 
 no_type_right : (o : Option RightType) → are_of_one_type o None ≡ false
 no_type_right (Some type) = refl
@@ -78,45 +85,34 @@ and_false : (b : Bool) → (b && false) ≡ false
 and_false true = refl
 and_false false = refl
 
-module _ (r : Register) (it : Burden) (sound : IsSound r) where
+module _ (r : Register) (sound : IsSound r) (number : ℕ) (entry : RrrRecord) (sources : FinMap nat_cmp SourceRecord) (next : ℕ) (h : Enters r number entry sources next) where
   abbrev more : Register
-  more = after (burden_change r it) r
+  more = entered r number entry sources next
 
-  abbrev entry : RrrRecord
-  entry = record { unit = it.unit; party = it.party; class = class_of it.class it.words; source = r.next }
+  grows : r.next ≤ next
+  grows = let last = h.last in let below = h.below in omega (arith, last, below)
 
-  abbrev document : SourceRecord
-  document = record { kind = Administrative; title = it.document }
-
-  grows : r.next ≤ more.next
-  grows = omega arith
-
-  rrr_below : (n : ℕ) (e : RrrRecord) → map.get r.rrrs n ≡ Some e → n < r.next + 1
+  rrr_below : (n : ℕ) (e : RrrRecord) → map.get r.rrrs n ≡ Some e → n < number
   rrr_below n e is =
       let less = (used_bounds r n (used_from r r.rrrs (are_used r (refers r (sound Reference)).numbers).rrrs n e is)).1 in
-      omega (arith, less)
+      let last = h.last in
+      omega (arith, less, last)
 
-  source_below : (n : ℕ) (s : SourceRecord) → map.get r.sources n ≡ Some s → n < r.next
-  source_below n s is = (used_bounds r n (used_from r r.sources (are_used r (refers r (sound Reference)).numbers).sources n s is)).1
-
-  entries : map.entries more.rrrs ≡ map.entries r.rrrs ++ (r.next + 1, entry) ∷ []
-  entries = entries-last r.rrrs (r.next + 1) entry (below_later r.next (r.next + 1) (omega arith) (map.entries r.rrrs) (below_next r r.rrrs (are_used r (refers r (sound Reference)).numbers).rrrs))
-
-  sources_stay : (n : ℕ) → has r.sources n ≡ true → has more.sources n ≡ true
-  sources_stay = has_stays r.sources more.sources (λ n s is. there r.sources r.next document n s (source_below n s is) is)
+  entries : map.entries more.rrrs ≡ map.entries r.rrrs ++ (number, entry) ∷ []
+  entries = entries-last r.rrrs number entry (below_later r.next number h.last (map.entries r.rrrs) (below_next r r.rrrs (are_used r (refers r (sound Reference)).numbers).rrrs))
 
   -- no type of right gets a share
   shares_stay : (unit : ℕ) (type : RightType) → type_shares more unit type ≡ type_shares r unit type
   shares_stay unit type =
       ap (filter_map (λ e. share_in unit type e.1)) entries
-      ∙ filter_map-append (λ e. share_in unit type e.1) (map.entries r.rrrs) ((r.next + 1, entry) ∷ [])
+      ∙ filter_map-append (λ e. share_in unit type e.1) (map.entries r.rrrs) ((number, entry) ∷ [])
       ∙ ap (λ it. type_shares r unit type ++ it) nothing
       ∙ append-nil (type_shares r unit type)
     where
       no_share_in : share_in unit type entry ≡ None
-      no_share_in = elim (nat_eq it.unit unit) as (λ b. cond b (share_of type entry.class) None ≡ None) [ true ↦ no_share type it.class it.words | false ↦ refl ]
+      no_share_in = elim (nat_eq entry.unit unit) as (λ b. cond b (share_of type entry.class) None ≡ None) [ true ↦ no_share type entry.class h.no_right | false ↦ refl ]
 
-      nothing : filter_map (λ (e : ℕ × RrrRecord). share_in unit type e.1) ((r.next + 1, entry) ∷ []) ≡ []
+      nothing : filter_map (λ (e : ℕ × RrrRecord). share_in unit type e.1) ((number, entry) ∷ []) ≡ []
       nothing = ap (λ (o : Option Ratio). cons_option o []) no_share_in
 
   whole_stays : (unit : ℕ) → has_whole_shares more unit ≡ has_whole_shares r unit
@@ -129,93 +125,141 @@ module _ (r : Register) (it : Burden) (sound : IsSound r) where
   owner_stays unit owned =
       let one = some_passes nat_cmp_total nat_cmp-IsAntisymmetric (λ n e. is_right_in unit Ownership e) r.rrrs owned in
       some_at nat_cmp_total nat_cmp-IsAntisymmetric (λ n e. is_right_in unit Ownership e) more.rrrs one.key one.value
-      (there r.rrrs (r.next + 1) entry one.key one.value (rrr_below one.key one.value one.there) one.there) one.passes
+      (there r.rrrs number entry one.key one.value (rrr_below one.key one.value one.there) one.there) one.passes
 
   -- the unit has one entry more, and no other has
-  count_more : (unit : ℕ) → nat_lt 256 (rrr_count r unit) ≡ false → would_crowd r it.unit 1 ≡ false → nat_lt 256 (rrr_count more unit) ≡ false
-  count_more unit before room =
+  count_more : (unit : ℕ) → nat_lt 256 (rrr_count r unit) ≡ false → nat_lt 256 (rrr_count more unit) ≡ false
+  count_more unit before =
       ap (nat_lt 256) counted
-      ∙ elim (nat_eq it.unit unit) as (λ b. nat_eq it.unit unit ≡ b → nat_lt 256 (rrr_count r unit + length {A = ℕ × RrrRecord} (cond b ((r.next + 1, entry) ∷ []) [])) ≡ false) [
-        | true ↦ λ same. subst (λ (u : ℕ). nat_lt 256 (rrr_count r u + 1) ≡ false) (one_number it.unit unit (tied_number it.unit unit ∙ same)) room
+      ∙ elim (nat_eq entry.unit unit) as (λ b. nat_eq entry.unit unit ≡ b → nat_lt 256 (rrr_count r unit + length {A = ℕ × RrrRecord} (cond b ((number, entry) ∷ []) [])) ≡ false) [
+        | true ↦ λ same. subst (λ (u : ℕ). nat_lt 256 (rrr_count r u + 1) ≡ false) (one_number entry.unit unit (tied_number entry.unit unit ∙ same)) h.few
         | false ↦ λ other. no_more (rrr_count r unit) before
       ] refl
     where
-      counted : rrr_count more unit ≡ rrr_count r unit + length {A = ℕ × RrrRecord} (cond (nat_eq it.unit unit) ((r.next + 1, entry) ∷ []) [])
+      counted : rrr_count more unit ≡ rrr_count r unit + length {A = ℕ × RrrRecord} (cond (nat_eq entry.unit unit) ((number, entry) ∷ []) [])
       counted =
           ap (λ (es : List (ℕ × RrrRecord)). length (filter (λ e. nat_eq e.1.unit unit) es)) entries
-          ∙ ap length (filter-append (λ (e : ℕ × RrrRecord). nat_eq e.1.unit unit) (map.entries r.rrrs) ((r.next + 1, entry) ∷ []))
-          ∙ length-append (filter (λ (e : ℕ × RrrRecord). nat_eq e.1.unit unit) (map.entries r.rrrs)) (filter (λ (e : ℕ × RrrRecord). nat_eq e.1.unit unit) ((r.next + 1, entry) ∷ []))
+          ∙ ap length (filter-append (λ (e : ℕ × RrrRecord). nat_eq e.1.unit unit) (map.entries r.rrrs) ((number, entry) ∷ []))
+          ∙ length-append (filter (λ (e : ℕ × RrrRecord). nat_eq e.1.unit unit) (map.entries r.rrrs)) (filter (λ (e : ℕ × RrrRecord). nat_eq e.1.unit unit) ((number, entry) ∷ []))
 
       no_more : (n : ℕ) → nat_lt 256 n ≡ false → nat_lt 256 (n + 0) ≡ false
       no_more n h = grind (arith, nat_tests)
 
-  clash_none : (e : RrrRecord) → do_clash e entry ≡ false
-  clash_none e =
-      ap (λ o. nat_eq e.unit it.unit && (nat_eq e.party it.party && are_of_one_type (type_of e.class) o || are_of_one_rank (rank_of e.class) (rank_of entry.class))) (no_type it.class it.words)
-      ∙ ap (λ o. nat_eq e.unit it.unit && (nat_eq e.party it.party && are_of_one_type (type_of e.class) None || are_of_one_rank (rank_of e.class) o)) (no_rank it.class it.words)
-      ∙ ap (λ b. nat_eq e.unit it.unit && (nat_eq e.party it.party && b || are_of_one_rank (rank_of e.class) None)) (no_type_right (type_of e.class))
-      ∙ ap (λ b. nat_eq e.unit it.unit && (b || are_of_one_rank (rank_of e.class) None)) (and_false (nat_eq e.party it.party))
-      ∙ ap (λ b. nat_eq e.unit it.unit && b) (no_rank_right (rank_of e.class))
-      ∙ and_false (nat_eq e.unit it.unit)
+  clash_none : (n : ℕ) (e : RrrRecord) → map.get r.rrrs n ≡ Some e → do_clash e entry ≡ false
+  clash_none n e is =
+      ap (λ o. nat_eq e.unit entry.unit && (nat_eq e.party entry.party && are_of_one_type (type_of e.class) o || are_of_one_rank (rank_of e.class) (rank_of entry.class))) h.no_right
+      ∙ ap (λ b. nat_eq e.unit entry.unit && (nat_eq e.party entry.party && b || are_of_one_rank (rank_of e.class) (rank_of entry.class))) (no_type_right (type_of e.class))
+      ∙ ap (λ b. nat_eq e.unit entry.unit && (b || are_of_one_rank (rank_of e.class) (rank_of entry.class))) (and_false (nat_eq e.party entry.party))
+      ∙ elim (nat_eq e.unit entry.unit) as (λ b. nat_eq e.unit entry.unit ≡ b → (b && are_of_one_rank (rank_of e.class) (rank_of entry.class)) ≡ false) [
+        | true ↦ λ here. h.ranked n e is here
+        | false ↦ λ other. refl
+      ] refl
 
-  none_clashes : (f : RrrRecord) → do_clash entry f ≡ false
-  none_clashes f =
-      ap (λ o. nat_eq it.unit f.unit && (nat_eq it.party f.party && are_of_one_type o (type_of f.class) || are_of_one_rank (rank_of entry.class) (rank_of f.class))) (no_type it.class it.words)
-      ∙ ap (λ o. nat_eq it.unit f.unit && (nat_eq it.party f.party && false || are_of_one_rank o (rank_of f.class))) (no_rank it.class it.words)
-      ∙ ap (λ b. nat_eq it.unit f.unit && (b || false)) (and_false (nat_eq it.party f.party))
-      ∙ and_false (nat_eq it.unit f.unit)
+  -- no entry comes after the new one
+  none_later : (m : ℕ) (f : RrrRecord) → m ≤ number → (nat_lt number m && do_clash entry f) ≡ false
+  none_later m f le = ap (λ b. b && do_clash entry f) (not_after m number le)
+    where
+      not_after : (m k : ℕ) → m ≤ k → nat_lt k m ≡ false
+      not_after m k le = grind (arith, nat_tests)
 
-  pub burdened_is_sound : has r.units it.unit ≡ true → has r.parties it.party ≡ true → lacks_numbers r 2 ≡ false → would_crowd r it.unit 1 ≡ false → IsSound (after (burden_change r it) r)
-  burdened_is_sound unit party room few Memory = refl
-  burdened_is_sound unit party room few Group = sound Group
-  burdened_is_sound unit party room few Administrator = sound Administrator
-  burdened_is_sound unit party room few Reference =
+  pub entered_is_sound : IsSound (entered r number entry sources next)
+  entered_is_sound Memory = refl
+  entered_is_sound Reused = sound Reused
+  entered_is_sound Group = sound Group
+  entered_is_sound Administrator = sound Administrator
+  entered_is_sound Reference =
       let before = refers r (sound Reference) in
       let used = are_used r before.numbers in
       let above = next_above_zero r sound in
-      let first_used : is_used more r.next ≡ true = grind (arith, nat_tests) in
-      let second_used : is_used more (r.next + 1) ≡ true = grind (arith, nat_tests) in
+      let last = h.last in
+      let below = h.below in
+      let is_in_use : is_used more number ≡ true = grind (arith, nat_tests) in
       refers_back more (record {
-        room = room;
+        room = h.room;
         numbers = are_used_back more (record {
           parties = unused_grows r more grows r.parties used.parties;
           units = unused_grows r more grows r.units used.units;
           parcels = unused_grows r more grows r.parcels used.parcels;
-          rrrs = unused_from more more.rrrs (each_record r.rrrs (r.next + 1) entry (λ n e. is_used more n ≡ true) second_used (λ n e is. used_grows r more grows n (used_from r r.rrrs used.rrrs n e is)));
-          sources = unused_from more more.sources (each_record r.sources r.next document (λ n s. is_used more n ≡ true) first_used (λ n s is. used_grows r more grows n (used_from r r.sources used.sources n s is)));
+          rrrs = unused_from more more.rrrs (each_record r.rrrs number entry (λ n e. is_used more n ≡ true) is_in_use (λ n e is. used_grows r more grows n (used_from r r.rrrs used.rrrs n e is)));
+          sources = h.numbers;
+          mutations = unused_grows r more grows r.mutations used.mutations;
         });
         grants = before.grants;
         members = before.members;
-        parcels = placed_back more (λ n p is. let one = placed r before.parcels n p is in (one.0, sources_stay p.source one.1));
-        rrrs = anchored_back more (each_record r.rrrs (r.next + 1) entry (λ n e. AreAnchored more e)
-            (record { unit = unit; party = party; source = ap is_some (here r.sources r.next document) })
-            (λ n e is. let one = anchored r before.rrrs n e is in record { unit = one.unit; party = one.party; source = sources_stay e.source one.source }));
+        parcels = placed_back more (λ n p is. let one = placed r before.parcels n p is in (one.0, h.sources_stay p.source one.1));
+        rrrs = anchored_back more (each_record r.rrrs number entry (λ n e. AreAnchored more e) h.anchored
+            (λ n e is. let one = anchored r before.rrrs n e is in record { unit = one.unit; party = one.party; source = h.sources_stay e.source one.source }));
+        mutations = mutations_stay r more refl (λ n there. there) h.sources_stay before.mutations;
       })
-  burdened_is_sound unit party room few Shares =
+  entered_is_sound Shares =
       none_passes nat_cmp_total nat_cmp-IsAntisymmetric (λ n u. u.checked && not (has_whole_shares more n)) r.units
       (λ n u is. ap (λ b. u.checked && not b) (whole_stays n) ∙ none_at nat_cmp_total nat_cmp-IsAntisymmetric (λ n u. u.checked && not (has_whole_shares r n)) r.units n u (sound Shares) is)
-  burdened_is_sound unit party room few Bare =
+  entered_is_sound Bare =
       none_passes nat_cmp_total nat_cmp-IsAntisymmetric (λ n u. not (has_parcel more n && has_owner more n)) r.units
       (λ n u is.
       let had = both_of (has_parcel r n) (has_owner r n) (not_false _ (none_at nat_cmp_total nat_cmp-IsAntisymmetric (λ n u. not (has_parcel r n && has_owner r n)) r.units n u (sound Bare) is)) in
       ap (λ b. not (b && has_owner more n)) had.0 ∙ ap not (owner_stays n had.1))
-  burdened_is_sound unit party room few Crowded =
+  entered_is_sound Crowded =
       none_passes nat_cmp_total nat_cmp-IsAntisymmetric (λ n u. nat_lt 256 (parcel_count more n) || nat_lt 256 (rrr_count more n)) r.units
       (λ n u is.
       let had = or_false (nat_lt 256 (parcel_count r n)) (nat_lt 256 (rrr_count r n)) (none_at nat_cmp_total nat_cmp-IsAntisymmetric (λ n u. nat_lt 256 (parcel_count r n) || nat_lt 256 (rrr_count r n)) r.units n u (sound Crowded) is) in
-      ap (λ b. b || nat_lt 256 (rrr_count more n)) had.0 ∙ count_more n had.1 few)
-  burdened_is_sound unit party room few Twice =
+      ap (λ b. b || nat_lt 256 (rrr_count more n)) had.0 ∙ count_more n had.1)
+  entered_is_sound Twice =
       none_passes nat_cmp_total nat_cmp-IsAntisymmetric (clashes_later more) more.rrrs
-      (each_record r.rrrs (r.next + 1) entry (λ n e. clashes_later more n e ≡ false)
-      (none_passes nat_cmp_total nat_cmp-IsAntisymmetric (λ m f. nat_lt (r.next + 1) m && do_clash entry f) more.rrrs (λ m f at. ap (λ b. nat_lt (r.next + 1) m && b) (none_clashes f) ∙ and_false (nat_lt (r.next + 1) m)))
+      (each_record r.rrrs number entry (λ n e. clashes_later more n e ≡ false)
+      (none_passes nat_cmp_total nat_cmp-IsAntisymmetric (λ m f. nat_lt number m && do_clash entry f) more.rrrs
+      (each_record r.rrrs number entry (λ m f. (nat_lt number m && do_clash entry f) ≡ false) (none_later number entry (omega arith))
+      (λ m f at. let less = rrr_below m f at in none_later m f (omega (arith, less)))))
       (λ n e is.
       let alone = none_at nat_cmp_total nat_cmp-IsAntisymmetric (clashes_later r) r.rrrs n e (sound Twice) is in
       none_passes nat_cmp_total nat_cmp-IsAntisymmetric (λ m f. nat_lt n m && do_clash e f) more.rrrs
-      (each_record r.rrrs (r.next + 1) entry (λ m f. (nat_lt n m && do_clash e f) ≡ false)
-      (ap (λ b. nat_lt n (r.next + 1) && b) (clash_none e) ∙ and_false (nat_lt n (r.next + 1)))
+      (each_record r.rrrs number entry (λ m f. (nat_lt n m && do_clash e f) ≡ false)
+      (ap (λ b. nat_lt n number && b) (clash_none n e is) ∙ and_false (nat_lt n number))
       (λ m f at. none_at nat_cmp_total nat_cmp-IsAntisymmetric (λ m f. nat_lt n m && do_clash e f) r.rrrs m f alone at))))
-  burdened_is_sound unit party room few Rank =
+  entered_is_sound Rank =
       none_passes nat_cmp_total nat_cmp-IsAntisymmetric (λ n e. is_loose_rank more (rank_of e.class)) more.rrrs
-      (each_record r.rrrs (r.next + 1) entry (λ n e. is_loose_rank more (rank_of e.class) ≡ false)
-      (ap (is_loose_rank more) (no_rank it.class it.words))
+      (each_record r.rrrs number entry (λ n e. is_loose_rank more (rank_of e.class) ≡ false) h.rank
       (λ n e is. none_at nat_cmp_total nat_cmp-IsAntisymmetric (λ n e. is_loose_rank more (rank_of e.class)) r.rrrs n e (ranks_grow r more grows r.rrrs (sound Rank)) is))
+
+-- ---- a burden is no right and no mortgage
+
+no_type : (class : BurdenClass) (words : List ℕ) → type_of (class_of class words) ≡ None
+no_type burden.Restriction words = refl
+no_type burden.Responsibility words = refl
+
+no_rank : (class : BurdenClass) (words : List ℕ) → rank_of (class_of class words) ≡ None
+no_rank burden.Restriction words = refl
+no_rank burden.Responsibility words = refl
+
+pub burdened_is_sound : (r : Register) (it : Burden) → IsSound r → has r.units it.unit ≡ true → has r.parties it.party ≡ true → lacks_numbers r 2 ≡ false → would_crowd r it.unit 1 ≡ false
+    → IsSound (after (burden_change r it) r)
+burdened_is_sound r it sound unit party room few =
+    let used = are_used r (refers r (sound Reference)).numbers in
+    let above = next_above_zero r sound in
+    let is_in_use : is_used more r.next ≡ true = grind (arith, nat_tests) in
+    let below : (n : ℕ) (s : SourceRecord) → map.get r.sources n ≡ Some s → n < r.next = λ n s is. (used_bounds r n (used_from r r.sources used.sources n s is)).1 in
+    entered_is_sound r sound (r.next + 1) entry sources (r.next + 2) (record {
+      room = room;
+      last = omega arith;
+      below = omega arith;
+      numbers = unused_from more sources (each_record r.sources r.next document (λ n s. is_used more n ≡ true) is_in_use
+          (λ n s is. used_grows r more (omega arith) n (used_from r r.sources used.sources n s is)));
+      sources_stay = has_stays r.sources sources (λ n s is. there r.sources r.next document n s (below n s is) is);
+      anchored = record { unit = unit; party = party; source = ap is_some (here r.sources r.next document) };
+      few = few;
+      no_right = no_type it.class it.words;
+      rank = ap (is_loose_rank more) (no_rank it.class it.words);
+      ranked = λ n e is at. ap (are_of_one_rank (rank_of e.class)) (no_rank it.class it.words) ∙ no_rank_right (rank_of e.class);
+    })
+  where
+    entry : RrrRecord
+    entry = record { unit = it.unit; party = it.party; class = class_of it.class it.words; source = r.next }
+
+    document : SourceRecord
+    document = record { kind = Administrative; title = it.document }
+
+    sources : FinMap nat_cmp SourceRecord
+    sources = map.insert r.sources r.next document
+
+    more : Register
+    more = entered r (r.next + 1) entry sources (r.next + 2)

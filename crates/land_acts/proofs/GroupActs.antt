@@ -19,7 +19,7 @@ use Rattle.land_core.specs.declared.party.PartyRecord.{PartyRecord}
 use Rattle.land_core.specs.declared.register.Register.{Register}
 use Rattle.land_core.specs.declared.role.Role.TheVariants.{Citizen}
 use Rattle.land_core.specs.declared.roles.Grant.{Grant}
-use Rattle.land_core.specs.declared.soundness.Unsound.TheVariants.{Reference, Shares, Group, Bare, Crowded, Twice, Rank, Administrator, Memory}
+use Rattle.land_core.specs.declared.soundness.Unsound.TheVariants.{Reference, Shares, Group, Bare, Crowded, Twice, Rank, Administrator, Reused, Memory}
 use Rattle.land_core.proofs.Booleans.{not_false}
 use Rattle.land_core.proofs.FiniteMaps.{is_equal}
 use Rattle.land_core.proofs.FiniteSets.{grants_total, exact_grants}
@@ -29,7 +29,7 @@ use Rattle.land_acts.specs.Grouping.{group_change}
 use Rattle.land_acts.specs.Planning.{lacks_numbers}
 use Rattle.land_acts.specs.Regrouping.{regroup_change}
 use Rattle.land_acts.specs.Sharing.{lists_stranger, lists_twice, are_whole, members_of_list}
-use Rattle.land_acts.proofs.Growth.{ranks_grow}
+use Rattle.land_acts.proofs.Growth.{has_stays, mutations_stay, ranks_grow}
 use Rattle.land_acts.proofs.ListedMembers.{group_shares, listed_single}
 use Rattle.land_acts.proofs.Numbers.{one_number}
 use Rattle.land_acts.proofs.PartyActs.{single_stays, tight_stays, stay, put_there, each_party, all_used, no_loose_grant, no_loose_rrr}
@@ -67,6 +67,7 @@ module _ (new : Register) (before : FinMap nat_cmp Members) (number : ℕ) (memb
 
 pub enrolled_is_sound : (r : Register) (it : Enrol) → IsSound r → is_single it.kind ≡ true → lacks_numbers r 1 ≡ false → IsSound (after (enrol_change r it) r)
 enrolled_is_sound r it sound single room Memory = refl
+enrolled_is_sound r it sound single room Reused = sound Reused
 enrolled_is_sound r it sound single room Shares = sound Shares
 enrolled_is_sound r it sound single room Bare = sound Bare
 enrolled_is_sound r it sound single room Crowded = sound Crowded
@@ -86,7 +87,7 @@ enrolled_is_sound r it sound single room Reference =
     let stays = stay r new party refl refl sound in
     refers_back new (record {
       room = room;
-      numbers = all_used r new party refl refl sound refl refl refl refl;
+      numbers = all_used r new party refl refl sound refl refl refl refl refl;
       grants = loose_from new (λ g is.
           elim (eq_by_cmp grant_cmp g (grant_of r.next Citizen)) as (λ b. eq_by_cmp grant_cmp g (grant_of r.next Citizen) ≡ b → cond b (Some tt) (map.get r.roles g) ≡ Some tt → has_single_party new g.party ≡ true) [
             | true ↦ λ at e.
@@ -97,6 +98,7 @@ enrolled_is_sound r it sound single room Reference =
       members = loose_members_from new (λ n others is. tight_stays r new stays n others (members_from r before.members n others is));
       parcels = before.parcels;
       rrrs = no_loose_rrr r new party refl refl sound refl refl refl;
+      mutations = mutations_stay r new refl (has_stays r.parties new.parties stays) (λ n h. h) before.mutations;
     })
 enrolled_is_sound r it sound single room Administrator =
     let new = after (enrol_change r it) r in
@@ -111,6 +113,7 @@ enrolled_is_sound r it sound single room Administrator =
 pub grouped_is_sound : (r : Register) (it : NewGroup) → IsSound r → is_group_size (length it.members) ≡ true → lists_stranger r it.members ≡ false → lacks_numbers r 1 ≡ false
     → are_whole it.members ≡ true → lists_twice it.members ≡ false → IsSound (after (group_change r it) r)
 grouped_is_sound r it sound size known room whole once Memory = refl
+grouped_is_sound r it sound size known room whole once Reused = sound Reused
 grouped_is_sound r it sound size known room whole once Shares = sound Shares
 grouped_is_sound r it sound size known room whole once Bare = sound Bare
 grouped_is_sound r it sound size known room whole once Crowded = sound Crowded
@@ -132,7 +135,7 @@ grouped_is_sound r it sound size known room whole once Reference =
     let stays = stay r new party refl refl sound in
     refers_back new (record {
       room = room;
-      numbers = all_used r new party refl refl sound refl refl refl refl;
+      numbers = all_used r new party refl refl sound refl refl refl refl refl;
       grants = no_loose_grant r new party refl refl sound refl;
       members = no_loose_members new r.members r.next (members_of_list it.members) refl
           (record {
@@ -142,6 +145,7 @@ grouped_is_sound r it sound size known room whole once Reference =
           (λ n others is. tight_stays r new stays n others (members_from r before.members n others is));
       parcels = before.parcels;
       rrrs = no_loose_rrr r new party refl refl sound refl refl refl;
+      mutations = mutations_stay r new refl (has_stays r.parties new.parties stays) (λ n h. h) before.mutations;
     })
 
 -- ---- regrouping
@@ -149,6 +153,7 @@ grouped_is_sound r it sound size known room whole once Reference =
 pub regrouped_is_sound : (r : Register) (it : Regroup) → IsSound r → is_group_size (length it.members) ≡ true → has_group r it.group ≡ true → lists_stranger r it.members ≡ false
     → are_whole it.members ≡ true → lists_twice it.members ≡ false → IsSound (after (regroup_change r it) r)
 regrouped_is_sound r it sound size group known whole once Memory = refl
+regrouped_is_sound r it sound size group known whole once Reused = sound Reused
 regrouped_is_sound r it sound size group known whole once Shares = sound Shares
 regrouped_is_sound r it sound size group known whole once Bare = sound Bare
 regrouped_is_sound r it sound size group known whole once Crowded = sound Crowded
@@ -171,4 +176,5 @@ regrouped_is_sound r it sound size group known whole once Reference =
           (λ n others is. tight_stays r new (λ n p at. at) n others (members_from r before.members n others is));
       parcels = before.parcels;
       rrrs = before.rrrs;
+      mutations = before.mutations;
     })

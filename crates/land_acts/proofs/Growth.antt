@@ -8,7 +8,8 @@ use Rattle.std.specs.FinMap.{FinMap, nat_cmp-IsAntisymmetric}
 use Rattle.std.proofs.lemmas.Bool.{false≢true}
 use Rattle.std.proofs.lemmas.Bool.Decides.{nat_tests}
 use Rattle.land_core.specs.Entries.{some, has}
-use Rattle.land_core.specs.Soundness.{has_unused, has_loose_parcel, has_loose_rrr, is_used, is_loose_rank}
+use Rattle.land_core.specs.Contents.{is_well_formed_content}
+use Rattle.land_core.specs.Soundness.{has_unused, has_loose_mutation, has_loose_parcel, has_loose_rrr, is_used, is_loose_mutation, is_loose_rank}
 use Rattle.land_core.specs.Units.{rank_of}
 use Rattle.land_core.specs.declared.parcel.ParcelRecord.{ParcelRecord}
 use Rattle.land_core.specs.declared.register.Register.{Register}
@@ -75,3 +76,14 @@ pub placed_back : (r : Register) → ((n : ℕ) (p : ParcelRecord) → map.get r
 placed_back r h =
     none_passes nat_cmp_total nat_cmp-IsAntisymmetric (λ n p. not (has r.units p.unit && has r.sources p.source)) r.parcels
     (λ n p is. let one = h n p is in ap (λ b. not (b && has r.sources p.source)) one.0 ∙ ap not one.1)
+
+-- mutations stay where they are, and what they refer to stands as before
+pub mutations_stay : (r new : Register) → new.mutations ≡ r.mutations → ((n : ℕ) → has r.parties n ≡ true → has new.parties n ≡ true) → ((n : ℕ) → has r.sources n ≡ true → has new.sources n ≡ true)
+    → has_loose_mutation r ≡ false → has_loose_mutation new ≡ false
+mutations_stay r new same parties sources none =
+    ap (some (λ n m. is_loose_mutation new m)) same
+    ∙ none_passes nat_cmp_total nat_cmp-IsAntisymmetric (λ n m. is_loose_mutation new m) r.mutations (λ n m is.
+    let all = both_of (has r.parties m.lodger && has r.sources m.source) (is_well_formed_content m.content) (not_false _ (none_at nat_cmp_total nat_cmp-IsAntisymmetric (λ n m. is_loose_mutation r m) r.mutations n m none is)) in
+    let first = both_of (has r.parties m.lodger) (has r.sources m.source) all.0 in
+    ap (λ b. not (b && has new.sources m.source && is_well_formed_content m.content)) (parties m.lodger first.0)
+    ∙ ap (λ b. not (b && is_well_formed_content m.content)) (sources m.source first.1) ∙ ap not all.1)

@@ -1,4 +1,4 @@
--- Lifting keeps a register sound: an entry that is no right ends.
+-- An entry that is no right ends: the register stays sound, and so it does where a burden is lifted.
 use Rattle.std.proofs.Common.{◌≡◌, ℕ, ◌≤◌, Bool, true, false, cond, ◌&&◌, ◌||◌, not, Option, Some, None, List, [], ◌∷◌, length, refl, sym, ap, ◌∙◌, subst, arith}
 use Rattle.std.specs.Prelude.{filter, nat_eq, nat_lt}
 use Rattle.std.specs.List.{filter_map, cons_option, AllByRecursion}
@@ -13,7 +13,7 @@ use Rattle.std.proofs.lemmas.Bool.{false≢true}
 use Rattle.std.proofs.lemmas.Bool.Decides.{nat_tests}
 use Rattle.land_core.specs.Changes.{after}
 use Rattle.land_core.specs.Soundness.{IsSound, clashes_later, is_loose_rank}
-use Rattle.land_core.specs.Units.{share_in, share_of, is_right_in, is_right_of, do_clash, rank_of, type_shares, are_whole_or_none, has_parcel, has_owner, parcel_count, rrr_count, has_whole_shares}
+use Rattle.land_core.specs.Units.{share_in, share_of, is_right_in, is_right_of, do_clash, rank_of, type_of, type_shares, are_whole_or_none, has_parcel, has_owner, parcel_count, rrr_count, has_whole_shares}
 use Rattle.land_core.specs.declared.act.Lift.{Lift}
 use Rattle.land_core.specs.declared.register.Register.{Register}
 use Rattle.land_core.specs.declared.rrr.Class.{Class}
@@ -21,7 +21,7 @@ use Rattle.land_core.specs.declared.rrr.Class.TheVariants.{Right, Restriction, R
 use Rattle.land_core.specs.declared.rrr.RightType.{RightType}
 use Rattle.land_core.specs.declared.rrr.RightType.TheVariants.{Ownership, Lease, Usufruct}
 use Rattle.land_core.specs.declared.rrr.RrrRecord.{RrrRecord}
-use Rattle.land_core.specs.declared.soundness.Unsound.TheVariants.{Reference, Shares, Group, Bare, Crowded, Twice, Rank, Administrator, Memory}
+use Rattle.land_core.specs.declared.soundness.Unsound.TheVariants.{Reference, Shares, Group, Bare, Crowded, Twice, Rank, Administrator, Reused, Memory}
 use Rattle.land_core.proofs.Booleans.{both_of, or_false, not_false}
 use Rattle.land_core.proofs.FiniteMaps.{none_is_not_some}
 use Rattle.land_core.proofs.Reflection.{each_there, none_passes, none_at, some_passes, some_at}
@@ -61,15 +61,15 @@ module _ {V : Type 0} (m : FinMap nat_cmp V) (k : ℕ) where
           ap (λ b. cond b None (map.get m q)) ((eq_by_cmp_equiv nat_cmp_total).symm q k)
           ∙ elim (eq_by_cmp nat_cmp k q) as (λ b. cond b None (map.get m q) ≡ cond (not b) (map.get m q) None) [ true ↦ refl | false ↦ refl ]
 
--- what a test of the others gives, where it gives nothing at the one that ends
-filter_map-without : {X Y : Type 0} (h : X → Option Y) (gone : X → Bool) (xs : List X) → AllByRecursion (λ x. gone x ≡ true → h x ≡ None) xs
-    → filter_map h (filter (λ x. not (gone x)) xs) ≡ filter_map h xs
-filter_map-without h gone [] all = refl
-filter_map-without {X} {Y} h gone (x ∷ xs) all =
-    let rest = filter_map-without h gone xs all.1 in
-    elim (gone x) as (λ b. gone x ≡ b → filter_map h (cond (not b) (x ∷ filter (λ x. not (gone x)) xs) (filter (λ x. not (gone x)) xs)) ≡ cons_option (h x) (filter_map h xs)) [
-      | true ↦ λ ends. rest ∙ sym (ap (λ (o : Option Y). cons_option o (filter_map h xs)) (all.0 ends))
-      | false ↦ λ stays. ap (cons_option (h x)) rest
+-- what is taken of the items that are kept, where nothing is taken of the others
+pub filter_map-kept : {X Y : Type 0} (h : X → Option Y) (kept : X → Bool) (xs : List X) → AllByRecursion (λ x. kept x ≡ false → h x ≡ None) xs
+    → filter_map h (filter kept xs) ≡ filter_map h xs
+filter_map-kept h kept [] all = refl
+filter_map-kept {X} {Y} h kept (x ∷ xs) all =
+    let rest = filter_map-kept h kept xs all.1 in
+    elim (kept x) as (λ b. kept x ≡ b → filter_map h (cond b (x ∷ filter kept xs) (filter kept xs)) ≡ cons_option (h x) (filter_map h xs)) [
+      | true ↦ λ stays. ap (cons_option (h x)) rest
+      | false ↦ λ ends. rest ∙ sym (ap (λ (o : Option Y). cons_option o (filter_map h xs)) (all.0 ends))
     ] refl
 
 -- no more pass a test among those that another test keeps
@@ -82,63 +82,63 @@ fewer {X} p q (x ∷ xs) =
       | false ↦ elim (p x) as (λ c. length (filter p (filter q xs)) ≤ length (cond c (x ∷ filter p xs) (filter p xs))) [ true ↦ omega (arith, rest) | false ↦ rest ]
     ]
 
--- ---- a burden is no right
+-- ---- an entry that is no right
 
-no_share : (type : RightType) (class : Class) → is_burden class ≡ true → share_of type class ≡ None
-no_share type (Right other share) h = absurd (false≢true h)
+pub no_share : (type : RightType) (class : Class) → type_of class ≡ None → share_of type class ≡ None
+no_share type (Right other share) h = absurd (none_is_not_some (sym h))
 no_share type (Restriction words) h = refl
 no_share type (Responsibility words) h = refl
-no_share type (Mortgage amount currency rank) h = absurd (false≢true h)
+no_share type (Mortgage amount currency rank) h = refl
 
-no_right : (type : RightType) (class : Class) → is_burden class ≡ true → is_right_of type class ≡ false
-no_right type (Right other share) h = absurd (false≢true h)
+no_right : (type : RightType) (class : Class) → type_of class ≡ None → is_right_of type class ≡ false
+no_right type (Right other share) h = absurd (none_is_not_some (sym h))
 no_right type (Restriction words) h = refl
 no_right type (Responsibility words) h = refl
-no_right type (Mortgage amount currency rank) h = absurd (false≢true h)
+no_right type (Mortgage amount currency rank) h = refl
 
-module _ (r : Register) (it : Lift) (burden : has_burden r it.rrr ≡ true) where
+module _ (r : Register) (number : ℕ) (no_type : (e : RrrRecord) → map.get r.rrrs number ≡ Some e → type_of e.class ≡ None) where
   abbrev left : Register
-  left = after (lift_change r it) r
+  left = record r { rrrs = map.remove r.rrrs number }
 
-  -- the entry that ends is a burden
-  ends_burden : (n : ℕ) (e : RrrRecord) → eq_by_cmp nat_cmp n it.rrr ≡ true → map.get r.rrrs n ≡ Some e → is_burden e.class ≡ true
-  ends_burden n e at is =
-      sym (ap (λ (o : Option RrrRecord). option_map_or (λ (x : RrrRecord). is_burden x.class) o false) (sym (ap (map.get r.rrrs) (one_number n it.rrr at)) ∙ is)) ∙ burden
+  -- the entry that ends is no right
+  ends_none : (n : ℕ) (e : RrrRecord) → eq_by_cmp nat_cmp n number ≡ true → map.get r.rrrs n ≡ Some e → type_of e.class ≡ None
+  ends_none n e at is = no_type e (sym (ap (map.get r.rrrs) (one_number n number at)) ∙ is)
 
   shares_stay : (unit : ℕ) (type : RightType) → type_shares left unit type ≡ type_shares r unit type
   shares_stay unit type =
-      ap (filter_map (λ e. share_in unit type e.1)) (entries_removed r.rrrs it.rrr)
-      ∙ filter_map-without (λ e. share_in unit type e.1) (λ e. eq_by_cmp nat_cmp it.rrr e.0) (map.entries r.rrrs) (none_given (map.entries r.rrrs) (each_there nat_cmp_total nat_cmp-IsAntisymmetric r.rrrs))
+      ap (filter_map (λ e. share_in unit type e.1)) (entries_removed r.rrrs number)
+      ∙ filter_map-kept (λ e. share_in unit type e.1) (λ e. not (eq_by_cmp nat_cmp number e.0)) (map.entries r.rrrs) (none_given (map.entries r.rrrs) (each_there nat_cmp_total nat_cmp-IsAntisymmetric r.rrrs))
     where
-      nothing : (e : RrrRecord) → is_burden e.class ≡ true → share_in unit type e ≡ None
+      nothing : (e : RrrRecord) → type_of e.class ≡ None → share_in unit type e ≡ None
       nothing e h = elim (nat_eq e.unit unit) as (λ b. cond b (share_of type e.class) None ≡ None) [ true ↦ no_share type e.class h | false ↦ refl ]
 
-      none_given : (es : List (ℕ × RrrRecord)) → AllByRecursion (λ e. map.get r.rrrs e.0 ≡ Some e.1) es → AllByRecursion (λ e. eq_by_cmp nat_cmp it.rrr e.0 ≡ true → share_in unit type e.1 ≡ None) es
+      none_given : (es : List (ℕ × RrrRecord)) → AllByRecursion (λ e. map.get r.rrrs e.0 ≡ Some e.1) es → AllByRecursion (λ e. not (eq_by_cmp nat_cmp number e.0) ≡ false → share_in unit type e.1 ≡ None) es
       none_given [] h = tt
-      none_given (e ∷ es) h = (λ at. nothing e.1 (ends_burden e.0 e.1 ((eq_by_cmp_equiv nat_cmp_total).symm e.0 it.rrr ∙ at) h.0), none_given es h.1)
+      none_given (e ∷ es) h = (λ at. nothing e.1 (ends_none e.0 e.1 ((eq_by_cmp_equiv nat_cmp_total).symm e.0 number ∙ not_false _ at) h.0), none_given es h.1)
 
   owner_stays : (unit : ℕ) → has_owner r unit ≡ true → has_owner left unit ≡ true
   owner_stays unit owned =
       let one = some_passes nat_cmp_total nat_cmp-IsAntisymmetric (λ n e. is_right_in unit Ownership e) r.rrrs owned in
-      some_at nat_cmp_total nat_cmp-IsAntisymmetric (λ n e. is_right_in unit Ownership e) (map.remove r.rrrs it.rrr) one.key one.value
-      (removed_stays r.rrrs it.rrr one.key one.value (other one.key one.value one.there one.passes) one.there) one.passes
+      some_at nat_cmp_total nat_cmp-IsAntisymmetric (λ n e. is_right_in unit Ownership e) (map.remove r.rrrs number) one.key one.value
+      (removed_stays r.rrrs number one.key one.value (other one.key one.value one.there one.passes) one.there) one.passes
     where
-      other : (n : ℕ) (e : RrrRecord) → map.get r.rrrs n ≡ Some e → is_right_in unit Ownership e ≡ true → eq_by_cmp nat_cmp n it.rrr ≡ false
-      other n e is right = elim (eq_by_cmp nat_cmp n it.rrr) as (λ b. eq_by_cmp nat_cmp n it.rrr ≡ b → b ≡ false) [
-        | true ↦ λ at. absurd (false≢true (sym (no_right Ownership e.class (ends_burden n e at is)) ∙ (both_of _ _ right).1))
+      other : (n : ℕ) (e : RrrRecord) → map.get r.rrrs n ≡ Some e → is_right_in unit Ownership e ≡ true → eq_by_cmp nat_cmp n number ≡ false
+      other n e is right = elim (eq_by_cmp nat_cmp n number) as (λ b. eq_by_cmp nat_cmp n number ≡ b → b ≡ false) [
+        | true ↦ λ at. absurd (false≢true (sym (no_right Ownership e.class (ends_none n e at is)) ∙ (both_of _ _ right).1))
         | false ↦ λ apart. refl
       ] refl
 
   fewer_entries : (unit : ℕ) → rrr_count left unit ≤ rrr_count r unit
   fewer_entries unit =
-      subst (λ (es : List (ℕ × RrrRecord)). length (filter (λ e. nat_eq e.1.unit unit) es) ≤ rrr_count r unit) (sym (entries_removed r.rrrs it.rrr))
-      (fewer (λ e. nat_eq e.1.unit unit) (λ e. not (eq_by_cmp nat_cmp it.rrr e.0)) (map.entries r.rrrs))
+      subst (λ (es : List (ℕ × RrrRecord)). length (filter (λ e. nat_eq e.1.unit unit) es) ≤ rrr_count r unit) (sym (entries_removed r.rrrs number))
+      (fewer (λ e. nat_eq e.1.unit unit) (λ e. not (eq_by_cmp nat_cmp number e.0)) (map.entries r.rrrs))
 
-  pub lifted_is_sound : IsSound r → IsSound (after (lift_change r it) r)
-  lifted_is_sound sound Memory = refl
-  lifted_is_sound sound Group = sound Group
-  lifted_is_sound sound Administrator = sound Administrator
-  lifted_is_sound sound Reference =
+  pub ended_is_sound : IsSound r → IsSound (record r { rrrs = map.remove r.rrrs number })
+  ended_is_sound sound Memory = refl
+  ended_is_sound sound Reused = sound Reused
+  ended_is_sound sound Group = sound Group
+  ended_is_sound sound Administrator = sound Administrator
+  ended_is_sound sound Reference =
       let before = refers r (sound Reference) in
       let used = are_used r before.numbers in
       refers_back left (record {
@@ -147,17 +147,19 @@ module _ (r : Register) (it : Lift) (burden : has_burden r it.rrr ≡ true) wher
           parties = used.parties;
           units = used.units;
           parcels = used.parcels;
-          rrrs = unused_from left (map.remove r.rrrs it.rrr) (λ n e is. used_from r r.rrrs used.rrrs n e (removed_before r.rrrs it.rrr n e is));
+          rrrs = unused_from left (map.remove r.rrrs number) (λ n e is. used_from r r.rrrs used.rrrs n e (removed_before r.rrrs number n e is));
           sources = used.sources;
+          mutations = used.mutations;
         });
         grants = before.grants;
         members = before.members;
         parcels = before.parcels;
         rrrs = anchored_back left (λ n e is.
-            let one = anchored r before.rrrs n e (removed_before r.rrrs it.rrr n e is) in
+            let one = anchored r before.rrrs n e (removed_before r.rrrs number n e is) in
             record { unit = one.unit; party = one.party; source = one.source });
+        mutations = before.mutations;
       })
-  lifted_is_sound sound Shares =
+  ended_is_sound sound Shares =
       none_passes nat_cmp_total nat_cmp-IsAntisymmetric (λ n u. u.checked && not (has_whole_shares left n)) r.units
       (λ n u is. ap (λ b. u.checked && not b) (whole_stays n) ∙ none_at nat_cmp_total nat_cmp-IsAntisymmetric (λ n u. u.checked && not (has_whole_shares r n)) r.units n u (sound Shares) is)
     where
@@ -166,12 +168,12 @@ module _ (r : Register) (it : Lift) (burden : has_burden r it.rrr ≡ true) wher
           ap (λ shares. are_whole_or_none shares && are_whole_or_none (type_shares left unit Lease) && are_whole_or_none (type_shares left unit Usufruct)) (shares_stay unit Ownership)
           ∙ ap (λ shares. are_whole_or_none (type_shares r unit Ownership) && are_whole_or_none shares && are_whole_or_none (type_shares left unit Usufruct)) (shares_stay unit Lease)
           ∙ ap (λ shares. are_whole_or_none (type_shares r unit Ownership) && are_whole_or_none (type_shares r unit Lease) && are_whole_or_none shares) (shares_stay unit Usufruct)
-  lifted_is_sound sound Bare =
+  ended_is_sound sound Bare =
       none_passes nat_cmp_total nat_cmp-IsAntisymmetric (λ n u. not (has_parcel left n && has_owner left n)) r.units
       (λ n u is.
       let had = both_of (has_parcel r n) (has_owner r n) (not_false _ (none_at nat_cmp_total nat_cmp-IsAntisymmetric (λ n u. not (has_parcel r n && has_owner r n)) r.units n u (sound Bare) is)) in
       ap (λ b. not (b && has_owner left n)) had.0 ∙ ap not (owner_stays n had.1))
-  lifted_is_sound sound Crowded =
+  ended_is_sound sound Crowded =
       none_passes nat_cmp_total nat_cmp-IsAntisymmetric (λ n u. nat_lt 256 (parcel_count left n) || nat_lt 256 (rrr_count left n)) r.units
       (λ n u is.
       let had = or_false (nat_lt 256 (parcel_count r n)) (nat_lt 256 (rrr_count r n)) (none_at nat_cmp_total nat_cmp-IsAntisymmetric (λ n u. nat_lt 256 (parcel_count r n) || nat_lt 256 (rrr_count r n)) r.units n u (sound Crowded) is) in
@@ -179,12 +181,24 @@ module _ (r : Register) (it : Lift) (burden : has_burden r it.rrr ≡ true) wher
     where
       not_more : (a b : ℕ) → a ≤ b → nat_lt 256 b ≡ false → nat_lt 256 a ≡ false
       not_more a b less h = grind (arith, nat_tests)
-  lifted_is_sound sound Twice =
-      none_passes nat_cmp_total nat_cmp-IsAntisymmetric (clashes_later left) (map.remove r.rrrs it.rrr)
+  ended_is_sound sound Twice =
+      none_passes nat_cmp_total nat_cmp-IsAntisymmetric (clashes_later left) (map.remove r.rrrs number)
       (λ n e is.
-      let alone = none_at nat_cmp_total nat_cmp-IsAntisymmetric (clashes_later r) r.rrrs n e (sound Twice) (removed_before r.rrrs it.rrr n e is) in
-      none_passes nat_cmp_total nat_cmp-IsAntisymmetric (λ m f. nat_lt n m && do_clash e f) (map.remove r.rrrs it.rrr)
-      (λ m f at. none_at nat_cmp_total nat_cmp-IsAntisymmetric (λ m f. nat_lt n m && do_clash e f) r.rrrs m f alone (removed_before r.rrrs it.rrr m f at)))
-  lifted_is_sound sound Rank =
-      none_passes nat_cmp_total nat_cmp-IsAntisymmetric (λ n e. is_loose_rank left (rank_of e.class)) (map.remove r.rrrs it.rrr)
-      (λ n e is. none_at nat_cmp_total nat_cmp-IsAntisymmetric (λ n e. is_loose_rank r (rank_of e.class)) r.rrrs n e (sound Rank) (removed_before r.rrrs it.rrr n e is))
+      let alone = none_at nat_cmp_total nat_cmp-IsAntisymmetric (clashes_later r) r.rrrs n e (sound Twice) (removed_before r.rrrs number n e is) in
+      none_passes nat_cmp_total nat_cmp-IsAntisymmetric (λ m f. nat_lt n m && do_clash e f) (map.remove r.rrrs number)
+      (λ m f at. none_at nat_cmp_total nat_cmp-IsAntisymmetric (λ m f. nat_lt n m && do_clash e f) r.rrrs m f alone (removed_before r.rrrs number m f at)))
+  ended_is_sound sound Rank =
+      none_passes nat_cmp_total nat_cmp-IsAntisymmetric (λ n e. is_loose_rank left (rank_of e.class)) (map.remove r.rrrs number)
+      (λ n e is. none_at nat_cmp_total nat_cmp-IsAntisymmetric (λ n e. is_loose_rank r (rank_of e.class)) r.rrrs n e (sound Rank) (removed_before r.rrrs number n e is))
+
+-- ---- a burden is no right
+
+burden_no_right : (class : Class) → is_burden class ≡ true → type_of class ≡ None
+burden_no_right (Right type share) h = absurd (false≢true h)
+burden_no_right (Restriction words) h = refl
+burden_no_right (Responsibility words) h = refl
+burden_no_right (Mortgage amount currency rank) h = absurd (false≢true h)
+
+pub lifted_is_sound : (r : Register) (it : Lift) → has_burden r it.rrr ≡ true → IsSound r → IsSound (after (lift_change r it) r)
+lifted_is_sound r it burden sound =
+    ended_is_sound r it.rrr (λ e is. burden_no_right e.class (sym (ap (λ o. option_map_or (λ e. is_burden e.class) o false) is) ∙ burden)) sound

@@ -1,34 +1,44 @@
 -- What an outcome says of the refusals and of the change.
 use Rattle.std.proofs.Common.{◌≡◌, Bool, true, false, Option, Some, None, Ok, Err, List, ◌∷◌, refl}
-use Rattle.std.specs.Prelude.{ℤ}
+use Rattle.std.specs.Prelude.{ℤ, Result}
 use Rattle.land_core.specs.declared.change.Change.{Change}
 use Rattle.land_core.specs.declared.change.Done.{Done}
-use Rattle.land_acts.specs.declared.refusal.Planned.TheVariants.{New}
+use Rattle.land_acts.specs.declared.refusal.Planned.{Planned}
+use Rattle.land_acts.specs.declared.refusal.Planned.TheVariants.{New, Repeat}
 use Rattle.land_acts.specs.declared.refusal.Refusal.{Refusal}
 use Rattle.land_acts.specs.declared.refusal.Refusal.TheVariants.{ClockOut}
-use Rattle.land_acts.specs.Outcome.{first_that_holds, refused_else, stamped}
+use Rattle.land_acts.specs.Outcome.{first_that_holds, refused_else, repeated_else, stamped}
 
--- a change that is planned comes of no refusal, and is told with its stamp
-pub record IsPlanned (lines : List (Refusal × Bool)) (made change : Change) (told : ℤ → Done) (done : Done) (stamp : ℤ) : Type 0 where
+-- a change that is planned comes of no refusal and is no repeat, and is told with its stamp
+pub record IsPlanned (repeat : Option Done) (lines : List (Refusal × Bool)) (made : ℤ → Change) (change : Change) (told : ℤ → Done) (done : Done) (stamp : ℤ) : Type 0 where
+  pub new : repeat ≡ None
   pub none_holds : first_that_holds lines ≡ None
-  pub same : made ≡ change
+  pub same : made stamp ≡ change
   pub is_told : told stamp ≡ done
 
-pub planned_from : (lines : List (Refusal × Bool)) (made change : Change) (told : ℤ → Done) (done : Done) (stamp : ℤ)
-    → refused_else (first_that_holds lines) (stamped made told (Some stamp)) ≡ Ok (New change done) → IsPlanned lines made change told done stamp
-planned_from lines made change told done stamp h = by_case (first_that_holds lines) refl h
+pub planned_from : (repeat : Option Done) (lines : List (Refusal × Bool)) (made : ℤ → Change) (change : Change) (told : ℤ → Done) (done : Done) (stamp : ℤ)
+    → repeated_else repeat (refused_else (first_that_holds lines) (stamped made told (Some stamp))) ≡ Ok (New change done) → IsPlanned repeat lines made change told done stamp
+planned_from (Some before) lines made change told done stamp h = absurd (repeated (Ok (Repeat before)) refl h)
   where
-    by_case : (o : Option Refusal) → first_that_holds lines ≡ o → refused_else o (Ok (New made (told stamp))) ≡ Ok (New change done) → IsPlanned lines made change told done stamp
-    by_case None e h = record { none_holds = e; same = cc; is_told = cc }
+    repeated : (x : Result Planned Refusal) → x ≡ Ok (Repeat before) → x ≡ Ok (New change done) → ⊥
+    repeated x e f = cc
+planned_from None lines made change told done stamp h = by_case (first_that_holds lines) refl h
+  where
+    by_case : (o : Option Refusal) → first_that_holds lines ≡ o → refused_else o (Ok (New (made stamp) (told stamp))) ≡ Ok (New change done) → IsPlanned None lines made change told done stamp
+    by_case None e h = record { new = refl; none_holds = e; same = cc; is_told = cc }
     by_case (Some refusal) e h = absurd (refused h)
       where
         refused : Err refusal ≡ Ok (New change done) → ⊥
         refused e = cc
 
 -- without a stamp nothing is planned
-pub unstamped : (lines : List (Refusal × Bool)) (made change : Change) (told : ℤ → Done) (done : Done)
-    → refused_else (first_that_holds lines) (stamped made told None) ≡ Ok (New change done) → ⊥
-unstamped lines made change told done h = by_case (first_that_holds lines) h
+pub unstamped : (repeat : Option Done) (lines : List (Refusal × Bool)) (made : ℤ → Change) (change : Change) (told : ℤ → Done) (done : Done)
+    → repeated_else repeat (refused_else (first_that_holds lines) (stamped made told None)) ≡ Ok (New change done) → ⊥
+unstamped (Some before) lines made change told done h = repeated (Ok (Repeat before)) refl h
+  where
+    repeated : (x : Result Planned Refusal) → x ≡ Ok (Repeat before) → x ≡ Ok (New change done) → ⊥
+    repeated x e f = cc
+unstamped None lines made change told done h = by_case (first_that_holds lines) h
   where
     by_case : (o : Option Refusal) → refused_else o (Err ClockOut) ≡ Ok (New change done) → ⊥
     by_case None e = cc

@@ -82,8 +82,8 @@ module _ (r new : Register) (party : PartyRecord) (parties : new.parties ≡ map
       (ap (λ k. nat_lt 0 r.next && nat_lt r.next k) next ∙ next_used r.next (next_above_zero r sound))
       (λ n p apart is. used_grows r new grows n (used_from r r.parties (are_used r (refers r (sound Reference)).numbers).parties n p is)))
 
-  pub all_used : new.units ≡ r.units → new.parcels ≡ r.parcels → new.rrrs ≡ r.rrrs → new.sources ≡ r.sources → has_unused_number new ≡ false
-  all_used units parcels rrrs sources =
+  pub all_used : new.units ≡ r.units → new.parcels ≡ r.parcels → new.rrrs ≡ r.rrrs → new.sources ≡ r.sources → new.mutations ≡ r.mutations → has_unused_number new ≡ false
+  all_used units parcels rrrs sources mutations =
       let before = are_used r (refers r (sound Reference)).numbers in
       are_used_back new (record {
         parties = parties_used;
@@ -91,6 +91,7 @@ module _ (r new : Register) (party : PartyRecord) (parties : new.parties ≡ map
         parcels = ap (has_unused new) parcels ∙ unused_grows r new grows r.parcels before.parcels;
         rrrs = ap (has_unused new) rrrs ∙ unused_grows r new grows r.rrrs before.rrrs;
         sources = ap (has_unused new) sources ∙ unused_grows r new grows r.sources before.sources;
+        mutations = ap (has_unused new) mutations ∙ unused_grows r new grows r.mutations before.mutations;
       })
 
   -- entries refer to what stands as before

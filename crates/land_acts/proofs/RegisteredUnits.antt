@@ -26,7 +26,7 @@ use Rattle.land_core.specs.declared.rrr.RightType.TheVariants.{Ownership, Lease,
 use Rattle.land_core.specs.declared.rrr.RrrRecord.{RrrRecord}
 use Rattle.land_core.specs.declared.source.SourceKind.TheVariants.{Administrative}
 use Rattle.land_core.specs.declared.source.SourceRecord.{SourceRecord}
-use Rattle.land_core.specs.declared.soundness.Unsound.TheVariants.{Reference, Shares, Group, Bare, Crowded, Twice, Rank, Administrator, Memory}
+use Rattle.land_core.specs.declared.soundness.Unsound.TheVariants.{Reference, Shares, Group, Bare, Crowded, Twice, Rank, Administrator, Reused, Memory}
 use Rattle.land_core.specs.declared.unit.UnitRecord.{UnitRecord}
 use Rattle.land_core.proofs.Booleans.{both_of, or_false, not_false}
 use Rattle.land_core.proofs.Reflection.{none_passes, none_at}
@@ -37,7 +37,7 @@ use Rattle.land_acts.specs.Numbering.{numbered}
 use Rattle.land_acts.specs.Planning.{lacks_numbers}
 use Rattle.land_acts.specs.Registering.{new_count, parcel_of, right_of, register_change}
 use Rattle.land_acts.proofs.BurdenedUnits.{here, there, each_record}
-use Rattle.land_acts.proofs.Growth.{used_grows, unused_grows, ranks_grow, has_stays, anchored, placed}
+use Rattle.land_acts.proofs.Growth.{used_grows, unused_grows, ranks_grow, has_stays, mutations_stay, anchored, placed}
 use Rattle.land_acts.proofs.NewObjects.{below_later, entries-numbered, below_next}
 use Rattle.land_acts.proofs.Numbers.{same_number, turned_number}
 
@@ -323,6 +323,7 @@ module _ (r : Register) (it : NewUnit) (sound : IsSound r) where
   pub registered_is_sound : is_new_unit it ≡ true → lists_absent r it.rights ≡ false → lacks_numbers r (new_count it) ≡ false → (it.checked && not (are_types_whole it.rights)) ≡ false → has_right_twice it.rights ≡ false
       → IsSound (after (register_change r it) r)
   registered_is_sound formed known room whole once Memory = refl
+  registered_is_sound formed known room whole once Reused = sound Reused
   registered_is_sound formed known room whole once Group = sound Group
   registered_is_sound formed known room whole once Administrator = sound Administrator
   registered_is_sound formed known room whole once Reference =
@@ -341,6 +342,7 @@ module _ (r : Register) (it : NewUnit) (sound : IsSound r) where
           rrrs = no_rrr (λ e. not (is_used more e.0)) (unused_grows r more grows r.rrrs used.rrrs)
               (none_numbered (right_of unit r.next) (λ n e. not (is_used more n)) (r.next + 2 + length it.parcels) more.next (λ n a low high. ap not (new_used n above (omega (arith, low)) high)) it.rights (omega arith));
           sources = unused_from more more.sources (each_record r.sources r.next document (λ n s. is_used more n ≡ true) source_used (λ n s is. used_grows r more grows n (used_from r r.sources used.sources n s is)));
+          mutations = unused_grows r more grows r.mutations used.mutations;
         });
         grants = before.grants;
         members = before.members;
@@ -355,6 +357,7 @@ module _ (r : Register) (it : NewUnit) (sound : IsSound r) where
             let one = anchored r before.rrrs n e is in
             ap (λ b. not (b && has r.parties e.party && has more.sources e.source)) (units_stay e.unit one.unit) ∙ ap (λ b. not (b && has more.sources e.source)) one.party ∙ ap not (sources_stay e.source one.source)))
             (any_numbered (right_of unit r.next) (λ e. not (has more.units e.unit && has more.parties e.party && has more.sources e.source)) (r.next + 2 + length it.parcels) it.rights ∙ rights_anchored it.rights known);
+        mutations = mutations_stay r more refl (λ n h. h) sources_stay before.mutations;
       })
     where
       new_used : (n : ℕ) → 0 < r.next → r.next + 2 ≤ n → n < more.next → is_used more n ≡ true

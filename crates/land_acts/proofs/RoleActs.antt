@@ -12,7 +12,7 @@ use Rattle.land_core.specs.Soundness.{IsSound}
 use Rattle.land_core.specs.declared.register.Register.{Register}
 use Rattle.land_core.specs.declared.role.Role.TheVariants.{StateAdministrator}
 use Rattle.land_core.specs.declared.roles.Grant.{Grant}
-use Rattle.land_core.specs.declared.soundness.Unsound.TheVariants.{Reference, Shares, Group, Bare, Crowded, Twice, Rank, Administrator, Memory}
+use Rattle.land_core.specs.declared.soundness.Unsound.TheVariants.{Reference, Shares, Group, Bare, Crowded, Twice, Rank, Administrator, Reused, Memory}
 use Rattle.land_core.proofs.Booleans.{both_of, not_false}
 use Rattle.land_core.proofs.FiniteMaps.{is_equal, none_is_not_some}
 use Rattle.land_core.proofs.FiniteSets.{grants_total, exact_grants}
@@ -33,6 +33,7 @@ one_grant g it at = exact_grants g it (is_equal _ at)
 
 pub granted_is_sound : (r : Register) (it : Grant) → IsSound r → has_single_party r it.party ≡ true → IsSound (after (grant_change r it) r)
 granted_is_sound r it sound single Memory = refl
+granted_is_sound r it sound single Reused = sound Reused
 granted_is_sound r it sound single Shares = sound Shares
 granted_is_sound r it sound single Group = sound Group
 granted_is_sound r it sound single Bare = sound Bare
@@ -53,6 +54,7 @@ granted_is_sound r it sound single Reference =
       members = before.members;
       parcels = before.parcels;
       rrrs = before.rrrs;
+      mutations = before.mutations;
     })
 granted_is_sound r it sound single Administrator =
     let new = after (grant_change r it) r in
@@ -111,6 +113,7 @@ one_beside r it sound last =
 pub revoked_is_sound : (r : Register) (it : Grant) → IsSound r → (is_role it.role StateAdministrator && not (has_administrator_beside r it.party)) ≡ false
     → IsSound (after (revoke_change r it) r)
 revoked_is_sound r it sound last Memory = refl
+revoked_is_sound r it sound last Reused = sound Reused
 revoked_is_sound r it sound last Shares = sound Shares
 revoked_is_sound r it sound last Group = sound Group
 revoked_is_sound r it sound last Bare = sound Bare
@@ -131,6 +134,7 @@ revoked_is_sound r it sound last Reference =
       members = before.members;
       parcels = before.parcels;
       rrrs = before.rrrs;
+      mutations = before.mutations;
     })
 revoked_is_sound r it sound last Administrator =
     let new = after (revoke_change r it) r in

@@ -95,7 +95,7 @@ module _ (r : Register) (caller : Caller) (a : Act) where
 -- ---- units and entries
 
 -- of what passes a test among what another test keeps, nothing is lost where the one implies the other
-filter_within : {X : Type 0} (p q : X → Bool) → ((x : X) → p x ≡ true → q x ≡ true) → (xs : List X) → filter p (filter q xs) ≡ filter p xs
+pub filter_within : {X : Type 0} (p q : X → Bool) → ((x : X) → p x ≡ true → q x ≡ true) → (xs : List X) → filter p (filter q xs) ≡ filter p xs
 filter_within p q implies [] = refl
 filter_within {X} p q implies (x ∷ xs) =
     elim (q x) as (λ b. q x ≡ b → filter p (cond b (x ∷ filter q xs) (filter q xs)) ≡ cond (p x) (x ∷ filter p xs) (filter p xs)) [

@@ -30,9 +30,9 @@ pub record IsAccepted (r : Register) (change : Change) (stamp : ℤ) : Type 0 wh
 abbrev pub AcceptedKeepsSound : Type 0
 AcceptedKeepsSound = (r : Register) (change : Change) (stamp : ℤ) → IsSound r → IsAccepted r change stamp → IsSound (after change r) × (r.next ≤ change.next)
 
--- an accepted act puts and ends no key twice
+-- an accepted act of a sound register puts and ends no key twice; only there is the next number a new one
 abbrev pub AcceptedNamesKeysOnce : Type 0
-AcceptedNamesKeysOnce = (r : Register) (change : Change) (stamp : ℤ) → IsAccepted r change stamp → NamesKeysOnce change
+AcceptedNamesKeysOnce = (r : Register) (change : Change) (stamp : ℤ) → IsSound r → IsAccepted r change stamp → NamesKeysOnce change
 
 -- an accepted act is told with the stamp of its change
 abbrev pub AcceptedTellsStamp : Type 0

@@ -1,11 +1,16 @@
 -- Definitions of the acts.
 pub mod Burdening
+pub mod Deciding
+pub mod Discharging
 pub mod Enrolment
 pub mod FirstRights
 pub mod Granting
 pub mod Grouping
 pub mod Laws
 pub mod Lifting
+pub mod Lodging
+pub mod Mortgaging
+pub mod MutationLaws
 pub mod Numbering
 pub mod Outcome
 pub mod Planning
@@ -14,3 +19,4 @@ pub mod Regrouping
 pub mod Revoking
 pub mod Sharing
 pub mod Slices
+pub mod Transferring

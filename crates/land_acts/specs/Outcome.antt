@@ -1,16 +1,19 @@
 -- What an act leads to: the least refusal whose condition holds, else a change of the register.
 use Rattle.std.specs.Prelude.{◌≡◌, Bool, List, [], ◌∷◌, Option, Some, None, Result, Ok, Err, ℤ, if◌then◌else◌}
 use Rattle.land_acts.specs.Burdening.{burden_refusals, burden_change, burden_done}
+use Rattle.land_acts.specs.Deciding.{approve_refusals, approve_change, approve_done, refuse_refusals, refuse_change}
 use Rattle.land_acts.specs.Enrolment.{enrol_refusals, enrol_change, enrol_done}
 use Rattle.land_acts.specs.Granting.{grant_refusals, grant_change, grant_done}
 use Rattle.land_acts.specs.Grouping.{group_refusals, group_change, group_done}
 use Rattle.land_acts.specs.Lifting.{lift_refusals, lift_change, lift_done}
+use Rattle.land_acts.specs.Lodging.{lodge_repeat, lodge_refusals, lodge_change, lodge_done}
+use Rattle.land_acts.specs.Planning.{told_of}
 use Rattle.land_acts.specs.Registering.{register_refusals, register_change, register_done}
 use Rattle.land_acts.specs.Regrouping.{regroup_refusals, regroup_change, regroup_done}
 use Rattle.land_acts.specs.Revoking.{revoke_refusals, revoke_change, revoke_done}
 use Rattle.land_core.specs.declared.caller.Caller.{Caller}
 use Rattle.land_core.specs.declared.act.Act.{Act}
-use Rattle.land_core.specs.declared.act.Act.TheVariants.{Enrol, Group, Regroup, Grant, Revoke, Register as RegisterUnit, Burden, Lift}
+use Rattle.land_core.specs.declared.act.Act.TheVariants.{Enrol, Group, Regroup, Grant, Revoke, Register as RegisterUnit, Burden, Lift, Lodge, Approve, Refuse}
 use Rattle.land_core.specs.declared.change.Change.{Change}
 use Rattle.land_core.specs.declared.change.Done.{Done}
 use Rattle.land_core.specs.declared.register.Register.{Register}
@@ -29,17 +32,23 @@ refusals_of r caller (Revoke it) stamp = revoke_refusals r it stamp
 refusals_of r caller (RegisterUnit it) stamp = register_refusals r it stamp
 refusals_of r caller (Burden it) stamp = burden_refusals r it stamp
 refusals_of r caller (Lift it) stamp = lift_refusals r it stamp
+refusals_of r caller (Lodge it) stamp = lodge_refusals r caller it stamp
+refusals_of r caller (Approve it) stamp = approve_refusals r it stamp
+refusals_of r caller (Refuse it) stamp = refuse_refusals r it stamp
 
 -- what an act changes where it is not refused
-abbrev pub change_of : Register → Caller → Act → Change
-change_of r caller (Enrol it) = enrol_change r it
-change_of r caller (Group it) = group_change r it
-change_of r caller (Regroup it) = regroup_change r it
-change_of r caller (Grant it) = grant_change r it
-change_of r caller (Revoke it) = revoke_change r it
-change_of r caller (RegisterUnit it) = register_change r it
-change_of r caller (Burden it) = burden_change r it
-change_of r caller (Lift it) = lift_change r it
+abbrev pub change_of : Register → Caller → Act → ℤ → Change
+change_of r caller (Enrol it) stamp = enrol_change r it
+change_of r caller (Group it) stamp = group_change r it
+change_of r caller (Regroup it) stamp = regroup_change r it
+change_of r caller (Grant it) stamp = grant_change r it
+change_of r caller (Revoke it) stamp = revoke_change r it
+change_of r caller (RegisterUnit it) stamp = register_change r it
+change_of r caller (Burden it) stamp = burden_change r it
+change_of r caller (Lift it) stamp = lift_change r it
+change_of r caller (Lodge it) stamp = lodge_change r caller it stamp
+change_of r caller (Approve it) stamp = approve_change r it
+change_of r caller (Refuse it) stamp = refuse_change r it
 
 -- what the caller is told of an act that is not refused
 abbrev pub done_of : Register → Caller → Act → ℤ → Done
@@ -51,6 +60,9 @@ done_of r caller (Revoke it) stamp = revoke_done it stamp
 done_of r caller (RegisterUnit it) stamp = register_done r it stamp
 done_of r caller (Burden it) stamp = burden_done r stamp
 done_of r caller (Lift it) stamp = lift_done it stamp
+done_of r caller (Lodge it) stamp = lodge_done r stamp
+done_of r caller (Approve it) stamp = approve_done r it stamp
+done_of r caller (Refuse it) stamp = told_of it.mutation stamp
 
 -- the first whose condition holds
 abbrev pub first_that_holds : List (Refusal × Bool) → Option Refusal
@@ -62,13 +74,23 @@ refused_else None else_planned = else_planned
 refused_else (Some refusal) else_planned = Err refusal
 
 -- the plan of an act that nothing refuses; without a stamp there is no moment for its change
-abbrev pub stamped : Change → (ℤ → Done) → Option ℤ → Result Planned Refusal
-stamped change done (Some stamp) = Ok (New change (done stamp))
+abbrev pub stamped : (ℤ → Change) → (ℤ → Done) → Option ℤ → Result Planned Refusal
+stamped change done (Some stamp) = Ok (New (change stamp) (done stamp))
 stamped change done None = Err ClockOut
 
--- what the caller was told of an act that it repeats: no act that stands today is one that can be repeated
+-- what the caller was told of an act that it repeats: only a lodging can be repeated
 abbrev pub repeated_done : Register → Caller → Act → Option Done
-repeated_done r caller a = None
+repeated_done r caller (Enrol it) = None
+repeated_done r caller (Group it) = None
+repeated_done r caller (Regroup it) = None
+repeated_done r caller (Grant it) = None
+repeated_done r caller (Revoke it) = None
+repeated_done r caller (RegisterUnit it) = None
+repeated_done r caller (Burden it) = None
+repeated_done r caller (Lift it) = None
+repeated_done r caller (Lodge it) = lodge_repeat r caller it
+repeated_done r caller (Approve it) = None
+repeated_done r caller (Refuse it) = None
 
 -- a repeat is told what was told before, whatever else holds
 abbrev pub repeated_else : Option Done → Result Planned Refusal → Result Planned Refusal
@@ -79,7 +101,7 @@ repeated_else (Some done) else_planned = Ok (Repeat done)
 abbrev pub outcome_of : Register → Caller → Act → Option ℤ → Result Planned Refusal
 outcome_of r caller a stamp =
     repeated_else (repeated_done r caller a)
-    (refused_else (first_that_holds (refusals_of r caller a stamp)) (stamped (change_of r caller a) (λ at. done_of r caller a at) stamp))
+    (refused_else (first_that_holds (refusals_of r caller a stamp)) (stamped (λ at. change_of r caller a at) (λ at. done_of r caller a at) stamp))
 
 -- no refusal holds, at some stamp or none
 pub record IsUnrefused (r : Register) (caller : Caller) (a : Act) : Type 0 where

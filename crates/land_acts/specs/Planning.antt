@@ -9,16 +9,21 @@ use Rattle.land_core.specs.declared.role.Role.TheVariants.{StateAdministrator}
 use Rattle.land_core.specs.declared.source.SourceKind.TheVariants.{Administrative}
 use Rattle.land_core.specs.declared.source.SourceRecord.{SourceRecord}
 use Rattle.land_acts.specs.declared.refusal.Refusal.{Refusal}
-use Rattle.land_acts.specs.declared.refusal.Refusal.TheVariants.{NoSuchUnit, NoSuchRight, NoSuchParty, SharesTooFine, TooMany, SharesNotWhole, RoleHeld, RoleNotHeld, ClockOut, LastAdministrator, SameParty, NoMemory}
+use Rattle.land_acts.specs.declared.refusal.Refusal.TheVariants.{NotLodged, NoSuchUnit, NoSuchRight, NoSuchParty, ShareTooLarge, SharesTooFine, TooMany, NotBank, NotMortgage, SharesNotWhole, ReferenceUsed, RoleHeld, RoleNotHeld, ClockOut, LastAdministrator, SameParty, NoMemory}
 
 -- the number that a caller is told for a refusal
 abbrev pub number_of : Refusal → ℕ
+number_of NotLodged = 201
 number_of NoSuchUnit = 202
 number_of NoSuchRight = 204
 number_of NoSuchParty = 205
+number_of ShareTooLarge = 206
 number_of SharesTooFine = 207
 number_of TooMany = 210
+number_of NotBank = 211
+number_of NotMortgage = 212
 number_of SharesNotWhole = 213
+number_of ReferenceUsed = 214
 number_of RoleHeld = 215
 number_of RoleNotHeld = 216
 number_of ClockOut = 217

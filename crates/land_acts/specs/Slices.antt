@@ -1,16 +1,35 @@
 -- Slices: a register with only the records that planning may look at.
-use Rattle.std.specs.Prelude.{ℕ, Bool, false, ◌||◌, nat_eq}
+use Rattle.std.specs.Prelude.{ℕ, ◌≡◌, Bool, false, ◌||◌, nat_eq}
 use Rattle.std.specs.FinMap as map
-use Rattle.land_core.specs.Entries.{only}
+use Rattle.std.specs.FinMap.{FinMap}
+use Rattle.std.specs.Option.{option_map_or}
+use Rattle.std.specs.Ordering.{nat_cmp}
+use Rattle.land_core.specs.Contents.{names_unit as content_names_unit}
+use Rattle.land_core.specs.Entries.{only, some}
+use Rattle.land_core.specs.Mutations.{is_lodged_as}
 use Rattle.land_core.specs.Register.{holds}
+use Rattle.land_core.specs.Soundness.{IsSound}
 use Rattle.land_core.specs.declared.caller.Caller.{Caller}
 use Rattle.land_core.specs.declared.role.Role.TheVariants.{StateAdministrator}
 use Rattle.land_core.specs.declared.act.Act.{Act}
 use Rattle.land_core.specs.declared.act.Act.TheVariants as act
+use Rattle.land_core.specs.declared.content.Content.{Content}
+use Rattle.land_core.specs.declared.content.Content.TheVariants as content
+use Rattle.land_core.specs.declared.mutation.MutationRecord.{MutationRecord}
 use Rattle.land_core.specs.declared.register.Register.{Register}
 use Rattle.land_core.specs.declared.rrr.RrrRecord.{RrrRecord}
 use Rattle.land_acts.specs.FirstRights.{have_party}
 use Rattle.land_acts.specs.Sharing.{lists_party}
+
+-- whether a party stands in a content: who receives, or who lends
+abbrev pub content_names_party : (party : ℕ) → Content → Bool
+content_names_party n (content.Transfer it) = nat_eq n it.receiver
+content_names_party n (content.Mortgage it) = nat_eq n it.creditor
+content_names_party n (content.Discharge it) = false
+
+-- whether a mutation stands at a number and passes a test
+abbrev pub is_mutation_where : (MutationRecord → Bool) → Register → ℕ → Bool
+is_mutation_where passes r n = option_map_or passes (map.get r.mutations n) false
 
 -- whether an act names a party, in itself or through what it names in the register
 abbrev pub names_party : Register → Act → ℕ → Bool
@@ -22,6 +41,9 @@ names_party r (act.Revoke it) n = nat_eq n it.party
 names_party r (act.Register it) n = have_party it.rights n
 names_party r (act.Burden it) n = nat_eq n it.party
 names_party r (act.Lift it) n = false
+names_party r (act.Lodge it) n = content_names_party n it.content
+names_party r (act.Approve it) n = is_mutation_where (λ m. content_names_party n m.content) r it.mutation
+names_party r (act.Refuse it) n = is_mutation_where (λ m. content_names_party n m.content) r it.mutation
 
 -- whether an act names a unit, likewise
 abbrev pub names_unit : Register → Act → ℕ → Bool
@@ -33,6 +55,9 @@ names_unit r (act.Revoke it) n = false
 names_unit r (act.Register it) n = false
 names_unit r (act.Burden it) n = nat_eq n it.unit
 names_unit r (act.Lift it) n = false
+names_unit r (act.Lodge it) n = content_names_unit n it.content
+names_unit r (act.Approve it) n = is_mutation_where (λ m. content_names_unit n m.content) r it.mutation
+names_unit r (act.Refuse it) n = is_mutation_where (λ m. content_names_unit n m.content) r it.mutation
 
 -- whether an act names an entry, likewise
 abbrev pub names_rrr : Register → Act → ℕ → Bool
@@ -44,6 +69,30 @@ names_rrr r (act.Revoke it) n = false
 names_rrr r (act.Register it) n = false
 names_rrr r (act.Burden it) n = false
 names_rrr r (act.Lift it) n = nat_eq n it.rrr
+names_rrr r (act.Lodge it) n = false
+names_rrr r (act.Approve it) n = false
+names_rrr r (act.Refuse it) n = false
+
+-- whether an act is about a mutation: it decides it, or it lodges one under a reference that its caller gave it before
+abbrev pub looks_at_mutation : Caller → Act → ℕ → MutationRecord → Bool
+looks_at_mutation caller (act.Enrol it) n m = false
+looks_at_mutation caller (act.Group it) n m = false
+looks_at_mutation caller (act.Regroup it) n m = false
+looks_at_mutation caller (act.Grant it) n m = false
+looks_at_mutation caller (act.Revoke it) n m = false
+looks_at_mutation caller (act.Register it) n m = false
+looks_at_mutation caller (act.Burden it) n m = false
+looks_at_mutation caller (act.Lift it) n m = false
+looks_at_mutation caller (act.Lodge it) n m = is_lodged_as caller.party it.reference m
+looks_at_mutation caller (act.Approve it) n m = nat_eq n it.mutation
+looks_at_mutation caller (act.Refuse it) n m = nat_eq n it.mutation
+
+abbrev pub mutations_looked_at : Register → Caller → Act → FinMap nat_cmp MutationRecord
+mutations_looked_at r caller a = only (λ n m. looks_at_mutation caller a n m) r.mutations
+
+-- planning may look at the sources of these mutations
+abbrev pub looks_at_source : Register → Caller → Act → ℕ → Bool
+looks_at_source r caller a n = some (λ k m. nat_eq m.source n) (mutations_looked_at r caller a)
 
 -- planning may look at the parties that the act names, and at all state administrators
 abbrev pub looks_at_party : Register → Act → ℕ → Bool
@@ -63,6 +112,13 @@ slice_of r caller a = record {
   units = only (λ n u. names_unit r a n) r.units;
   parcels = only (λ n p. names_unit r a p.unit) r.parcels;
   rrrs = only (λ n e. looks_at_rrr r a n e) r.rrrs;
-  sources = map.empty;
+  sources = only (λ n s. looks_at_source r caller a n) r.sources;
+  mutations = mutations_looked_at r caller a;
   next = r.next;
 }
+
+-- a register is the slice of a sound one for an act
+pub record IsOfSound (slice : Register) (caller : Caller) (a : Act) : Type 0 where
+  pub register : Register
+  pub sound : IsSound register
+  pub is : slice ≡ slice_of register caller a

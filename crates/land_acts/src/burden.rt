@@ -34,7 +34,7 @@ pub(crate) fn refusal(slice: &Slice, it: &Burden, stamp: Option<i64>) -> Option<
 }
 
 /// Whether a unit would have more than 256 entries with one more.
-fn would_crowd(slice: &Slice, unit: u64) -> bool
+pub(crate) fn would_crowd(slice: &Slice, unit: u64) -> bool
     ensures { result ≡ would_crowd slice.now unit 1 }
 {
     256 <= rrr_count(slice, unit)

@@ -1,5 +1,6 @@
 //! Laws, each stated over the definitions alone.
 ghost use Rattle.land_acts.specs.Laws.{SlicesSuffice, AcceptedKeepsSound, AcceptedNamesKeysOnce, AcceptedTellsStamp, NothingWithoutStamp};
+ghost use Rattle.land_acts.specs.MutationLaws.{DecisionsStay, LodgingsStand, LodgingsStay, ReceiversHaveOneRight, RepeatsAreToldTheFirst, TransfersKeepSums};
 
 /// An act has the same outcome over a register and over its slice.
 pub fn slices_suffice()
@@ -11,7 +12,7 @@ pub fn accepted_acts_keep_soundness()
     ensures { AcceptedKeepsSound }
 {}
 
-/// The change of an accepted act puts and ends no key twice.
+/// The change of an accepted act of a sound register puts and ends no key twice.
 pub fn changes_name_keys_once()
     ensures { AcceptedNamesKeysOnce }
 {}
@@ -24,4 +25,34 @@ pub fn accepted_acts_tell_their_stamp()
 /// Where there is no stamp, no act changes anything.
 pub fn nothing_is_accepted_without_a_stamp()
     ensures { NothingWithoutStamp }
+{}
+
+/// What is lodged stands after its change, under the next two numbers.
+pub fn lodgings_stand()
+    ensures { LodgingsStand }
+{}
+
+/// What is lodged stays after every accepted change, but for the mutation's state.
+pub fn lodgings_stay()
+    ensures { LodgingsStay }
+{}
+
+/// A repeat is told what the first was told, whatever else holds.
+pub fn repeats_are_told_the_first()
+    ensures { RepeatsAreToldTheFirst }
+{}
+
+/// What is decided stays as it is.
+pub fn decisions_stay()
+    ensures { DecisionsStay }
+{}
+
+/// A transfer that is not refused keeps the sum of the shares of the right's type in the unit.
+pub fn transfers_keep_sums()
+    ensures { TransfersKeepSums }
+{}
+
+/// After a transfer that is not refused, the receiver has one right of the type in the unit.
+pub fn receivers_have_one_right()
+    ensures { ReceiversHaveOneRight }
 {}

@@ -2,12 +2,16 @@
 #![tactic(auto)]
 
 mod burden;
+mod decide;
+mod discharge;
 mod enrol;
 mod first_rights;
 mod grant;
 mod group;
 pub mod laws;
 mod lift;
+mod lodge;
+mod mortgage;
 pub mod plan;
 pub mod refusal;
 mod register;
@@ -15,3 +19,4 @@ mod regroup;
 mod revoke;
 mod sharing;
 pub mod slice;
+mod transfer;

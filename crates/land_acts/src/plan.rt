@@ -1,12 +1,13 @@
 //! The plan of an act.
 ghost use Rattle.std.specs.Prelude.{◌≡◌, ◌≢◌, true, IfOk};
 ghost use Rattle.land_core.specs.Acts.{is_well_formed};
-ghost use Rattle.land_acts.specs.Outcome.{outcome_of, refusals_of, first_that_holds, change_of, done_of, IsUnrefused};
+ghost use Rattle.land_acts.specs.Outcome.{outcome_of, refusals_of, first_that_holds, change_of, done_of, repeated_done, IsUnrefused};
+ghost use Rattle.land_acts.specs.Slices.{IsOfSound};
 ghost use Rattle.land_acts.specs.Planning.{document_source, lacks_numbers, told_of};
 
 use crate::refusal::{Planned, Refusal};
 use crate::slice::Slice;
-use crate::{burden, enrol, grant, group, lift, register, regroup, revoke};
+use crate::{burden, decide, enrol, grant, group, lift, lodge, register, regroup, revoke};
 use land_core::act::Act;
 use land_core::caller::Caller;
 use land_core::change::{Change, Done};
@@ -17,7 +18,7 @@ use land_core::text::Text;
 use std::alloc::{AllocError, Global};
 
 /// What an act leads to, over a slice of the register: the least refusal whose condition holds, else the change and
-/// what the caller is told. `stamp` is the moment of the change, in milliseconds since 1970 UTC.
+/// what the caller is told. A lodging that was made before is told again what was told then. `stamp` is the moment of the change, in milliseconds since 1970 UTC.
 pub fn plan(
     alloc: Global,
     slice: &Slice,
@@ -25,9 +26,13 @@ pub fn plan(
     act: &Act,
     stamp: Option<i64>,
 ) -> Result<Planned, Refusal>
-    requires { is_well_formed act.now ≡ true }
+    requires formed { is_well_formed act.now ≡ true }
+    requires sound { IsOfSound slice.now caller act.now }
     ensures { result ≢ Err Refusal.NoMemory → result ≡ outcome_of slice.now caller act.now stamp }
 {
+    if let Some(done) = repeated(alloc, slice, caller, act)? {
+        return Ok(Planned::Repeat(done));
+    }
     if let Some(refusal) = first_refusal(alloc, slice, caller, act, stamp)? {
         return Err(refusal);
     }
@@ -36,6 +41,21 @@ pub fn plan(
     };
     let (change, done) = planned(alloc, slice, caller, act, stamp)?;
     Ok(Planned::New(change, done))
+}
+
+/// What was told of an act that this one repeats.
+fn repeated(
+    alloc: Global,
+    slice: &Slice,
+    caller: Caller,
+    act: &Act,
+) -> Result<Option<Done>, AllocError>
+    ensures { IfOk result (λ told. told ≡ repeated_done slice.now caller act.now) }
+{
+    match act {
+        Act::Lodge(it) => lodge::repeat(alloc, slice, caller, it),
+        _ => Ok(None),
+    }
 }
 
 /// The least refusal whose condition holds.
@@ -58,6 +78,9 @@ fn first_refusal(
         Act::Register(it) => register::refusal(alloc, slice, it, stamp),
         Act::Burden(it) => Ok(burden::refusal(slice, it, stamp)),
         Act::Lift(it) => Ok(lift::refusal(slice, it, stamp)),
+        Act::Lodge(it) => Ok(lodge::refusal(slice, caller, it, stamp)),
+        Act::Approve(it) => decide::approve_refusal(alloc, slice, *it, stamp),
+        Act::Refuse(it) => Ok(decide::refuse_refusal(slice, *it, stamp)),
     }
 }
 
@@ -70,8 +93,9 @@ fn planned(
     stamp: i64,
 ) -> Result<(Change, Done), AllocError>
     requires formed { is_well_formed act.now ≡ true }
+    requires sound { IsOfSound slice.now caller act.now }
     requires unrefused { IsUnrefused slice.now caller act.now }
-    ensures { IfOk result (λ it. (it.0 ≡ change_of slice.now caller act.now) × (it.1 ≡ done_of slice.now caller act.now stamp)) }
+    ensures { IfOk result (λ it. (it.0 ≡ change_of slice.now caller act.now stamp) × (it.1 ≡ done_of slice.now caller act.now stamp)) }
 {
     match act {
         Act::Enrol(it) => enrol::planned(alloc, slice, it, stamp),
@@ -82,6 +106,9 @@ fn planned(
         Act::Register(it) => register::planned(alloc, slice, it, stamp),
         Act::Burden(it) => burden::planned(alloc, slice, it, stamp),
         Act::Lift(it) => lift::planned(alloc, slice, it, stamp),
+        Act::Lodge(it) => lodge::planned(alloc, slice, caller, it, stamp),
+        Act::Approve(it) => decide::approved(alloc, slice, *it, stamp),
+        Act::Refuse(it) => decide::refused(alloc, slice, *it, stamp),
     }
 }
 

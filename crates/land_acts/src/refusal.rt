@@ -7,18 +7,28 @@ use std::alloc::AllocError;
 /// Why an act is refused.
 #[derive(Clone, Copy, Debug, PartialEq, Eq)]
 pub enum Refusal {
+    /// 201: no mutation that is undecided stands at the number.
+    NotLodged,
     /// 202: a unit that is named does not stand.
     NoSuchUnit,
     /// 204: an entry that is named does not stand, or is not of the class that is asked for.
     NoSuchRight,
     /// 205: a party that is named does not stand, or is not of the kind that is asked for.
     NoSuchParty,
+    /// 206: the share is above that of the right, or the receiver would have more than the whole.
+    ShareTooLarge,
     /// 207: the shares have no common denominator up to 1_000_000_000.
     SharesTooFine,
-    /// 210: a new number would be above 1_000_000_000.
+    /// 210: a new number would be above 1_000_000_000, or a unit would have more than 256 entries.
     TooMany,
+    /// 211: the creditor does not hold the role of a bank.
+    NotBank,
+    /// 212: the entry is no mortgage.
+    NotMortgage,
     /// 213: the shares do not sum to one.
     SharesNotWhole,
+    /// 214: the caller has lodged another document or content under the reference.
+    ReferenceUsed,
     /// 215: the party holds the role already.
     RoleHeld,
     /// 216: the party does not hold the role.
@@ -41,12 +51,17 @@ impl Refusal {
         ensures { result ≡ number_of self }
     {
         match self {
+            Refusal::NotLodged => 201,
             Refusal::NoSuchUnit => 202,
             Refusal::NoSuchRight => 204,
             Refusal::NoSuchParty => 205,
+            Refusal::ShareTooLarge => 206,
             Refusal::SharesTooFine => 207,
             Refusal::TooMany => 210,
+            Refusal::NotBank => 211,
+            Refusal::NotMortgage => 212,
             Refusal::SharesNotWhole => 213,
+            Refusal::ReferenceUsed => 214,
             Refusal::RoleHeld => 215,
             Refusal::RoleNotHeld => 216,
             Refusal::ClockOut => 217,

@@ -1,28 +1,33 @@
 //! Slices: the records that planning may look at.
-ghost use Rattle.std.specs.Prelude.{◌≡◌, IfOk};
-ghost use Rattle.land_core.specs.Entries.{only};
-ghost use Rattle.land_acts.specs.Slices.{slice_of, looks_at_party, looks_at_rrr, names_party, names_rrr, names_unit};
+ghost use Rattle.std.specs.Prelude.{◌≡◌, nat_eq, IfOk};
+ghost use Rattle.land_core.specs.Contents.{names_unit as content_names_unit};
+ghost use Rattle.land_core.specs.Entries.{only, some};
+ghost use Rattle.land_acts.specs.Slices.{content_names_party, slice_of, looks_at_mutation, looks_at_party, looks_at_rrr, mutations_looked_at, names_party, names_rrr, names_unit};
 
 use crate::first_rights::have_party;
 use crate::sharing::lists_party;
 use land_core::act::Act;
 use land_core::caller::Caller;
+use land_core::content::Content;
 use land_core::duplicate::Duplicate;
+use land_core::mutation::MutationRecord;
 use land_core::parcel::ParcelRecord;
 use land_core::records::Records;
 use land_core::register::Register;
 use land_core::role::Role;
 use land_core::roles::Roles;
 use land_core::rrr::RrrRecord;
+use land_core::source::SourceRecord;
 use land_core::unit::UnitRecord;
 use std::alloc::{AllocError, Global};
 
 /// A register with only the records that planning may look at.
 pub type Slice = Register;
 
-/// The slice of a register for an act: the parties that the act names and all state administrators, each with its
-/// roles and its members, the units that it names with their parcels and entries, the entry that it names, and the next
-/// number.
+/// The slice of a register for an act: the parties that the act names, or the mutation that it decides, and all state
+/// administrators, each with its roles and its members; the units named likewise with their parcels and entries; the entry
+/// that a lift names; the mutation that it decides, or that its caller lodged under its reference, with its source; and the
+/// next number.
 pub fn slice_of(
     alloc: Global,
     register: &Register,
@@ -31,6 +36,7 @@ pub fn slice_of(
 ) -> Result<Slice, AllocError>
     ensures { IfOk result (λ it. it ≡ slice_of register.now caller act.now) }
 {
+    let mutations = mutations_looked_at(alloc, register, caller, act)?;
     Ok(Register {
         parties: records_looked_at(alloc, &register.parties, register, act)?,
         roles: roles_looked_at(alloc, register, act)?,
@@ -38,7 +44,8 @@ pub fn slice_of(
         units: units_looked_at(alloc, register, act)?,
         parcels: parcels_looked_at(alloc, register, act)?,
         rrrs: rrrs_looked_at(alloc, register, act)?,
-        sources: Records::new(alloc),
+        sources: sources_of(alloc, register, &mutations)?,
+        mutations,
         next: register.next,
     })
 }
@@ -121,6 +128,59 @@ fn rrrs_looked_at(
     Ok(kept)
 }
 
+fn mutations_looked_at(
+    alloc: Global,
+    register: &Register,
+    caller: Caller,
+    act: &Act,
+) -> Result<Records<MutationRecord>, AllocError>
+    ensures { IfOk result (λ it. it ≡ mutations_looked_at register.now caller act.now) }
+{
+    let mut kept = Records::new(alloc);
+    for (number, mutation) in register.mutations.iter() {
+        if looks_at_mutation(caller, act, *number, mutation) {
+            kept.insert(*number, mutation.copy(alloc)?)?;
+        }
+    }
+    Ok(kept)
+}
+
+/// The sources of some mutations.
+fn sources_of(
+    alloc: Global,
+    register: &Register,
+    mutations: &Records<MutationRecord>,
+) -> Result<Records<SourceRecord>, AllocError>
+    ensures { IfOk result (λ it. it ≡ only (λ n s. some (λ k m. nat_eq m.source n) mutations.now) register.now.sources) }
+{
+    let mut kept = Records::new(alloc);
+    for (number, source) in register.sources.iter() {
+        if is_source_of(mutations, *number) {
+            kept.insert(*number, source.copy(alloc)?)?;
+        }
+    }
+    Ok(kept)
+}
+
+/// Whether a source is that of one of some mutations.
+fn is_source_of(mutations: &Records<MutationRecord>, source: u64) -> bool
+    ensures { result ≡ some (λ k m. nat_eq m.source source) mutations.now }
+{
+    mutations
+        .iter()
+        .any(|(_, mutation)| mutation.source == source)
+}
+
+fn looks_at_mutation(caller: Caller, act: &Act, number: u64, mutation: &MutationRecord) -> bool
+    ensures { result ≡ looks_at_mutation caller act.now number mutation.now }
+{
+    match act {
+        Act::Lodge(it) => mutation.is_lodged_as(caller.party, it.reference.as_str()),
+        Act::Approve(it) | Act::Refuse(it) => number == it.mutation,
+        _ => false,
+    }
+}
+
 fn looks_at_party(register: &Register, act: &Act, party: u64) -> bool
     ensures { result ≡ looks_at_party register.now act.now party }
 {
@@ -138,6 +198,22 @@ fn names_party(register: &Register, act: &Act, party: u64) -> bool
         Act::Register(it) => have_party(it.rights.as_slice(), party),
         Act::Burden(it) => party == it.party,
         Act::Lift(_) => false,
+        Act::Lodge(it) => content_names_party(&it.content, party),
+        Act::Approve(it) | Act::Refuse(it) => match register.mutations.get(it.mutation) {
+            Some(mutation) => content_names_party(&mutation.content, party),
+            None => false,
+        },
+    }
+}
+
+/// Whether a party stands in a content: who receives, or who lends.
+fn content_names_party(content: &Content, party: u64) -> bool
+    ensures { result ≡ content_names_party party content.now }
+{
+    match content {
+        Content::Transfer(it) => party == it.receiver,
+        Content::Mortgage(it) => party == it.creditor,
+        Content::Discharge(_) => false,
     }
 }
 
@@ -152,6 +228,11 @@ fn names_unit(register: &Register, act: &Act, unit: u64) -> bool
 {
     match act {
         Act::Burden(it) => unit == it.unit,
+        Act::Lodge(it) => it.content.names_unit(unit),
+        Act::Approve(it) | Act::Refuse(it) => match register.mutations.get(it.mutation) {
+            Some(mutation) => mutation.content.names_unit(unit),
+            None => false,
+        },
         _ => false,
     }
 }

@@ -1,7 +1,9 @@
 use Rattle.std.proofs.Common.{refl}
-use Rattle.land_core.specs.declared.act.Act.TheVariants.{Enrol, Group, Regroup, Grant, Revoke, Register as RegisterUnit, Burden, Lift}
+use Rattle.land_core.specs.declared.act.Act.TheVariants.{Enrol, Group, Regroup, Grant, Revoke, Register as RegisterUnit, Burden, Lift, Lodge, Approve, Refuse}
 use Rattle.land_acts.specs.Laws.{SlicesSuffice}
 use Rattle.land_acts.proofs.Numbers.{same_number}
+use Rattle.land_acts.proofs.SlicedDecisions.{approve_same, refuse_same}
+use Rattle.land_acts.proofs.SlicedMutations.{other_same, repeat_same}
 use Rattle.land_acts.proofs.SlicedWords.{single_same, group_same, holds_same, stranger_same, beside_same, names_group, names_members, stands_same, absent_same, unit_same, count_same, burden_same}
 use Rattle.land_acts.proofs.laws.slices_suffice.Goals as goal
 
@@ -18,6 +20,9 @@ same_outcome r caller (RegisterUnit it) stamp = rw (absent_same r caller (Regist
 same_outcome r caller (Burden it) stamp =
     rw (unit_same r caller (Burden it) it.unit (same_number it.unit), stands_same r caller (Burden it) it.party (same_number it.party), count_same r caller (Burden it) it.unit (same_number it.unit)) refl
 same_outcome r caller (Lift it) stamp = rw (burden_same r caller (Lift it) it.rrr (same_number it.rrr)) refl
+same_outcome r caller (Lodge it) stamp = rw (repeat_same r caller it, other_same r caller it) refl
+same_outcome r caller (Approve it) stamp = approve_same r caller it stamp
+same_outcome r caller (Refuse it) stamp = refuse_same r caller it stamp
 
 pub returns : goal.returns
 returns c = same_outcome

@@ -1,0 +1,304 @@
+-- What becomes of mutations: they stand for good, and are decided once. And of the shares that transfers move.
+use Rattle.std.proofs.Common.{◌≡◌, ℕ, ◌+◌, ◌<◌, Bool, true, false, ◌&&◌, not, cond, List, [], ◌∷◌, Option, Some, None, refl, sym, ap, ◌∙◌, subst, arith}
+use Rattle.std.specs.Prelude.{ℤ, nat_eq, nat_lt}
+use Rattle.std.specs.List.{AllByRecursion, find}
+use Rattle.std.specs.Option.{option_map_or}
+use Rattle.std.specs.Ordering.{eq_by_cmp, nat_cmp}
+use Rattle.std.specs.Str.{bytes_eq}
+use Rattle.std.specs.Cmp.{nat_cmp_total}
+use Rattle.std.specs.FinMap as map
+use Rattle.std.specs.FinMap.{nat_cmp-IsAntisymmetric}
+use Rattle.std.proofs.lemmas.Bool.{eqb-true, false≢true}
+use Rattle.std.proofs.lemmas.Bool.Decides.{nat_tests}
+use Rattle.std.proofs.lemmas.Slice.Eq.{bytes_eq-Decides}
+use Rattle.land_core.specs.Changes.{after, no_change}
+use Rattle.land_core.specs.Entries.{updated}
+use Rattle.land_core.specs.Contents.{is_same_content}
+use Rattle.land_core.specs.Mutations.{is_lodged_as, is_undecided}
+use Rattle.land_core.specs.Soundness.{IsSound}
+use Rattle.land_core.specs.declared.act.Act.{Act}
+use Rattle.land_core.specs.declared.act.Act.TheVariants as act
+use Rattle.land_core.specs.declared.act.Lodging.{Lodging}
+use Rattle.land_core.specs.declared.caller.Caller.{Caller}
+use Rattle.land_core.specs.declared.change.Change.{Change}
+use Rattle.land_core.specs.declared.change.Done.{Done}
+use Rattle.land_core.specs.declared.content.Content.{Content}
+use Rattle.land_core.specs.declared.content.Content.TheVariants as content
+use Rattle.land_core.specs.declared.content.Transfer.{Transfer}
+use Rattle.land_core.specs.declared.mutation.MutationRecord.{MutationRecord}
+use Rattle.land_core.specs.declared.mutation.MutationState.{MutationState}
+use Rattle.land_core.specs.declared.mutation.MutationState.TheVariants.{Approved, Lodged, Refused}
+use Rattle.land_core.specs.declared.register.Register.{Register}
+use Rattle.land_core.specs.declared.soundness.Unsound.TheVariants.{Reference}
+use Rattle.land_core.specs.declared.source.SourceKind.TheVariants.{Administrative}
+use Rattle.land_core.specs.declared.source.SourceRecord.{SourceRecord}
+use Rattle.land_core.proofs.Booleans.{both_of, not_false}
+use Rattle.land_core.proofs.FiniteMaps.{none_is_not_some}
+use Rattle.land_core.proofs.LookUps.{by_look_ups}
+use Rattle.land_core.proofs.Reflection.{each_there, some_at}
+use Rattle.land_core.proofs.SoundRegisters.{are_used, refers, used_bounds, used_from}
+use Rattle.land_acts.specs.Deciding.{content_change, content_refusals, decided, is_lodged, transfer_change, with_state}
+use Rattle.land_acts.specs.Lodging.{in_order, is_same_lodging, lodge_repeat, lodged_record, lodged_told, lodged_under, repeat_of}
+use Rattle.land_acts.specs.MutationLaws.{DecisionsStay, LodgingsStand, LodgingsStay, ReceiversHaveOneRight, RepeatsAreToldTheFirst, StandsAsLodged, TransfersKeepSums}
+use Rattle.land_acts.specs.Outcome.{change_of, done_of, first_that_holds, refusals_of, refused_else, repeated_else, stamped}
+use Rattle.land_acts.specs.Transferring.{are_too_fine, held_at, is_itself, is_too_large, transfer_refusals}
+use Rattle.land_acts.specs.declared.transfer.Held.{Held}
+use Rattle.land_acts.specs.declared.refusal.Refusal.TheVariants.{ClockOut, NotLodged}
+use Rattle.land_acts.proofs.Accepted.{planned, whole_law}
+use Rattle.land_acts.proofs.Approvals.{IsUnrefusedMove, unrefused_move}
+use Rattle.land_acts.proofs.BurdenedUnits.{here, there}
+use Rattle.land_acts.proofs.LodgedMutations.{none_found}
+use Rattle.land_acts.proofs.Numbers.{one_number, same_number}
+use Rattle.land_acts.proofs.Outcomes.{first_none}
+use Rattle.land_acts.proofs.TransferShares.{same_some}
+use Rattle.land_acts.proofs.Transfers.{receiver_has_one_right, transferred_keeps_sum}
+
+-- ---- what a change leaves
+
+-- what an act that is not refused does to a mutation that stands: it is as it was, or it was undecided and is decided
+abbrev Becomes : Register → ℕ → MutationRecord → Register → Type 0
+Becomes r number m new = (state : MutationState) × (map.get new.mutations number ≡ Some (decided state m)) × (is_undecided m ≡ false → state ≡ m.state)
+
+-- a change that puts and ends no source, and ends no mutation
+record IsUntouched (change : Change) : Type 0 where
+  mutations : change.ended.mutations ≡ []
+  put : change.put.sources ≡ []
+  ended : change.ended.sources ≡ []
+
+module _ (r : Register) (sound : IsSound r) where
+  mutation_below : (n : ℕ) (m : MutationRecord) → map.get r.mutations n ≡ Some m → n < r.next
+  mutation_below n m is = (used_bounds r n (used_from r r.mutations (are_used r (refers r (sound Reference)).numbers).mutations n m is)).1
+
+  source_below : (n : ℕ) (s : SourceRecord) → map.get r.sources n ≡ Some s → n < r.next
+  source_below n s is = (used_bounds r n (used_from r r.sources (are_used r (refers r (sound Reference)).numbers).sources n s is)).1
+
+  -- a decision changes the state of an undecided mutation, and of no other
+  put_state : (n number : ℕ) (m x : MutationRecord) (state : MutationState) → map.get r.mutations number ≡ Some m → is_undecided m ≡ true → map.get r.mutations n ≡ Some x
+      → (after : MutationState) × (map.get (map.insert r.mutations number (decided state m)) n ≡ Some (decided after x)) × (is_undecided x ≡ false → after ≡ x.state)
+  put_state n number m x state there undecided is =
+      elim (eq_by_cmp nat_cmp n number) as (λ b. eq_by_cmp nat_cmp n number ≡ b
+      → (after : MutationState) × (map.get (map.insert r.mutations number (decided state m)) n ≡ Some (decided after x)) × (is_undecided x ≡ false → after ≡ x.state)) [
+        | true ↦ λ at.
+            let same : m ≡ x = one_right (sym there ∙ ap (map.get r.mutations) (sym (one_number n number at)) ∙ is) in (
+              state,
+              map.get-insert nat_cmp_total r.mutations number (decided state m) n ∙ ap (λ b. cond b (Some (decided state m)) (map.get r.mutations n)) at ∙ ap (λ y. Some (decided state y)) same,
+              λ shut. absurd (false≢true (sym shut ∙ ap is_undecided (sym same) ∙ undecided)),
+            )
+        | false ↦ λ apart. (
+          x.state,
+          map.get-insert nat_cmp_total r.mutations number (decided state m) n ∙ ap (λ b. cond b (Some (decided state m)) (map.get r.mutations n)) apart ∙ is,
+          λ shut. refl,
+        )
+      ] refl
+    where
+      one_right : Some m ≡ Some x → m ≡ x
+      one_right e = cc
+
+  transfer_touches : (source : ℕ) (it : Transfer) (o : Option Held) → IsUntouched (transfer_change r source it o)
+  transfer_touches source it None = record { mutations = refl; put = refl; ended = refl }
+  transfer_touches source it (Some from) = record { mutations = refl; put = refl; ended = refl }
+
+  -- the content of an approval touches no source, and ends no mutation
+  content_touches : (source : ℕ) (c : Content) → IsUntouched (content_change r source c)
+  content_touches source (content.Transfer it) = transfer_touches source it (held_at r it.unit it.right)
+  content_touches source (content.Mortgage it) = record { mutations = refl; put = refl; ended = refl }
+  content_touches source (content.Discharge it) = record { mutations = refl; put = refl; ended = refl }
+
+  -- what a decision does, by the mutation that stands under its number
+  by_decision : (number : ℕ) (state : MutationState) (change : MutationRecord → Change) → ((m : MutationRecord) → IsUntouched (change m)) → (o : Option MutationRecord) → map.get r.mutations number ≡ o
+      → option_map_or is_undecided o false ≡ true → (n : ℕ) (x : MutationRecord) → map.get r.mutations n ≡ Some x
+      → Becomes r n x (after (option_map_or (λ m. with_state state number m (change m)) o (no_change r.next)) r)
+  by_decision number state change touches None e undecided n x is = absurd (false≢true undecided)
+  by_decision number state change touches (Some m) e undecided n x is =
+      let it = put_state n number m x state e undecided is in (
+        it.0,
+        ap (λ ended. map.get (updated r.mutations ((number, decided state m) ∷ []) ended) n) (touches m).mutations ∙ it.1,
+        it.2,
+      )
+
+  sources_by_decision : (number : ℕ) (state : MutationState) (change : MutationRecord → Change) → ((m : MutationRecord) → IsUntouched (change m)) → (o : Option MutationRecord)
+      → (after (option_map_or (λ m. with_state state number m (change m)) o (no_change r.next)) r).sources ≡ r.sources
+  sources_by_decision number state change touches None = refl
+  sources_by_decision number state change touches (Some m) =
+      ap (λ put. updated r.sources put (change m).ended.sources) (touches m).put ∙ ap (updated r.sources []) (touches m).ended
+
+  becomes : (caller : Caller) (a : Act) (stamp : ℤ) → first_that_holds (refusals_of r caller a (Some stamp)) ≡ None → (n : ℕ) (x : MutationRecord) → map.get r.mutations n ≡ Some x
+      → Becomes r n x (after (change_of r caller a stamp) r)
+  becomes caller (act.Enrol it) stamp none n x is = (x.state, is, λ shut. refl)
+  becomes caller (act.Group it) stamp none n x is = (x.state, is, λ shut. refl)
+  becomes caller (act.Regroup it) stamp none n x is = (x.state, is, λ shut. refl)
+  becomes caller (act.Grant it) stamp none n x is = (x.state, is, λ shut. refl)
+  becomes caller (act.Revoke it) stamp none n x is = (x.state, is, λ shut. refl)
+  becomes caller (act.Register it) stamp none n x is = (x.state, is, λ shut. refl)
+  becomes caller (act.Burden it) stamp none n x is = (x.state, is, λ shut. refl)
+  becomes caller (act.Lift it) stamp none n x is = (x.state, is, λ shut. refl)
+  becomes caller (act.Lodge it) stamp none n x is =
+      let less = mutation_below n x is in
+      (x.state, there r.mutations (r.next + 1) (lodged_record caller it r.next stamp) n x (omega (arith, less)) is, λ shut. refl)
+  becomes caller (act.Approve it) stamp none n x is =
+      by_decision it.mutation Approved (λ m. content_change r m.source m.content) (λ m. content_touches m.source m.content) (map.get r.mutations it.mutation) refl
+      (not_false _ (first_none NotLodged (not (is_lodged r it.mutation)) (option_map_or (λ m. content_refusals r m.content (Some stamp)) (map.get r.mutations it.mutation) []) none).first) n x is
+  becomes caller (act.Refuse it) stamp none n x is =
+      by_decision it.mutation Refused (λ m. no_change r.next) (λ m. record { mutations = refl; put = refl; ended = refl }) (map.get r.mutations it.mutation) refl
+      (not_false _ (first_none NotLodged (not (is_lodged r it.mutation)) ((ClockOut, false) ∷ []) none).first) n x is
+
+  source_stays : (caller : Caller) (a : Act) (stamp : ℤ) (n : ℕ) (s : SourceRecord) → map.get r.sources n ≡ Some s → map.get (after (change_of r caller a stamp) r).sources n ≡ Some s
+  source_stays caller (act.Enrol it) stamp n s is = is
+  source_stays caller (act.Group it) stamp n s is = is
+  source_stays caller (act.Regroup it) stamp n s is = is
+  source_stays caller (act.Grant it) stamp n s is = is
+  source_stays caller (act.Revoke it) stamp n s is = is
+  source_stays caller (act.Register it) stamp n s is = there r.sources r.next (record { kind = Administrative; title = it.document }) n s (source_below n s is) is
+  source_stays caller (act.Burden it) stamp n s is = there r.sources r.next (record { kind = Administrative; title = it.document }) n s (source_below n s is) is
+  source_stays caller (act.Lift it) stamp n s is = is
+  source_stays caller (act.Lodge it) stamp n s is = there r.sources r.next (record { kind = Administrative; title = it.document }) n s (source_below n s is) is
+  source_stays caller (act.Approve it) stamp n s is =
+      ap (λ sources. map.get sources n) (sources_by_decision it.mutation Approved (λ m. content_change r m.source m.content) (λ m. content_touches m.source m.content) (map.get r.mutations it.mutation)) ∙ is
+  source_stays caller (act.Refuse it) stamp n s is =
+      ap (λ sources. map.get sources n) (sources_by_decision it.mutation Refused (λ m. no_change r.next) (λ m. record { mutations = refl; put = refl; ended = refl }) (map.get r.mutations it.mutation)) ∙ is
+
+-- ---- the laws
+
+pub decisions_stay : DecisionsStay
+decisions_stay r change stamp number m sound h is shut =
+    let plan = planned r h.caller h.act stamp change h.done h.outcome in
+    let it = becomes r sound h.caller h.act stamp plan.none_holds number m is in
+    subst (λ (made : Change). map.get (after made r).mutations number ≡ Some m) plan.same (it.1 ∙ ap (λ state. Some (decided state m)) (it.2 shut))
+
+pub lodgings_stand : LodgingsStand
+lodgings_stand r caller it stamp change done is =
+    let plan = planned r caller (act.Lodge it) stamp change done is in
+    subst (λ (made : Change). StandsAsLodged (after made r) caller it r.next (r.next + 1) stamp) plan.same
+    (record {
+      state = Lodged;
+      mutation = here r.mutations (r.next + 1) (lodged_record caller it r.next stamp);
+      document = here r.sources r.next (record { kind = Administrative; title = it.document });
+    })
+
+pub lodgings_stay : LodgingsStay
+lodgings_stay r caller it source number lodged stamp change sound h standing =
+    let plan = planned r h.caller h.act stamp change h.done h.outcome in
+    let mutation = becomes r sound h.caller h.act stamp plan.none_holds number (decided standing.state (lodged_record caller it source lodged)) standing.mutation in
+    subst (λ (made : Change). StandsAsLodged (after made r) caller it source number lodged) plan.same
+    (record { state = mutation.0; mutation = mutation.1; document = source_stays r sound h.caller h.act stamp source (record { kind = Administrative; title = it.document }) standing.document })
+
+-- ---- repeats
+
+all_same : (a b : Bool) → a ≡ true → b ≡ true → (a && b) ≡ true
+all_same a b x y = ap (λ t. t && b) x ∙ y
+
+content_itself : (c : Content) → is_same_content c c ≡ true
+content_itself (content.Transfer it) =
+    all_same _ _ (all_same _ _ (all_same _ _ (same_number it.unit) (same_number it.right)) (same_number it.receiver)) (all_same _ _ (same_number it.share.numerator) (same_number it.share.denominator))
+content_itself (content.Mortgage it) =
+    all_same _ _ (all_same _ _ (all_same _ _ (same_number it.unit) (same_number it.creditor)) (same_number it.amount)) ((bytes_eq-Decides it.currency it.currency).1 refl)
+content_itself (content.Discharge it) = all_same _ _ (same_number it.unit) (same_number it.mortgage)
+
+found_passes : {X : Type 0} (p : X → Bool) (xs : List X) (x : X) → find p xs ≡ Some x → p x ≡ true
+found_passes p [] x e = absurd (none_is_not_some e)
+found_passes {X} p (y ∷ ys) x e =
+    elim (p y) as (λ b. p y ≡ b → cond b (Some y) (find p ys) ≡ Some x → p x ≡ true) [
+      | true ↦ λ passes e. subst (λ (z : X). p z ≡ true) (same e) passes
+      | false ↦ λ fails e. found_passes p ys x e
+    ] refl e
+  where
+    same : Some y ≡ Some x → y ≡ x
+    same e = cc
+
+found_holds : {X : Type 0} (P : X → Type 0) (p : X → Bool) (xs : List X) → AllByRecursion P xs → (x : X) → find p xs ≡ Some x → P x
+found_holds P p [] all x e = absurd (none_is_not_some e)
+found_holds {X} P p (y ∷ ys) all x e =
+    elim (p y) as (λ b. cond b (Some y) (find p ys) ≡ Some x → P x) [ true ↦ λ e. subst P (same e) all.0 | false ↦ λ e. found_holds P p ys all.1 x e ] e
+  where
+    same : Some y ≡ Some x → y ≡ x
+    same e = cc
+
+module _ (later : Register) (sound : IsSound later) (caller : Caller) (it : Lodging) (source number : ℕ) (stamp : ℤ) (standing : StandsAsLodged later caller it source number stamp) where
+  abbrev m : MutationRecord
+  m = decided standing.state (lodged_record caller it source stamp)
+
+  abbrev p : ℕ × MutationRecord → Bool
+  p e = is_lodged_as caller.party it.reference e.1
+
+  passes : is_lodged_as caller.party it.reference m ≡ true
+  passes = all_same _ _ (same_number caller.party) ((bytes_eq-Decides it.reference it.reference).1 refl)
+
+  -- there is no other mutation of the lodger under the reference
+  the_one : (e : ℕ × MutationRecord) → find p (map.entries later.mutations) ≡ Some e → e ≡ (number, m)
+  the_one e found =
+      let looks = (by_look_ups whole_law later).0 sound in
+      let parts = both_of (nat_eq e.1.lodger caller.party) (bytes_eq e.1.reference it.reference) (found_passes p (map.entries later.mutations) e found) in
+      let at_key = found_holds (λ e. map.get later.mutations e.0 ≡ Some e.1) p (map.entries later.mutations) (each_there nat_cmp_total nat_cmp-IsAntisymmetric later.mutations) e found in
+      elim (nat_eq e.0 number) as (λ b. nat_eq e.0 number ≡ b → e ≡ (number, m)) [
+        | true ↦ λ at.
+            let same : e.0 ≡ number = eqb-true e.0 number at in
+            pair_same e (number, m) same (one_right (sym at_key ∙ ap (map.get later.mutations) same ∙ standing.mutation))
+        | false ↦ λ apart. absurd (looks.references e.0 number e.1 m at_key standing.mutation (differ apart)
+            (eqb-true e.1.lodger caller.party parts.0) ((bytes_eq-Decides e.1.reference it.reference).0 parts.1))
+      ] refl
+    where
+      one_right : {a b : MutationRecord} → Some a ≡ Some b → a ≡ b
+      one_right e = cc
+
+      pair_same : (a b : ℕ × MutationRecord) → a.0 ≡ b.0 → a.1 ≡ b.1 → a ≡ b
+      pair_same a b x y = ap (λ k. (k, a.1)) x ∙ ap (λ v. (b.0, v)) y
+
+      differ : nat_eq e.0 number ≡ false → e.0 ≡ number → ⊥
+      differ apart same = false≢true (sym apart ∙ ap (λ n. nat_eq n number) same ∙ same_number number)
+
+  under : lodged_under later caller.party it.reference ≡ Some (number, m)
+  under = by_case (find p (map.entries later.mutations)) refl
+    where
+      by_case : (o : Option (ℕ × MutationRecord)) → find p (map.entries later.mutations) ≡ o → lodged_under later caller.party it.reference ≡ Some (number, m)
+      by_case None e =
+          absurd (false≢true (sym (none_found p (map.entries later.mutations) e)
+          ∙ some_at nat_cmp_total nat_cmp-IsAntisymmetric (λ n x. is_lodged_as caller.party it.reference x) later.mutations number m standing.mutation passes))
+      by_case (Some e) found = found ∙ ap Some (the_one e found)
+
+  same : is_same_lodging later it m ≡ true
+  same = all_same _ _ (ap (λ o. option_map_or (λ s. bytes_eq s.title it.document) o false) standing.document ∙ (bytes_eq-Decides it.document it.document).1 refl) (content_itself it.content)
+
+  repeated : lodge_repeat later caller it ≡ Some (lodged_told (number, m))
+  repeated = ap (repeat_of later it) under ∙ ap (λ b. cond b (Some (lodged_told (number, m))) None) same
+
+told_then : (number : ℕ) → in_order number (number + 1) ≡ number ∷ (number + 1) ∷ []
+told_then number = ap (λ b. cond b ((number + 1) ∷ number ∷ []) (number ∷ (number + 1) ∷ [])) not_before
+  where
+    not_before : nat_lt (number + 1) number ≡ false
+    not_before = grind (arith, nat_tests)
+
+pub repeats_are_told : RepeatsAreToldTheFirst
+repeats_are_told r later caller it stamp now change done first sound standing =
+    let plan = planned r caller (act.Lodge it) stamp change done first in
+    let told : lodged_told (r.next + 1, decided standing.state (lodged_record caller it r.next stamp)) ≡ done =
+    ap (λ (made : List ℕ). record { number = r.next + 1; made = made; stamp = stamp }) (told_then r.next) ∙ plan.is_told in
+    ap (λ (o : Option Done). repeated_else o (refused_else (first_that_holds (refusals_of later caller (act.Lodge it) now))
+    (stamped (λ at. change_of later caller (act.Lodge it) at) (λ at. done_of later caller (act.Lodge it) at) now)))
+    (repeated later sound caller it r.next (r.next + 1) stamp standing ∙ ap Some told)
+
+-- ---- transfers
+
+module _ (r : Register) (it : Transfer) (from : Held) (stamp : ℤ) (none : first_that_holds (transfer_refusals r it (Some stamp)) ≡ None) (held : held_at r it.unit it.right ≡ Some from) where
+  move : IsUnrefusedMove r it
+  move = unrefused_move r it (Some stamp) none
+
+  -- what holds of the right that the transfer finds holds of this one
+  of_right : (P : Held → Type 0) → P move.from → P from
+  of_right P = subst P (same_some (sym move.held ∙ held))
+
+  not_large : is_too_large r it from ≡ false
+  not_large = of_right (λ h. is_too_large r it h ≡ false) move.not_large
+
+  not_fine : are_too_fine r it from ≡ false
+  not_fine = of_right (λ h. are_too_fine r it h ≡ false) move.not_fine
+
+  other : is_itself it from ≡ false
+  other = of_right (λ h. is_itself it h ≡ false) move.other
+
+pub transfers_keep_sums : TransfersKeepSums
+transfers_keep_sums r source it from stamp parts sound none held =
+    transferred_keeps_sum whole_law r source it from parts sound held (not_large r it from stamp none held) (not_fine r it from stamp none held) (other r it from stamp none held)
+
+pub receivers_have_one_right : ReceiversHaveOneRight
+receivers_have_one_right r source it from stamp sound none held =
+    receiver_has_one_right whole_law r source it from sound held (not_large r it from stamp none held) (not_fine r it from stamp none held) (other r it from stamp none held)

@@ -1,0 +1,133 @@
+-- A decision has the same outcome over a register and over its slice.
+use Rattle.std.proofs.Common.{◌≡◌, ℕ, Bool, true, false, not, cond, Option, Some, None, [], ◌∷◌, refl, sym, ap, ◌∙◌, subst}
+use Rattle.std.specs.Prelude.{ℤ, Result, is_none}
+use Rattle.std.specs.Option.{option_map_or}
+use Rattle.std.proofs.lemmas.Bool.{or_left}
+use Rattle.std.specs.Cmp.{nat_cmp_total}
+use Rattle.std.specs.FinMap as map
+use Rattle.std.specs.FinMap.{nat_cmp-IsAntisymmetric}
+use Rattle.land_core.specs.Changes.{no_change}
+use Rattle.land_core.specs.Contents.{names_unit as content_names_unit}
+use Rattle.land_core.specs.Mutations.{is_undecided}
+use Rattle.land_core.specs.declared.act.Act.{Act}
+use Rattle.land_core.specs.declared.act.Act.TheVariants as act
+use Rattle.land_core.specs.declared.act.Decision.{Decision}
+use Rattle.land_core.specs.declared.caller.Caller.{Caller}
+use Rattle.land_core.specs.declared.content.Content.{Content}
+use Rattle.land_core.specs.declared.content.Content.TheVariants as content
+use Rattle.land_core.specs.declared.mutation.MutationRecord.{MutationRecord}
+use Rattle.land_core.specs.declared.mutation.MutationState.TheVariants.{Approved, Refused}
+use Rattle.land_core.specs.declared.register.Register.{Register}
+use Rattle.land_core.specs.declared.role.Role.TheVariants.{Bank}
+use Rattle.land_core.proofs.Reflection.{get-only}
+use Rattle.land_acts.specs.Deciding.{content_change, content_made, content_refusals, with_state}
+use Rattle.land_acts.specs.Outcome.{first_that_holds, outcome_of, refused_else, stamped}
+use Rattle.land_acts.specs.Planning.{told_of}
+use Rattle.land_acts.specs.Slices.{content_names_party, looks_at_mutation, looks_at_rrr, names_party, names_rrr, names_unit, slice_of}
+use Rattle.land_acts.specs.declared.refusal.Planned.{Planned}
+use Rattle.land_acts.specs.declared.refusal.Refusal.{Refusal}
+use Rattle.land_acts.specs.declared.refusal.Refusal.TheVariants.{ClockOut, NotLodged}
+use Rattle.land_acts.proofs.DischargeSlices.{discharge_change_agrees, discharge_refusal_agrees}
+use Rattle.land_acts.proofs.MortgageSlices.{AgreeOnUnit, mortgage_change_agrees, mortgage_refusals_agree}
+use Rattle.land_acts.proofs.Numbers.{one_number, same_number, tied_number}
+use Rattle.land_acts.proofs.TransferSlices.{transfer_agrees}
+use Rattle.land_acts.proofs.SlicedWords.{holds_same, stands_same, unit_same}
+
+-- the mutation that is decided is in the slice
+mutation_same : (r : Register) (caller : Caller) (a : Act) (n : ℕ) → ((m : MutationRecord) → looks_at_mutation caller a n m ≡ true) → map.get (slice_of r caller a).mutations n ≡ map.get r.mutations n
+mutation_same r caller a n looks = get-only nat_cmp_total nat_cmp-IsAntisymmetric (λ n m. looks_at_mutation caller a n m) r.mutations n looks
+
+-- ---- what a content asks for, where the mutation stands
+
+module _ (r : Register) (caller : Caller) (it : Decision) (m : MutationRecord) (there : map.get r.mutations it.mutation ≡ Some m) where
+  abbrev a : Act
+  a = act.Approve it
+
+  abbrev s : Register
+  s = slice_of r caller a
+
+  unit_named : (unit : ℕ) → content_names_unit unit m.content ≡ true → names_unit r a unit ≡ true
+  unit_named unit names = ap (λ o. option_map_or (λ m. content_names_unit unit m.content) o false) there ∙ names
+
+  party_named : (party : ℕ) → content_names_party party m.content ≡ true → names_party r a party ≡ true
+  party_named party names = ap (λ o. option_map_or (λ m. content_names_party party m.content) o false) there ∙ names
+
+  agree : (unit : ℕ) → content_names_unit unit m.content ≡ true → AgreeOnUnit s r unit
+  agree unit names = record {
+    kept = λ n e. looks_at_rrr r a n e;
+    entries = refl;
+    keeps = λ n e in_unit. or_left (names_unit r a e.unit) (names_rrr r a n)
+        (subst (λ (u : ℕ). names_unit r a u ≡ true) (sym (one_number e.unit unit (tied_number e.unit unit ∙ in_unit))) (unit_named unit names));
+    stands = unit_same r caller a unit (unit_named unit names);
+    next = refl;
+  }
+
+  checked_same : (unit : ℕ) → content_names_unit unit m.content ≡ true → map.get s.units unit ≡ map.get r.units unit
+  checked_same unit names = get-only nat_cmp_total nat_cmp-IsAntisymmetric (λ k u. names_unit r a k) r.units unit (λ v. unit_named unit names)
+
+  record IsSameContent (c : Content) (stamp : Option ℤ) : Type 0 where
+    refusal : first_that_holds (content_refusals s c stamp) ≡ first_that_holds (content_refusals r c stamp)
+    change : content_change s m.source c ≡ content_change r m.source c
+    made : content_made s c ≡ content_made r c
+
+  content_same : (c : Content) → m.content ≡ c → (stamp : Option ℤ) → IsSameContent c stamp
+  content_same (content.Transfer it) is stamp =
+      let unit : content_names_unit it.unit m.content ≡ true = ap (content_names_unit it.unit) is ∙ same_number it.unit in
+      let party : content_names_party it.receiver m.content ≡ true = ap (content_names_party it.receiver) is ∙ same_number it.receiver in
+      let same = transfer_agrees s r it (agree it.unit unit) (stands_same r caller a it.receiver (party_named it.receiver party)) (checked_same it.unit unit) in
+      record { refusal = ap first_that_holds (same.refusals stamp); change = same.change m.source; made = same.made }
+  content_same (content.Mortgage it) is stamp =
+      let unit : content_names_unit it.unit m.content ≡ true = ap (content_names_unit it.unit) is ∙ same_number it.unit in
+      let party = party_named it.creditor (ap (content_names_party it.creditor) is ∙ same_number it.creditor) in
+      record {
+        refusal = ap first_that_holds (mortgage_refusals_agree s r it (agree it.unit unit) (stands_same r caller a it.creditor party) (holds_same r caller a it.creditor Bank party) stamp);
+        change = mortgage_change_agrees s r it (agree it.unit unit) m.source;
+        made = refl;
+      }
+  content_same (content.Discharge it) is stamp =
+      let unit : content_names_unit it.unit m.content ≡ true = ap (content_names_unit it.unit) is ∙ same_number it.unit in
+      record {
+        refusal = discharge_refusal_agrees s r it (agree it.unit unit) stamp;
+        change = discharge_change_agrees s r it (agree it.unit unit);
+        made = refl;
+      }
+
+-- ---- decisions
+
+-- the outcome of an approval and of a refusal, by the mutation that stands at the number
+abbrev approved_by : Register → ℕ → Option ℤ → Option MutationRecord → Result Planned Refusal
+approved_by r n stamp o =
+    refused_else
+    (first_that_holds ((NotLodged, not (option_map_or is_undecided o false)) ∷ option_map_or (λ m. content_refusals r m.content stamp) o []))
+    (stamped (λ at. option_map_or (λ m. with_state Approved n m (content_change r m.source m.content)) o (no_change r.next))
+    (λ at. record { number = n; made = option_map_or (λ m. content_made r m.content) o []; stamp = at }) stamp)
+
+-- the slice for an approval
+abbrev slice_for : Register → Caller → Decision → Register
+slice_for r caller it = slice_of r caller (act.Approve it)
+
+pub approve_same : (r : Register) (caller : Caller) (it : Decision) (stamp : Option ℤ) → outcome_of (slice_of r caller (act.Approve it)) caller (act.Approve it) stamp ≡ outcome_of r caller (act.Approve it) stamp
+approve_same r caller it stamp =
+    ap (approved_by (slice_for r caller it) it.mutation stamp) (mutation_same r caller (act.Approve it) it.mutation (λ m. same_number it.mutation))
+    ∙ by_case (map.get r.mutations it.mutation) refl
+  where
+    by_case : (o : Option MutationRecord) → map.get r.mutations it.mutation ≡ o → approved_by (slice_for r caller it) it.mutation stamp o ≡ approved_by r it.mutation stamp o
+    by_case None e = refl
+    by_case (Some m) e =
+        let same = content_same r caller it m e m.content refl stamp in
+        let decided : Bool = not (is_undecided m) in
+        ap (λ refusal. refused_else (cond decided (Some NotLodged) refusal) (stamped (λ at. with_state Approved it.mutation m (content_change (slice_for r caller it) m.source m.content))
+        (λ at. record { number = it.mutation; made = content_made (slice_for r caller it) m.content; stamp = at }) stamp)) same.refusal
+        ∙ ap (λ change. refused_else (cond decided (Some NotLodged) (first_that_holds (content_refusals r m.content stamp))) (stamped (λ at. with_state Approved it.mutation m change)
+        (λ at. record { number = it.mutation; made = content_made (slice_for r caller it) m.content; stamp = at }) stamp)) same.change
+        ∙ ap (λ made. refused_else (cond decided (Some NotLodged) (first_that_holds (content_refusals r m.content stamp)))
+        (stamped (λ at. with_state Approved it.mutation m (content_change r m.source m.content)) (λ at. record { number = it.mutation; made = made; stamp = at }) stamp)) same.made
+
+abbrev refused_by : Register → ℕ → Option ℤ → Option MutationRecord → Result Planned Refusal
+refused_by r n stamp o =
+    refused_else (first_that_holds ((NotLodged, not (option_map_or is_undecided o false)) ∷ (ClockOut, is_none stamp) ∷ []))
+    (stamped (λ at. option_map_or (λ m. with_state Refused n m (no_change r.next)) o (no_change r.next)) (λ at. told_of n at) stamp)
+
+pub refuse_same : (r : Register) (caller : Caller) (it : Decision) (stamp : Option ℤ) → outcome_of (slice_of r caller (act.Refuse it)) caller (act.Refuse it) stamp ≡ outcome_of r caller (act.Refuse it) stamp
+refuse_same r caller it stamp =
+    ap (refused_by (slice_of r caller (act.Refuse it)) it.mutation stamp) (mutation_same r caller (act.Refuse it) it.mutation (λ m. same_number it.mutation))

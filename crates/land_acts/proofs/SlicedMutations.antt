@@ -1,0 +1,79 @@
+-- What planning reads of mutations is the same over a register and over its slice.
+use Rattle.std.proofs.Common.{◌≡◌, ℕ, Bool, true, false, ◌||◌, ◌&&◌, not, cond, List, [], ◌∷◌, Option, Some, None, refl, sym, ap, ◌∙◌, subst}
+use Rattle.std.specs.Prelude.{filter, nat_eq}
+use Rattle.std.specs.List.{find, list_any}
+use Rattle.std.specs.Option.{option_map_or}
+use Rattle.std.specs.Str.{bytes_eq}
+use Rattle.std.specs.Cmp.{nat_cmp_total}
+use Rattle.std.specs.FinMap as map
+use Rattle.std.specs.FinMap.{nat_cmp-IsAntisymmetric}
+use Rattle.land_core.specs.Contents.{is_same_content}
+use Rattle.land_core.specs.Mutations.{is_lodged_as}
+use Rattle.land_core.specs.declared.act.Act.TheVariants as act
+use Rattle.land_core.specs.declared.act.Lodging.{Lodging}
+use Rattle.land_core.specs.declared.caller.Caller.{Caller}
+use Rattle.land_core.specs.declared.mutation.MutationRecord.{MutationRecord}
+use Rattle.land_core.specs.declared.register.Register.{Register}
+use Rattle.land_core.proofs.Reflection.{entries-only, get-only}
+use Rattle.land_acts.specs.Lodging.{has_lodged_other, is_same_lodging, lodge_repeat, lodged_under, lodged_told, repeat_of}
+use Rattle.land_acts.specs.Slices.{looks_at_source, slice_of}
+use Rattle.land_acts.proofs.Numbers.{same_number}
+
+-- what is found among what passes
+find_kept : {X : Type 0} (p : X → Bool) (xs : List X) → find p (filter p xs) ≡ find p xs
+find_kept p [] = refl
+find_kept {X} p (x ∷ xs) =
+    elim (p x) as (λ b. p x ≡ b → find p (cond b (x ∷ filter p xs) (filter p xs)) ≡ cond b (Some x) (find p xs)) [
+      | true ↦ λ passes. ap (λ b. cond b (Some x) (find p (filter p xs))) passes
+      | false ↦ λ fails. find_kept p xs
+    ] refl
+
+-- what is found is kept, so whatever it passes is passed by something that is kept
+found_among_kept : {X : Type 0} (p q : X → Bool) (xs : List X) (x : X) → find p xs ≡ Some x → q x ≡ true → list_any q (filter p xs) ≡ true
+found_among_kept {X} p q [] x e h = absurd (none_some e)
+  where
+    none_some : None ≡ Some x → ⊥
+    none_some e = cc
+found_among_kept {X} p q (y ∷ ys) x e h =
+    elim (p y) as (λ b. cond b (Some y) (find p ys) ≡ Some x → list_any q (cond b (y ∷ filter p ys) (filter p ys)) ≡ true) [
+      | true ↦ λ e. ap (λ b. b || list_any q (filter p ys)) (subst (λ (z : X). q z ≡ true) (sym (same e)) h)
+      | false ↦ λ e. found_among_kept p q ys x e h
+    ] e
+  where
+    same : Some y ≡ Some x → y ≡ x
+    same e = cc
+
+module _ (r : Register) (caller : Caller) (it : Lodging) where
+  abbrev slice : Register
+  slice = slice_of r caller (act.Lodge it)
+
+  under_same : lodged_under slice caller.party it.reference ≡ lodged_under r caller.party it.reference
+  under_same =
+      ap (find (λ e. is_lodged_as caller.party it.reference e.1)) (entries-only nat_cmp_total nat_cmp-IsAntisymmetric (λ n m. is_lodged_as caller.party it.reference m) r.mutations)
+      ∙ find_kept (λ e. is_lodged_as caller.party it.reference e.1) (map.entries r.mutations)
+
+  -- the source of the mutation that is found is kept
+  looked_at : (e : ℕ × MutationRecord) → lodged_under r caller.party it.reference ≡ Some e → looks_at_source r caller (act.Lodge it) e.1.source ≡ true
+  looked_at e is =
+      ap (list_any (λ f. nat_eq f.1.source e.1.source)) (entries-only nat_cmp_total nat_cmp-IsAntisymmetric (λ n m. is_lodged_as caller.party it.reference m) r.mutations)
+      ∙ found_among_kept (λ f. is_lodged_as caller.party it.reference f.1) (λ f. nat_eq f.1.source e.1.source) (map.entries r.mutations) e is (same_number e.1.source)
+
+  title_same : (e : ℕ × MutationRecord) → lodged_under r caller.party it.reference ≡ Some e → is_same_lodging slice it e.1 ≡ is_same_lodging r it e.1
+  title_same e is =
+      ap (λ o. option_map_or (λ s. bytes_eq s.title it.document) o false && is_same_content e.1.content it.content)
+      (get-only nat_cmp_total nat_cmp-IsAntisymmetric (λ n s. looks_at_source r caller (act.Lodge it) n) r.sources e.1.source (λ s. looked_at e is))
+
+  pub repeat_same : lodge_repeat slice caller it ≡ lodge_repeat r caller it
+  repeat_same = ap (repeat_of slice it) under_same ∙ by_case (lodged_under r caller.party it.reference) refl
+    where
+      by_case : (o : Option (ℕ × MutationRecord)) → lodged_under r caller.party it.reference ≡ o → repeat_of slice it o ≡ repeat_of r it o
+      by_case None e = refl
+      by_case (Some e) is = ap (λ b. cond b (Some (lodged_told e)) None) (title_same e is)
+
+  pub other_same : has_lodged_other slice caller it ≡ has_lodged_other r caller it
+  other_same = ap (λ o. option_map_or (λ e. not (is_same_lodging slice it e.1)) o false) under_same ∙ by_case (lodged_under r caller.party it.reference) refl
+    where
+      by_case : (o : Option (ℕ × MutationRecord)) → lodged_under r caller.party it.reference ≡ o
+          → option_map_or (λ e. not (is_same_lodging slice it e.1)) o false ≡ option_map_or (λ e. not (is_same_lodging r it e.1)) o false
+      by_case None e = refl
+      by_case (Some e) is = ap not (title_same e is)

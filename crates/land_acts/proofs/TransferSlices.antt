@@ -1,0 +1,157 @@
+-- What transferring reads of a slice is what it reads of the register.
+use Rattle.std.proofs.Common.{◌≡◌, ℕ, Bool, true, false, cond, Option, Some, None, List, [], ◌∷◌, ◌++◌, length, refl, sym, ap, ◌∙◌}
+use Rattle.std.specs.Prelude.{ℤ, Ok, Err, Result, filter, nat_eq}
+use Rattle.std.specs.List.{AllByRecursion, filter_map, find}
+use Rattle.std.specs.Option.{option_map_or}
+use Rattle.std.specs.Cmp.{nat_cmp_total}
+use Rattle.std.specs.FinMap as map
+use Rattle.std.specs.FinMap.{FinMap, nat_cmp-IsAntisymmetric}
+use Rattle.std.specs.Ordering.{nat_cmp}
+use Rattle.std.proofs.lemmas.Bool.{false≢true}
+use Rattle.land_core.specs.Changes.{after}
+use Rattle.land_core.specs.Entries.{has, only, updated}
+use Rattle.land_core.specs.Units.{rrr_count, share_in, share_of, type_shares}
+use Rattle.land_core.specs.declared.content.Transfer.{Transfer}
+use Rattle.land_core.specs.declared.register.Register.{Register}
+use Rattle.land_core.specs.declared.rrr.RightType.{RightType}
+use Rattle.land_core.specs.declared.rrr.RrrRecord.{RrrRecord}
+use Rattle.land_core.proofs.Reflection.{entries-only}
+use Rattle.land_fraction.specs.Ratio.{Ratio}
+use Rattle.land_fraction.specs.declared.fault.FractionFault.{FractionFault}
+use Rattle.land_acts.specs.declared.transfer.Held.{Held}
+use Rattle.land_acts.specs.Deciding.{transfer_change, transfer_made}
+use Rattle.land_acts.specs.Transferring.{are_too_fine, are_too_many, given_up, grown, grows_at, has_right_where, held_at, held_in, held_of, is_held_by, is_itself, is_too_large, kept, move_change, received, share_grown, share_left, transfer_refusals}
+use Rattle.land_acts.proofs.KeptEntries.{get-kept, kept_at, updated-kept}
+use Rattle.land_acts.proofs.LiftedEntries.{filter_map-kept}
+use Rattle.land_acts.proofs.MortgageSlices.{AgreeOnUnit}
+use Rattle.land_acts.proofs.Numbers.{same_number}
+use Rattle.land_acts.proofs.SlicedWords.{filter_within}
+
+module _ (s r : Register) (it : Transfer) (agree : AgreeOnUnit s r it.unit) where
+  -- what is not kept is of another unit
+  elsewhere : (n : ℕ) (e : RrrRecord) → agree.kept n e ≡ false → nat_eq e.unit it.unit ≡ false
+  elsewhere n e lost = elim (nat_eq e.unit it.unit) as (λ b. nat_eq e.unit it.unit ≡ b → b ≡ false) [
+    | true ↦ λ here. absurd (false≢true (sym lost ∙ agree.keeps n e here))
+    | false ↦ λ other. refl
+  ] refl
+
+  -- what is taken of the entries of the unit alone
+  module _ {Y : Type 0} (take : ℕ × RrrRecord → Option Y) (other : (e : ℕ × RrrRecord) → nat_eq e.1.unit it.unit ≡ false → take e ≡ None) where
+    none_taken : (es : List (ℕ × RrrRecord)) → AllByRecursion (λ e. agree.kept e.0 e.1 ≡ false → take e ≡ None) es
+    none_taken [] = tt
+    none_taken (e ∷ es) = (λ lost. other e (elsewhere e.0 e.1 lost), none_taken es)
+
+    taken_same : (m : FinMap nat_cmp RrrRecord) → filter_map take (map.entries (only agree.kept m)) ≡ filter_map take (map.entries m)
+    taken_same m =
+        ap (filter_map take) (entries-only nat_cmp_total nat_cmp-IsAntisymmetric agree.kept m)
+        ∙ filter_map-kept take (λ e. agree.kept e.0 e.1) (map.entries m) (none_taken (map.entries m))
+
+  -- ---- the rights
+
+  no_right : (n : ℕ) (e : RrrRecord) → nat_eq e.unit it.unit ≡ false → held_in it.unit n e ≡ None
+  no_right n e other = ap (λ b. cond b (held_of n e.party e.class) None) other
+
+  held_at_same : held_at s it.unit it.right ≡ held_at r it.unit it.right
+  held_at_same =
+      ap (λ m. option_map_or (held_in it.unit it.right) (map.get m it.right) None) agree.entries
+      ∙ ap (λ o. option_map_or (held_in it.unit it.right) o None) (get-kept agree.kept r.rrrs it.right)
+      ∙ by_case (map.get r.rrrs it.right)
+    where
+      by_case : (o : Option RrrRecord) → option_map_or (held_in it.unit it.right) (kept_at agree.kept it.right o) None ≡ option_map_or (held_in it.unit it.right) o None
+      by_case None = refl
+      by_case (Some e) =
+          elim (agree.kept it.right e) as (λ b. agree.kept it.right e ≡ b → option_map_or (held_in it.unit it.right) (cond b (Some e) None) None ≡ held_in it.unit it.right e) [
+            | true ↦ λ stays. refl
+            | false ↦ λ lost. sym (no_right it.right e (elsewhere it.right e lost))
+          ] refl
+
+  grows_same : (from : Held) → grows_at s it from ≡ grows_at r it from
+  grows_same from =
+      ap (λ m. find (is_held_by it.receiver from.right_type) (filter_map (λ e. held_in it.unit e.0 e.1) (map.entries m))) agree.entries
+      ∙ ap (find (is_held_by it.receiver from.right_type)) (taken_same (λ e. held_in it.unit e.0 e.1) (λ e other. no_right e.0 e.1 other) r.rrrs)
+
+  move_same : (source : ℕ) (from : Held) → move_change s source it from ≡ move_change r source it from
+  move_same source from = rw (grows_same from, agree.next) refl
+
+  -- ---- what stands in the unit after the transfer
+
+  kept_entry : (n : ℕ) (e : RrrRecord) → e.unit ≡ it.unit → agree.kept n e ≡ true
+  kept_entry n e here = agree.keeps n e (ap (λ u. nat_eq u it.unit) here ∙ same_number it.unit)
+
+  grown_kept : (source : ℕ) (to : Held) (share : Result Ratio FractionFault) → AllByRecursion (λ e. agree.kept e.0 e.1 ≡ true) (grown source it to share)
+  grown_kept source to (Ok share) = (kept_entry to.number _ refl, tt)
+  grown_kept source to (Err fault) = tt
+
+  put_kept : (source : ℕ) (from : Held) (to : Option Held) → AllByRecursion (λ e. agree.kept e.0 e.1 ≡ true) (received r source it from to)
+  put_kept source from None = (kept_entry r.next _ refl, tt)
+  put_kept source from (Some to) = grown_kept source to (share_grown it to)
+
+  all_kept : (source : ℕ) (from : Held) (left : Result Ratio FractionFault) (to : Option Held)
+      → AllByRecursion (λ e. agree.kept e.0 e.1 ≡ true) (kept source it from left ++ received r source it from to)
+  all_kept source from (Ok share) to = (kept_entry from.number _ refl, put_kept source from to)
+  all_kept source from (Err fault) to = put_kept source from to
+
+  entries_after : (source : ℕ) (from : Held) → (after (move_change s source it from) s).rrrs ≡ only agree.kept (after (move_change r source it from) r).rrrs
+  entries_after source from =
+      ap (λ change. updated s.rrrs change.put.rrrs change.ended.rrrs) (move_same source from)
+      ∙ ap (λ m. updated m (move_change r source it from).put.rrrs (given_up from (share_left it from))) agree.entries
+      ∙ updated-kept agree.kept r.rrrs (kept source it from (share_left it from) ++ received r source it from (grows_at r it from)) (given_up from (share_left it from))
+      (all_kept source from (share_left it from) (grows_at r it from))
+
+  shares_after : (source : ℕ) (from : Held) (type : RightType) → type_shares (after (move_change s source it from) s) it.unit type ≡ type_shares (after (move_change r source it from) r) it.unit type
+  shares_after source from type =
+      ap (λ m. filter_map (λ e. share_in it.unit type e.1) (map.entries m)) (entries_after source from)
+      ∙ taken_same (λ e. share_in it.unit type e.1) (λ e other. ap (λ b. cond b (share_of type e.1.class) None) other) (after (move_change r source it from) r).rrrs
+
+  count_after : (source : ℕ) (from : Held) → rrr_count (after (move_change s source it from) s) it.unit ≡ rrr_count (after (move_change r source it from) r) it.unit
+  count_after source from =
+      ap (λ m. length (filter (λ e. nat_eq e.1.unit it.unit) (map.entries m))) (entries_after source from)
+      ∙ ap (λ es. length (filter (λ e. nat_eq e.1.unit it.unit) es)) (entries-only nat_cmp_total nat_cmp-IsAntisymmetric agree.kept (after (move_change r source it from) r).rrrs)
+      ∙ ap length (filter_within (λ e. nat_eq e.1.unit it.unit) (λ e. agree.kept e.0 e.1) (λ e here. agree.keeps e.0 e.1 here) (map.entries (after (move_change r source it from) r).rrrs))
+
+  -- ---- the refusals
+
+  large_same : (from : Held) → is_too_large s it from ≡ is_too_large r it from
+  large_same from = rw (grows_same from) refl
+
+  fine_same : map.get s.units it.unit ≡ map.get r.units it.unit → (from : Held) → are_too_fine s it from ≡ are_too_fine r it from
+  fine_same units from = rw (shares_after 0 from from.right_type, grows_same from, units) refl
+
+  many_same : (from : Held) → are_too_many s it from ≡ are_too_many r it from
+  many_same from = rw (count_after 0 from, grows_same from, agree.next) refl
+
+  -- a test of the right, where the tests agree
+  right_same : (p q : Held → Bool) → ((from : Held) → p from ≡ q from) → has_right_where p s it ≡ has_right_where q r it
+  right_same p q same = ap (λ o. option_map_or p o false) held_at_same ∙ by_case (held_at r it.unit it.right)
+    where
+      by_case : (o : Option Held) → option_map_or p o false ≡ option_map_or q o false
+      by_case None = refl
+      by_case (Some from) = same from
+
+  pub record TransferAgrees : Type 0 where
+    pub refusals : (stamp : Option ℤ) → transfer_refusals s it stamp ≡ transfer_refusals r it stamp
+    pub change : (source : ℕ) → transfer_change s source it (held_at s it.unit it.right) ≡ transfer_change r source it (held_at r it.unit it.right)
+    pub made : transfer_made s it (held_at s it.unit it.right) ≡ transfer_made r it (held_at r it.unit it.right)
+
+  pub transfer_agrees : has s.parties it.receiver ≡ has r.parties it.receiver → map.get s.units it.unit ≡ map.get r.units it.unit → TransferAgrees
+  transfer_agrees receiver units = record {
+    refusals = λ stamp. rw (
+      right_same (is_too_large s it) (is_too_large r it) large_same,
+      right_same (are_too_fine s it) (are_too_fine r it) (fine_same units),
+      right_same (are_too_many s it) (are_too_many r it) many_same,
+      right_same (is_itself it) (is_itself it) (λ from. refl),
+      held_at_same,
+      agree.stands,
+      receiver,
+    ) refl;
+    change = λ source. ap (transfer_change s source it) held_at_same ∙ changed source (held_at r it.unit it.right);
+    made = ap (transfer_made s it) held_at_same ∙ made_same (held_at r it.unit it.right);
+  }
+    where
+      changed : (source : ℕ) (o : Option Held) → transfer_change s source it o ≡ transfer_change r source it o
+      changed source None = rw (agree.next) refl
+      changed source (Some from) = move_same source from
+
+      made_same : (o : Option Held) → transfer_made s it o ≡ transfer_made r it o
+      made_same None = refl
+      made_same (Some from) = rw (grows_same from, agree.next) refl

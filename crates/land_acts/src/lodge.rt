@@ -1,0 +1,166 @@
+//! Lodging a mutation.
+ghost use Rattle.std.specs.Prelude.{◌≡◌, ◌≤◌, ◌∷◌, [], IfOk};
+ghost use Rattle.land_acts.specs.Lodging.{has_lodged_other, has_title, in_order, is_same_lodging, lodge_change, lodge_done, lodge_refusals, lodge_repeat, lodged_record, lodged_told};
+ghost use Rattle.land_acts.specs.Outcome.{first_that_holds};
+
+use crate::plan::{document_source, lacks_numbers};
+use crate::refusal::Refusal;
+use crate::slice::Slice;
+use land_core::act::Lodging;
+use land_core::caller::Caller;
+use land_core::change::{Change, Done};
+use land_core::duplicate::Duplicate;
+use land_core::mutation::{MutationRecord, MutationState};
+use land_core::sequence::{NumberList, Sequence};
+use std::alloc::{AllocError, Global};
+
+/// What was told of an earlier lodging that this one repeats: one of the same caller under the same reference, with the
+/// same document and the same content.
+pub(crate) fn repeat(
+    alloc: Global,
+    slice: &Slice,
+    caller: Caller,
+    it: &Lodging,
+) -> Result<Option<Done>, AllocError>
+    ensures { IfOk result (λ told. told ≡ lodge_repeat slice.now caller it.now) }
+{
+    for (number, mutation) in slice.mutations.iter() {
+        if mutation.is_lodged_as(caller.party, it.reference.as_str()) {
+            if is_same_lodging(slice, it, mutation) {
+                return Ok(Some(lodged_told(alloc, *number, mutation)?));
+            }
+            return Ok(None);
+        }
+    }
+    Ok(None)
+}
+
+/// Whether the caller has lodged another document or content under the reference.
+fn has_lodged_other(slice: &Slice, caller: Caller, it: &Lodging) -> bool
+    ensures { result ≡ has_lodged_other slice.now caller it.now }
+{
+    for (_, mutation) in slice.mutations.iter() {
+        if mutation.is_lodged_as(caller.party, it.reference.as_str()) {
+            return !is_same_lodging(slice, it, mutation);
+        }
+    }
+    false
+}
+
+/// Whether a mutation was lodged with the same document, and asks for the same.
+fn is_same_lodging(slice: &Slice, it: &Lodging, mutation: &MutationRecord) -> bool
+    ensures { result ≡ is_same_lodging slice.now it.now mutation.now }
+{
+    has_title(slice, mutation.source, it.document.as_str()) && mutation.content.is_same(&it.content)
+}
+
+/// Whether a document stands under a title.
+fn has_title(slice: &Slice, source: u64, title: &str) -> bool
+    ensures { result ≡ has_title slice.now source title.now }
+{
+    match slice.sources.get(source) {
+        Some(source) => source.title.as_str() == title,
+        None => false,
+    }
+}
+
+/// What was told when a mutation was lodged.
+fn lodged_told(alloc: Global, number: u64, mutation: &MutationRecord) -> Result<Done, AllocError>
+    ensures { IfOk result (λ told. told ≡ lodged_told (number, mutation.now)) }
+{
+    Ok(Done {
+        number,
+        made: in_order(alloc, mutation.source, number)?,
+        stamp: mutation.lodged,
+    })
+}
+
+/// Two numbers, ascending.
+fn in_order(alloc: Global, number: u64, other: u64) -> Result<NumberList, AllocError>
+    ensures { IfOk result (λ it. it ≡ in_order number other) }
+{
+    let (first, second) = if other < number {
+        (other, number)
+    } else {
+        (number, other)
+    };
+    two_numbers(alloc, first, second)
+}
+
+fn two_numbers(alloc: Global, first: u64, second: u64) -> Result<NumberList, AllocError>
+    ensures { IfOk result (λ it. it ≡ first ∷ second ∷ []) }
+{
+    let mut numbers = Sequence::of_one(alloc, first)?;
+    numbers.push(second)?;
+    Ok(numbers)
+}
+
+/// The least refusal of a lodging whose condition holds.
+pub(crate) fn refusal(
+    slice: &Slice,
+    caller: Caller,
+    it: &Lodging,
+    stamp: Option<i64>,
+) -> Option<Refusal>
+    ensures { result ≡ first_that_holds (lodge_refusals slice.now caller it.now stamp) }
+{
+    if lacks_numbers(slice, 2) {
+        Some(Refusal::TooMany)
+    } else if has_lodged_other(slice, caller, it) {
+        Some(Refusal::ReferenceUsed)
+    } else if stamp.is_none() {
+        Some(Refusal::ClockOut)
+    } else {
+        None
+    }
+}
+
+/// The source and the mutation, under the next numbers.
+pub(crate) fn planned(
+    alloc: Global,
+    slice: &Slice,
+    caller: Caller,
+    it: &Lodging,
+    stamp: i64,
+) -> Result<(Change, Done), AllocError>
+    requires { slice.now.next ≤ 999_999_999 }
+    ensures { IfOk result (λ planned. (planned.0 ≡ lodge_change slice.now caller it.now stamp) × (planned.1 ≡ lodge_done slice.now stamp)) }
+{
+    let source = slice.next;
+    let number = source + 1;
+    let sources = document_source(alloc, source, &it.document)?;
+    let mutation = lodged(alloc, caller, it, source, stamp)?;
+    let mutations = Sequence::of_one(alloc, (number, mutation))?;
+    let made = two_numbers(alloc, source, number)?;
+    let mut change = Change::nothing(alloc, source + 2);
+    change.put.sources = sources;
+    change.put.mutations = mutations;
+    Ok((
+        change,
+        Done {
+            number,
+            made,
+            stamp,
+        },
+    ))
+}
+
+/// The mutation as it is lodged, undecided.
+fn lodged(
+    alloc: Global,
+    caller: Caller,
+    it: &Lodging,
+    source: u64,
+    stamp: i64,
+) -> Result<MutationRecord, AllocError>
+    ensures { IfOk result (λ mutation. mutation ≡ lodged_record caller it.now source stamp) }
+{
+    Ok(MutationRecord {
+        lodger: caller.party,
+        reference: it.reference.copy(alloc)?,
+        source,
+        lodged: stamp,
+        state: MutationState::Lodged,
+        content: it.content.copy(alloc)?,
+    })
+}
