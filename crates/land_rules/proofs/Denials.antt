@@ -95,6 +95,7 @@ all_rise now at caller (ask.View kind.Unit number moment) past = refl
 all_rise now at caller (ask.View kind.Parcel number moment) past = refl
 all_rise now at caller (ask.View kind.Rrr number moment) past = refl
 all_rise now at caller (ask.View kind.Source number moment) past = refl
+all_rise now at caller (ask.View kind.Mutation number moment) past = refl
 all_rise now at caller (ask.List k moment) past = refl
 all_rise now at caller (ask.Sheet unit moment) past = refl
 all_rise now at caller (ask.Do it) past = refl

@@ -1,3 +1,4 @@
+pub mod ActLaws
 pub mod Denials
 pub mod Seeing
 pub mod SightDenials

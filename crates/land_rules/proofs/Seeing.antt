@@ -40,6 +40,7 @@ denies_absent at caller kind.Unit n h = not_false _ (or_false _ _ h).0
 denies_absent at caller kind.Parcel n h = not_false _ (or_false _ _ h).0
 denies_absent at caller kind.Rrr n h = not_false _ (or_false _ _ h).0
 denies_absent at caller kind.Source n h = not_false _ (or_false _ _ h).0
+denies_absent at caller kind.Mutation n h = not_false _ (or_false _ _ h).0
 
 -- what a caller sees stands
 sees_what_stands : (at : Register) (caller : Caller) (k : Kind) (n : ℕ) → sees at caller k n ≡ true → stands at k n ≡ true
@@ -124,3 +125,4 @@ seen_exactly at caller kind.Unit = record { ascending = numbers_ascend at.units 
 seen_exactly at caller kind.Parcel = record { ascending = numbers_ascend at.parcels (sees at caller kind.Parcel); exact = λ n. exactly at.parcels (sees at caller kind.Parcel) n (sees_what_stands at caller kind.Parcel n) }
 seen_exactly at caller kind.Rrr = record { ascending = numbers_ascend at.rrrs (sees at caller kind.Rrr); exact = λ n. exactly at.rrrs (sees at caller kind.Rrr) n (sees_what_stands at caller kind.Rrr n) }
 seen_exactly at caller kind.Source = record { ascending = numbers_ascend at.sources (sees at caller kind.Source); exact = λ n. exactly at.sources (sees at caller kind.Source) n (sees_what_stands at caller kind.Source n) }
+seen_exactly at caller kind.Mutation = record { ascending = numbers_ascend at.mutations (sees at caller kind.Mutation); exact = λ n. exactly at.mutations (sees at caller kind.Mutation) n (sees_what_stands at caller kind.Mutation n) }

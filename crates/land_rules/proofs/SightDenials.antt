@@ -23,8 +23,8 @@ use Rattle.land_core.proofs.Booleans.{both_of, or_false, not_false}
 use Rattle.land_core.proofs.Reflection.{none_at, some_passes}
 use Rattle.land_core.proofs.SoundRegisters.{refers}
 use Rattle.land_rules.specs.Laws.{DenialsTellSight, told_by_sight}
-use Rattle.land_rules.specs.Relations.{is_told_to_holder}
-use Rattle.land_rules.specs.Rules.{first_denial, is_allowed, is_party_in_sight, is_rrr_in_sight, is_told_to_bank, is_told_to_conveyancer, sees, view_rules}
+use Rattle.land_rules.specs.Relations.{is_lodger_of, is_lodger_on, is_told_to_holder, names_holding}
+use Rattle.land_rules.specs.Rules.{first_denial, is_allowed, is_party_in_sight, is_rrr_in_sight, is_told_to_bank, is_told_to_conveyancer, view_rules}
 use Rattle.land_rules.specs.declared.verdict.Verdict.{Verdict}
 use Rattle.land_rules.specs.declared.verdict.Verdict.TheVariants.{Allowed, Denied}
 
@@ -46,6 +46,12 @@ related : (there has : Bool) (k : ℕ) → tells (cond (not (there && has)) (Den
 related true true k = refl
 related true false k = refl
 related false has k = refl
+
+-- by what is asked of others, whether it stands or not
+lodged : (lodged there : Bool) (k : ℕ) → tells (cond (not lodged) (Denied k) (cond (not there) (Denied 27) Allowed)) (cond (lodged || false) 27 k)
+lodged true true k = refl
+lodged true false k = refl
+lodged false there k = refl
 
 -- by a test of what stands
 tested : {V : Type 0} (passes : V → Bool) (found : Option V) (k : ℕ) → tells (cond (not (option_map_or passes found false)) (Denied k) (cond (not (is_some found)) (Denied 27) Allowed)) k
@@ -101,25 +107,28 @@ module _ (at : Register) (sound : IsSound at) where
       none_at nat_cmp_total nat_cmp-IsAntisymmetric (λ n e. not (has at.units e.unit && has at.parties e.party && has at.sources e.source)) at.rrrs it.key it.value (refers at (sound Reference)).rrrs it.there in
       subst (λ (n : ℕ). has at.parties n ≡ true) (number_is it.value.party party (both_of _ _ it.passes).0) (both_of _ _ (both_of _ _ (not_false _ stands)).0).1
 
-  told : (party : ℕ) (role : Role) (k : Kind) (n : ℕ) → let caller : Caller = record { party = party; role = role } in first_denial (view_rules at caller k n) ≡ told_by_sight (sees at caller k n) caller k n
+  told : (party : ℕ) (role : Role) (k : Kind) (n : ℕ) → let caller : Caller = record { party = party; role = role } in first_denial (view_rules at caller k n) ≡ told_by_sight at caller k n
   told party Citizen kind.Party n = let caller : Caller = record { party = party; role = Citizen } in
       met_twice (nat_eq n party) (is_member at n party) (is_party_in_sight at caller n) (has at.parties n) 13 (group_stands party n) (party_stands caller n)
   told party Citizen kind.Unit n = related (has at.units n) _ 11
   told party Citizen kind.Parcel n = absent (has at.parcels n)
   told party Citizen kind.Rrr n = tested (is_told_to_holder at party) (map.get at.rrrs n) 12
   told party Citizen kind.Source n = refl
+  told party Citizen kind.Mutation n = tested (names_holding at party) (map.get at.mutations n) 14
   told party Conveyancer kind.Party n = let caller : Caller = record { party = party; role = Conveyancer } in
       met (nat_eq n party) (is_party_in_sight at caller n) (has at.parties n) 21 (party_stands caller n)
-  told party Conveyancer kind.Unit n = refl
+  told party Conveyancer kind.Unit n = lodged (is_lodger_on at party n) (has at.units n) 19
   told party Conveyancer kind.Parcel n = absent (has at.parcels n)
   told party Conveyancer kind.Rrr n = let caller : Caller = record { party = party; role = Conveyancer } in
       tested (is_told_to_conveyancer at caller) (map.get at.rrrs n) 20
   told party Conveyancer kind.Source n = refl
+  told party Conveyancer kind.Mutation n = tested (is_lodger_of party) (map.get at.mutations n) 22
   told party Notary kind.Party n = absent_itself (nat_eq n party) (has at.parties n)
   told party Notary kind.Unit n = absent (has at.units n)
   told party Notary kind.Parcel n = absent (has at.parcels n)
   told party Notary kind.Rrr n = absent (has at.rrrs n)
   told party Notary kind.Source n = absent (has at.sources n)
+  told party Notary kind.Mutation n = absent (has at.mutations n)
   told party Bank kind.Party n = let caller : Caller = record { party = party; role = Bank } in
       met (nat_eq n party) (is_party_in_sight at caller n) (has at.parties n) 17 (party_stands caller n)
   told party Bank kind.Unit n = related (has at.units n) _ 15
@@ -127,16 +136,19 @@ module _ (at : Register) (sound : IsSound at) where
   told party Bank kind.Rrr n = let caller : Caller = record { party = party; role = Bank } in
       tested (is_told_to_bank at caller) (map.get at.rrrs n) 16
   told party Bank kind.Source n = refl
+  told party Bank kind.Mutation n = tested (is_lodger_of party) (map.get at.mutations n) 18
   told party CertifiedSurveyor kind.Party n = apart (nat_eq n party) (has at.parties n) 24
   told party CertifiedSurveyor kind.Unit n = refl
   told party CertifiedSurveyor kind.Parcel n = absent (has at.parcels n)
   told party CertifiedSurveyor kind.Rrr n = refl
   told party CertifiedSurveyor kind.Source n = refl
+  told party CertifiedSurveyor kind.Mutation n = tested (is_lodger_of party) (map.get at.mutations n) 25
   told party StateAdministrator kind.Party n = absent_itself (nat_eq n party) (has at.parties n)
   told party StateAdministrator kind.Unit n = absent (has at.units n)
   told party StateAdministrator kind.Parcel n = absent (has at.parcels n)
   told party StateAdministrator kind.Rrr n = absent (has at.rrrs n)
   told party StateAdministrator kind.Source n = absent (has at.sources n)
+  told party StateAdministrator kind.Mutation n = absent (has at.mutations n)
 
 pub denials_tell_sight : DenialsTellSight
 denials_tell_sight at sound caller k n = told at sound caller.party caller.role k n

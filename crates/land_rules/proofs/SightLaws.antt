@@ -1,4 +1,4 @@
--- What holdings, ended entries and mortgages give to see.
+-- What holdings, ended entries, mortgages and lodgings give to see.
 use Rattle.std.proofs.Common.{◌≡◌, ℕ, Bool, true, false, ◌||◌, ◌&&◌, not, cond, Option, Some, None, refl, sym, ap, ◌∙◌, subst, arith}
 use Rattle.std.specs.Prelude.{◌≢◌, is_some, nat_eq}
 use Rattle.std.specs.Option.{option_map_or}
@@ -7,11 +7,15 @@ use Rattle.std.specs.FinMap as map
 use Rattle.std.specs.FinMap.{nat_cmp-IsAntisymmetric}
 use Rattle.std.proofs.lemmas.Bool.{false≢true}
 use Rattle.std.proofs.lemmas.Bool.Decides.{nat_tests}
-use Rattle.land_core.specs.Entries.{some}
+use Rattle.land_core.specs.Entries.{has, some}
 use Rattle.land_core.specs.Register.{stands, is_member}
 use Rattle.land_core.specs.Units.{is_right_of}
 use Rattle.land_core.specs.declared.kind.Kind.TheVariants as kind
+use Rattle.land_core.specs.declared.mutation.MutationRecord.{MutationRecord}
 use Rattle.land_core.specs.declared.register.Register.{Register}
+use Rattle.land_core.specs.declared.role.Role.{Role}
+use Rattle.land_core.specs.declared.role.Role.TheVariants.{Citizen, Conveyancer, Notary, Bank, CertifiedSurveyor, StateAdministrator}
+use Rattle.land_core.specs.declared.caller.Caller.{Caller}
 use Rattle.land_core.specs.declared.rrr.Class.{Class}
 use Rattle.land_core.specs.declared.rrr.Class.TheVariants.{Right, Restriction, Responsibility, Mortgage}
 use Rattle.land_core.specs.declared.rrr.RightType.TheVariants.{Ownership}
@@ -20,9 +24,9 @@ use Rattle.land_core.proofs.Booleans.{both_of}
 use Rattle.land_core.proofs.Reflection.{some_at, some_passes, none_passes}
 use Rattle.land_rules.proofs.Denials.{eq-itself}
 use Rattle.land_rules.specs.Laws.{citizen}
-use Rattle.land_rules.specs.Relations.{holds_as, is_credit, is_creditor_on, is_held_ownership, is_held_right, is_holder, is_mortgage, is_owner, is_right, is_told_to_creditor, is_told_to_holder}
-use Rattle.land_rules.specs.Rules.{first_denial, is_allowed, is_told_to_bank, is_unit_in_sight, rrr_rules, sees, unit_rules}
-use Rattle.land_rules.specs.SightLaws.{BanksSeeByTheirMortgages, EndedEntriesGiveNoSight, HasEntry, HoldsNone, IsOfOthers, IsOpenToBank, MembersHold, OwnersAloneSeeMortgages, bank}
+use Rattle.land_rules.specs.Relations.{holds_as, is_credit, is_creditor_on, is_held_ownership, is_held_right, is_holder, is_lodger_of, is_lodger_on, is_mortgage, is_mutation_where, is_owner, is_pending_on, is_right, is_told_to_creditor, is_told_to_holder}
+use Rattle.land_rules.specs.Rules.{first_denial, is_allowed, is_of_the_present, is_told_to_bank, is_unit_in_sight, rrr_rules, sees, unit_rules}
+use Rattle.land_rules.specs.SightLaws.{BanksSeeByTheirMortgages, ConveyancersSeeByTheirLodgings, EndedEntriesGiveNoSight, HasEntry, HasLodged, HasPending, HoldsNone, IsOfOthers, IsOpenToBank, LodgersSeeTheirMutations, MembersHold, OwnersAloneSeeMortgages, bank, conveyancer}
 use Rattle.land_rules.specs.declared.verdict.Verdict.{Verdict}
 use Rattle.land_rules.specs.declared.verdict.Verdict.TheVariants.{Allowed, Denied}
 
@@ -63,7 +67,7 @@ and_false false b e = refl
 
 -- ---- a citizen that may ask is told what the sight rules say
 
-may_ask : (stands holds past : Bool) (v : Verdict) → (stands && holds) ≡ true → cond (not stands) (Denied 1) (cond (not holds) (Denied 2) (cond (past && false) (Denied 3) v)) ≡ v
+pub may_ask : (stands holds past : Bool) (v : Verdict) → (stands && holds) ≡ true → cond (not stands) (Denied 1) (cond (not holds) (Denied 2) (cond (past && false) (Denied 3) v)) ≡ v
 may_ask true true true v e = refl
 may_ask true true false v e = refl
 may_ask true false past v e = absurd (false≢true e)
@@ -167,10 +171,10 @@ unit_passes true true = refl
 unit_passes true false = refl
 unit_passes false has = refl
 
-entry_passes : (passes : RrrRecord → Bool) (found : Option RrrRecord)
-    → is_allowed (cond (not (option_map_or passes found false)) (Denied 16) (cond (not (is_some found)) (Denied 27) Allowed)) ≡ option_map_or passes found false
-entry_passes passes None = refl
-entry_passes passes (Some e) = elim (passes e) as (λ b. is_allowed (cond (not b) (Denied 16) Allowed) ≡ b) [ true ↦ refl | false ↦ refl ]
+record_passes : {V : Type 0} (passes : V → Bool) (found : Option V) (k : ℕ)
+    → is_allowed (cond (not (option_map_or passes found false)) (Denied k) (cond (not (is_some found)) (Denied 27) Allowed)) ≡ option_map_or passes found false
+record_passes passes None k = refl
+record_passes passes (Some v) k = elim (passes v) as (λ b. is_allowed (cond (not b) (Denied k) Allowed) ≡ b) [ true ↦ refl | false ↦ refl ]
 
 module _ (at : Register) (party : ℕ) where
   sees_unit : (unit : ℕ) → sees at (bank party) kind.Unit unit ≡ is_creditor_on at party unit
@@ -198,7 +202,7 @@ module _ (at : Register) (party : ℕ) where
       (all_three _ _ _ (number_at it.entry.unit unit it.stands.of_unit) it.class (number_at it.entry.party party it.name)))
 
   sees_entry : (number : ℕ) → sees at (bank party) kind.Rrr number ≡ option_map_or (is_told_to_bank at (bank party)) (map.get at.rrrs number) false
-  sees_entry number = entry_passes (is_told_to_bank at (bank party)) (map.get at.rrrs number)
+  sees_entry number = record_passes (is_told_to_bank at (bank party)) (map.get at.rrrs number) 16
 
   -- no mortgage of another
   own_from : (mortgage own : Bool) → (not mortgage || own) ≡ true → mortgage ≡ true → own ≡ true
@@ -233,3 +237,64 @@ banks_see at party = record {
   units = λ unit. (λ h. has_mortgage at party unit (sym (sees_unit at party unit) ∙ h), λ h. sees_unit at party unit ∙ is_creditor at party unit h.0 h.1);
   entries = λ number. (is_open at party number, sees_open at party number);
 }
+
+-- ---- lodgers
+
+module _ (at : Register) (party : ℕ) where
+  -- in the roles that see what they lodged
+  sees_lodged : (role : Role) (number : ℕ) → let caller : Caller = record { party = party; role = role } in
+      is_of_the_present caller ≡ true → sees at caller kind.Mutation number ≡ is_mutation_where (is_lodger_of party) at number
+  sees_lodged Citizen number h = absurd (false≢true h)
+  sees_lodged Conveyancer number h = record_passes (is_lodger_of party) (map.get at.mutations number) 22
+  sees_lodged Notary number h = absurd (false≢true h)
+  sees_lodged Bank number h = record_passes (is_lodger_of party) (map.get at.mutations number) 18
+  sees_lodged CertifiedSurveyor number h = record_passes (is_lodger_of party) (map.get at.mutations number) 25
+  sees_lodged StateAdministrator number h = absurd (false≢true h)
+
+  has_lodged : (number : ℕ) → is_mutation_where (is_lodger_of party) at number ≡ true → HasLodged at party number
+  has_lodged number h = found (map.get at.mutations number) refl h
+    where
+      found : (o : Option MutationRecord) → map.get at.mutations number ≡ o → option_map_or (is_lodger_of party) o false ≡ true → HasLodged at party number
+      found None e h = absurd (false≢true h)
+      found (Some m) e h = record { mutation = m; there = e; lodger = number_is m.lodger party h }
+
+  is_lodged : (number : ℕ) → HasLodged at party number → is_mutation_where (is_lodger_of party) at number ≡ true
+  is_lodged number it = ap (λ o. option_map_or (is_lodger_of party) o false) it.there ∙ number_at it.mutation.lodger party it.lodger
+
+  -- a conveyancer is shown a unit where it is a lodger on it and it stands
+  lodger_passes : (lodged there : Bool) → is_allowed (cond (not lodged) (Denied 19) (cond (not there) (Denied 27) Allowed)) ≡ (there && lodged)
+  lodger_passes true true = refl
+  lodger_passes true false = refl
+  lodger_passes false true = refl
+  lodger_passes false false = refl
+
+  sees_lodged_on : (unit : ℕ) → sees at (conveyancer party) kind.Unit unit ≡ (stands at kind.Unit unit && is_lodger_on at party unit)
+  sees_lodged_on unit = lodger_passes (is_lodger_on at party unit) (has at.units unit)
+
+  has_pending : (unit : ℕ) → is_lodger_on at party unit ≡ true → HasPending at party unit
+  has_pending unit h =
+      let it = some_passes nat_cmp_total nat_cmp-IsAntisymmetric (λ n m. is_pending_on party unit m) at.mutations h in
+      let tests = both_of _ _ it.passes in
+      let own = both_of _ _ tests.0 in
+      record {
+        number = it.key;
+        lodged = record { mutation = it.value; there = it.there; lodger = number_is it.value.lodger party own.1 };
+        undecided = own.0;
+        names = tests.1;
+      }
+
+  is_pending : (unit : ℕ) → HasPending at party unit → is_lodger_on at party unit ≡ true
+  is_pending unit it =
+      some_at nat_cmp_total nat_cmp-IsAntisymmetric (λ n m. is_pending_on party unit m) at.mutations it.number it.lodged.mutation it.lodged.there
+      (both _ _ (both _ _ it.undecided (number_at it.lodged.mutation.lodger party it.lodged.lodger)) it.names)
+
+pub lodgers_see : LodgersSeeTheirMutations
+lodgers_see at caller present number =
+    let seen = sees_lodged at caller.party caller.role number present in
+    (λ h. has_lodged at caller.party number (sym seen ∙ h), λ it. seen ∙ is_lodged at caller.party number it)
+
+pub conveyancers_see : ConveyancersSeeByTheirLodgings
+conveyancers_see at party unit = (
+  λ h. let parts = both_of _ _ (sym (sees_lodged_on at party unit) ∙ h) in (parts.0, has_pending at party unit parts.1),
+  λ it. sees_lodged_on at party unit ∙ both _ _ it.0 (is_pending at party unit it.1),
+)

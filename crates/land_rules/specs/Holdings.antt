@@ -9,7 +9,7 @@ use Rattle.land_core.specs.declared.kind.Kind.TheVariants as kind
 use Rattle.land_core.specs.declared.register.Register.{Register}
 use Rattle.land_core.specs.declared.role.Role.TheVariants.{Citizen, Conveyancer, Bank}
 use Rattle.land_core.specs.declared.rrr.RrrRecord.{RrrRecord}
-use Rattle.land_rules.specs.Relations.{is_credit, is_creditor_on, is_held_ownership, is_held_right, is_holder, is_owner}
+use Rattle.land_rules.specs.Relations.{is_credit, is_creditor_on, is_held_ownership, is_held_right, is_holder, is_lodger_on, is_owner}
 use Rattle.land_rules.specs.Rules.{is_party_in_sight}
 use Rattle.land_rules.specs.declared.rules.holdings.Holdings.{Holdings}
 use Rattle.land_rules.specs.declared.rules.holdings.Tie.{Tie}
@@ -35,12 +35,17 @@ has_tie Creditor at party unit = is_creditor_on at party unit
 abbrev pub AreTied : Tie → Register → (party : ℕ) → BTreeSet ℕ → Type 0
 AreTied tie at party units = (unit : ℕ) → has_number units unit ≡ has_tie tie at party unit
 
+-- a set of the units that the undecided mutations of a party name
+abbrev pub AreLodgedOn : Register → (party : ℕ) → BTreeSet ℕ → Type 0
+AreLodgedOn at party units = (unit : ℕ) → has_number units unit ≡ is_lodger_on at party unit
+
 -- a caller's holdings, as far as the sight of its role depends on them: the units in which a citizen is a holder and an owner,
--- and those on which a bank is a creditor
+-- those on which a bank is a creditor, and those on which a conveyancer is a lodger
 pub record AreHoldings (at : Register) (caller : Caller) (it : Holdings) : Type 0 where
   pub held : caller.role ≡ Citizen → AreTied Holder at caller.party it.held
   pub owned : caller.role ≡ Citizen → AreTied Owner at caller.party it.owned
   pub credited : caller.role ≡ Bank → AreTied Creditor at caller.party it.credited
+  pub lodged_on : caller.role ≡ Conveyancer → AreLodgedOn at caller.party it.lodged_on
 
 -- roles that see the parties of the entries in their sight
 abbrev pub meets_parties : Caller → Bool

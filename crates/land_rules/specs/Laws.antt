@@ -1,7 +1,8 @@
 -- Laws over the definitions alone.
-use Rattle.std.specs.Prelude.{◌≡◌, ℕ, ◌<◌, ◌↔◌, Bool, true, false, Option, ℤ, nat_eq, if◌then◌else◌}
+use Rattle.std.specs.Prelude.{◌≡◌, ℕ, ◌<◌, ◌↔◌, Bool, true, false, ◌&&◌, ◌||◌, Option, ℤ, nat_eq, if◌then◌else◌}
 use Rattle.std.specs.List.{list_any}
 use Rattle.land_core.specs.Register.{stands, holds, is_member}
+use Rattle.land_core.specs.Role.{is_role}
 use Rattle.land_core.specs.Soundness.{IsSound}
 use Rattle.land_core.specs.declared.ask.Ask.{Ask}
 use Rattle.land_core.specs.declared.ask.Ask.TheVariants as ask
@@ -11,6 +12,7 @@ use Rattle.land_core.specs.declared.kind.Kind.TheVariants as kind
 use Rattle.land_core.specs.declared.register.Register.{Register}
 use Rattle.land_core.specs.declared.role.Role.{Role}
 use Rattle.land_core.specs.declared.role.Role.TheVariants.{Citizen, Conveyancer, Notary, Bank, CertifiedSurveyor, StateAdministrator}
+use Rattle.land_rules.specs.Relations.{is_lodger_on}
 use Rattle.land_rules.specs.Rules.{rules_on, verdict_of, denies, first_denial, rise_above, ascends, sees, seen_of, is_party_in_sight, view_rules}
 use Rattle.land_rules.specs.declared.verdict.Verdict.{Verdict}
 use Rattle.land_rules.specs.declared.verdict.Verdict.TheVariants.{Allowed, Denied}
@@ -63,22 +65,26 @@ rule_of_role Citizen kind.Unit = 11
 rule_of_role Citizen kind.Parcel = 27
 rule_of_role Citizen kind.Rrr = 12
 rule_of_role Citizen kind.Source = 26
+rule_of_role Citizen kind.Mutation = 14
 rule_of_role Conveyancer kind.Party = 21
 rule_of_role Conveyancer kind.Unit = 19
 rule_of_role Conveyancer kind.Parcel = 27
 rule_of_role Conveyancer kind.Rrr = 20
 rule_of_role Conveyancer kind.Source = 26
+rule_of_role Conveyancer kind.Mutation = 22
 rule_of_role Notary k = 27
 rule_of_role Bank kind.Party = 17
 rule_of_role Bank kind.Unit = 15
 rule_of_role Bank kind.Parcel = 27
 rule_of_role Bank kind.Rrr = 16
 rule_of_role Bank kind.Source = 26
+rule_of_role Bank kind.Mutation = 18
 rule_of_role CertifiedSurveyor kind.Party = 24
 rule_of_role CertifiedSurveyor kind.Unit = 23
 rule_of_role CertifiedSurveyor kind.Parcel = 27
 rule_of_role CertifiedSurveyor kind.Rrr = 23
 rule_of_role CertifiedSurveyor kind.Source = 26
+rule_of_role CertifiedSurveyor kind.Mutation = 25
 rule_of_role StateAdministrator k = 27
 
 -- whether a caller looks for itself
@@ -88,13 +94,28 @@ is_itself caller kind.Unit number = false
 is_itself caller kind.Parcel number = false
 is_itself caller kind.Rrr number = false
 is_itself caller kind.Source number = false
+is_itself caller kind.Mutation number = false
 
--- what is in sight is shown. Of what is not, the number of the denial depends on role, kind and caller alone: it is the rule of
--- the role for the kind, with the exception of a caller that looks for itself where it does not stand, which is told rule 27
-abbrev pub told_by_sight : (sight : Bool) → Caller → Kind → ℕ → Verdict
-told_by_sight sight caller k number = if sight then Allowed else Denied (if is_itself caller k number then 27 else rule_of_role caller.role k)
+-- whether a conveyancer looks for a unit that its own undecided mutation names
+abbrev pub is_named_by_itself : (at : Register) → Caller → Kind → ℕ → Bool
+is_named_by_itself at caller kind.Party number = false
+is_named_by_itself at caller kind.Unit number = is_role caller.role Conveyancer && is_lodger_on at caller.party number
+is_named_by_itself at caller kind.Parcel number = false
+is_named_by_itself at caller kind.Rrr number = false
+is_named_by_itself at caller kind.Source number = false
+is_named_by_itself at caller kind.Mutation number = false
+
+-- the rule that denies what is out of sight, by role, kind and caller alone, but for two cases, in which it is rule 27: a caller
+-- that looks for itself where it does not stand, and a conveyancer's unit that its own undecided mutation names and that does
+-- not stand
+abbrev pub rule_out_of_sight : (at : Register) → Caller → Kind → ℕ → ℕ
+rule_out_of_sight at caller k number = if is_named_by_itself at caller k number || is_itself caller k number then 27 else rule_of_role caller.role k
+
+-- what is in sight is shown, and what is not is denied by that rule
+abbrev pub told_by_sight : (at : Register) → Caller → Kind → ℕ → Verdict
+told_by_sight at caller k number = if sees at caller k number then Allowed else Denied (rule_out_of_sight at caller k number)
 
 -- the denial of a view in a sound register tells nothing else of the register than that the object is out of sight
 abbrev pub DenialsTellSight : Type 0
 DenialsTellSight = (at : Register) → IsSound at → (caller : Caller) (k : Kind) (number : ℕ)
-    → first_denial (view_rules at caller k number) ≡ told_by_sight (sees at caller k number) caller k number
+    → first_denial (view_rules at caller k number) ≡ told_by_sight at caller k number

@@ -1,4 +1,6 @@
 -- Definitions of the policy.
+pub mod ActLaws
+pub mod Acts
 pub mod Holdings
 pub mod Laws
 pub mod Relations

@@ -2,10 +2,13 @@
 use Rattle.std.specs.Prelude.{ℕ, Bool, false, not, ◌&&◌, ◌||◌, nat_eq, is_some}
 use Rattle.std.specs.Option.{option_map_or}
 use Rattle.std.specs.FinMap as map
+use Rattle.land_core.specs.Contents.{names_unit, names_where}
 use Rattle.land_core.specs.Entries.{some}
+use Rattle.land_core.specs.Mutations.{is_undecided}
 use Rattle.land_core.specs.Register.{stands, is_member}
 use Rattle.land_core.specs.Units.{is_right_of, rank_of, type_of}
 use Rattle.land_core.specs.declared.kind.Kind.TheVariants as kind
+use Rattle.land_core.specs.declared.mutation.MutationRecord.{MutationRecord}
 use Rattle.land_core.specs.declared.register.Register.{Register}
 use Rattle.land_core.specs.declared.rrr.Class.{Class}
 use Rattle.land_core.specs.declared.rrr.RightType.TheVariants.{Ownership}
@@ -50,9 +53,33 @@ is_owner at party unit = stands at kind.Unit unit && some (λ n e. is_held_owner
 abbrev pub is_creditor_on : Register → (party unit : ℕ) → Bool
 is_creditor_on at party unit = stands at kind.Unit unit && some (λ n e. is_credit party unit e) at.rrrs
 
--- whether a party lodged what is still undecided about a unit: no act lodges anything yet
+-- whether a party lodged a mutation
+abbrev pub is_lodger_of : (party : ℕ) → MutationRecord → Bool
+is_lodger_of party m = nat_eq m.lodger party
+
+-- whether a mutation of a party is undecided
+abbrev pub is_pending_of : (party : ℕ) → MutationRecord → Bool
+is_pending_of party m = is_undecided m && is_lodger_of party m
+
+-- whether an undecided mutation of a party names a unit
+abbrev pub is_pending_on : (party unit : ℕ) → MutationRecord → Bool
+is_pending_on party unit m = is_pending_of party m && names_unit unit m.content
+
+-- a lodger on a unit lodged what is still undecided and names the unit, which may have ended or never have stood
 abbrev pub is_lodger_on : Register → (party unit : ℕ) → Bool
-is_lodger_on at party unit = false
+is_lodger_on at party unit = some (λ n m. is_pending_on party unit m) at.mutations
+
+-- whether a mutation names a unit in which the party is a holder
+abbrev pub names_holding : Register → (party : ℕ) → MutationRecord → Bool
+names_holding at party m = names_where (is_holder at party) m.content
+
+-- whether a mutation stands at a number and passes a test
+abbrev pub is_mutation_where : (MutationRecord → Bool) → Register → (number : ℕ) → Bool
+is_mutation_where passes at number = option_map_or passes (map.get at.mutations number) false
+
+-- whether a mutation stands and the party lodged it, be it decided or not
+abbrev pub has_lodged : Register → (party number : ℕ) → Bool
+has_lodged at party number = is_mutation_where (is_lodger_of party) at number
 
 -- whether an entry stands at a number and passes a test
 abbrev pub is_rrr_where : (RrrRecord → Bool) → Register → (number : ℕ) → Bool

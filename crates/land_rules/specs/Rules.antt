@@ -9,12 +9,12 @@ use Rattle.land_core.specs.declared.kind.Kind.{Kind}
 use Rattle.land_core.specs.declared.kind.Kind.TheVariants as kind
 use Rattle.land_core.specs.declared.role.Role.TheVariants.{Citizen, Conveyancer, Notary, Bank, CertifiedSurveyor, StateAdministrator}
 use Rattle.land_core.specs.declared.act.Act.{Act}
-use Rattle.land_core.specs.declared.act.Act.TheVariants as act
 use Rattle.land_core.specs.declared.ask.Ask.{Ask}
 use Rattle.land_core.specs.declared.ask.Ask.TheVariants as ask
 use Rattle.land_core.specs.declared.register.Register.{Register}
 use Rattle.land_core.specs.declared.rrr.RrrRecord.{RrrRecord}
-use Rattle.land_rules.specs.Relations.{is_creditor_on, is_holder, is_lodger_on, is_member_of, is_rrr_where, is_told_to_creditor, is_told_to_holder}
+use Rattle.land_rules.specs.Acts.{decides, is_discharge_of_another, is_mortgage_of_another, is_of_a_mortgage, is_of_mortgages, is_of_transfers, is_office_act, is_transfer, lodges}
+use Rattle.land_rules.specs.Relations.{has_lodged, is_creditor_on, is_holder, is_lodger_on, is_member_of, is_mutation_where, is_rrr_where, is_told_to_creditor, is_told_to_holder, names_holding}
 use Rattle.land_rules.specs.declared.verdict.Verdict.{Verdict}
 use Rattle.land_rules.specs.declared.verdict.Verdict.TheVariants.{Allowed, Denied}
 
@@ -46,21 +46,20 @@ caller_rules now caller past =
     ∷ (3, past && is_of_the_present caller)
     ∷ []
 
--- acts of the office: to enrol, to group and regroup, to grant and revoke roles, to register and burden units, to lift burdens
-abbrev pub is_office_act : Act → Bool
-is_office_act (act.Enrol it) = true
-is_office_act (act.Group it) = true
-is_office_act (act.Regroup it) = true
-is_office_act (act.Grant it) = true
-is_office_act (act.Revoke it) = true
-is_office_act (act.Register it) = true
-is_office_act (act.Burden it) = true
-is_office_act (act.Lift it) = true
-
 abbrev pub act_rules : (now : Register) → Caller → Act → Rules
 act_rules now caller a =
     -- an act of the office is asked for in another role than state administrator
     (4, is_office_act a && not (is_role caller.role StateAdministrator))
+    -- a transfer is lodged in another role than conveyancer or notary
+    ∷ (5, lodges is_transfer a && not (is_of_transfers caller))
+    -- a mortgage or a discharge is lodged in another role than bank or notary
+    ∷ (7, lodges is_of_a_mortgage a && not (is_of_mortgages caller))
+    -- a bank lodges a mortgage of which another is the creditor
+    ∷ (8, is_role caller.role Bank && lodges (is_mortgage_of_another caller.party) a)
+    -- a bank lodges the discharge of what is no mortgage now with the caller as creditor; its unit is not looked at
+    ∷ (9, is_role caller.role Bank && lodges (is_discharge_of_another now caller.party) a)
+    -- the caller approves or refuses a mutation that it lodged, whatever its role and the mutation's state
+    ∷ (10, decides (has_lodged now caller.party) a)
     ∷ []
 
 abbrev pub standing_rules : (now : Register) → Caller → Ask → (past : Bool) → Rules
@@ -77,7 +76,7 @@ unit_rules at caller number =
     (11, is_role caller.role Citizen && not (is_holder at caller.party number))
     -- a bank sees the units on which it is a creditor
     ∷ (15, is_role caller.role Bank && not (is_creditor_on at caller.party number))
-    -- a conveyancer sees the units about which it lodged what is still undecided
+    -- a conveyancer sees the units that its undecided mutations name
     ∷ (19, is_role caller.role Conveyancer && not (is_lodger_on at caller.party number))
     -- a certified surveyor sees no unit
     ∷ (23, is_role caller.role CertifiedSurveyor)
@@ -151,12 +150,28 @@ source_rules at caller number =
     ∷ (27, not (stands at kind.Source number))
     ∷ []
 
+abbrev pub mutation_rules : (at : Register) → Caller → (number : ℕ) → Rules
+mutation_rules at caller number =
+    let lodged_it = has_lodged at caller.party number in
+    -- a citizen sees the mutations that name a unit in which it is a holder
+    (14, is_role caller.role Citizen && not (is_mutation_where (names_holding at caller.party) at number))
+    -- a bank sees the mutations that it lodged
+    ∷ (18, is_role caller.role Bank && not lodged_it)
+    -- a conveyancer sees the mutations that it lodged
+    ∷ (22, is_role caller.role Conveyancer && not lodged_it)
+    -- a certified surveyor sees the mutations that it lodged
+    ∷ (25, is_role caller.role CertifiedSurveyor && not lodged_it)
+    -- nobody sees what does not stand
+    ∷ (27, not (stands at kind.Mutation number))
+    ∷ []
+
 abbrev pub view_rules : (at : Register) → Caller → Kind → (number : ℕ) → Rules
 view_rules at caller kind.Party number = party_rules at caller number
 view_rules at caller kind.Unit number = unit_rules at caller number
 view_rules at caller kind.Parcel number = parcel_rules at number
 view_rules at caller kind.Rrr number = rrr_rules at caller number
 view_rules at caller kind.Source number = source_rules at caller number
+view_rules at caller kind.Mutation number = mutation_rules at caller number
 
 -- a sheet is judged as the view of its unit; a list is denied by standing rules alone, and so is an act
 abbrev pub sight_rules : (at : Register) → Caller → Ask → Rules
@@ -201,3 +216,4 @@ seen_of at caller kind.Unit = numbers_where (λ n x. sees at caller kind.Unit n)
 seen_of at caller kind.Parcel = numbers_where (λ n x. sees at caller kind.Parcel n) at.parcels
 seen_of at caller kind.Rrr = numbers_where (λ n x. sees at caller kind.Rrr n) at.rrrs
 seen_of at caller kind.Source = numbers_where (λ n x. sees at caller kind.Source n) at.sources
+seen_of at caller kind.Mutation = numbers_where (λ n x. sees at caller kind.Mutation n) at.mutations

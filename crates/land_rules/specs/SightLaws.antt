@@ -1,20 +1,23 @@
--- Laws for a reader of the policy: what holdings, ended entries and mortgages give to see.
+-- Laws for a reader of the policy: what holdings, ended entries, mortgages and lodgings give to see.
 use Rattle.std.specs.Prelude.{◌≡◌, ◌≢◌, ℕ, ◌↔◌, Bool, true, false, ◌&&◌, Option, Some, ℤ}
 use Rattle.std.specs.FinMap as map
+use Rattle.land_core.specs.Contents.{names_unit}
+use Rattle.land_core.specs.Mutations.{is_undecided}
 use Rattle.land_core.specs.Register.{stands, holds, is_member}
 use Rattle.land_core.specs.Units.{is_right_of}
 use Rattle.land_core.specs.declared.ask.Ask.TheVariants as ask
 use Rattle.land_core.specs.declared.caller.Caller.{Caller}
 use Rattle.land_core.specs.declared.kind.Kind.{Kind}
 use Rattle.land_core.specs.declared.kind.Kind.TheVariants as kind
+use Rattle.land_core.specs.declared.mutation.MutationRecord.{MutationRecord}
 use Rattle.land_core.specs.declared.register.Register.{Register}
-use Rattle.land_core.specs.declared.role.Role.TheVariants.{Citizen, Bank}
+use Rattle.land_core.specs.declared.role.Role.TheVariants.{Citizen, Conveyancer, Bank}
 use Rattle.land_core.specs.declared.rrr.Class.{Class}
 use Rattle.land_core.specs.declared.rrr.RightType.TheVariants.{Ownership}
 use Rattle.land_core.specs.declared.rrr.RrrRecord.{RrrRecord}
 use Rattle.land_rules.specs.Laws.{citizen}
 use Rattle.land_rules.specs.Relations.{is_holder, is_mortgage, is_owner, is_right}
-use Rattle.land_rules.specs.Rules.{sees, verdict_of}
+use Rattle.land_rules.specs.Rules.{is_of_the_present, sees, verdict_of}
 use Rattle.land_rules.specs.declared.verdict.Verdict.{Verdict}
 use Rattle.land_rules.specs.declared.verdict.Verdict.TheVariants.{Allowed, Denied}
 
@@ -93,3 +96,31 @@ pub record BankSees (at : Register) (party : ℕ) : Type 0 where
 
 abbrev pub BanksSeeByTheirMortgages : Type 0
 BanksSeeByTheirMortgages = (at : Register) (party : ℕ) → BankSees at party
+
+-- a mutation stands at a number, and a party lodged it
+pub record HasLodged (at : Register) (party number : ℕ) : Type 0 where
+  pub mutation : MutationRecord
+  pub there : map.get at.mutations number ≡ Some mutation
+  pub lodger : mutation.lodger ≡ party
+
+-- in the roles that are told of the present alone (bank, conveyancer, certified surveyor) a party sees the mutations that it
+-- lodged, decided or not, and no others
+abbrev pub LodgersSeeTheirMutations : Type 0
+LodgersSeeTheirMutations = (at : Register) (caller : Caller) → is_of_the_present caller ≡ true
+    → (number : ℕ) → (sees at caller kind.Mutation number ≡ true) ↔ HasLodged at caller.party number
+
+-- a party in the role of a conveyancer
+abbrev pub conveyancer : ℕ → Caller
+conveyancer party = record { party = party; role = Conveyancer }
+
+-- a mutation of a party is undecided, and names a unit
+pub record HasPending (at : Register) (party unit : ℕ) : Type 0 where
+  pub number : ℕ
+  pub lodged : HasLodged at party number
+  pub undecided : is_undecided lodged.mutation ≡ true
+  pub names : names_unit unit lodged.mutation.content ≡ true
+
+-- a conveyancer sees the units that stand and that its undecided mutations name, and no others
+abbrev pub ConveyancersSeeByTheirLodgings : Type 0
+ConveyancersSeeByTheirLodgings = (at : Register) (party unit : ℕ)
+    → (sees at (conveyancer party) kind.Unit unit ≡ true) ↔ ((stands at kind.Unit unit ≡ true) × HasPending at party unit)

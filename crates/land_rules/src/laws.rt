@@ -1,6 +1,7 @@
 //! Laws, each stated over the definitions alone.
+ghost use Rattle.land_rules.specs.ActLaws.{LodgersDoNotDecide, AdministratorsDecideForOthers};
 ghost use Rattle.land_rules.specs.Laws.{RulesRise, VerdictsAreLeast, SeenIsExactly, MembersSeeGroups, DenialsTellSight};
-ghost use Rattle.land_rules.specs.SightLaws.{MembersHold, EndedEntriesGiveNoSight, OwnersAloneSeeMortgages, BanksSeeByTheirMortgages};
+ghost use Rattle.land_rules.specs.SightLaws.{MembersHold, EndedEntriesGiveNoSight, OwnersAloneSeeMortgages, BanksSeeByTheirMortgages, LodgersSeeTheirMutations, ConveyancersSeeByTheirLodgings};
 
 /// The rules on every ask stand in rising order.
 pub fn rules_rise()
@@ -43,8 +44,29 @@ pub fn banks_see_by_their_mortgages()
     ensures { BanksSeeByTheirMortgages }
 {}
 
+/// A bank, a conveyancer and a certified surveyor see the mutations that they lodged, decided or not, and no others.
+pub fn lodgers_see_their_mutations()
+    ensures { LodgersSeeTheirMutations }
+{}
+
+/// A conveyancer sees the units that its undecided mutations name, as long as they stand, and no others.
+pub fn conveyancers_see_by_their_lodgings()
+    ensures { ConveyancersSeeByTheirLodgings }
+{}
+
 /// In a sound register what is in sight is shown. The denial of what is not tells by its number the caller's role and the
-/// kind alone, but for a caller that does not stand and looks for itself.
+/// kind alone, with two exceptions, which are told rule 27: a caller that does not stand and looks for itself, and a
+/// conveyancer's unit that its own undecided mutation names and that does not stand.
 pub fn denials_tell_sight()
     ensures { DenialsTellSight }
+{}
+
+/// Whoever lodged a mutation may neither approve nor refuse it, in no role.
+pub fn lodgers_do_not_decide()
+    ensures { LodgersDoNotDecide }
+{}
+
+/// A state administrator may approve and refuse the mutations that it did not lodge; those that it lodged, rule 10 denies it.
+pub fn administrators_decide_for_others()
+    ensures { AdministratorsDecideForOthers }
 {}

@@ -1,9 +1,11 @@
 //! What a party is to the objects of a register.
 ghost use Rattle.std.specs.Prelude.{◌≡◌};
 ghost use Rattle.land_core.specs.Entries.{some};
-ghost use Rattle.land_rules.specs.Relations.{holds_as, is_credit, is_creditor_on, is_held_ownership, is_held_right, is_holder, is_lodger_on, is_member_of, is_mortgage, is_owner, is_right, is_told_to_creditor, is_told_to_holder};
+ghost use Rattle.land_rules.specs.Relations.{has_lodged, holds_as, is_credit, is_creditor_on, is_held_ownership, is_held_right, is_holder, is_lodger_of, is_lodger_on, is_member_of, is_mortgage, is_owner, is_pending_of, is_pending_on, is_right, is_told_to_creditor, is_told_to_holder, names_holding};
 
+use land_core::content::Content;
 use land_core::kind::Kind;
+use land_core::mutation::MutationRecord;
 use land_core::register::Register;
 use land_core::rrr::{Class, RightType, RrrRecord};
 
@@ -96,11 +98,53 @@ pub(crate) fn is_creditor_on(at: &Register, party: u64, unit: u64) -> bool
     at.stands(Kind::Unit, unit) && has_credit(at, party, unit)
 }
 
-/// Whether a party lodged what is still undecided about a unit. No act lodges anything yet.
+/// Whether a party lodged a mutation.
+fn is_lodger_of(party: u64, mutation: &MutationRecord) -> bool
+    ensures { result ≡ is_lodger_of party mutation.now }
+{
+    mutation.lodger == party
+}
+
+/// Whether a mutation stands, and a party lodged it, be it decided or not.
+pub(crate) fn has_lodged(at: &Register, party: u64, number: u64) -> bool
+    ensures { result ≡ has_lodged at.now party number }
+{
+    at.mutations
+        .get(number)
+        .is_some_and(|mutation| is_lodger_of(party, mutation))
+}
+
+/// Whether a mutation of a party is undecided.
+pub(crate) fn is_pending_of(party: u64, mutation: &MutationRecord) -> bool
+    ensures { result ≡ is_pending_of party mutation.now }
+{
+    mutation.is_undecided() && is_lodger_of(party, mutation)
+}
+
+fn is_pending_on(party: u64, unit: u64, mutation: &MutationRecord) -> bool
+    ensures { result ≡ is_pending_on party unit mutation.now }
+{
+    is_pending_of(party, mutation) && mutation.content.names_unit(unit)
+}
+
+/// Whether an undecided mutation of a party names a unit, which may have ended or never have stood.
 pub(crate) fn is_lodger_on(at: &Register, party: u64, unit: u64) -> bool
     ensures { result ≡ is_lodger_on at.now party unit }
 {
-    false
+    at.mutations
+        .iter()
+        .any(|(_, mutation)| is_pending_on(party, unit, mutation))
+}
+
+/// Whether a mutation names a unit in which a party is a holder.
+pub(crate) fn names_holding(at: &Register, party: u64, mutation: &MutationRecord) -> bool
+    ensures { result ≡ names_holding at.now party mutation.now }
+{
+    match &mutation.content {
+        Content::Transfer(it) => is_holder(at, party, it.unit),
+        Content::Mortgage(it) => is_holder(at, party, it.unit),
+        Content::Discharge(it) => is_holder(at, party, it.unit),
+    }
 }
 
 /// Whether a party may be told an entry as a holder in its unit: a mortgage, only if it is an owner.

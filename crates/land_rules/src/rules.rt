@@ -38,8 +38,8 @@ fn sight_verdict(at: &Register, caller: Caller, ask: &Ask) -> Verdict
     }
 }
 
-/// The numbers of a kind that the caller sees in a register, ascending. What the caller holds is collected once, in passes
-/// over the entries, and then each object is asked for by look-ups.
+/// The numbers of a kind that the caller sees in a register, ascending. What the caller holds and lodged is collected once,
+/// in passes over the entries and the mutations, and then each object is asked for by look-ups.
 pub fn seen(
     alloc: Global,
     at: &Register,
@@ -54,6 +54,7 @@ pub fn seen(
         Kind::Parcel => seen_among(alloc, &at.parcels, at, caller, kind),
         Kind::Rrr => lists::entries(alloc, at, caller),
         Kind::Source => seen_among(alloc, &at.sources, at, caller, kind),
+        Kind::Mutation => lists::mutations(alloc, at, caller),
     }
 }
 

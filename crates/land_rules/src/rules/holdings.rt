@@ -1,9 +1,12 @@
-//! What a caller holds in a register. A list collects it once, in passes over the entries, and then asks for each object.
-ghost use Rattle.std.specs.Prelude.{◌≡◌, IfOk};
-ghost use Rattle.land_rules.specs.Holdings.{AreHoldings, AreTied, is_tied};
+//! What a caller holds and lodged in a register. A list collects it once, in passes over the entries and the mutations, and
+//! then asks for each object.
+ghost use Rattle.std.specs.Prelude.{◌≡◌, ℕ, ◌||◌, IfOk, OnOk};
+ghost use Rattle.land_core.specs.Contents.{names_unit};
+ghost use Rattle.land_rules.specs.Holdings.{AreHoldings, AreLodgedOn, AreTied, has_number, is_tied};
 
-use crate::relations::{is_credit, is_held_ownership, is_held_right};
+use crate::relations::{is_credit, is_held_ownership, is_held_right, is_pending_of};
 use land_core::caller::Caller;
+use land_core::content::Content;
 use land_core::kind::Kind;
 use land_core::register::Register;
 use land_core::role::Role;
@@ -31,6 +34,8 @@ pub(crate) struct Holdings {
     pub(crate) owned: BTreeSet<u64>,
     /// A bank's: the units on which it is a creditor.
     pub(crate) credited: BTreeSet<u64>,
+    /// A conveyancer's: the units that its undecided mutations name. They need not stand.
+    pub(crate) lodged_on: BTreeSet<u64>,
 }
 
 impl Holdings {
@@ -42,6 +47,7 @@ impl Holdings {
             held: BTreeSet::new(alloc),
             owned: BTreeSet::new(alloc),
             credited: BTreeSet::new(alloc),
+            lodged_on: BTreeSet::new(alloc),
         };
         if caller.role == Role::Citizen {
             holdings.held = tied_units(alloc, at, caller.party, Tie::Holder)?;
@@ -49,6 +55,9 @@ impl Holdings {
         }
         if caller.role == Role::Bank {
             holdings.credited = tied_units(alloc, at, caller.party, Tie::Creditor)?;
+        }
+        if caller.role == Role::Conveyancer {
+            holdings.lodged_on = lodged_units(alloc, at, caller.party)?;
         }
         Ok(holdings)
     }
@@ -82,4 +91,29 @@ fn is_tied(at: &Register, party: u64, tie: Tie, entry: &RrrRecord) -> bool
             Tie::Owner => is_held_ownership(at, party, entry.unit, entry),
             Tie::Creditor => is_credit(party, entry.unit, entry),
         }
+}
+
+/// The units that the undecided mutations of a party name.
+fn lodged_units(alloc: Global, at: &Register, party: u64) -> Result<BTreeSet<u64>, AllocError>
+    ensures { IfOk result (λ it. AreLodgedOn at.now party it) }
+{
+    let mut units = BTreeSet::new(alloc);
+    for (_, mutation) in at.mutations.iter() {
+        if is_pending_of(party, mutation) {
+            insert_named(&mut units, &mutation.content)?;
+        }
+    }
+    Ok(units)
+}
+
+/// Puts the units that a content names among others.
+fn insert_named(units: &mut BTreeSet<u64>, content: &Content) -> Result<(), AllocError>
+    ensures { OnOk result ((unit : ℕ) → has_number units.new unit ≡ (has_number units.old unit || names_unit unit content.now)) }
+{
+    match content {
+        Content::Transfer(it) => units.insert(it.unit)?,
+        Content::Mortgage(it) => units.insert(it.unit)?,
+        Content::Discharge(it) => units.insert(it.unit)?,
+    };
+    Ok(())
 }

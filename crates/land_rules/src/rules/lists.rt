@@ -1,14 +1,18 @@
-//! What a caller sees of units, entries and parties. What its sight of them depends on is collected once, then each
+//! What a caller sees of units, entries, parties and mutations. What its sight of them depends on is collected once, then each
 //! object is asked for by look-ups.
 ghost use Rattle.std.specs.Prelude.{◌≡◌, IfOk, true};
 ghost use Rattle.land_core.specs.declared.kind.Kind.TheVariants as kind;
-ghost use Rattle.land_rules.specs.Holdings.{AreHoldings, AreMet, meets_parties};
+ghost use Rattle.land_core.specs.Contents.{names_where};
+ghost use Rattle.land_rules.specs.Holdings.{AreHoldings, AreMet, AreTied, meets_parties};
+ghost use Rattle.land_rules.specs.Relations.{is_holder};
+ghost use Rattle.land_rules.specs.declared.rules.holdings.Tie.TheVariants.{Holder};
 ghost use Rattle.land_rules.specs.Rules.{sees, seen_of};
 
 use crate::relations::{is_member_of, is_mortgage, is_told_to_creditor};
 use crate::rules::holdings::Holdings;
 use crate::rules::{seen_among, sees};
 use land_core::caller::Caller;
+use land_core::content::Content;
 use land_core::kind::Kind;
 use land_core::register::Register;
 use land_core::role::Role;
@@ -104,7 +108,25 @@ fn parties_by(
     Ok(seen)
 }
 
-/// Whether a caller with these holdings sees a unit. The sight of other roles than citizen and bank takes no entries.
+/// The mutations that a caller sees, ascending.
+pub(crate) fn mutations(
+    alloc: Global,
+    at: &Register,
+    caller: Caller,
+) -> Result<NumberList, AllocError>
+    ensures { IfOk result (λ it. it ≡ seen_of at.now caller kind.Mutation) }
+{
+    let holdings = Holdings::of(alloc, at, caller)?;
+    let mut seen = Sequence::new(alloc);
+    for (number, _) in at.mutations.iter() {
+        if sees_mutation(at, caller, &holdings, *number) {
+            seen.push(*number)?;
+        }
+    }
+    Ok(seen)
+}
+
+/// Whether a caller with these holdings sees a unit. The sight of other roles searches nothing.
 fn sees_unit(at: &Register, caller: Caller, holdings: &Holdings, number: u64) -> bool
     requires { AreHoldings at.now caller holdings.now }
     ensures { result ≡ sees at.now caller kind.Unit number }
@@ -112,11 +134,14 @@ fn sees_unit(at: &Register, caller: Caller, holdings: &Holdings, number: u64) ->
     match caller.role {
         Role::Citizen => holdings.held.contains(&number),
         Role::Bank => holdings.credited.contains(&number),
+        Role::Conveyancer => {
+            holdings.lodged_on.contains(&number) && at.stands(Kind::Unit, number)
+        }
         _ => sees(at, caller, Kind::Unit, number),
     }
 }
 
-/// Whether a caller with these holdings sees an entry. The sight of other roles than citizen and bank takes no others.
+/// Whether a caller with these holdings sees an entry. The sight of other roles searches nothing.
 fn sees_entry(at: &Register, caller: Caller, holdings: &Holdings, number: u64) -> bool
     requires { AreHoldings at.now caller holdings.now }
     ensures { result ≡ sees at.now caller kind.Rrr number }
@@ -124,6 +149,7 @@ fn sees_entry(at: &Register, caller: Caller, holdings: &Holdings, number: u64) -
     match caller.role {
         Role::Citizen => citizen_sees_entry(at, caller, holdings, number),
         Role::Bank => bank_sees_entry(at, caller, holdings, number),
+        Role::Conveyancer => conveyancer_sees_entry(at, caller, holdings, number),
         _ => sees(at, caller, Kind::Rrr, number),
     }
 }
@@ -152,6 +178,53 @@ fn bank_sees_entry(at: &Register, caller: Caller, holdings: &Holdings, number: u
             holdings.credited.contains(&entry.unit) && is_told_to_creditor(caller.party, entry)
         }
         None => false,
+    }
+}
+
+fn conveyancer_sees_entry(at: &Register, caller: Caller, holdings: &Holdings, number: u64) -> bool
+    requires holdings { AreHoldings at.now caller holdings.now }
+    requires role { caller.role ≡ Role.Conveyancer }
+    ensures { result ≡ sees at.now caller kind.Rrr number }
+{
+    match at.rrrs.get(number) {
+        Some(entry) => {
+            holdings.lodged_on.contains(&entry.unit) && at.stands(Kind::Unit, entry.unit)
+        }
+        None => false,
+    }
+}
+
+/// Whether a caller with these holdings sees a mutation. The sight of other roles searches nothing.
+fn sees_mutation(at: &Register, caller: Caller, holdings: &Holdings, number: u64) -> bool
+    requires { AreHoldings at.now caller holdings.now }
+    ensures { result ≡ sees at.now caller kind.Mutation number }
+{
+    match caller.role {
+        Role::Citizen => citizen_sees_mutation(at, caller, holdings, number),
+        _ => sees(at, caller, Kind::Mutation, number),
+    }
+}
+
+fn citizen_sees_mutation(at: &Register, caller: Caller, holdings: &Holdings, number: u64) -> bool
+    requires holdings { AreHoldings at.now caller holdings.now }
+    requires role { caller.role ≡ Role.Citizen }
+    ensures { result ≡ sees at.now caller kind.Mutation number }
+{
+    match at.mutations.get(number) {
+        Some(mutation) => names_held(at, caller.party, &holdings.held, &mutation.content),
+        None => false,
+    }
+}
+
+/// Whether a content names one of the units in which a party is a holder.
+fn names_held(at: &Register, party: u64, held: &BTreeSet<u64>, content: &Content) -> bool
+    requires { AreTied Holder at.now party held.now }
+    ensures { result ≡ names_where (is_holder at.now party) content.now }
+{
+    match content {
+        Content::Transfer(it) => held.contains(&it.unit),
+        Content::Mortgage(it) => held.contains(&it.unit),
+        Content::Discharge(it) => held.contains(&it.unit),
     }
 }
 

@@ -2,6 +2,7 @@
 ghost use Rattle.std.specs.Prelude.{◌≡◌};
 ghost use Rattle.land_rules.specs.Rules.{first_denial, view_rules};
 
+mod mutation;
 mod parcel;
 mod party;
 mod rrr;
@@ -23,5 +24,6 @@ pub(crate) fn verdict(at: &Register, caller: Caller, kind: Kind, number: u64) ->
         Kind::Parcel => parcel::verdict(at, number),
         Kind::Rrr => rrr::verdict(at, caller, number),
         Kind::Source => source::verdict(at, caller, number),
+        Kind::Mutation => mutation::verdict(at, caller, number),
     }
 }

@@ -1,9 +1,10 @@
 //! Standing rules: who may ask, by the register now.
 ghost use Rattle.std.specs.Prelude.{◌≡◌};
-ghost use Rattle.land_rules.specs.Rules.{first_denial, standing_rules, caller_rules, act_rules, is_of_the_present, is_office_act};
+ghost use Rattle.land_rules.specs.Rules.{first_denial, standing_rules, caller_rules, is_of_the_present};
+
+mod act;
 
 use crate::verdict::Verdict;
-use land_core::act::Act;
 use land_core::ask::Ask;
 use land_core::caller::Caller;
 use land_core::kind::Kind;
@@ -17,7 +18,7 @@ pub(crate) fn verdict(now: &Register, caller: Caller, ask: &Ask, past: bool) -> 
     match caller_verdict(now, caller, past) {
         Verdict::Allowed => match ask {
             Ask::View { .. } | Ask::List { .. } | Ask::Sheet { .. } => Verdict::Allowed,
-            Ask::Do(act) => act_verdict(now, caller, act),
+            Ask::Do(act) => act::verdict(now, caller, act),
         },
         denied => denied,
     }
@@ -44,29 +45,4 @@ fn is_of_the_present(caller: Caller) -> bool
     caller.role == Role::Bank
         || caller.role == Role::Conveyancer
         || caller.role == Role::CertifiedSurveyor
-}
-
-fn act_verdict(now: &Register, caller: Caller, act: &Act) -> Verdict
-    ensures { result ≡ first_denial (act_rules now.now caller act.now) }
-{
-    if is_office_act(act) && caller.role != Role::StateAdministrator {
-        Verdict::Denied(4)
-    } else {
-        Verdict::Allowed
-    }
-}
-
-fn is_office_act(act: &Act) -> bool
-    ensures { result ≡ is_office_act act.now }
-{
-    match act {
-        Act::Enrol(_)
-        | Act::Group(_)
-        | Act::Regroup(_)
-        | Act::Grant(_)
-        | Act::Revoke(_)
-        | Act::Register(_)
-        | Act::Burden(_)
-        | Act::Lift(_) => true,
-    }
 }

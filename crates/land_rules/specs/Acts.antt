@@ -1,0 +1,79 @@
+-- What an act asks for, as far as the policy looks at it.
+use Rattle.std.specs.Prelude.{ℕ, Bool, true, false, not, ◌&&◌, ◌||◌, nat_eq}
+use Rattle.land_core.specs.Role.{is_role}
+use Rattle.land_core.specs.declared.act.Act.{Act}
+use Rattle.land_core.specs.declared.act.Act.TheVariants as act
+use Rattle.land_core.specs.declared.caller.Caller.{Caller}
+use Rattle.land_core.specs.declared.content.Content.{Content}
+use Rattle.land_core.specs.declared.content.Content.TheVariants as content
+use Rattle.land_core.specs.declared.register.Register.{Register}
+use Rattle.land_core.specs.declared.role.Role.TheVariants.{Conveyancer, Notary, Bank}
+use Rattle.land_core.specs.declared.rrr.RrrRecord.{RrrRecord}
+use Rattle.land_rules.specs.Relations.{is_mortgage, is_rrr_where}
+
+-- acts of the office: to enrol, to group and regroup, to grant and revoke roles, to register and burden units, to lift burdens,
+-- to approve and refuse mutations; all others are lodgings
+abbrev pub is_office_act : Act → Bool
+is_office_act (act.Enrol it) = true
+is_office_act (act.Group it) = true
+is_office_act (act.Regroup it) = true
+is_office_act (act.Grant it) = true
+is_office_act (act.Revoke it) = true
+is_office_act (act.Register it) = true
+is_office_act (act.Burden it) = true
+is_office_act (act.Lift it) = true
+is_office_act (act.Lodge it) = false
+is_office_act (act.Approve it) = true
+is_office_act (act.Refuse it) = true
+
+-- whether an act lodges a content that passes a test
+abbrev pub lodges : (Content → Bool) → Act → Bool
+lodges passes (act.Lodge it) = passes it.content
+lodges passes other = false
+
+-- whether an act approves or refuses a mutation whose number passes a test
+abbrev pub decides : (ℕ → Bool) → Act → Bool
+decides passes (act.Approve it) = passes it.mutation
+decides passes (act.Refuse it) = passes it.mutation
+decides passes other = false
+
+-- ---- roles that lodge
+
+-- conveyancers and notaries lodge transfers
+abbrev pub is_of_transfers : Caller → Bool
+is_of_transfers caller = is_role caller.role Conveyancer || is_role caller.role Notary
+
+-- banks and notaries lodge mortgages and discharges
+abbrev pub is_of_mortgages : Caller → Bool
+is_of_mortgages caller = is_role caller.role Bank || is_role caller.role Notary
+
+-- ---- what is lodged
+
+-- whether a content is a transfer
+abbrev pub is_transfer : Content → Bool
+is_transfer (content.Transfer it) = true
+is_transfer (content.Mortgage it) = false
+is_transfer (content.Discharge it) = false
+
+-- whether a content makes or ends a mortgage
+abbrev pub is_of_a_mortgage : Content → Bool
+is_of_a_mortgage (content.Transfer it) = false
+is_of_a_mortgage (content.Mortgage it) = true
+is_of_a_mortgage (content.Discharge it) = true
+
+-- whether a content is a mortgage whose creditor is another than the party
+abbrev pub is_mortgage_of_another : (party : ℕ) → Content → Bool
+is_mortgage_of_another party (content.Transfer it) = false
+is_mortgage_of_another party (content.Mortgage it) = not (nat_eq it.creditor party)
+is_mortgage_of_another party (content.Discharge it) = false
+
+-- whether an entry is a mortgage of which the party is the creditor, on any unit
+abbrev pub is_mortgage_of : (party : ℕ) → RrrRecord → Bool
+is_mortgage_of party e = is_mortgage e.class && nat_eq e.party party
+
+-- whether a content is a discharge of what is no mortgage now with the party as creditor: nothing stands there, or no mortgage,
+-- or the mortgage of another
+abbrev pub is_discharge_of_another : (now : Register) → (party : ℕ) → Content → Bool
+is_discharge_of_another now party (content.Transfer it) = false
+is_discharge_of_another now party (content.Mortgage it) = false
+is_discharge_of_another now party (content.Discharge it) = not (is_rrr_where (is_mortgage_of party) now it.mortgage)

@@ -1,0 +1,39 @@
+//! The sight of mutations.
+ghost use Rattle.std.specs.Prelude.{◌≡◌};
+ghost use Rattle.land_rules.specs.Relations.{is_mutation_where, names_holding};
+ghost use Rattle.land_rules.specs.Rules.{first_denial, mutation_rules};
+
+use crate::relations::{has_lodged, names_holding};
+use crate::verdict::Verdict;
+use land_core::caller::Caller;
+use land_core::kind::Kind;
+use land_core::register::Register;
+use land_core::role::Role;
+
+/// The least rule that denies the view of a mutation.
+pub(crate) fn verdict(at: &Register, caller: Caller, number: u64) -> Verdict
+    ensures { result ≡ first_denial (mutation_rules at.now caller number) }
+{
+    if caller.role == Role::Citizen && !is_about_a_holding(at, caller.party, number) {
+        Verdict::Denied(14)
+    } else if caller.role == Role::Bank && !has_lodged(at, caller.party, number) {
+        Verdict::Denied(18)
+    } else if caller.role == Role::Conveyancer && !has_lodged(at, caller.party, number) {
+        Verdict::Denied(22)
+    } else if caller.role == Role::CertifiedSurveyor && !has_lodged(at, caller.party, number) {
+        Verdict::Denied(25)
+    } else if !at.stands(Kind::Mutation, number) {
+        Verdict::Denied(27)
+    } else {
+        Verdict::Allowed
+    }
+}
+
+/// Whether a mutation stands, and names a unit in which a party is a holder.
+fn is_about_a_holding(at: &Register, party: u64, number: u64) -> bool
+    ensures { result ≡ is_mutation_where (names_holding at.now party) at.now number }
+{
+    at.mutations
+        .get(number)
+        .is_some_and(|mutation| names_holding(at, party, mutation))
+}

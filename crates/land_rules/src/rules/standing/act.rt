@@ -1,0 +1,160 @@
+//! Standing rules on acts: who may do what the office does, lodge and decide, by the register now.
+ghost use Rattle.std.specs.Prelude.{◌≡◌};
+ghost use Rattle.land_rules.specs.Acts.{decides, is_discharge_of_another, is_mortgage_of, is_mortgage_of_another, is_of_a_mortgage, is_of_mortgages, is_of_transfers, is_office_act, is_transfer, lodges};
+ghost use Rattle.land_rules.specs.Relations.{has_lodged, is_rrr_where};
+ghost use Rattle.land_rules.specs.Rules.{first_denial, act_rules};
+
+use crate::relations::{has_lodged, is_mortgage};
+use crate::verdict::Verdict;
+use land_core::act::Act;
+use land_core::caller::Caller;
+use land_core::content::Content;
+use land_core::register::Register;
+use land_core::role::Role;
+
+/// The least rule that denies an act.
+pub(crate) fn verdict(now: &Register, caller: Caller, act: &Act) -> Verdict
+    ensures { result ≡ first_denial (act_rules now.now caller act.now) }
+{
+    if is_office_act(act) && caller.role != Role::StateAdministrator {
+        Verdict::Denied(4)
+    } else if lodges_transfer(act) && !is_of_transfers(caller) {
+        Verdict::Denied(5)
+    } else if lodges_of_a_mortgage(act) && !is_of_mortgages(caller) {
+        Verdict::Denied(7)
+    } else if caller.role == Role::Bank && lodges_mortgage_of_another(caller.party, act) {
+        Verdict::Denied(8)
+    } else if caller.role == Role::Bank && lodges_discharge_of_another(now, caller.party, act) {
+        Verdict::Denied(9)
+    } else if decides_own(now, caller.party, act) {
+        Verdict::Denied(10)
+    } else {
+        Verdict::Allowed
+    }
+}
+
+fn is_office_act(act: &Act) -> bool
+    ensures { result ≡ is_office_act act.now }
+{
+    match act {
+        Act::Enrol(_)
+        | Act::Group(_)
+        | Act::Regroup(_)
+        | Act::Grant(_)
+        | Act::Revoke(_)
+        | Act::Register(_)
+        | Act::Burden(_)
+        | Act::Lift(_)
+        | Act::Approve(_)
+        | Act::Refuse(_) => true,
+        Act::Lodge(_) => false,
+    }
+}
+
+/// Whether transfers are lodged in the caller's role.
+fn is_of_transfers(caller: Caller) -> bool
+    ensures { result ≡ is_of_transfers caller }
+{
+    caller.role == Role::Conveyancer || caller.role == Role::Notary
+}
+
+/// Whether mortgages and discharges are lodged in the caller's role.
+fn is_of_mortgages(caller: Caller) -> bool
+    ensures { result ≡ is_of_mortgages caller }
+{
+    caller.role == Role::Bank || caller.role == Role::Notary
+}
+
+fn lodges_transfer(act: &Act) -> bool
+    ensures { result ≡ lodges is_transfer act.now }
+{
+    match act {
+        Act::Lodge(it) => is_transfer(&it.content),
+        _ => false,
+    }
+}
+
+fn is_transfer(content: &Content) -> bool
+    ensures { result ≡ is_transfer content.now }
+{
+    match content {
+        Content::Transfer(_) => true,
+        Content::Mortgage(_) | Content::Discharge(_) => false,
+    }
+}
+
+fn lodges_of_a_mortgage(act: &Act) -> bool
+    ensures { result ≡ lodges is_of_a_mortgage act.now }
+{
+    match act {
+        Act::Lodge(it) => is_of_a_mortgage(&it.content),
+        _ => false,
+    }
+}
+
+/// Whether a content makes or ends a mortgage.
+fn is_of_a_mortgage(content: &Content) -> bool
+    ensures { result ≡ is_of_a_mortgage content.now }
+{
+    match content {
+        Content::Mortgage(_) | Content::Discharge(_) => true,
+        Content::Transfer(_) => false,
+    }
+}
+
+fn lodges_mortgage_of_another(party: u64, act: &Act) -> bool
+    ensures { result ≡ lodges (is_mortgage_of_another party) act.now }
+{
+    match act {
+        Act::Lodge(it) => is_mortgage_of_another(party, &it.content),
+        _ => false,
+    }
+}
+
+/// Whether a content is a mortgage whose creditor is another than a party.
+fn is_mortgage_of_another(party: u64, content: &Content) -> bool
+    ensures { result ≡ is_mortgage_of_another party content.now }
+{
+    match content {
+        Content::Mortgage(it) => it.creditor != party,
+        Content::Transfer(_) | Content::Discharge(_) => false,
+    }
+}
+
+fn lodges_discharge_of_another(now: &Register, party: u64, act: &Act) -> bool
+    ensures { result ≡ lodges (is_discharge_of_another now.now party) act.now }
+{
+    match act {
+        Act::Lodge(it) => is_discharge_of_another(now, party, &it.content),
+        _ => false,
+    }
+}
+
+/// Whether a content is a discharge of what is no mortgage with a party as creditor.
+fn is_discharge_of_another(now: &Register, party: u64, content: &Content) -> bool
+    ensures { result ≡ is_discharge_of_another now.now party content.now }
+{
+    match content {
+        Content::Discharge(it) => !has_mortgage_of(now, party, it.mortgage),
+        Content::Transfer(_) | Content::Mortgage(_) => false,
+    }
+}
+
+/// Whether a mortgage stands at a number, and a party is its creditor.
+fn has_mortgage_of(now: &Register, party: u64, number: u64) -> bool
+    ensures { result ≡ is_rrr_where (is_mortgage_of party) now.now number }
+{
+    now.rrrs
+        .get(number)
+        .is_some_and(|entry| is_mortgage(&entry.class) && entry.party == party)
+}
+
+/// Whether an act decides a mutation that a party lodged.
+fn decides_own(now: &Register, party: u64, act: &Act) -> bool
+    ensures { result ≡ decides (has_lodged now.now party) act.now }
+{
+    match act {
+        Act::Approve(it) | Act::Refuse(it) => has_lodged(now, party, it.mutation),
+        _ => false,
+    }
+}
