@@ -8,7 +8,7 @@ use Rattle.land_core.specs.Soundness.{IsSound}
 use Rattle.land_acts.proofs.Accepted.{accepted_sound}
 use Rattle.land_keep.specs.Laws.{WritingKeepsSound}
 use Rattle.land_keep.specs.Moments.{IsMoment, last_moment}
-use Rattle.land_keep.specs.Timeline.{Timeline, IsSoundTimeline, Rises, last_from, last_version, last_stamp}
+use Rattle.land_keep.specs.Timeline.{Timeline, IsSoundTimeline, Rises, last_from, last_register, last_version, last_stamp}
 use Rattle.land_keep.specs.declared.timeline.Version.{Version}
 
 -- what is at the last place of a list
@@ -49,6 +49,11 @@ written_sound (v ∷ vs) change stamp sound can =
   where
     from_zero : (before later : ℤ) → pos 0 ≤ℤ before → before <ℤ later → pos 0 ≤ℤ later
     from_zero before later h less = omega (arith, ints)
+
+-- the last register of a sound timeline is sound
+pub last_is_sound : (tl : Timeline) → IsSoundTimeline tl → IsSound (last_register tl)
+last_is_sound [] sound = absurd sound.rising
+last_is_sound (v ∷ vs) sound = all_last (λ it. IsSound it.register) v vs sound.sound
 
 -- the last stamp of a sound timeline is a moment
 pub last_is_moment : (tl : Timeline) → IsSoundTimeline tl → last_stamp tl ≤ℤ last_moment

@@ -12,6 +12,8 @@ use Rattle.serde_json.specs.Find.{of_integer, is_float}
 use Rattle.serde_json.specs.View.{items_of}
 use Rattle.serde_json.specs.Written.{compact_text, items_text, has_float, items_have_float}
 use Rattle.serde_json.proofs.OnLiterals.{serde_json_on_literals}
+use Rattle.land_core.specs.declared.content.Content.{Content}
+use Rattle.land_core.specs.declared.content.Content.TheVariants as content
 use Rattle.land_core.specs.declared.kind.PartyKind.{PartyKind}
 use Rattle.land_core.specs.declared.kind.PartyKind.TheVariants as kind
 use Rattle.land_core.specs.declared.member.Member.{Member}
@@ -24,6 +26,7 @@ use Rattle.land_core.specs.declared.role.Role.{Role}
 use Rattle.land_core.specs.declared.role.Role.TheVariants as role
 use Rattle.land_keep.specs.declared.reply.Reply.{Reply}
 use Rattle.land_keep.specs.declared.reply.Reply.TheVariants as reply
+use Rattle.land_wire.specs.Mutations.{content_data}
 use Rattle.land_wire.specs.Parties.{role_data, member_data, kind_word, role_text, member_text, party_text}
 use Rattle.land_wire.specs.Replies.{object_data, reply_data, reply_text, short_text, numbers_text, done_text}
 use Rattle.land_wire.specs.Rrrs.{class_data}
@@ -53,12 +56,19 @@ class_has_no_float entry (Restriction words) = refl
 class_has_no_float entry (Responsibility words) = refl
 class_has_no_float entry (Mortgage amount currency rank) = refl
 
+content_has_no_float : (it : Content) → has_float (content_data it) ≡ false
+content_has_no_float (content.Transfer it) = refl
+content_has_no_float (content.Mortgage it) = refl
+content_has_no_float (content.Discharge it) = refl
+
 object_has_no_float : (it : Object) → has_float (object_data it) ≡ false
 object_has_no_float (shown.Party party) = rw (members_have_no_float party.members, roles_have_no_float party.roles) refl
 object_has_no_float (shown.Unit unit) = refl
 object_has_no_float (shown.Parcel parcel) = refl
 object_has_no_float (shown.Rrr entry) = class_has_no_float entry entry.class
 object_has_no_float (shown.Source source) = refl
+object_has_no_float (shown.Mutation mutation) =
+    rw (content_has_no_float mutation.content, integer_is_no_float mutation.lodged) refl
 
 abbrev some_float : Option Data → Bool
 some_float None = false

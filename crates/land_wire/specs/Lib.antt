@@ -3,6 +3,7 @@ pub mod Bodies
 pub mod Decimals
 pub mod Fields
 pub mod Laws
+pub mod Mutations
 pub mod Parcels
 pub mod Parties
 pub mod Reading

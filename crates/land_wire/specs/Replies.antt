@@ -9,6 +9,7 @@ use Rattle.land_core.specs.declared.object.Object.{Object}
 use Rattle.land_core.specs.declared.object.Object.TheVariants as shown
 use Rattle.land_keep.specs.declared.reply.Reply.{Reply}
 use Rattle.land_keep.specs.declared.reply.Reply.TheVariants as reply
+use Rattle.land_wire.specs.Mutations.{mutation_data}
 use Rattle.land_wire.specs.Parcels.{parcel_data}
 use Rattle.land_wire.specs.Parties.{party_data}
 use Rattle.land_wire.specs.Rrrs.{rrr_data}
@@ -22,6 +23,7 @@ object_data (shown.Unit unit) = unit_data unit
 object_data (shown.Parcel parcel) = parcel_data parcel
 object_data (shown.Rrr entry) = rrr_data entry
 object_data (shown.Source source) = source_data source
+object_data (shown.Mutation mutation) = mutation_data mutation
 
 abbrev pub done_data : Done → Data
 done_data done =

@@ -7,12 +7,14 @@ ghost use Rattle.land_wire.specs.Replies.{IsStoreFault, done_data, is_sheet, obj
 ghost use Rattle.land_wire.specs.Values.{numbers_data};
 ghost use Rattle.land_keep.specs.declared.reply.Reply.TheVariants as reply;
 
+mod mutation;
 mod parcel;
 mod party;
 mod rrr;
 mod source;
 mod unit;
 
+use crate::text::mutation::mutation_value;
 use crate::text::parcel::parcel_value;
 use crate::text::party::party_value;
 use crate::text::rrr::rrr_value;
@@ -95,6 +97,7 @@ fn object_value(alloc: Global, object: &Object) -> Result<Value, AllocError>
         Object::Parcel(parcel) => parcel_value(alloc, parcel),
         Object::Rrr(entry) => rrr_value(alloc, entry),
         Object::Source(source) => source_value(alloc, source),
+        Object::Mutation(mutation) => mutation_value(alloc, mutation),
     }
 }
 
