@@ -6,6 +6,7 @@ mod doubles;
 mod exchanges;
 mod failures;
 mod long_requests;
+mod mutation_texts;
 mod office;
 mod readings;
 mod replies;

@@ -4,4 +4,6 @@
 pub mod laws;
 mod relations;
 pub mod rules;
+#[cfg(test)]
+mod tests;
 pub mod verdict;

@@ -1,7 +1,8 @@
 //! What rows ask for, and the acts and asks made of it.
-use super::facts::{Right, Share, text};
+use super::lodged::{RowContent, lodging};
 use land_core::act::{
-    Act, Burden, BurdenClass, Enrol, Lift, NewGroup, NewParcel, NewRight, NewUnit, Regroup,
+    Act, Burden, BurdenClass, Decision, Enrol, Lift, NewGroup, NewParcel, NewRight, NewUnit,
+    Regroup,
 };
 use land_core::ask::Ask;
 use land_core::caller::Caller;
@@ -9,11 +10,19 @@ use land_core::kind::{Kind, PartyKind};
 use land_core::member::Member;
 use land_core::role::Role;
 use land_core::roles::Grant;
+use land_core::rrr::RightType;
 use land_core::sequence::Sequence;
+use land_core::text::Text;
 use land_fraction::Fraction;
 use land_shape::read_wkt;
 use std::alloc::{AllocError, Global};
 use std::test::Fail;
+
+/// A party's number, and the numerator and denominator of its share.
+pub(super) type Share = (u64, u64, u64);
+
+/// A party's number, the type of its right, and the numerator and denominator of its share.
+pub(super) type Right = (u64, RightType, u64, u64);
 
 /// An act of a row.
 pub(super) enum RowAct {
@@ -27,6 +36,10 @@ pub(super) enum RowAct {
     /// The class of a burden, its unit and its party.
     Burden(BurdenClass, u64, u64),
     Lift(u64),
+    /// A reference, the title of a document, and what is asked for.
+    Lodge(&'static str, &'static str, RowContent),
+    Approve(u64),
+    Refuse(u64),
 }
 
 /// What a row asks.
@@ -55,6 +68,10 @@ pub(super) const GARDEN: Words<'static> = Words {
     document: "Deed 1",
     label: "12",
 };
+
+pub(super) fn text(alloc: Global, text: &str) -> Result<Text, AllocError> {
+    Ok(Text::new(String::from_str(alloc, text)?))
+}
 
 fn members(alloc: Global, shares: &[Share]) -> Result<Sequence<Member>, Fail> {
     let mut members = Sequence::new(alloc);
@@ -156,6 +173,15 @@ pub(super) fn act(alloc: Global, it: &RowAct) -> Result<Act, Fail> {
             Act::Burden(new_burden(alloc, *class, *unit, *party)?)
         }
         RowAct::Lift(rrr) => Act::Lift(Lift { rrr: *rrr }),
+        RowAct::Lodge(reference, document, content) => {
+            Act::Lodge(lodging(alloc, reference, document, content)?)
+        }
+        RowAct::Approve(mutation) => Act::Approve(Decision {
+            mutation: *mutation,
+        }),
+        RowAct::Refuse(mutation) => Act::Refuse(Decision {
+            mutation: *mutation,
+        }),
     })
 }
 

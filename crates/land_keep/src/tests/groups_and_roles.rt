@@ -1,10 +1,9 @@
 //! Groups and their members, and roles that are granted and revoked.
 use super::asked::RowAct::{Grant, Group, Regroup, Revoke};
 use super::asked::RowAsk::{Do, List, View};
-use super::asked::{OFFICE, RowAsk};
-use super::facts::Share;
+use super::asked::{OFFICE, RowAsk, Share};
 use super::rows::{Row, assert_rows};
-use super::steps::{ANNA, BANK_ITSELF, BEN, ENROLLED, GROUPED, NORA};
+use super::steps::{ANNA, BANK_ITSELF, BEN, NORA, WITH_GROUP, WITH_PARTIES};
 use land_core::caller::Caller;
 use land_core::kind::Kind::Party;
 use land_core::role::Role::{Bank, Citizen, Notary, StateAdministrator};
@@ -54,7 +53,7 @@ const SHARES: &[Row] = &[
 
 #[test]
 fn shares_of_a_group_are_whole(rt: HostRuntime) -> Result<(), Fail> {
-    assert_rows(&rt, rt.alloc(), &[ENROLLED, SHARES])
+    assert_rows(&rt, rt.alloc(), WITH_PARTIES, SHARES)
 }
 
 const GROUPS_AND_ROLES: &[Row] = &[
@@ -91,7 +90,7 @@ const GROUPS_AND_ROLES: &[Row] = &[
 
 #[test]
 fn groups_and_roles(rt: HostRuntime) -> Result<(), Fail> {
-    assert_rows(&rt, rt.alloc(), &[ENROLLED, GROUPED, GROUPS_AND_ROLES])
+    assert_rows(&rt, rt.alloc(), WITH_GROUP, GROUPS_AND_ROLES)
 }
 
 const BEFORE: &str = "party 7 Group Anna and Ben [(2 1/3)(3 2/3)] []";
@@ -119,7 +118,7 @@ const MEMBERS: &[Row] = &[
 
 #[test]
 fn members_see_their_group_while_they_are_members(rt: HostRuntime) -> Result<(), Fail> {
-    assert_rows(&rt, rt.alloc(), &[ENROLLED, GROUPED, MEMBERS])
+    assert_rows(&rt, rt.alloc(), WITH_GROUP, MEMBERS)
 }
 
 const NO_GROUP: &[Row] = &[
@@ -133,7 +132,7 @@ const NO_GROUP: &[Row] = &[
 
 #[test]
 fn what_is_no_group_is_not_regrouped(rt: HostRuntime) -> Result<(), Fail> {
-    assert_rows(&rt, rt.alloc(), &[ENROLLED, GROUPED, NO_GROUP])
+    assert_rows(&rt, rt.alloc(), WITH_GROUP, NO_GROUP)
 }
 
 const ANNA_AS_OFFICE: Caller = Caller {
@@ -172,7 +171,7 @@ const ANOTHER: &[Row] = &[
 
 #[test]
 fn another_administrator_may_go_first(rt: HostRuntime) -> Result<(), Fail> {
-    assert_rows(&rt, rt.alloc(), &[ENROLLED, GROUPED, ANOTHER])
+    assert_rows(&rt, rt.alloc(), WITH_GROUP, ANOTHER)
 }
 
 /// The first moment that is none.
@@ -193,5 +192,5 @@ const AT_THE_END: &[Row] = &[
 
 #[test]
 fn nothing_is_done_at_the_end_of_time(rt: HostRuntime) -> Result<(), Fail> {
-    assert_rows(&rt, rt.alloc(), &[ENROLLED, GROUPED, AT_THE_END])
+    assert_rows(&rt, rt.alloc(), WITH_GROUP, AT_THE_END)
 }

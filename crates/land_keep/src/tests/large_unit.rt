@@ -13,7 +13,6 @@ use land_core::rrr::RightType;
 use land_core::sequence::Sequence;
 use land_fraction::Fraction;
 use std::alloc::{AllocError, Global};
-use std::process::Abort;
 use std::test::Fail;
 
 const ENROL: RowAsk = Do(Enrol(NaturalPerson, "Anna"));
@@ -21,25 +20,28 @@ const ENROL: RowAsk = Do(Enrol(NaturalPerson, "Anna"));
 /// How many parties have the rights: each an ownership and a lease, and all but two a usufruct.
 const HOLDERS: u64 = 22;
 
-/// The right at a place of the list: those of one type stand together, and their shares make a whole.
-fn right(place: u64) -> Result<NewRight, Fail> {
-    let (right_type, count) = match place / HOLDERS {
-        0 => (RightType::Ownership, HOLDERS),
-        1 => (RightType::Lease, HOLDERS),
-        _ => (RightType::Usufruct, 20),
-    };
-    Ok(NewRight {
-        party: (place % HOLDERS).saturating_add(2),
-        right_type,
-        share: Fraction::new(1, count)?,
-    })
+/// Adds rights of one type, whose shares make a whole.
+fn add_rights(
+    rights: &mut Sequence<NewRight>,
+    right_type: RightType,
+    count: u64,
+) -> Result<(), Fail> {
+    let share = Fraction::new(1, count)?;
+    for place in 0..count {
+        rights.push(NewRight {
+            party: place.saturating_add(2),
+            right_type,
+            share,
+        })?;
+    }
+    Ok(())
 }
 
 fn rights(alloc: Global) -> Result<Sequence<NewRight>, Fail> {
     let mut rights = Sequence::new(alloc);
-    for place in 0..64 {
-        rights.push(right(place)?)?;
-    }
+    add_rights(&mut rights, RightType::Ownership, HOLDERS)?;
+    add_rights(&mut rights, RightType::Lease, HOLDERS)?;
+    add_rights(&mut rights, RightType::Usufruct, 20)?;
     Ok(rights)
 }
 
@@ -81,17 +83,20 @@ fn is_made(done: &Done) -> bool {
     done.number == 25 && done.stamp == 23 && made.len() == 130 && count_on(made, 24)
 }
 
-/// Whether the entries are those of the list, in its order.
+/// Whether the entries are those of the list, in its order: numbers from 90 on, of parties 2 to 23 in turn.
 fn are_held(entries: &[NamedRrr]) -> bool {
-    let mut place = 0;
+    let mut number = 90u64;
+    let mut party = 2u64;
     for entry in entries {
-        let party = place % HOLDERS;
-        place = place.saturating_add(1);
-        if entry.rrr.number != place.saturating_add(89)
-            || entry.rrr.party != party.saturating_add(2)
-        {
+        if entry.rrr.number != number || entry.rrr.party != party {
             return false;
         }
+        number = number.saturating_add(1);
+        party = if party == 23 {
+            2
+        } else {
+            party.saturating_add(1)
+        };
     }
     true
 }
@@ -114,14 +119,18 @@ fn are_told(replies: &[Reply]) -> Result<bool, AllocError> {
     }
 }
 
-#[test]
-fn a_unit_has_64_parcels_and_64_rights(rt: HostRuntime) -> Result<(), Fail> {
-    let replies = large(&rt, rt.alloc())?;
-    assert!(rt; are_told(replies.as_slice())?);
-    Ok(())
+fn is_large(alloc: Global, requests: &[Request]) -> Result<bool, Fail> {
+    let replies = answered(alloc, &[], requests)?;
+    Ok(are_told(replies.as_slice())?)
 }
 
-fn large(rt: &impl Abort, alloc: Global) -> Result<Vec<Reply>, Fail> {
+fn is_registered(alloc: Global) -> Result<bool, Fail> {
     let requests = requests(alloc)?;
-    Ok(answered(rt, alloc, &[], requests.as_slice())?)
+    is_large(alloc, requests.as_slice())
+}
+
+#[test]
+fn a_unit_has_64_parcels_and_64_rights(rt: HostRuntime) -> Result<(), Fail> {
+    assert!(&rt; is_registered(rt.alloc())?);
+    Ok(())
 }

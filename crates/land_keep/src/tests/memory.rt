@@ -3,13 +3,13 @@
 ghost use Rattle.std.specs.Prelude.{◌≡◌, true};
 ghost use Rattle.land_core.specs.Acts.{is_well_formed_request};
 
-use super::asked::RowAct::{Burden, Enrol, Grant, Group, Register, Regroup, Revoke};
+use super::asked::RowAct::{
+    Approve, Burden, Enrol, Grant, Group, Lodge, Register, Regroup, Revoke,
+};
 use super::asked::RowAsk::{Do, Sheet, View};
-use super::asked::{OFFICE, RowAsk};
-use super::end;
-use super::facts::{Right, Share};
-use super::rows::request;
-use super::told::reply_line;
+use super::asked::{OFFICE, Right, RowAsk, Share};
+use super::lodged::RowContent::{Mortgage, Transfer};
+use super::rows::{is_told, request};
 use crate::keeper::Keeper;
 use crate::machine::{answer, finish, prepare};
 use crate::plain_keeper::PlainKeeper;
@@ -17,9 +17,10 @@ use crate::reply::Reply;
 use crate::store_fault::StoreFault;
 use land_core::act::BurdenClass::Restriction;
 use land_core::ask::Request;
-use land_core::kind::Kind::Party;
+use land_core::caller::Caller;
+use land_core::kind::Kind::{Mutation, Party};
 use land_core::kind::PartyKind::NaturalPerson;
-use land_core::role::Role::{Bank, Citizen};
+use land_core::role::Role::{Bank, Citizen, Notary};
 use land_core::rrr::RightType::Ownership;
 use std::alloc::{AllocError, Global};
 use std::process::Abort;
@@ -33,143 +34,173 @@ const HALVES: &[Share] = &[(1, 1, 2), (2, 1, 2)];
 
 const OWNED: &[Right] = &[(2, Ownership, 1, 1)];
 
-fn is_enrolled(alloc: Global, reply: &Reply) -> Result<bool, AllocError> {
-    let line = reply_line(alloc, reply)?;
-    Ok(line.as_str() == "done 2 made [2] at 1000")
+const ENROLLED: &str = "done 2 made [2] at 1000";
+
+/// What a call that failed before the first stamp leads to: want of memory where nothing has changed, else a wrong answer.
+fn failed(last: i64, fault: StoreFault) -> Result<bool, AllocError> {
+    if fault == StoreFault::NoMemory && last == 0 {
+        Err(AllocError)
+    } else {
+        Ok(false)
+    }
 }
 
-/// A call that failed before the first stamp: for want of memory, and nothing has changed.
-fn failed(rt: &impl Abort, last: i64, fault: StoreFault) -> Result<(), AllocError> {
-    assert!(rt; fault == StoreFault::NoMemory && last == 0);
-    Err(AllocError)
-}
-
-/// Prepares an enrolment, and finishes it.
-fn assert_finished(
-    rt: &impl Abort,
+/// Whether an enrolment is prepared, which changes nothing, and then finished.
+fn is_finished(
     alloc: Global,
     keeper: &mut PlainKeeper,
     request: &Request,
-) -> Result<(), AllocError>
+) -> Result<bool, AllocError>
     requires { is_well_formed_request request.now ≡ true }
 {
     let prepared = match prepare(alloc, keeper, 1000, request) {
         Ok(prepared) => prepared,
-        Err(fault) => return failed(rt, keeper.last(), fault),
+        Err(fault) => return failed(keeper.last(), fault),
     };
-    assert!(rt; is_enrolled(alloc, prepared.reply())? && keeper.last() == 0);
+    let waits = is_told(alloc, prepared.reply(), ENROLLED)? && keeper.last() == 0;
     match finish(alloc, keeper, prepared) {
-        Ok(reply) => assert!(rt; is_enrolled(alloc, &reply)? && keeper.last() == 1000),
-        Err(fault) => return failed(rt, keeper.last(), fault),
+        Ok(reply) => Ok(waits && is_told(alloc, &reply, ENROLLED)? && keeper.last() == 1000),
+        Err(fault) => failed(keeper.last(), fault),
     }
-    Ok(())
 }
 
-fn assert_prepared(rt: &impl Abort, alloc: Global, request: &Request) -> Result<(), AllocError>
+fn is_prepared(alloc: Global, request: &Request) -> Result<bool, AllocError>
     requires { is_well_formed_request request.now ≡ true }
 {
     let mut keeper = PlainKeeper::new(alloc)?;
-    assert!(rt; !keeper.is_closed());
-    assert_finished(rt, alloc, &mut keeper, request)
+    if keeper.is_closed() {
+        return Ok(false);
+    }
+    is_finished(alloc, &mut keeper, request)
+}
+
+/// Whether an enrolment over a new register changes nothing before it is finished.
+fn is_enrolled_late(alloc: Global) -> Result<bool, Fail> {
+    let request = request(alloc, OFFICE, &ENROL)?;
+    Ok(request.is_well_formed() && is_prepared(alloc, &request)?)
 }
 
 #[test]
 fn what_is_prepared_changes_nothing_before_it_is_finished(rt: HostRuntime) -> Result<(), Fail> {
-    let request = request(rt.alloc(), OFFICE, &ENROL)?;
-    assert!(rt; request.is_well_formed());
-    Ok(assert_prepared(&rt, rt.alloc(), &request)?)
+    assert!(&rt; is_enrolled_late(rt.alloc())?);
+    Ok(())
 }
 
-/// The reply to a request that is asked a second time: nothing has changed before.
-fn answered_again(
-    rt: &impl Abort,
+/// How a request was answered.
+#[derive(Drop)]
+enum Outcome {
+    AtOnce,
+    /// Memory was refused, nothing had changed, and the reply came the second time.
+    Late,
+    /// Something had changed, or the reply is another one.
+    Wrong,
+}
+
+/// How a reply was told, where it is this line; a wrong one otherwise.
+fn told(alloc: Global, reply: &Reply, line: &str, good: Outcome) -> Result<Outcome, AllocError> {
+    if is_told(alloc, reply, line)? {
+        Ok(good)
+    } else {
+        Ok(Outcome::Wrong)
+    }
+}
+
+/// Asks a second time: nothing has changed before.
+fn asked_again(
     alloc: Global,
     keeper: &mut PlainKeeper,
     last: i64,
     request: &Request,
-) -> Reply
+    line: &str,
+) -> Result<Outcome, AllocError>
     requires { is_well_formed_request request.now ≡ true }
 {
-    assert!(rt; keeper.last() == last && !keeper.is_closed());
-    answer(alloc, keeper, 1000, request)
+    if keeper.last() != last || keeper.is_closed() {
+        return Ok(Outcome::Wrong);
+    }
+    let reply = answer(alloc, keeper, 1000, request);
+    told(alloc, &reply, line, Outcome::Late)
 }
 
-/// The reply to a request, and whether memory was refused before it.
-fn answered(
-    rt: &impl Abort,
+/// Asks, and where memory was refused once more.
+fn asked(
     alloc: Global,
     keeper: &mut PlainKeeper,
     request: &Request,
-) -> (Reply, bool)
+    line: &str,
+) -> Result<Outcome, AllocError>
     requires { is_well_formed_request request.now ≡ true }
 {
     let last = keeper.last();
     match answer(alloc, keeper, 1000, request) {
-        Reply::Store(501) => (answered_again(rt, alloc, keeper, last, request), true),
-        reply => (reply, false),
+        Reply::Store(501) => asked_again(alloc, keeper, last, request, line),
+        reply => told(alloc, &reply, line, Outcome::AtOnce),
     }
 }
 
-fn assert_line(
-    rt: &impl Abort,
-    alloc: Global,
-    reply: &Reply,
-    expected: &str,
-) -> Result<(), AllocError> {
-    let line = reply_line(alloc, reply)?;
-    assert_eq!(rt; line.as_str(), expected);
-    Ok(())
-}
+/// Who asks what, and the reply in one line.
+struct Row(Caller, RowAsk, &'static str);
 
-/// Compares the reply in full, and gives whether memory was refused before it.
-fn is_answered_late(
-    rt: &impl Abort,
+/// Asks what is well formed.
+fn asked_well(
     alloc: Global,
     keeper: &mut PlainKeeper,
     request: &Request,
-    expected: &str,
-) -> Result<bool, AllocError>
-    requires { is_well_formed_request request.now ≡ true }
-{
-    let (reply, refused) = answered(rt, alloc, keeper, request);
-    assert_line(rt, alloc, &reply, expected)?;
-    Ok(refused)
+    line: &str,
+) -> Result<Outcome, Fail> {
+    if !request.is_well_formed() {
+        return Ok(Outcome::Wrong);
+    }
+    Ok(asked(alloc, keeper, request, line)?)
 }
 
-/// Asks the office, compares the reply in full, and gives whether memory was refused before it.
-fn is_refused_once(
-    rt: &impl Abort,
-    alloc: Global,
-    keeper: &mut PlainKeeper,
-    row: &Row,
-) -> Result<bool, Fail> {
-    let request = request(alloc, OFFICE, &row.0)?;
-    assert!(rt; request.is_well_formed());
-    Ok(is_answered_late(rt, alloc, keeper, &request, row.1)?)
+fn asked_row(alloc: Global, keeper: &mut PlainKeeper, row: &Row) -> Result<Outcome, Fail> {
+    let request = request(alloc, row.0, &row.1)?;
+    asked_well(alloc, keeper, &request, row.2)
 }
 
-/// What the office asks, and the reply in one line.
-struct Row(RowAsk, &'static str);
-
-/// Asks the office over a new register, and compares the replies in full.
-fn assert_told(rt: &impl Abort, alloc: Global, rows: &[Row]) -> Result<(), Fail> {
-    let mut keeper = PlainKeeper::new(alloc)?;
-    let mut refused = false;
+/// How the rows were answered: late if one was.
+fn asked_rows(alloc: Global, keeper: &mut PlainKeeper, rows: &[Row]) -> Result<Outcome, Fail> {
+    let mut all = Outcome::AtOnce;
     for row in rows {
-        if is_refused_once(rt, alloc, &mut keeper, row)? {
-            refused = true;
+        match asked_row(alloc, keeper, row)? {
+            Outcome::AtOnce => {}
+            Outcome::Late => all = Outcome::Late,
+            Outcome::Wrong => return Ok(Outcome::Wrong),
         }
     }
-    Ok(end(refused)?)
+    Ok(all)
+}
+
+fn asked_anew(alloc: Global, rows: &[Row]) -> Result<Outcome, Fail> {
+    let mut keeper = PlainKeeper::new(alloc)?;
+    asked_rows(alloc, &mut keeper, rows)
+}
+
+/// Whether the replies over a new register are right. Where one came late this ends in want of memory.
+fn are_right(alloc: Global, rows: &[Row]) -> Result<bool, Fail> {
+    match asked_anew(alloc, rows)? {
+        Outcome::AtOnce => Ok(true),
+        Outcome::Late => Err(AllocError.into()),
+        Outcome::Wrong => Ok(false),
+    }
+}
+
+/// Asks over a new register, and compares the replies in full.
+fn assert_told(rt: &impl Abort, alloc: Global, rows: &[Row]) -> Result<(), Fail> {
+    assert!(rt; are_right(alloc, rows)?);
+    Ok(())
 }
 
 const GROUPING: &[Row] = &[
-    Row(ENROL, "done 2 made [2] at 1000"),
+    Row(OFFICE, ENROL, "done 2 made [2] at 1000"),
     Row(
+        OFFICE,
         Do(Group("Office and Anna", THIRDS)),
         "done 3 made [3] at 1001",
     ),
     Row(
+        OFFICE,
         View(Party, 3, None),
         "party 3 Group Office and Anna [(1 1/3)(2 2/3)] []",
     ),
@@ -181,13 +212,15 @@ fn after_want_of_memory_the_same_group_is_made(rt: HostRuntime) -> Result<(), Fa
 }
 
 const REGROUPING: &[Row] = &[
-    Row(ENROL, "done 2 made [2] at 1000"),
+    Row(OFFICE, ENROL, "done 2 made [2] at 1000"),
     Row(
+        OFFICE,
         Do(Group("Office and Anna", THIRDS)),
         "done 3 made [3] at 1001",
     ),
-    Row(Do(Regroup(3, HALVES)), "done 3 made [] at 1002"),
+    Row(OFFICE, Do(Regroup(3, HALVES)), "done 3 made [] at 1002"),
     Row(
+        OFFICE,
         View(Party, 3, None),
         "party 3 Group Office and Anna [(1 1/2)(2 1/2)] []",
     ),
@@ -199,10 +232,14 @@ fn after_want_of_memory_the_same_group_is_regrouped(rt: HostRuntime) -> Result<(
 }
 
 const ROLES: &[Row] = &[
-    Row(ENROL, "done 2 made [2] at 1000"),
-    Row(Do(Grant(2, Bank)), "done 2 made [] at 1001"),
-    Row(Do(Revoke(2, Citizen)), "done 2 made [] at 1002"),
-    Row(View(Party, 2, None), "party 2 NaturalPerson Anna [] [Bank]"),
+    Row(OFFICE, ENROL, "done 2 made [2] at 1000"),
+    Row(OFFICE, Do(Grant(2, Bank)), "done 2 made [] at 1001"),
+    Row(OFFICE, Do(Revoke(2, Citizen)), "done 2 made [] at 1002"),
+    Row(
+        OFFICE,
+        View(Party, 2, None),
+        "party 2 NaturalPerson Anna [] [Bank]",
+    ),
 ];
 
 #[test]
@@ -211,13 +248,19 @@ fn after_want_of_memory_the_same_role_begins_and_ends(rt: HostRuntime) -> Result
 }
 
 const REGISTERING: &[Row] = &[
-    Row(ENROL, "done 2 made [2] at 1000"),
+    Row(OFFICE, ENROL, "done 2 made [2] at 1000"),
     Row(
+        OFFICE,
         Do(Register(true, 1, OWNED)),
         "done 4 made [3, 4, 5, 6] at 1001",
     ),
-    Row(Do(Burden(Restriction, 4, 1)), "done 8 made [7, 8] at 1002"),
     Row(
+        OFFICE,
+        Do(Burden(Restriction, 4, 1)),
+        "done 8 made [7, 8] at 1002",
+    ),
+    Row(
+        OFFICE,
         Sheet(4, None),
         "sheet 4 Garden at 1002: parcel 5 rrr 6 Anna rrr 8 Land Office",
     ),
@@ -226,4 +269,68 @@ const REGISTERING: &[Row] = &[
 #[test]
 fn after_want_of_memory_the_same_sheet_is_shown(rt: HostRuntime) -> Result<(), Fail> {
     assert_told(&rt, rt.alloc(), REGISTERING)
+}
+
+const ANNA_AS_NOTARY: Caller = Caller {
+    party: 2,
+    role: Notary,
+};
+
+/// Anna owns a unit, becomes a notary, and lodges that half of it goes to the office.
+const GIVING: RowAsk = Do(Lodge("T1", "Deed 2", Transfer(4, 6, 1, 1, 2)));
+
+const LODGING: &[Row] = &[
+    Row(OFFICE, ENROL, "done 2 made [2] at 1000"),
+    Row(
+        OFFICE,
+        Do(Register(true, 1, OWNED)),
+        "done 4 made [3, 4, 5, 6] at 1001",
+    ),
+    Row(OFFICE, Do(Grant(2, Notary)), "done 2 made [] at 1002"),
+    Row(ANNA_AS_NOTARY, GIVING, "done 8 made [7, 8] at 1003"),
+    Row(ANNA_AS_NOTARY, GIVING, "done 8 made [7, 8] at 1003"),
+    Row(
+        OFFICE,
+        View(Mutation, 8, None),
+        "mutation 8 T1 of 2 from 7 at 1003: Lodged Transfer 1/2 of 6 in 4 to 1",
+    ),
+    Row(OFFICE, Do(Approve(8)), "done 8 made [9] at 1004"),
+    Row(
+        OFFICE,
+        Sheet(4, None),
+        "sheet 4 Garden at 1004: parcel 5 rrr 6 Anna rrr 9 Land Office",
+    ),
+];
+
+#[test]
+fn after_want_of_memory_the_same_transfer_is_approved(rt: HostRuntime) -> Result<(), Fail> {
+    assert_told(&rt, rt.alloc(), LODGING)
+}
+
+const LENDING: &[Row] = &[
+    Row(OFFICE, ENROL, "done 2 made [2] at 1000"),
+    Row(
+        OFFICE,
+        Do(Register(true, 1, OWNED)),
+        "done 4 made [3, 4, 5, 6] at 1001",
+    ),
+    Row(OFFICE, Do(Grant(2, Notary)), "done 2 made [] at 1002"),
+    Row(
+        ANNA_AS_NOTARY,
+        Do(Lodge("M1", "Loan 1", Mortgage(4, 1, 100))),
+        "done 8 made [7, 8] at 1003",
+    ),
+    Row(OFFICE, Do(Approve(8)), "refused 211"),
+    Row(OFFICE, Do(Grant(1, Bank)), "done 1 made [] at 1004"),
+    Row(OFFICE, Do(Approve(8)), "done 8 made [9] at 1005"),
+    Row(
+        OFFICE,
+        View(Mutation, 8, None),
+        "mutation 8 M1 of 2 from 7 at 1003: Approved Mortgage 100 EUR on 4 of 1",
+    ),
+];
+
+#[test]
+fn after_want_of_memory_the_same_mortgage_is_approved(rt: HostRuntime) -> Result<(), Fail> {
+    assert_told(&rt, rt.alloc(), LENDING)
 }

@@ -25,21 +25,34 @@ impl Clock for RowClock<'_> {
     ghost reads = { λ _ _ _. Unit {0} };
 
     fn read(&mut self) -> i64 {
-        let reading = self.rows.get(self.next).map_or(0, |row| row.0);
-        self.next = self.next.saturating_add(1);
-        reading
+        let place = self.next;
+        self.next = place.saturating_add(1);
+        match self.rows.get(place) {
+            Some(row) => row.0,
+            None => 0,
+        }
     }
 }
 
-/// The rows of all parts, in their order.
-fn all_of<'a>(alloc: Global, parts: &[&'a [Row]]) -> Result<Vec<&'a Row>, AllocError> {
-    let mut rows = Vec::new(alloc);
-    for part in parts {
-        for row in *part {
-            rows.push(row)?;
-        }
+fn add_all<'a>(all: &mut Vec<&'a Row>, rows: &'a [Row]) -> Result<(), AllocError> {
+    for row in rows {
+        all.push(row)?;
     }
-    Ok(rows)
+    Ok(())
+}
+
+/// The rows that others begin with, and these, in their order.
+fn all_of<'a>(
+    alloc: Global,
+    base: &[&'a [Row]],
+    rows: &'a [Row],
+) -> Result<Vec<&'a Row>, AllocError> {
+    let mut all = Vec::new(alloc);
+    for part in base {
+        add_all(&mut all, part)?;
+    }
+    add_all(&mut all, rows)?;
+    Ok(all)
 }
 
 pub(super) fn request(alloc: Global, caller: Caller, it: &RowAsk) -> Result<Request, Fail> {
@@ -59,58 +72,61 @@ fn requests(alloc: Global, rows: &[&Row]) -> Result<Vec<Request>, Fail> {
 
 /// The replies to requests over a new register; the rows read the clock.
 pub(super) fn answered(
-    rt: &impl Abort,
     alloc: Global,
     rows: &[&Row],
     requests: &[Request],
-) -> Result<Vec<Reply>, AllocError> {
-    assert!(rt; are_well_formed(requests));
-    let mut keeper = PlainKeeper::new(alloc)?;
-    run(
-        alloc,
-        &mut keeper,
-        &mut RowClock { rows, next: 0 },
-        requests,
-    )
-}
-
-fn listed(rt: &impl Abort, alloc: Global, rows: &[&Row]) -> Result<Vec<Reply>, Fail> {
-    let requests = requests(alloc, rows)?;
-    Ok(answered(rt, alloc, rows, requests.as_slice())?)
-}
-
-fn assert_told(
-    rt: &impl Abort,
-    alloc: Global,
-    row: &Row,
-    place: usize,
-    reply: &Reply,
-) -> Result<(), AllocError> {
-    let line = reply_line(alloc, reply)?;
-    assert_eq!(rt; line.as_str(), row.3, "row {place}");
-    Ok(())
-}
-
-fn assert_all_told(
-    rt: &impl Abort,
-    alloc: Global,
-    rows: &[&Row],
-    replies: &[Reply],
-) -> Result<(), AllocError> {
-    assert!(rt; rows.len() == replies.len());
-    for (place, reply) in replies.iter().enumerate() {
-        assert_told(rt, alloc, rows[place], place, reply)?;
+) -> Result<Vec<Reply>, Fail> {
+    if !are_well_formed(requests) {
+        return Err("a request of the rows is not well formed".into());
     }
-    Ok(())
+    let mut keeper = PlainKeeper::new(alloc)?;
+    let mut clock = RowClock { rows, next: 0 };
+    Ok(run(alloc, &mut keeper, &mut clock, requests)?)
 }
 
-fn assert_listed(rt: &impl Abort, alloc: Global, rows: &[&Row]) -> Result<(), Fail> {
-    let replies = listed(rt, alloc, rows)?;
-    Ok(assert_all_told(rt, alloc, rows, replies.as_slice())?)
+/// Whether a reply is this line. A reply of 501 is want of memory.
+pub(super) fn is_told(alloc: Global, reply: &Reply, line: &str) -> Result<bool, AllocError> {
+    Ok(reply_line(alloc, reply)?.as_str() == line)
 }
 
-/// Runs the rows of all parts, one after another, over a new register, and compares the replies in full.
-pub(super) fn assert_rows(rt: &impl Abort, alloc: Global, parts: &[&[Row]]) -> Result<(), Fail> {
-    let rows = all_of(alloc, parts)?;
-    assert_listed(rt, alloc, rows.as_slice())
+/// The place of the first row with another reply, if any.
+fn wrong_row(alloc: Global, rows: &[&Row], replies: &[Reply]) -> Result<Option<usize>, AllocError> {
+    if rows.len() != replies.len() {
+        return Ok(Some(replies.len()));
+    }
+    for (place, reply) in replies.iter().enumerate() {
+        if !is_told(alloc, reply, rows[place].3)? {
+            return Ok(Some(place));
+        }
+    }
+    Ok(None)
+}
+
+fn wrong_reply(alloc: Global, rows: &[&Row], requests: &[Request]) -> Result<Option<usize>, Fail> {
+    let replies = answered(alloc, rows, requests)?;
+    Ok(wrong_row(alloc, rows, replies.as_slice())?)
+}
+
+fn wrong_of(alloc: Global, rows: &[&Row]) -> Result<Option<usize>, Fail> {
+    let requests = requests(alloc, rows)?;
+    wrong_reply(alloc, rows, requests.as_slice())
+}
+
+fn wrong_of_all(alloc: Global, base: &[&[Row]], rows: &[Row]) -> Result<Option<usize>, Fail> {
+    let rows = all_of(alloc, base, rows)?;
+    wrong_of(alloc, rows.as_slice())
+}
+
+/// Runs the rows that these begin with and then these, one after another, over a new register, and compares the replies
+/// in full.
+pub(super) fn assert_rows(
+    rt: &impl Abort,
+    alloc: Global,
+    base: &[&[Row]],
+    rows: &[Row],
+) -> Result<(), Fail> {
+    match wrong_of_all(alloc, base, rows)? {
+        Some(place) => panic!(rt; "row {place}"),
+        None => Ok(()),
+    }
 }

@@ -1,8 +1,8 @@
 //! The steps that other rows begin with.
-use super::asked::OFFICE;
-use super::asked::RowAct::{Enrol, Grant, Group, Register};
+use super::asked::RowAct::{Approve, Enrol, Grant, Group, Lodge, Register};
 use super::asked::RowAsk::Do;
-use super::facts::{Right, Share};
+use super::asked::{OFFICE, Right, RowAsk, Share};
+use super::lodged::RowContent::Mortgage;
 use super::rows::Row;
 use land_core::caller::Caller;
 use land_core::kind::PartyKind::{NaturalPerson, NonNaturalPerson};
@@ -53,7 +53,7 @@ pub(super) const SAM: Caller = Caller {
 const ANNA_A_THIRD: &[Share] = &[(2, 1, 3), (3, 2, 3)];
 
 /// Anna, Ben and the bank are enrolled.
-pub(super) const ENROLLED: &[Row] = &[
+const ENROLLED: &[Row] = &[
     Row(
         1000,
         OFFICE,
@@ -75,7 +75,7 @@ pub(super) const ENROLLED: &[Row] = &[
 ];
 
 /// The bank has its role, Nora and Sam are enrolled and have theirs, and Anna and Ben become a group.
-pub(super) const GROUPED: &[Row] = &[
+const GROUPED: &[Row] = &[
     Row(1000, OFFICE, Do(Grant(4, Bank)), "done 4 made [] at 1003"),
     Row(
         1000,
@@ -108,9 +108,31 @@ pub(super) const GROUPED: &[Row] = &[
 pub(super) const SHARED: &[Right] = &[(2, Ownership, 1, 4), (7, Ownership, 3, 4), (6, Lease, 1, 1)];
 
 /// The garden is registered.
-pub(super) const REGISTERED: &[Row] = &[Row(
+const REGISTERED: &[Row] = &[Row(
     1000,
     OFFICE,
     Do(Register(true, 1, SHARED)),
     "done 9 made [8, 9, 10, 11, 12, 13] at 1009",
 )];
+
+/// Nothing was done.
+pub(super) const NEW: &[&[Row]] = &[];
+
+pub(super) const WITH_PARTIES: &[&[Row]] = &[ENROLLED];
+
+pub(super) const WITH_GROUP: &[&[Row]] = &[ENROLLED, GROUPED];
+
+pub(super) const WITH_GARDEN: &[&[Row]] = &[ENROLLED, GROUPED, REGISTERED];
+
+/// The bank lends on the garden.
+pub(super) const LOAN: RowAsk = Do(Lodge("M1", "Loan 1", Mortgage(9, 4, 2_500_000)));
+
+/// The loan is lodged.
+const LODGED: &[Row] = &[Row(1000, BANK, LOAN, "done 15 made [14, 15] at 1010")];
+
+/// The loan is approved.
+const MORTGAGED: &[Row] = &[Row(1000, OFFICE, Do(Approve(15)), "done 15 made [16] at 1011")];
+
+pub(super) const WITH_LOAN: &[&[Row]] = &[ENROLLED, GROUPED, REGISTERED, LODGED];
+
+pub(super) const WITH_MORTGAGE: &[&[Row]] = &[ENROLLED, GROUPED, REGISTERED, LODGED, MORTGAGED];

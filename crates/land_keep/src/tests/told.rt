@@ -1,4 +1,5 @@
 //! Objects and replies in one line each.
+use super::lodged::mutation_line;
 use crate::reply::Reply;
 use crate::view::View;
 use land_core::change::Done;
@@ -79,6 +80,7 @@ pub(super) fn object_line(alloc: Global, object: &Object) -> Result<String, Allo
         Object::Source(it) => {
             format!(in alloc; "source {} {:?} {}", it.number, it.kind, it.title.as_str())
         }
+        Object::Mutation(it) => mutation_line(alloc, it),
     }
 }
 

@@ -1,12 +1,10 @@
 //! Units with their parcels and entries: registered, burdened, and seen by role and moment.
 use super::asked::RowAct::{Burden, Grant, Lift, Register};
 use super::asked::RowAsk::{Do, List, Sheet, View};
-use super::asked::{OFFICE, RowAsk};
-use super::facts::Right;
+use super::asked::{OFFICE, Right, RowAsk};
 use super::rows::{Row, assert_rows};
 use super::steps::{
-    ANNA, BANK, BANK_ITSELF, BEN, ENROLLED, GROUPED, NORA, NORA_HERSELF, REGISTERED, SAM, SHARED,
-    SURVEYOR,
+    ANNA, BANK, BANK_ITSELF, BEN, NORA, NORA_HERSELF, SAM, SHARED, SURVEYOR, WITH_GARDEN,
 };
 use land_core::act::BurdenClass::{Responsibility, Restriction};
 use land_core::caller::Caller;
@@ -62,11 +60,7 @@ const UNITS_AND_SIGHT: &[Row] = &[
 
 #[test]
 fn units_and_sight(rt: HostRuntime) -> Result<(), Fail> {
-    assert_rows(
-        &rt,
-        rt.alloc(),
-        &[ENROLLED, GROUPED, REGISTERED, UNITS_AND_SIGHT],
-    )
+    assert_rows(&rt, rt.alloc(), WITH_GARDEN, UNITS_AND_SIGHT)
 }
 
 const HOLDINGS: &[Row] = &[
@@ -86,7 +80,7 @@ const HOLDINGS: &[Row] = &[
 
 #[test]
 fn holders_see_their_holdings(rt: HostRuntime) -> Result<(), Fail> {
-    assert_rows(&rt, rt.alloc(), &[ENROLLED, GROUPED, REGISTERED, HOLDINGS])
+    assert_rows(&rt, rt.alloc(), WITH_GARDEN, HOLDINGS)
 }
 
 const SHOWN: &[Row] = &[
@@ -128,7 +122,7 @@ const SHOWN: &[Row] = &[
 
 #[test]
 fn what_is_registered_is_shown(rt: HostRuntime) -> Result<(), Fail> {
-    assert_rows(&rt, rt.alloc(), &[ENROLLED, GROUPED, REGISTERED, SHOWN])
+    assert_rows(&rt, rt.alloc(), WITH_GARDEN, SHOWN)
 }
 
 const SHEET: RowAsk = Sheet(9, None);
@@ -190,5 +184,5 @@ const SHEETS: &[Row] = &[
 
 #[test]
 fn a_sheet_has_what_its_caller_sees(rt: HostRuntime) -> Result<(), Fail> {
-    assert_rows(&rt, rt.alloc(), &[ENROLLED, GROUPED, REGISTERED, SHEETS])
+    assert_rows(&rt, rt.alloc(), WITH_GARDEN, SHEETS)
 }

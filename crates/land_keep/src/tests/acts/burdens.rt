@@ -1,15 +1,16 @@
 //! Burdens: on a unit, and lifted.
-use super::{PERSONS, Row, STAMP, acted, assert_rows};
+use super::{FIRST, Row, STAMP, persons, told_rows};
 use crate::tests::asked::RowAct::{Burden, Lift, Register};
-use crate::tests::facts::{Fact, Held, register_of, tell};
+use crate::tests::asked::text;
 use land_core::act::BurdenClass::{Responsibility, Restriction};
 use land_core::kind::Kind;
 use land_core::register::Register as Registered;
 use land_core::rrr::RightType::Ownership;
-use std::alloc::Global;
+use land_core::rrr::{Class, RrrRecord};
+use std::alloc::{AllocError, Global};
 use std::test::Fail;
 
-const UNIT: Row = Row(
+pub(super) const UNIT: Row = Row(
     Register(true, 1, &[(2, Ownership, 1, 1)]),
     STAMP,
     "done 6 made [5, 6, 7, 8] at 1000",
@@ -45,30 +46,59 @@ fn is_lifted(register: &Registered) -> bool {
         && register.stands(Kind::Source, 9)
 }
 
+/// How many rows are told as expected, and whether the burden is lifted.
+fn lifted(alloc: Global) -> Result<(usize, bool), Fail> {
+    let mut register = persons(alloc, FIRST)?;
+    let told = told_rows(alloc, &mut register, LIFTED)?;
+    Ok((told, is_lifted(&register)))
+}
+
 #[test]
 fn a_unit_is_burdened_and_the_burden_lifted(rt: HostRuntime) -> Result<(), Fail> {
-    let register = acted(&rt, rt.alloc(), &[PERSONS], LIFTED)?;
-    assert!(&rt; is_lifted(&register));
+    let (told, lifted) = lifted(rt.alloc())?;
+    assert!(&rt; told == LIFTED.len() && lifted, "row {told}");
     Ok(())
 }
 
-/// A unit with a right, and 1000 as the next number.
-const OWNED: &[Fact] = &[
-    Fact::Source(5),
-    Fact::Unit(6, "Garden", true),
-    Fact::Parcel(7, 6, "12", 5),
-    Fact::Rrr(8, 6, 2, 5, Held::Right(Ownership, 1, 1)),
-    Fact::Next(1000),
-];
+/// A restriction of Anna on the unit 6.
+fn restriction(alloc: Global) -> Result<RrrRecord, AllocError> {
+    Ok(RrrRecord {
+        unit: 6,
+        party: 2,
+        class: Class::Restriction {
+            words: text(alloc, "No fence")?,
+        },
+        source: 5,
+    })
+}
 
-/// The unit with its right and so many restrictions.
-fn burdened(alloc: Global, count: u64) -> Result<Registered, Fail> {
-    let mut register = register_of(alloc, &[PERSONS, OWNED])?;
+/// Puts so many restrictions into a register, under the numbers from 20 on.
+pub(super) fn restrict(
+    alloc: Global,
+    register: &mut Registered,
+    count: u64,
+) -> Result<(), AllocError> {
     for place in 0..count {
-        let restriction = Fact::Rrr(place.saturating_add(20), 6, 2, 5, Held::Restriction);
-        tell(alloc, &mut register, &restriction)?;
+        register
+            .rrrs
+            .insert(place.saturating_add(20), restriction(alloc)?)?;
     }
-    Ok(register)
+    Ok(())
+}
+
+/// How many rows are told as expected over the unit with its right and 254 restrictions, and 1000 as the next number.
+fn crowded(alloc: Global, register: &mut Registered) -> Result<usize, Fail> {
+    if told_rows(alloc, register, &[UNIT])? != 1 {
+        return Ok(0);
+    }
+    restrict(alloc, register, 254)?;
+    register.next = 1000;
+    told_rows(alloc, register, FULL)
+}
+
+fn full(alloc: Global) -> Result<usize, Fail> {
+    let mut register = persons(alloc, FIRST)?;
+    crowded(alloc, &mut register)
 }
 
 const FULL: &[Row] = &[
@@ -83,6 +113,7 @@ const FULL: &[Row] = &[
 
 #[test]
 fn a_unit_has_room_for_256_entries(rt: HostRuntime) -> Result<(), Fail> {
-    let mut register = burdened(rt.alloc(), 254)?;
-    assert_rows(&rt, rt.alloc(), &mut register, FULL)
+    let told = full(rt.alloc())?;
+    assert!(&rt; told == FULL.len(), "row {told}");
+    Ok(())
 }

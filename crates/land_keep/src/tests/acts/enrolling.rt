@@ -1,7 +1,6 @@
 //! Enrolling, up to the last number and the end of time.
-use super::{Row, STAMP, acted};
+use super::{Row, STAMP, is_sound, persons, told_rows};
 use crate::tests::asked::RowAct::{self, Enrol};
-use crate::tests::facts::{Fact, fault};
 use land_core::kind::PartyKind::NaturalPerson;
 use land_core::register::Register;
 use land_core::role::Role;
@@ -19,12 +18,19 @@ const ROWS: &[Row] = &[
 
 /// Whether the party with the last number is a citizen, in a sound register.
 fn is_enrolled(alloc: Global, register: &Register) -> Result<bool, AllocError> {
-    Ok(register.holds(1_000_000_000, Role::Citizen) && fault(alloc, register)? == None)
+    Ok(register.holds(1_000_000_000, Role::Citizen) && is_sound(alloc, register)?)
+}
+
+/// How many rows are told as expected, and whether the last number is a citizen's.
+fn enrolled(alloc: Global) -> Result<(usize, bool), Fail> {
+    let mut register = persons(alloc, 1_000_000_000)?;
+    let told = told_rows(alloc, &mut register, ROWS)?;
+    Ok((told, is_enrolled(alloc, &register)?))
 }
 
 #[test]
 fn the_last_number_is_given_and_no_other_after_it(rt: HostRuntime) -> Result<(), Fail> {
-    let register = acted(&rt, rt.alloc(), &[&[Fact::Next(1_000_000_000)]], ROWS)?;
-    assert!(&rt; is_enrolled(rt.alloc(), &register)?);
+    let (told, good) = enrolled(rt.alloc())?;
+    assert!(&rt; told == ROWS.len() && good, "row {told}");
     Ok(())
 }

@@ -1,7 +1,7 @@
 //! Groups: made, given other members, and refused.
-use super::{PERSONS, Row, STAMP, acted, assert_acts};
+use super::{FIRST, Row, STAMP, assert_acts, is_sound, persons, told_rows};
 use crate::tests::asked::RowAct::{Group, Regroup};
-use crate::tests::facts::{Fact, Share, fault};
+use crate::tests::asked::Share;
 use land_core::register::Register;
 use std::alloc::{AllocError, Global};
 use std::test::Fail;
@@ -38,7 +38,7 @@ const SHARES: &[Row] = &[
 
 #[test]
 fn shares_are_whole_and_no_party_stands_twice(rt: HostRuntime) -> Result<(), Fail> {
-    assert_acts(&rt, rt.alloc(), &[PERSONS], SHARES)
+    assert_acts(&rt, rt.alloc(), FIRST, SHARES)
 }
 
 const LAST: u64 = 1_000_000_000;
@@ -60,12 +60,7 @@ const LAST_NUMBER: &[Row] = &[
 
 #[test]
 fn a_group_takes_the_last_number(rt: HostRuntime) -> Result<(), Fail> {
-    assert_acts(
-        &rt,
-        rt.alloc(),
-        &[PERSONS, &[Fact::Next(LAST)]],
-        LAST_NUMBER,
-    )
+    assert_acts(&rt, rt.alloc(), LAST, LAST_NUMBER)
 }
 
 const REGROUPED: &[Row] = &[
@@ -79,14 +74,21 @@ fn are_others(alloc: Global, register: &Register) -> Result<bool, AllocError> {
         register.is_member(5, 2)
             && register.is_member(5, 4)
             && !register.is_member(5, 3)
-            && fault(alloc, register)? == None,
+            && is_sound(alloc, register)?,
     )
+}
+
+/// How many rows are told as expected, and whether the members are others.
+fn regrouped(alloc: Global) -> Result<(usize, bool), Fail> {
+    let mut register = persons(alloc, FIRST)?;
+    let told = told_rows(alloc, &mut register, REGROUPED)?;
+    Ok((told, are_others(alloc, &register)?))
 }
 
 #[test]
 fn other_members_take_the_place_of_the_old_ones(rt: HostRuntime) -> Result<(), Fail> {
-    let register = acted(&rt, rt.alloc(), &[PERSONS], REGROUPED)?;
-    assert!(&rt; are_others(rt.alloc(), &register)?);
+    let (told, good) = regrouped(rt.alloc())?;
+    assert!(&rt; told == REGROUPED.len() && good, "row {told}");
     Ok(())
 }
 
@@ -104,5 +106,5 @@ const NO_MEMBER: &[Row] = &[
 
 #[test]
 fn a_group_is_regrouped_and_is_no_member(rt: HostRuntime) -> Result<(), Fail> {
-    assert_acts(&rt, rt.alloc(), &[PERSONS], NO_MEMBER)
+    assert_acts(&rt, rt.alloc(), FIRST, NO_MEMBER)
 }

@@ -1,7 +1,7 @@
 //! Registering units.
-use super::{PERSONS, Row, STAMP, acted, assert_acts};
+use super::{FIRST, Row, STAMP, assert_acts, is_sound, persons, told_rows};
+use crate::tests::asked::Right;
 use crate::tests::asked::RowAct::Register;
-use crate::tests::facts::{Fact, Right, fault};
 use land_core::kind::Kind;
 use land_core::register::Register as Registered;
 use land_core::rrr::RightType::{Lease, Ownership};
@@ -36,13 +36,20 @@ fn has_units(alloc: Global, register: &Registered) -> Result<bool, AllocError> {
         && register.stands(Kind::Parcel, 14)
         && register.stands(Kind::Rrr, 15)
         && register.next == 17;
-    Ok(first && second && fault(alloc, register)? == None)
+    Ok(first && second && is_sound(alloc, register)?)
+}
+
+/// How many rows are told as expected, and whether the units stand.
+fn registered(alloc: Global) -> Result<(usize, bool), Fail> {
+    let mut register = persons(alloc, FIRST)?;
+    let told = told_rows(alloc, &mut register, WITH_ALL)?;
+    Ok((told, has_units(alloc, &register)?))
 }
 
 #[test]
 fn a_unit_comes_with_its_source_parcels_and_rights(rt: HostRuntime) -> Result<(), Fail> {
-    let register = acted(&rt, rt.alloc(), &[PERSONS], WITH_ALL)?;
-    assert!(&rt; has_units(rt.alloc(), &register)?);
+    let (told, good) = registered(rt.alloc())?;
+    assert!(&rt; told == WITH_ALL.len() && good, "row {told}");
     Ok(())
 }
 
@@ -74,7 +81,7 @@ const SHARES: &[Row] = &[
 
 #[test]
 fn shares_of_each_type_are_whole_in_a_checked_unit(rt: HostRuntime) -> Result<(), Fail> {
-    assert_acts(&rt, rt.alloc(), &[PERSONS], SHARES)
+    assert_acts(&rt, rt.alloc(), FIRST, SHARES)
 }
 
 const ABSENT: &[Right] = &[(2, Ownership, 1, 2), (9, Ownership, 1, 2)];
@@ -100,7 +107,7 @@ const PARTIES: &[Row] = &[
 
 #[test]
 fn parties_stand_and_have_one_right_of_a_type(rt: HostRuntime) -> Result<(), Fail> {
-    assert_acts(&rt, rt.alloc(), &[PERSONS], PARTIES)
+    assert_acts(&rt, rt.alloc(), FIRST, PARTIES)
 }
 
 const LAST_NUMBERS: &[Row] = &[
@@ -114,10 +121,5 @@ const LAST_NUMBERS: &[Row] = &[
 
 #[test]
 fn the_last_numbers_are_given_and_none_after_them(rt: HostRuntime) -> Result<(), Fail> {
-    assert_acts(
-        &rt,
-        rt.alloc(),
-        &[PERSONS, &[Fact::Next(999_999_997)]],
-        LAST_NUMBERS,
-    )
+    assert_acts(&rt, rt.alloc(), 999_999_997, LAST_NUMBERS)
 }

@@ -1,8 +1,9 @@
 //! Roles: granted, revoked, and refused.
-use super::{PERSONS, Row, STAMP, acted, assert_acts};
+use super::{FIRST, Row, STAMP, assert_acts, persons, told_rows};
 use crate::tests::asked::RowAct::{Grant, Group, Revoke};
 use land_core::register::Register;
 use land_core::role::Role::{Bank, Citizen, Notary, StateAdministrator};
+use std::alloc::Global;
 use std::test::Fail;
 
 const ONCE: &[Row] = &[
@@ -24,10 +25,17 @@ fn are_held(register: &Register) -> bool {
         && register.holds(3, Notary)
 }
 
+/// How many rows are told as expected, and whether the roles are held.
+fn granted(alloc: Global) -> Result<(usize, bool), Fail> {
+    let mut register = persons(alloc, FIRST)?;
+    let told = told_rows(alloc, &mut register, ONCE)?;
+    Ok((told, are_held(&register)))
+}
+
 #[test]
 fn a_role_is_granted_once_and_revoked_once(rt: HostRuntime) -> Result<(), Fail> {
-    let register = acted(&rt, rt.alloc(), &[PERSONS], ONCE)?;
-    assert!(&rt; are_held(&register));
+    let (told, good) = granted(rt.alloc())?;
+    assert!(&rt; told == ONCE.len() && good, "row {told}");
     Ok(())
 }
 
@@ -46,7 +54,7 @@ const NOBODY: &[Row] = &[
 
 #[test]
 fn nobody_and_groups_have_no_roles(rt: HostRuntime) -> Result<(), Fail> {
-    assert_acts(&rt, rt.alloc(), &[PERSONS], NOBODY)
+    assert_acts(&rt, rt.alloc(), FIRST, NOBODY)
 }
 
 const LAST: &[Row] = &[
@@ -67,5 +75,5 @@ const LAST: &[Row] = &[
 
 #[test]
 fn the_last_administrator_stays(rt: HostRuntime) -> Result<(), Fail> {
-    assert_acts(&rt, rt.alloc(), &[PERSONS], LAST)
+    assert_acts(&rt, rt.alloc(), FIRST, LAST)
 }

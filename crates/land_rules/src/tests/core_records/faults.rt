@@ -1,5 +1,8 @@
 //! Each fault of parties, their roles and their members, and what lies just beside it.
-use super::{ANNA_A_THIRD, Case, FAMILY, GROUP, PERSONS, REFERENCE, assert_faults};
+use super::{
+    ANNA_A_THIRD, Case, FAMILY, OFFICE_ALONE, PERSONS, REFERENCE, WITH_GROUP, WITH_PERSONS,
+    assert_faults,
+};
 use crate::tests::facts::{Fact, Share};
 use land_core::kind::PartyKind::NaturalPerson;
 use land_core::role::Role;
@@ -20,7 +23,7 @@ const NUMBERS: &[Case] = &[
 
 #[test]
 fn numbers_in_use_lie_below_the_next_one(rt: HostRuntime) -> Result<(), Fail> {
-    assert_faults(&rt, rt.alloc(), &[], NUMBERS)
+    assert_faults(&rt, rt.alloc(), OFFICE_ALONE, NUMBERS)
 }
 
 const ROLES: &[Case] = &[
@@ -31,7 +34,7 @@ const ROLES: &[Case] = &[
 
 #[test]
 fn a_role_is_that_of_a_single_party(rt: HostRuntime) -> Result<(), Fail> {
-    assert_faults(&rt, rt.alloc(), &[PERSONS, GROUP], ROLES)
+    assert_faults(&rt, rt.alloc(), WITH_GROUP, ROLES)
 }
 
 const NO_ADMINISTRATOR: &[Case] = &[Case(
@@ -41,7 +44,7 @@ const NO_ADMINISTRATOR: &[Case] = &[Case(
 
 #[test]
 fn somebody_is_state_administrator(rt: HostRuntime) -> Result<(), Fail> {
-    assert_faults(&rt, rt.alloc(), &[], NO_ADMINISTRATOR)
+    assert_faults(&rt, rt.alloc(), OFFICE_ALONE, NO_ADMINISTRATOR)
 }
 
 const THIRDS: &[Share] = &[(2, 1, 3), (3, 1, 3), (4, 1, 3)];
@@ -74,14 +77,16 @@ const MEMBERS: &[Case] = &[
     Case(&[Fact::Members(5, WITH_ITSELF)], REFERENCE),
 ];
 
+const WITH_FAMILY: &[&[Fact]] = &[PERSONS, &[FAMILY]];
+
 #[test]
 fn members_are_single_parties_with_all_shares(rt: HostRuntime) -> Result<(), Fail> {
-    assert_faults(&rt, rt.alloc(), &[PERSONS, &[FAMILY]], MEMBERS)
+    assert_faults(&rt, rt.alloc(), WITH_FAMILY, MEMBERS)
 }
 
 const SAMS_MEMBERS: &[Case] = &[Case(&[Fact::Members(4, ANNA_A_THIRD)], REFERENCE)];
 
 #[test]
 fn only_groups_have_members(rt: HostRuntime) -> Result<(), Fail> {
-    assert_faults(&rt, rt.alloc(), &[PERSONS], SAMS_MEMBERS)
+    assert_faults(&rt, rt.alloc(), WITH_PERSONS, SAMS_MEMBERS)
 }

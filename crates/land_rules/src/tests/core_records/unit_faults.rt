@@ -1,9 +1,8 @@
 //! Each fault of units, parcels and sources, and what lies just beside it.
 use super::garden::{
-    ALL, ANNA, ANNAS, BEN, BENS, DEED, GARDEN, LAWN, LEASE, NOBODY, PATH, POND, RECORDS, SAM,
-    WITH_ORCHARD,
+    ALL, ANNA, ANNAS, BEN, BENS, DEED, GARDEN, LAWN, LEASE, NOBODY, PATH, POND, SAM, WITH_ORCHARD,
 };
-use super::{Case, PERSONS, REFERENCE, assert_faults};
+use super::{Case, REFERENCE, WITH_GARDEN, WITH_TWO_UNITS, assert_faults};
 use crate::tests::facts::{Fact, Held};
 use land_core::kind::Kind;
 use land_core::kind::PartyKind::NaturalPerson;
@@ -20,7 +19,7 @@ const PARCELS: &[Case] = &[
 
 #[test]
 fn parcels_refer_to_what_stands(rt: HostRuntime) -> Result<(), Fail> {
-    assert_faults(&rt, rt.alloc(), &[PERSONS, RECORDS], PARCELS)
+    assert_faults(&rt, rt.alloc(), WITH_GARDEN, PARCELS)
 }
 
 const ENTRIES: &[Case] = &[
@@ -56,7 +55,7 @@ const ENTRIES: &[Case] = &[
 
 #[test]
 fn entries_refer_to_what_stands(rt: HostRuntime) -> Result<(), Fail> {
-    assert_faults(&rt, rt.alloc(), &[PERSONS, RECORDS], ENTRIES)
+    assert_faults(&rt, rt.alloc(), WITH_GARDEN, ENTRIES)
 }
 
 const NUMBERS: &[Case] = &[
@@ -112,7 +111,7 @@ const NUMBERS: &[Case] = &[
 
 #[test]
 fn numbers_of_each_kind_lie_below_the_next_one(rt: HostRuntime) -> Result<(), Fail> {
-    assert_faults(&rt, rt.alloc(), &[PERSONS, RECORDS], NUMBERS)
+    assert_faults(&rt, rt.alloc(), WITH_GARDEN, NUMBERS)
 }
 
 /// The orchard under the number 0.
@@ -129,13 +128,8 @@ const LATE_UNITS: &[Case] = &[Case(&[], None), Case(&[Fact::Next(16)], REFERENCE
 
 #[test]
 fn numbers_of_units_lie_below_the_next_one(rt: HostRuntime) -> Result<(), Fail> {
-    assert_faults(&rt, rt.alloc(), &[PERSONS, RECORDS], UNITS)?;
-    assert_faults(
-        &rt,
-        rt.alloc(),
-        &[PERSONS, RECORDS, WITH_ORCHARD],
-        LATE_UNITS,
-    )
+    assert_faults(&rt, rt.alloc(), WITH_GARDEN, UNITS)?;
+    assert_faults(&rt, rt.alloc(), WITH_TWO_UNITS, LATE_UNITS)
 }
 
 const BARE: Option<Unsound> = Some(Unsound::Bare);
@@ -157,17 +151,12 @@ const LACKING: &[Case] = &[
 
 #[test]
 fn a_unit_has_a_parcel_and_an_owner(rt: HostRuntime) -> Result<(), Fail> {
-    assert_faults(&rt, rt.alloc(), &[PERSONS, RECORDS], LACKING)
+    assert_faults(&rt, rt.alloc(), WITH_GARDEN, LACKING)
 }
 
 const BESIDE_ANOTHER: &[Case] = &[Case(&[], None), Case(&[LAWN_ENDS], BARE)];
 
 #[test]
 fn parcels_of_another_unit_do_not_count(rt: HostRuntime) -> Result<(), Fail> {
-    assert_faults(
-        &rt,
-        rt.alloc(),
-        &[PERSONS, RECORDS, WITH_ORCHARD],
-        BESIDE_ANOTHER,
-    )
+    assert_faults(&rt, rt.alloc(), WITH_TWO_UNITS, BESIDE_ANOTHER)
 }

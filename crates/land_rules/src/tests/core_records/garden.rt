@@ -1,6 +1,8 @@
 //! A register with one unit, its two parcels, its entries and the source of all of them.
 use crate::tests::facts::{Fact, Held};
+use crate::tests::lodged::{Asked, Lodged};
 use land_core::kind::Kind;
+use land_core::mutation::MutationState;
 use land_core::rrr::RightType::{Lease, Ownership};
 
 pub(super) const ANNA: u64 = 2;
@@ -58,6 +60,41 @@ pub(super) const RECORDS: &[Fact] = &[
     Fact::Rrr(HEDGE, GARDEN, BEN, DEED, Held::Responsibility),
     Fact::Rrr(LOAN, GARDEN, SAM, DEED, Held::Mortgage(1)),
     Fact::Next(16),
+];
+
+/// A share of Anna's half for Sam, which nobody has decided.
+pub(super) const SHARE: Lodged = Lodged(
+    SAM,
+    "T1",
+    DEED,
+    MutationState::Lodged,
+    Asked::Transfer(GARDEN, ANNAS, SAM, 1, 4),
+);
+
+/// Sam's mortgage, as it was lodged.
+pub(super) const LOAN_LODGED: Lodged = Lodged(
+    SAM,
+    "M1",
+    DEED,
+    MutationState::Approved,
+    Asked::Mortgage(GARDEN, SAM, 2_500_000, "EUR"),
+);
+
+/// A letter of Anna, who is no bank.
+pub(super) const LETTER: Lodged = Lodged(
+    ANNA,
+    "T1",
+    DEED,
+    MutationState::Refused,
+    Asked::Discharge(GARDEN, LOAN),
+);
+
+/// Mutations of the garden, of each content and in each state.
+pub(super) const LODGED: &[Fact] = &[
+    Fact::Mutation(16, SHARE),
+    Fact::Mutation(17, LOAN_LODGED),
+    Fact::Mutation(18, LETTER),
+    Fact::Next(19),
 ];
 
 /// The garden's rights end.

@@ -1,35 +1,36 @@
 //! Each fault of rights and mortgages, and what lies just beside it.
 use super::garden::{ANNA, BEN, DEED, GARDEN, ORCHARD, RECORDS, SAM, WITH_ORCHARD, WITHOUT_RIGHTS};
-use super::{Case, PERSONS, assert_faults};
-use crate::tests::facts::{Fact, Held, Right, fault, register_of, tell};
-use land_core::register::Register;
+use super::{Case, PERSONS, WITH_TWO_UNITS, assert_faults, fault_of};
+use crate::tests::facts::{Fact, Held, Right};
 use land_core::rrr::RightType::{Lease, Ownership, Usufruct};
 use land_core::soundness::Unsound;
-use std::alloc::Global;
+use std::alloc::{AllocError, Global};
 use std::process::Abort;
 use std::test::Fail;
 
-/// Puts rights of the garden into a register, under the numbers from its next one on.
-fn tell_rights(alloc: Global, register: &mut Register, rights: &[Right]) -> Result<(), Fail> {
+/// Rights of the garden, under the numbers from 16 on, and the next number.
+fn rights_of(alloc: Global, rights: &[Right]) -> Result<Vec<Fact>, AllocError> {
+    let mut facts = Vec::new(alloc);
+    let mut next = 16;
     for (party, right_type, n, d) in rights {
         let right = Held::Right(*right_type, *n, *d);
-        let number = register.next;
-        tell(
-            alloc,
-            register,
-            &Fact::Rrr(number, GARDEN, *party, DEED, right),
-        )?;
-        register.next = number.saturating_add(1);
+        facts.push(Fact::Rrr(next, GARDEN, *party, DEED, right))?;
+        next = next.saturating_add(1);
     }
-    Ok(())
+    facts.push(Fact::Next(next))?;
+    Ok(facts)
 }
 
-/// The fault of the garden, its shares checked or not, with these rights and no others.
-fn held(alloc: Global, checked: bool, rights: &[Right]) -> Result<Option<Unsound>, Fail> {
-    let unit = [Fact::Unit(GARDEN, "Garden", checked)];
-    let mut register = register_of(alloc, &[PERSONS, RECORDS, WITHOUT_RIGHTS, &unit])?;
-    tell_rights(alloc, &mut register, rights)?;
-    Ok(fault(alloc, &register)?)
+const UNCHECKED: Fact = Fact::Unit(GARDEN, "Garden", false);
+
+const CHECKED_BARE: &[&[Fact]] = &[PERSONS, RECORDS, WITHOUT_RIGHTS];
+
+const UNCHECKED_BARE: &[&[Fact]] = &[PERSONS, RECORDS, WITHOUT_RIGHTS, &[UNCHECKED]];
+
+/// The fault of the garden with these rights and no others.
+fn held(alloc: Global, base: &[&[Fact]], rights: &[Right]) -> Result<Option<Unsound>, Fail> {
+    let facts = rights_of(alloc, rights)?;
+    fault_of(alloc, base, facts.as_slice())
 }
 
 /// Rights, and the faults of the garden where its shares are checked and where they are not.
@@ -37,8 +38,9 @@ struct Holding(&'static [Right], Option<Unsound>, Option<Unsound>);
 
 fn assert_held(rt: &impl Abort, alloc: Global, holdings: &[Holding]) -> Result<(), Fail> {
     for (place, it) in holdings.iter().enumerate() {
-        assert!(rt; held(alloc, true, it.0)? == it.1, "checked {place}");
-        assert!(rt; held(alloc, false, it.0)? == it.2, "unchecked {place}");
+        let checked = held(alloc, CHECKED_BARE, it.0)?;
+        let unchecked = held(alloc, UNCHECKED_BARE, it.0)?;
+        assert!(rt; checked == it.1 && unchecked == it.2, "row {place}");
     }
     Ok(())
 }
@@ -130,12 +132,7 @@ const TWO_UNITS: &[Case] = &[Case(
 
 #[test]
 fn a_party_has_rights_of_one_type_in_two_units(rt: HostRuntime) -> Result<(), Fail> {
-    assert_faults(
-        &rt,
-        rt.alloc(),
-        &[PERSONS, RECORDS, WITH_ORCHARD],
-        TWO_UNITS,
-    )
+    assert_faults(&rt, rt.alloc(), WITH_TWO_UNITS, TWO_UNITS)
 }
 
 const RANK: Option<Unsound> = Some(Unsound::Rank);
@@ -165,13 +162,9 @@ const RANKS: &[Case] = &[
     ),
 ];
 
+const UP_TO_20: &[&[Fact]] = &[PERSONS, RECORDS, WITH_ORCHARD, &[Fact::Next(20)]];
+
 #[test]
 fn mortgages_of_a_unit_have_ranks_of_their_own(rt: HostRuntime) -> Result<(), Fail> {
-    let twenty = &[Fact::Next(20)];
-    assert_faults(
-        &rt,
-        rt.alloc(),
-        &[PERSONS, RECORDS, WITH_ORCHARD, twenty],
-        RANKS,
-    )
+    assert_faults(&rt, rt.alloc(), UP_TO_20, RANKS)
 }

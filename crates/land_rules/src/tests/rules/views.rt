@@ -1,7 +1,7 @@
 //! By which rule each role is denied the view of what it does not see.
 use super::{
     ABSENT, ANNA, BEN, DEED, FAMILY, FARM, HOUSE, LENA, NORA, NORTH, OFFICE, SAM, SOUTH, caller,
-    farm_and_house, told,
+    farm_and_house, told, verdict_on,
 };
 use land_core::ask::Ask;
 use land_core::kind::Kind::{self, Parcel, Party, Rrr, Source, Unit};
@@ -9,7 +9,6 @@ use land_core::register::Register;
 use land_core::role::Role::{
     self, Bank, CertifiedSurveyor, Citizen, Conveyancer, Notary, StateAdministrator,
 };
-use land_rules::rules::verdict;
 use std::alloc::Global;
 use std::process::Abort;
 use std::test::Fail;
@@ -23,14 +22,27 @@ fn is_told(register: &Register, row: &Row) -> bool {
         number: row.3,
         at: None,
     };
-    verdict(register, register, caller(row.0, row.1), &ask, false) == told(row.4)
+    verdict_on(register, register, caller(row.0, row.1), ask, false) == told(row.4)
+}
+
+/// How many rows are told as expected before the first that is not.
+fn told_of(register: &Register, rows: &[Row]) -> usize {
+    for (place, row) in rows.iter().enumerate() {
+        if !is_told(register, row) {
+            return place;
+        }
+    }
+    rows.len()
+}
+
+fn told_rows(alloc: Global, rows: &[Row]) -> Result<usize, Fail> {
+    let register = farm_and_house(alloc)?;
+    Ok(told_of(&register, rows))
 }
 
 fn assert_views(rt: &impl Abort, alloc: Global, rows: &[Row]) -> Result<(), Fail> {
-    let register = farm_and_house(alloc)?;
-    for (place, row) in rows.iter().enumerate() {
-        assert!(rt; is_told(&register, row), "row {place}");
-    }
+    let told = told_rows(alloc, rows)?;
+    assert!(rt; told == rows.len(), "row {told}");
     Ok(())
 }
 
@@ -144,14 +156,27 @@ fn is_told_of(register: &Register, row: &Sheet) -> bool {
         unit: row.2,
         at: None,
     };
-    verdict(register, register, caller(row.0, row.1), &ask, false) == told(row.3)
+    verdict_on(register, register, caller(row.0, row.1), ask, false) == told(row.3)
+}
+
+/// How many sheets are told as expected before the first that is not.
+fn sheets_of(register: &Register) -> usize {
+    for (place, row) in SHEETS.iter().enumerate() {
+        if !is_told_of(register, row) {
+            return place;
+        }
+    }
+    SHEETS.len()
+}
+
+fn told_sheets(alloc: Global) -> Result<usize, Fail> {
+    let register = farm_and_house(alloc)?;
+    Ok(sheets_of(&register))
 }
 
 #[test]
 fn a_sheet_is_judged_as_its_unit(rt: HostRuntime) -> Result<(), Fail> {
-    let register = farm_and_house(rt.alloc())?;
-    for (place, row) in SHEETS.iter().enumerate() {
-        assert!(&rt; is_told_of(&register, row), "row {place}");
-    }
+    let told = told_sheets(rt.alloc())?;
+    assert!(&rt; told == SHEETS.len(), "row {told}");
     Ok(())
 }

@@ -1,8 +1,11 @@
 //! How long the texts of acts may be, and what may stand in them.
-use super::garden::{ANNA, GARDEN};
-use crate::tests::asked::{Words, new_burden, new_unit};
-use crate::tests::facts::text;
-use land_core::act::{Act, BurdenClass, Enrol};
+use super::drafts::{Draft, burden, lodging, registration};
+use super::garden::{ANNA, GARDEN, LOAN};
+use super::is_good;
+use crate::tests::facts::{Right, text};
+use crate::tests::lodged::Asked;
+use land_core::act::BurdenClass::{Responsibility, Restriction};
+use land_core::act::{Act, Enrol};
 use land_core::kind::PartyKind;
 use land_core::rrr::RightType::Ownership;
 use std::alloc::{AllocError, Global};
@@ -20,6 +23,8 @@ enum Place {
     Label,
     BurdenWords,
     BurdenDocument,
+    Reference,
+    LodgedDocument,
 }
 
 fn enrolment(alloc: Global, name: &str) -> Result<Act, AllocError> {
@@ -29,67 +34,42 @@ fn enrolment(alloc: Global, name: &str) -> Result<Act, AllocError> {
     }))
 }
 
-fn registration(alloc: Global, words: &Words<'_>) -> Result<Act, Fail> {
-    let unit = new_unit(alloc, words, true, 2, &[(ANNA, Ownership, 1, 1)])?;
-    Ok(Act::Register(unit))
-}
-
-/// A restriction with these words.
-fn restriction(alloc: Global, words: &str) -> Result<Act, AllocError> {
-    let mut burden = new_burden(alloc, BurdenClass::Restriction, GARDEN, ANNA)?;
-    burden.words = text(alloc, words)?;
-    Ok(Act::Burden(burden))
-}
-
-/// A responsibility by a document with this title.
-fn responsibility(alloc: Global, document: &str) -> Result<Act, AllocError> {
-    let mut burden = new_burden(alloc, BurdenClass::Responsibility, GARDEN, ANNA)?;
-    burden.document = text(alloc, document)?;
-    Ok(Act::Burden(burden))
+fn first_registration(alloc: Global, name: &str, document: &str, label: &str) -> Result<Act, Fail> {
+    let draft = Draft {
+        name,
+        document,
+        label,
+        parcels: 2,
+    };
+    Ok(Act::Register(registration(alloc, &draft, OWNED)?))
 }
 
 /// An act with a text in its place, and all else within the limits.
 fn with_text(alloc: Global, place: &Place, given: &str) -> Result<Act, Fail> {
     Ok(match place {
         Place::PartyName => enrolment(alloc, given)?,
-        Place::UnitName => registration(
-            alloc,
-            &Words {
-                name: given,
-                document: "Deed 1",
-                label: "12",
-            },
-        )?,
-        Place::Document => registration(
-            alloc,
-            &Words {
-                name: "Garden",
-                document: given,
-                label: "12",
-            },
-        )?,
-        Place::Label => registration(
-            alloc,
-            &Words {
-                name: "Garden",
-                document: "Deed 1",
-                label: given,
-            },
-        )?,
-        Place::BurdenWords => restriction(alloc, given)?,
-        Place::BurdenDocument => responsibility(alloc, given)?,
+        Place::UnitName => first_registration(alloc, given, "Deed 1", "12")?,
+        Place::Document => first_registration(alloc, "Garden", given, "12")?,
+        Place::Label => first_registration(alloc, "Garden", "Deed 1", given)?,
+        Place::BurdenWords => Act::Burden(burden(alloc, Restriction, given, "Order")?),
+        Place::BurdenDocument => Act::Burden(burden(alloc, Responsibility, "No well", given)?),
+        Place::Reference => Act::Lodge(lodging(alloc, given, "Deed 2", &LETTER)?),
+        Place::LodgedDocument => Act::Lodge(lodging(alloc, "D1", given, &LETTER)?),
     })
 }
 
-fn is_good(alloc: Global, place: &Place, row: &Row) -> Result<bool, Fail> {
+const LETTER: Asked = Asked::Discharge(GARDEN, LOAN);
+
+const OWNED: &[Right] = &[(ANNA, Ownership, 1, 1)];
+
+fn keeps_limit(alloc: Global, place: &Place, row: &Row) -> Result<bool, Fail> {
     let given = row.0.repeat(alloc, row.1)?;
-    let act = with_text(alloc, place, given.as_str())?;
-    Ok(act.is_well_formed())
+    Ok(is_good(with_text(alloc, place, given.as_str())?) == row.2)
 }
 
 fn assert_texts(rt: &impl Abort, alloc: Global, place: &Place, rows: &[Row]) -> Result<(), Fail> {
     for (number, row) in rows.iter().enumerate() {
-        assert!(rt; is_good(alloc, place, row)? == row.2, "row {number}");
+        assert!(rt; keeps_limit(alloc, place, row)?, "row {number}");
     }
     Ok(())
 }
@@ -138,4 +118,14 @@ const LABELS: &[Row] = &[
 #[test]
 fn labels_have_1_to_40_characters(rt: HostRuntime) -> Result<(), Fail> {
     assert_texts(&rt, rt.alloc(), &Place::Label, LABELS)
+}
+
+#[test]
+fn references_have_1_to_40_characters(rt: HostRuntime) -> Result<(), Fail> {
+    assert_texts(&rt, rt.alloc(), &Place::Reference, LABELS)
+}
+
+#[test]
+fn lodgings_have_a_document(rt: HostRuntime) -> Result<(), Fail> {
+    assert_texts(&rt, rt.alloc(), &Place::LodgedDocument, NAMES)
 }

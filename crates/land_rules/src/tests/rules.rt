@@ -1,16 +1,20 @@
 //! The policy told by hand over a register of two units: what each role is shown of it, and by which rule it is denied
 //! the rest.
 mod lists;
+mod mutations;
 mod standing;
 mod views;
 
 use super::facts::{Fact, Held, Share, fault, register_of};
+use crate::rules::verdict;
+use crate::verdict::Verdict;
+use land_core::ask::Ask;
 use land_core::caller::Caller;
 use land_core::kind::PartyKind::{Group, NaturalPerson, NonNaturalPerson};
 use land_core::register::Register;
 use land_core::role::Role;
 use land_core::rrr::RightType::{Lease, Ownership};
-use land_rules::verdict::Verdict;
+use land_core::soundness::Unsound;
 use std::alloc::Global;
 use std::test::Fail;
 
@@ -104,14 +108,25 @@ fn told(rule: u8) -> Verdict {
     }
 }
 
+const ALL: &[&[Fact]] = &[PARTIES, ROLES, UNITS];
+
+/// What a caller is told of an ask, where one register stands now and one stood at the asked moment.
+fn verdict_on(now: &Register, at: &Register, caller: Caller, ask: Ask, past: bool) -> Verdict {
+    verdict(now, at, caller, &ask, past)
+}
+
 /// A register with the farm and the house.
 fn farm_and_house(alloc: Global) -> Result<Register, Fail> {
-    register_of(alloc, &[PARTIES, ROLES, UNITS])
+    register_of(alloc, ALL, &[])
+}
+
+fn fault_of_all(alloc: Global) -> Result<Option<Unsound>, Fail> {
+    let register = farm_and_house(alloc)?;
+    fault(alloc, &register)
 }
 
 #[test]
 fn the_farm_and_the_house_are_soundly_registered(rt: HostRuntime) -> Result<(), Fail> {
-    let register = farm_and_house(rt.alloc())?;
-    assert!(&rt; fault(rt.alloc(), &register)? == None);
+    assert!(&rt; fault_of_all(rt.alloc())? == None);
     Ok(())
 }

@@ -1,39 +1,44 @@
 //! What each role is shown of the farm and the house.
 use super::{ANNA, BEN, FAMILY, LENA, NORA, NORTH, OFFICE, SAM, SOUTH, caller, farm_and_house};
+use crate::rules::seen;
 use land_core::kind::Kind::{self, Parcel, Party, Rrr, Source, Unit};
 use land_core::register::Register;
 use land_core::role::Role::{
     self, Bank, CertifiedSurveyor, Citizen, Conveyancer, Notary, StateAdministrator,
 };
-use land_rules::rules::seen;
 use std::alloc::{AllocError, Global};
 use std::process::Abort;
 use std::test::Fail;
 
 /// Who lists the numbers of which kind, and what it is shown.
-struct Row(u64, Role, Kind, &'static [u64]);
+pub(super) struct Row(pub u64, pub Role, pub Kind, pub &'static [u64]);
 
 fn is_shown(alloc: Global, at: &Register, row: &Row) -> Result<bool, AllocError> {
     let numbers = seen(alloc, at, caller(row.0, row.1), row.2)?;
     Ok(numbers.as_slice() == row.3)
 }
 
-fn assert_lists(
-    rt: &impl Abort,
-    alloc: Global,
-    at: &Register,
-    rows: &[Row],
-) -> Result<(), AllocError> {
+/// How many rows are shown as expected before the first that is not.
+pub(super) fn shown_rows(alloc: Global, at: &Register, rows: &[Row]) -> Result<usize, Fail> {
     for (place, row) in rows.iter().enumerate() {
-        assert!(rt; is_shown(alloc, at, row)?, "row {place}");
+        if !is_shown(alloc, at, row)? {
+            return Ok(place);
+        }
     }
-    Ok(())
+    Ok(rows.len())
+}
+
+/// The rows that are shown of the farm and the house.
+fn rows_of_all(alloc: Global, rows: &[Row]) -> Result<usize, Fail> {
+    let at = farm_and_house(alloc)?;
+    shown_rows(alloc, &at, rows)
 }
 
 /// Compares what is shown of the farm and the house.
 fn assert_shown(rt: &impl Abort, alloc: Global, rows: &[Row]) -> Result<(), Fail> {
-    let at = farm_and_house(alloc)?;
-    Ok(assert_lists(rt, alloc, &at, rows)?)
+    let shown = rows_of_all(alloc, rows)?;
+    assert!(rt; shown == rows.len(), "row {shown}");
+    Ok(())
 }
 
 const HOLDERS: &[Row] = &[
@@ -120,8 +125,15 @@ const NOTHING: &[Row] = &[
     Row(NORA, Notary, Source, &[]),
 ];
 
+/// The rows that are shown before the office began.
+fn rows_of_nothing(alloc: Global, rows: &[Row]) -> Result<usize, Fail> {
+    let at = Register::nothing(alloc);
+    shown_rows(alloc, &at, rows)
+}
+
 #[test]
 fn before_the_office_began_there_is_nothing(rt: HostRuntime) -> Result<(), Fail> {
-    let at = Register::nothing(rt.alloc());
-    Ok(assert_lists(&rt, rt.alloc(), &at, NOTHING)?)
+    let shown = rows_of_nothing(rt.alloc(), NOTHING)?;
+    assert!(&rt; shown == NOTHING.len(), "row {shown}");
+    Ok(())
 }

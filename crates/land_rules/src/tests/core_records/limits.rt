@@ -1,16 +1,18 @@
 //! The limits of acts and of requests.
+use super::drafts::{Draft, burden, registration};
 use super::garden::{ANNA, GARDEN, PATH};
-use crate::tests::asked;
-use crate::tests::asked::RowAct::{Burden, Enrol, Grant, Lift, Register};
-use crate::tests::asked::{OFFICE, RowAct, act, new_unit};
+use super::is_good;
 use crate::tests::facts::{Right, text};
+use Tried::{Burden, Lift, Register};
 use land_core::act::BurdenClass::{Responsibility, Restriction};
-use land_core::act::{Act, NewGroup, NewRight, Regroup};
+use land_core::act::{Act, BurdenClass, Enrol, NewGroup, Regroup};
 use land_core::ask::{Ask, Request};
+use land_core::caller::Caller;
 use land_core::kind::{Kind, PartyKind};
 use land_core::member::Member;
 use land_core::role::Role;
-use land_core::rrr::RightType::{self, Lease, Ownership, Usufruct};
+use land_core::roles::Grant;
+use land_core::rrr::RightType::{Lease, Ownership, Usufruct};
 use land_core::sequence::Sequence;
 use land_fraction::Fraction;
 use std::alloc::{AllocError, Global};
@@ -30,26 +32,32 @@ fn members(alloc: Global, first: u64, count: u64) -> Result<Sequence<Member>, Fa
     Ok(members)
 }
 
-/// Whether a group may be asked for with so many members, named by numbers from `first` on.
-fn groups(alloc: Global, first: u64, count: u64) -> Result<bool, Fail> {
-    let group = Act::Group(NewGroup {
+/// A group of so many members, named by numbers from `first` on.
+fn group(alloc: Global, first: u64, count: u64) -> Result<Act, Fail> {
+    Ok(Act::Group(NewGroup {
         name: text(alloc, "Anna and Ben")?,
         members: members(alloc, first, count)?,
-    });
-    Ok(group.is_well_formed())
+    }))
 }
 
-/// Whether a group may be given so many other members.
-fn regroups(alloc: Global, group: u64, count: u64) -> Result<bool, Fail> {
-    let regroup = Act::Regroup(Regroup {
+/// So many other members for a group.
+fn regroup(alloc: Global, group: u64, count: u64) -> Result<Act, Fail> {
+    Ok(Act::Regroup(Regroup {
         group,
         members: members(alloc, 2, count)?,
-    });
-    Ok(regroup.is_well_formed())
+    }))
 }
 
 /// A number, how many members, and whether that may be asked for.
 struct Numbered(u64, u64, bool);
+
+fn keeps_group(alloc: Global, row: &Numbered) -> Result<bool, Fail> {
+    Ok(is_good(group(alloc, row.0, row.1)?) == row.2)
+}
+
+fn keeps_regroup(alloc: Global, row: &Numbered) -> Result<bool, Fail> {
+    Ok(is_good(regroup(alloc, row.0, row.1)?) == row.2)
+}
 
 const GROUPS: &[Numbered] = &[
     Numbered(2, 1, false),
@@ -65,7 +73,7 @@ const GROUPS: &[Numbered] = &[
 #[test]
 fn groups_keep_their_limits(rt: HostRuntime) -> Result<(), Fail> {
     for (place, row) in GROUPS.iter().enumerate() {
-        assert!(&rt; groups(rt.alloc(), row.0, row.1)? == row.2, "row {place}");
+        assert!(&rt; keeps_group(rt.alloc(), row)?, "row {place}");
     }
     Ok(())
 }
@@ -82,27 +90,65 @@ const REGROUPINGS: &[Numbered] = &[
 #[test]
 fn regroupings_keep_their_limits(rt: HostRuntime) -> Result<(), Fail> {
     for (place, row) in REGROUPINGS.iter().enumerate() {
-        assert!(&rt; regroups(rt.alloc(), row.0, row.1)? == row.2, "row {place}");
+        assert!(&rt; keeps_regroup(rt.alloc(), row)?, "row {place}");
     }
     Ok(())
 }
 
-/// An act, and whether it may be asked for.
-struct Limit(RowAct, bool);
+/// An act that is tried.
+enum Tried {
+    /// A party's kind.
+    Enrol(PartyKind),
+    /// A unit with so many parcels and these rights.
+    Register(usize, &'static [Right]),
+    /// The class of a burden, its unit and its party.
+    Burden(BurdenClass, u64, u64),
+    /// The number of an entry.
+    Lift(u64),
+}
 
-fn is_good(alloc: Global, it: &RowAct) -> Result<bool, Fail> {
-    let act = act(alloc, it)?;
-    Ok(act.is_well_formed())
+/// An act, and whether it may be asked for.
+struct Limit(Tried, bool);
+
+fn enrols(alloc: Global, kind: PartyKind) -> Result<bool, AllocError> {
+    let name = text(alloc, "Anna")?;
+    Ok(is_good(Act::Enrol(Enrol { kind, name })))
+}
+
+fn registers(alloc: Global, parcels: usize, rights: &[Right]) -> Result<bool, Fail> {
+    let draft = Draft {
+        name: "Garden",
+        document: "Deed 1",
+        label: "12",
+        parcels,
+    };
+    Ok(is_good(Act::Register(registration(alloc, &draft, rights)?)))
+}
+
+fn burdens(alloc: Global, class: BurdenClass, unit: u64, party: u64) -> Result<bool, AllocError> {
+    let mut burden = burden(alloc, class, "No well", "Order")?;
+    burden.unit = unit;
+    burden.party = party;
+    Ok(is_good(Act::Burden(burden)))
+}
+
+fn may_be_asked(alloc: Global, it: &Tried) -> Result<bool, Fail> {
+    Ok(match it {
+        Tried::Enrol(kind) => enrols(alloc, *kind)?,
+        Tried::Register(parcels, rights) => registers(alloc, *parcels, rights)?,
+        Tried::Burden(class, unit, party) => burdens(alloc, *class, *unit, *party)?,
+        Tried::Lift(rrr) => is_good(Act::Lift(land_core::act::Lift { rrr: *rrr })),
+    })
 }
 
 fn assert_limits(rt: &impl Abort, alloc: Global, limits: &[Limit]) -> Result<(), Fail> {
     for (place, limit) in limits.iter().enumerate() {
-        assert!(rt; is_good(alloc, &limit.0)? == limit.1, "row {place}");
+        assert!(rt; may_be_asked(alloc, &limit.0)? == limit.1, "row {place}");
     }
     Ok(())
 }
 
-const GROUP: &[Limit] = &[Limit(Enrol(PartyKind::Group, "Anna"), false)];
+const GROUP: &[Limit] = &[Limit(Tried::Enrol(PartyKind::Group), false)];
 
 #[test]
 fn a_group_is_not_enrolled(rt: HostRuntime) -> Result<(), Fail> {
@@ -116,10 +162,10 @@ const LEASED: &[Right] = &[(ANNA, Lease, 1, 1)];
 const USED: &[Right] = &[(ANNA, Usufruct, 1, 1)];
 
 const PARCELS: &[Limit] = &[
-    Limit(Register(true, 0, OWNED), false),
-    Limit(Register(true, 1, OWNED), true),
-    Limit(Register(true, 64, OWNED), true),
-    Limit(Register(true, 65, OWNED), false),
+    Limit(Register(0, OWNED), false),
+    Limit(Register(1, OWNED), true),
+    Limit(Register(64, OWNED), true),
+    Limit(Register(65, OWNED), false),
 ];
 
 #[test]
@@ -128,10 +174,10 @@ fn first_registrations_have_1_to_64_parcels(rt: HostRuntime) -> Result<(), Fail>
 }
 
 const OWNERSHIPS: &[Limit] = &[
-    Limit(Register(true, 1, OWNED), true),
-    Limit(Register(true, 1, LEASED), false),
-    Limit(Register(true, 1, USED), false),
-    Limit(Register(true, 1, &[]), false),
+    Limit(Register(1, OWNED), true),
+    Limit(Register(1, LEASED), false),
+    Limit(Register(1, USED), false),
+    Limit(Register(1, &[]), false),
 ];
 
 #[test]
@@ -141,16 +187,12 @@ fn first_registrations_have_an_ownership(rt: HostRuntime) -> Result<(), Fail> {
 
 const HOLDERS: &[Limit] = &[
     Limit(
-        Register(true, 1, &[(0, Lease, 1, 1), (0, Ownership, 1, 1)]),
+        Register(1, &[(0, Lease, 1, 1), (0, Ownership, 1, 1)]),
         false,
     ),
-    Limit(
-        Register(true, 1, &[(1, Lease, 1, 1), (1, Ownership, 1, 1)]),
-        true,
-    ),
+    Limit(Register(1, &[(1, Lease, 1, 1), (1, Ownership, 1, 1)]), true),
     Limit(
         Register(
-            true,
             1,
             &[
                 (1_000_000_000, Lease, 1, 1),
@@ -161,7 +203,6 @@ const HOLDERS: &[Limit] = &[
     ),
     Limit(
         Register(
-            true,
             1,
             &[
                 (1_000_000_001, Lease, 1, 1),
@@ -177,37 +218,22 @@ fn rights_are_of_parties_with_numbers(rt: HostRuntime) -> Result<(), Fail> {
     assert_limits(&rt, rt.alloc(), HOLDERS)
 }
 
-fn right(right_type: RightType) -> Result<NewRight, Fail> {
-    Ok(NewRight {
-        party: ANNA,
-        right_type,
-        share: Fraction::new(1, 1)?,
-    })
-}
-
-/// So many leases, and then an ownership.
-fn rights(alloc: Global, leases: usize) -> Result<Sequence<NewRight>, Fail> {
-    let mut rights = Sequence::new(alloc);
-    for _ in 0..leases {
-        rights.push(right(Lease)?)?;
-    }
-    rights.push(right(Ownership)?)?;
-    Ok(rights)
-}
-
 /// Whether a unit may be registered with so many leases and an ownership.
-fn registers(alloc: Global, leases: usize) -> Result<bool, Fail> {
-    let mut unit = new_unit(alloc, &asked::GARDEN, true, 1, &[])?;
-    unit.rights = rights(alloc, leases)?;
-    Ok(Act::Register(unit).is_well_formed())
+fn leases(alloc: Global, count: usize) -> Result<bool, Fail> {
+    let mut rights = Vec::new(alloc);
+    for _ in 0..count {
+        rights.push((ANNA, Lease, 1, 1))?;
+    }
+    rights.push((ANNA, Ownership, 1, 1))?;
+    registers(alloc, 1, rights.as_slice())
 }
 
 const LEASES: &[(usize, bool)] = &[(0, true), (1, true), (63, true), (64, false)];
 
 #[test]
 fn first_registrations_have_1_to_64_rights(rt: HostRuntime) -> Result<(), Fail> {
-    for (leases, good) in LEASES {
-        assert!(&rt; registers(rt.alloc(), *leases)? == *good, "{leases} leases");
+    for row in LEASES {
+        assert!(&rt; leases(rt.alloc(), row.0)? == row.1, "{} leases", row.0);
     }
     Ok(())
 }
@@ -242,18 +268,16 @@ fn lifts_name_an_entry_by_a_number(rt: HostRuntime) -> Result<(), Fail> {
 
 /// Whether the office may ask so.
 fn is_good_ask(ask: Ask) -> bool {
-    let request = Request {
-        caller: OFFICE,
-        ask,
+    let caller = Caller {
+        party: 1,
+        role: Role::StateAdministrator,
     };
-    request.is_well_formed()
+    Request { caller, ask }.is_well_formed()
 }
 
 fn grants(party: u64) -> bool {
-    is_good_ask(Ask::Do(Act::Grant(land_core::roles::Grant {
-        party,
-        role: Role::Bank,
-    })))
+    let role = Role::Bank;
+    is_good_ask(Ask::Do(Act::Grant(Grant { party, role })))
 }
 
 #[test]
@@ -261,18 +285,24 @@ fn requests_keep_the_limits_of_their_acts(rt: HostRuntime) {
     assert!(&rt; !grants(0) && grants(1) && grants(1_000_000_000) && !grants(1_000_000_001));
 }
 
+fn views(kind: Kind, number: u64, at: Option<i64>) -> bool {
+    is_good_ask(Ask::View { kind, number, at })
+}
+
+fn lists(kind: Kind, at: Option<i64>) -> bool {
+    is_good_ask(Ask::List { kind, at })
+}
+
+fn shows_sheet(unit: u64, at: Option<i64>) -> bool {
+    is_good_ask(Ask::Sheet { unit, at })
+}
+
+fn lifts(rrr: u64) -> bool {
+    is_good_ask(Ask::Do(Act::Lift(land_core::act::Lift { rrr })))
+}
+
 #[test]
 fn what_is_read_has_no_limits(rt: HostRuntime) {
-    let view = Ask::View {
-        kind: Kind::Party,
-        number: 0,
-        at: Some(-1),
-    };
-    let list = Ask::List {
-        kind: Kind::Rrr,
-        at: Some(-1),
-    };
-    let sheet = Ask::Sheet { unit: 0, at: None };
-    let lift = Ask::Do(Act::Lift(land_core::act::Lift { rrr: PATH }));
-    assert!(&rt; is_good_ask(view) && is_good_ask(list) && is_good_ask(sheet) && is_good_ask(lift));
+    let (party, rrr, at) = (Kind::Party, Kind::Rrr, Some(-1));
+    assert!(&rt; views(party, 0, at) && lists(rrr, at) && shows_sheet(0, None) && lifts(PATH));
 }

@@ -1,7 +1,6 @@
 //! Fractions, worked out by hand. They are written as pairs of a numerator and a denominator.
 use land_fraction::{Fraction, FractionFault, Whole, common, is_whole};
 use std::alloc::{AllocError, Global};
-use std::process::Abort;
 use std::test::Fail;
 
 type Pair = (u64, u64);
@@ -78,11 +77,14 @@ const SUMS: &[Joined] = &[
     Joined((1, 31623), (1, 31624), Err(103)),
 ];
 
+fn is_sum(row: &Joined) -> Result<bool, FractionFault> {
+    Ok(shown(fraction(row.0)?.plus(fraction(row.1)?)) == row.2)
+}
+
 #[test]
 fn sums_are_exact(rt: HostRuntime) -> Result<(), Fail> {
     for (place, row) in SUMS.iter().enumerate() {
-        let sum = fraction(row.0)?.plus(fraction(row.1)?);
-        assert!(&rt; shown(sum) == row.2, "row {place}");
+        assert!(&rt; is_sum(row)?, "row {place}");
     }
     Ok(())
 }
@@ -98,11 +100,14 @@ const DIFFERENCES: &[Joined] = &[
     Joined((1, 31622), (1, 31623), Ok((1, 999982506))),
 ];
 
+fn is_difference(row: &Joined) -> Result<bool, FractionFault> {
+    Ok(shown(fraction(row.0)?.minus(fraction(row.1)?)) == row.2)
+}
+
 #[test]
 fn differences_are_exact(rt: HostRuntime) -> Result<(), Fail> {
     for (place, row) in DIFFERENCES.iter().enumerate() {
-        let difference = fraction(row.0)?.minus(fraction(row.1)?);
-        assert!(&rt; shown(difference) == row.2, "row {place}");
+        assert!(&rt; is_difference(row)?, "row {place}");
     }
     Ok(())
 }
@@ -227,12 +232,23 @@ const FAULTS: &[Told] = &[
     ),
 ];
 
+/// Whether the faults have their numbers and texts.
+fn are_told(alloc: Global) -> Result<bool, AllocError> {
+    for row in FAULTS {
+        if row.0.number() != row.1 || !is_told(alloc, row.0, row.2)? {
+            return Ok(false);
+        }
+    }
+    Ok(true)
+}
+
 #[test]
 fn printed(rt: HostRuntime) -> Result<(), Fail> {
-    assert!(&rt; is_printed(rt.alloc(), (2, 6), "1/3")?);
-    assert!(&rt; is_printed(rt.alloc(), NEARLY_ONE, "999999999/1000000000")?);
-    for row in FAULTS {
-        assert!(&rt; row.0.number() == row.1 && is_told(rt.alloc(), row.0, row.2)?);
-    }
+    let alloc = rt.alloc();
+    assert!(&rt;
+        is_printed(alloc, (2, 6), "1/3")?
+            && is_printed(alloc, NEARLY_ONE, "999999999/1000000000")?
+            && are_told(alloc)?
+    );
     Ok(())
 }

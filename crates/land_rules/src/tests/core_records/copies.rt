@@ -1,0 +1,155 @@
+//! The new register, and copies that do not differ from what was copied.
+use super::WITH_ALL;
+use super::garden::{ANNA, DEED, GARDEN, HEDGE, LEASE, LOAN, PATH, POND};
+use super::objects::{OFFICE, is_shown};
+use crate::tests::facts::{fault, fields, register_of};
+use land_core::duplicate::Duplicate;
+use land_core::kind::Kind;
+use land_core::object::Object;
+use land_core::register::Register;
+use land_core::role::Role;
+use std::alloc::{AllocError, Global};
+use std::fmt::Debug;
+use std::test::Fail;
+
+/// Whether a register is the new one.
+fn is_new(alloc: Global, register: &Register) -> Result<bool, Fail> {
+    Ok(
+        is_shown(alloc, register, &OFFICE)?
+            && fault(alloc, register)? == None
+            && register.holds(1, Role::StateAdministrator)
+            && !register.holds(2, Role::Citizen)
+            && !register.stands(Kind::Party, 2)
+            && register.next == 2,
+    )
+}
+
+fn is_made_new(alloc: Global) -> Result<bool, Fail> {
+    let register = Register::new(alloc)?;
+    is_new(alloc, &register)
+}
+
+#[test]
+fn a_new_register_is_sound(rt: HostRuntime) -> Result<(), Fail> {
+    assert!(&rt; is_made_new(rt.alloc())?);
+    Ok(())
+}
+
+fn are_new(alloc: Global, register: &Register, copy: &Register) -> Result<bool, Fail> {
+    Ok(is_new(alloc, register)? && is_new(alloc, copy)?)
+}
+
+/// Whether the register is the new one where it could not be copied. This ends in want of memory.
+fn is_new_still(alloc: Global, register: &Register) -> Result<bool, Fail> {
+    if is_new(alloc, register)? {
+        Err(AllocError.into())
+    } else {
+        Ok(false)
+    }
+}
+
+/// Whether a copy of the register is the new one. The register stays so, whether or not memory was refused.
+fn is_copied_new(alloc: Global, register: &Register) -> Result<bool, Fail> {
+    match register.copy(alloc) {
+        Ok(copy) => are_new(alloc, register, &copy),
+        Err(AllocError) => is_new_still(alloc, register),
+    }
+}
+
+fn stays_new(alloc: Global) -> Result<bool, Fail> {
+    let register = Register::new(alloc)?;
+    is_copied_new(alloc, &register)
+}
+
+#[test]
+fn want_of_memory_leaves_the_copied_register(rt: HostRuntime) -> Result<(), Fail> {
+    assert!(&rt; stays_new(rt.alloc())?);
+    Ok(())
+}
+
+/// Whether a copy is printed with the fields of what was copied.
+fn is_copied<T: Debug + Duplicate>(alloc: Global, value: &T) -> Result<bool, Fail> {
+    let copied = fields(alloc, &value.copy(alloc)?)?;
+    Ok(fields(alloc, value)?.as_str() == copied.as_str())
+}
+
+/// Whether a register and another one are sound, and have one next number.
+fn are_sound(alloc: Global, register: &Register, other: &Register) -> Result<bool, Fail> {
+    Ok(
+        register.next == other.next
+            && fault(alloc, register)? == None
+            && fault(alloc, other)? == None,
+    )
+}
+
+fn has_sound_copy(alloc: Global, register: &Register) -> Result<bool, Fail> {
+    let copy = register.copy(alloc)?;
+    are_sound(alloc, register, &copy)
+}
+
+fn is_well_copied(alloc: Global, register: &Register) -> Result<bool, Fail> {
+    Ok(has_sound_copy(alloc, register)? && is_copied(alloc, register)?)
+}
+
+/// Whether a copy of a register of many records is alike and sound.
+fn is_whole_copied(alloc: Global) -> Result<bool, Fail> {
+    let register = register_of(alloc, WITH_ALL, &[])?;
+    is_well_copied(alloc, &register)
+}
+
+#[test]
+fn a_register_and_its_copy_are_alike_and_sound(rt: HostRuntime) -> Result<(), Fail> {
+    assert!(&rt; is_whole_copied(rt.alloc())?);
+    Ok(())
+}
+
+/// Whether the copy of an object of a register is alike.
+fn is_object_copied(
+    alloc: Global,
+    register: &Register,
+    kind: Kind,
+    number: u64,
+) -> Result<bool, Fail> {
+    match register.object(alloc, kind, number)? {
+        Some(object) => is_copied::<Object>(alloc, &object),
+        None => Ok(false),
+    }
+}
+
+const OBJECTS: &[(Kind, u64)] = &[
+    (Kind::Party, 1),
+    (Kind::Party, ANNA),
+    (Kind::Party, 5),
+    (Kind::Unit, GARDEN),
+    (Kind::Parcel, POND),
+    (Kind::Rrr, LEASE),
+    (Kind::Rrr, PATH),
+    (Kind::Rrr, HEDGE),
+    (Kind::Rrr, LOAN),
+    (Kind::Source, DEED),
+    (Kind::Mutation, 16),
+    (Kind::Mutation, 17),
+    (Kind::Mutation, 18),
+];
+
+/// How many objects are copied alike before the first that is not.
+fn copied_rows(alloc: Global, register: &Register) -> Result<usize, Fail> {
+    for (place, row) in OBJECTS.iter().enumerate() {
+        if !is_object_copied(alloc, register, row.0, row.1)? {
+            return Ok(place);
+        }
+    }
+    Ok(OBJECTS.len())
+}
+
+fn copied(alloc: Global) -> Result<usize, Fail> {
+    let register = register_of(alloc, WITH_ALL, &[])?;
+    copied_rows(alloc, &register)
+}
+
+#[test]
+fn a_copied_object_has_all_fields(rt: HostRuntime) -> Result<(), Fail> {
+    let copied = copied(rt.alloc())?;
+    assert!(&rt; copied == OBJECTS.len(), "row {copied}");
+    Ok(())
+}

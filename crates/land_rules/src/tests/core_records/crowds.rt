@@ -1,0 +1,76 @@
+//! How many members a group has, and how many parcels and entries a unit: at the limit, and just above it.
+use super::garden::{DEED, GARDEN, SAM};
+use super::{WITH_GARDEN, fault_of};
+use crate::tests::facts::{Fact, Held};
+use land_core::kind::PartyKind::{Group, NaturalPerson};
+use land_core::soundness::Unsound;
+use std::alloc::{AllocError, Global};
+use std::test::Fail;
+
+/// What there is a crowd of.
+#[derive(Clone, Copy)]
+enum Crowd {
+    Parties,
+    Parcels,
+    Entries,
+}
+
+/// One of a crowd: a party, or a parcel or an entry of the garden.
+fn one(crowd: Crowd, number: u64) -> Fact {
+    match crowd {
+        Crowd::Parties => Fact::Party(number, NaturalPerson, "Anna"),
+        Crowd::Parcels => Fact::Parcel(number, GARDEN, "13", DEED),
+        Crowd::Entries => Fact::Rrr(number, GARDEN, SAM, DEED, Held::Restriction),
+    }
+}
+
+/// So many of a crowd, under the numbers from 20 on, and 1000 as the next number.
+fn crowd_of(alloc: Global, crowd: Crowd, count: u64) -> Result<Vec<Fact>, AllocError> {
+    let mut facts = Vec::new(alloc);
+    for place in 0..count {
+        facts.push(one(crowd, place.saturating_add(20)))?;
+    }
+    facts.push(Fact::Next(1000))?;
+    Ok(facts)
+}
+
+/// The fault of a register with so many of a crowd more.
+fn crowded(
+    alloc: Global,
+    base: &[&[Fact]],
+    crowd: Crowd,
+    count: u64,
+) -> Result<Option<Unsound>, Fail> {
+    let facts = crowd_of(alloc, crowd, count)?;
+    fault_of(alloc, base, facts.as_slice())
+}
+
+/// A group of 64 members, which do not stand yet.
+const OF_64: &[&[Fact]] = &[&[Fact::Party(2, Group, "All"), Fact::Crowd(2, 64)]];
+
+const OF_65: &[&[Fact]] = &[&[Fact::Party(2, Group, "All"), Fact::Crowd(2, 65)]];
+
+#[test]
+fn a_group_has_at_most_64_members(rt: HostRuntime) -> Result<(), Fail> {
+    let full = crowded(rt.alloc(), OF_64, Crowd::Parties, 64)?;
+    let beyond = crowded(rt.alloc(), OF_65, Crowd::Parties, 65)?;
+    assert!(&rt; full == None && beyond == Some(Unsound::Group));
+    Ok(())
+}
+
+/// The garden has two parcels and six entries.
+#[test]
+fn a_unit_has_at_most_256_parcels(rt: HostRuntime) -> Result<(), Fail> {
+    let full = crowded(rt.alloc(), WITH_GARDEN, Crowd::Parcels, 254)?;
+    let beyond = crowded(rt.alloc(), WITH_GARDEN, Crowd::Parcels, 255)?;
+    assert!(&rt; full == None && beyond == Some(Unsound::Crowded));
+    Ok(())
+}
+
+#[test]
+fn a_unit_has_at_most_256_entries(rt: HostRuntime) -> Result<(), Fail> {
+    let full = crowded(rt.alloc(), WITH_GARDEN, Crowd::Entries, 250)?;
+    let beyond = crowded(rt.alloc(), WITH_GARDEN, Crowd::Entries, 251)?;
+    assert!(&rt; full == None && beyond == Some(Unsound::Crowded));
+    Ok(())
+}

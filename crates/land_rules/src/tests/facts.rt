@@ -1,0 +1,332 @@
+//! Registers and changes that are put together by hand, record by record.
+use super::lodged::{Lodged, mutation};
+use land_core::change::{Change, Ended, Put};
+use land_core::kind::{Kind, PartyKind};
+use land_core::member::Members;
+use land_core::parcel::ParcelRecord;
+use land_core::party::PartyRecord;
+use land_core::records::Records;
+use land_core::register::Register;
+use land_core::role::Role;
+use land_core::roles::{Grant, Roles};
+use land_core::rrr::{Class, RightType, RrrRecord};
+use land_core::sequence::{NumberList, Sequence};
+use land_core::soundness::{Unsound, check};
+use land_core::source::{SourceKind, SourceRecord};
+use land_core::text::Text;
+use land_core::unit::UnitRecord;
+use land_fraction::Fraction;
+use land_shape::read_wkt;
+use std::alloc::{AllocError, Global};
+use std::fmt::Debug;
+use std::test::Fail;
+
+/// A party's number, and the numerator and denominator of its share.
+pub(super) type Share = (u64, u64, u64);
+
+/// A party's number, the type of its right, and the numerator and denominator of its share.
+pub(super) type Right = (u64, RightType, u64, u64);
+
+/// What an entry is.
+#[derive(Drop)]
+pub(super) enum Held {
+    /// A right with the numerator and denominator of its share.
+    Right(RightType, u64, u64),
+    Restriction,
+    Responsibility,
+    /// A mortgage of this rank.
+    Mortgage(u64),
+}
+
+/// One thing that a register is told.
+#[derive(Drop)]
+pub(super) enum Fact {
+    /// The next number.
+    Next(u64),
+    /// A party's number, kind and name.
+    Party(u64, PartyKind, &'static str),
+    Grant(u64, Role),
+    Revoke(u64, Role),
+    /// A group's number and members.
+    Members(u64, &'static [Share]),
+    /// A group's number, and how many members with equal shares it has, of the numbers from 20 on.
+    Crowd(u64, u64),
+    Source(u64),
+    /// A unit's number and name, and whether its shares are checked.
+    Unit(u64, &'static str, bool),
+    /// A parcel's number, unit, label and source.
+    Parcel(u64, u64, &'static str, u64),
+    /// An entry's number, unit, party and source, and what it is.
+    Rrr(u64, u64, u64, u64, Held),
+    /// A mutation's number, and how it was lodged.
+    Mutation(u64, Lodged),
+    /// What stands under a number no longer does.
+    Ended(Kind, u64),
+}
+
+pub(super) const SQUARE: &str = "POLYGON ((0 0, 10 0, 10 10, 0 10, 0 0))";
+
+pub(super) fn text(alloc: Global, text: &str) -> Result<Text, AllocError> {
+    Ok(Text::new(String::from_str(alloc, text)?))
+}
+
+fn party(alloc: Global, kind: PartyKind, name: &str) -> Result<PartyRecord, Fail> {
+    Ok(PartyRecord {
+        kind,
+        name: text(alloc, name)?,
+    })
+}
+
+fn members(alloc: Global, shares: &[Share]) -> Result<Members, Fail> {
+    let mut members = Records::new(alloc);
+    for (party, n, d) in shares {
+        members.insert(*party, Fraction::new(*n, *d)?)?;
+    }
+    Ok(members)
+}
+
+/// So many members with equal shares, of the numbers from 20 on.
+fn crowd(alloc: Global, count: u64) -> Result<Members, Fail> {
+    let share = Fraction::new(1, count)?;
+    let mut members = Records::new(alloc);
+    for place in 0..count {
+        members.insert(place.saturating_add(20), share)?;
+    }
+    Ok(members)
+}
+
+fn source(alloc: Global) -> Result<SourceRecord, Fail> {
+    Ok(SourceRecord {
+        kind: SourceKind::Administrative,
+        title: text(alloc, "Deed 1")?,
+    })
+}
+
+fn unit(alloc: Global, name: &str, checked: bool) -> Result<UnitRecord, Fail> {
+    Ok(UnitRecord {
+        name: text(alloc, name)?,
+        checked,
+    })
+}
+
+fn parcel(alloc: Global, unit: u64, label: &str, source: u64) -> Result<ParcelRecord, Fail> {
+    Ok(ParcelRecord {
+        unit,
+        label: text(alloc, label)?,
+        outline: read_wkt(alloc, SQUARE)?,
+        source,
+    })
+}
+
+fn class(alloc: Global, held: &Held) -> Result<Class, Fail> {
+    Ok(match held {
+        Held::Right(right_type, n, d) => Class::Right {
+            right_type: *right_type,
+            share: Fraction::new(*n, *d)?,
+        },
+        Held::Restriction => Class::Restriction {
+            words: text(alloc, "No fence")?,
+        },
+        Held::Responsibility => Class::Responsibility {
+            words: text(alloc, "Cuts the hedge")?,
+        },
+        Held::Mortgage(rank) => Class::Mortgage {
+            amount: 2_500_000,
+            currency: text(alloc, "EUR")?,
+            rank: *rank,
+        },
+    })
+}
+
+fn rrr(alloc: Global, unit: u64, party: u64, source: u64, held: &Held) -> Result<RrrRecord, Fail> {
+    Ok(RrrRecord {
+        unit,
+        party,
+        class: class(alloc, held)?,
+        source,
+    })
+}
+
+/// Puts a record in, where it was made. It takes the answer of what makes it, so that its callers have no exit.
+fn enter<V: Drop>(
+    records: &mut Records<V>,
+    number: u64,
+    record: Result<V, Fail>,
+) -> Result<(), Fail> {
+    Ok(records.insert(number, record?)?)
+}
+
+fn grant(roles: &mut Roles, party: u64, role: Role) -> Result<(), Fail> {
+    Ok(roles.insert(Grant { party, role })?)
+}
+
+fn revoke(roles: &mut Roles, party: u64, role: Role) {
+    roles.remove(Grant { party, role });
+}
+
+/// Puts a fact into a register.
+fn tell(alloc: Global, register: &mut Register, fact: &Fact) -> Result<(), Fail> {
+    match fact {
+        Fact::Next(next) => register.next = *next,
+        Fact::Party(number, kind, name) => {
+            return enter(&mut register.parties, *number, party(alloc, *kind, name));
+        }
+        Fact::Grant(party, role) => return grant(&mut register.roles, *party, *role),
+        Fact::Revoke(party, role) => revoke(&mut register.roles, *party, *role),
+        Fact::Members(group, shares) => {
+            return enter(&mut register.members, *group, members(alloc, shares));
+        }
+        Fact::Crowd(group, count) => {
+            return enter(&mut register.members, *group, crowd(alloc, *count));
+        }
+        Fact::Source(number) => return enter(&mut register.sources, *number, source(alloc)),
+        Fact::Unit(number, name, checked) => {
+            return enter(&mut register.units, *number, unit(alloc, name, *checked));
+        }
+        Fact::Parcel(number, unit, label, source) => {
+            let parcel = parcel(alloc, *unit, label, *source);
+            return enter(&mut register.parcels, *number, parcel);
+        }
+        Fact::Rrr(number, unit, party, source, held) => {
+            let entry = rrr(alloc, *unit, *party, *source, held);
+            return enter(&mut register.rrrs, *number, entry);
+        }
+        Fact::Mutation(number, lodged) => {
+            return enter(&mut register.mutations, *number, mutation(alloc, lodged));
+        }
+        Fact::Ended(kind, number) => return end(register, *kind, *number),
+    }
+    Ok(())
+}
+
+/// Ends a parcel or an entry.
+fn end(register: &mut Register, kind: Kind, number: u64) -> Result<(), Fail> {
+    match kind {
+        Kind::Parcel => register.parcels.remove(number),
+        Kind::Rrr => register.rrrs.remove(number),
+        _ => return Err("no fact ends such an object".into()),
+    }
+    Ok(())
+}
+
+/// Puts facts into a register, one after another.
+fn tell_all(alloc: Global, register: &mut Register, facts: &[Fact]) -> Result<(), Fail> {
+    for fact in facts {
+        tell(alloc, register, fact)?;
+    }
+    Ok(())
+}
+
+/// The new register, which is told the facts of all parts and then these.
+pub(super) fn register_of(
+    alloc: Global,
+    parts: &[&[Fact]],
+    facts: &[Fact],
+) -> Result<Register, Fail> {
+    let mut register = Register::new(alloc)?;
+    tell_parts(alloc, &mut register, parts, facts)?;
+    Ok(register)
+}
+
+fn tell_parts(
+    alloc: Global,
+    register: &mut Register,
+    parts: &[&[Fact]],
+    facts: &[Fact],
+) -> Result<(), Fail> {
+    for part in parts {
+        tell_all(alloc, register, part)?;
+    }
+    tell_all(alloc, register, facts)
+}
+
+/// Lets a change put a record, where it was made.
+fn add<V: Drop>(
+    list: &mut Sequence<(u64, V)>,
+    number: u64,
+    record: Result<V, Fail>,
+) -> Result<(), Fail> {
+    Ok(list.push((number, record?))?)
+}
+
+fn begin(roles: &mut Sequence<Grant>, party: u64, role: Role) -> Result<(), Fail> {
+    Ok(roles.push(Grant { party, role })?)
+}
+
+/// Lets a change put what a fact says.
+fn put(alloc: Global, put: &mut Put, fact: &Fact) -> Result<(), Fail> {
+    match fact {
+        Fact::Party(number, kind, name) => {
+            add(&mut put.parties, *number, party(alloc, *kind, name))
+        }
+        Fact::Grant(party, role) => begin(&mut put.roles, *party, *role),
+        Fact::Members(group, shares) => add(&mut put.members, *group, members(alloc, shares)),
+        Fact::Source(number) => add(&mut put.sources, *number, source(alloc)),
+        Fact::Unit(number, name, checked) => {
+            add(&mut put.units, *number, unit(alloc, name, *checked))
+        }
+        Fact::Parcel(number, unit, label, source) => {
+            let parcel = parcel(alloc, *unit, label, *source);
+            add(&mut put.parcels, *number, parcel)
+        }
+        Fact::Rrr(number, unit, party, source, held) => {
+            let entry = rrr(alloc, *unit, *party, *source, held);
+            add(&mut put.rrrs, *number, entry)
+        }
+        Fact::Mutation(number, lodged) => {
+            add(&mut put.mutations, *number, mutation(alloc, lodged))
+        }
+        _ => Err("a change puts no such fact".into()),
+    }
+}
+
+fn end_number(numbers: &mut NumberList, number: u64) -> Result<(), Fail> {
+    Ok(numbers.push(number)?)
+}
+
+/// Lets a change end a group, and its members with it.
+fn end_group(ended: &mut Ended, number: u64) -> Result<(), Fail> {
+    ended.members.push(number)?;
+    end_number(&mut ended.parties, number)
+}
+
+/// Lets a change end an object; a party is a group.
+fn ending(ended: &mut Ended, kind: Kind, number: u64) -> Result<(), Fail> {
+    match kind {
+        Kind::Party => end_group(ended, number),
+        Kind::Unit => end_number(&mut ended.units, number),
+        Kind::Parcel => end_number(&mut ended.parcels, number),
+        Kind::Rrr => end_number(&mut ended.rrrs, number),
+        Kind::Source => end_number(&mut ended.sources, number),
+        Kind::Mutation => end_number(&mut ended.mutations, number),
+    }
+}
+
+fn change_by(alloc: Global, change: &mut Change, fact: &Fact) -> Result<(), Fail> {
+    match fact {
+        Fact::Ended(kind, number) => ending(&mut change.ended, *kind, *number),
+        fact => put(alloc, &mut change.put, fact),
+    }
+}
+
+/// Lets a change do what facts say.
+pub(super) fn change_all(alloc: Global, change: &mut Change, facts: &[Fact]) -> Result<(), Fail> {
+    for fact in facts {
+        change_by(alloc, change, fact)?;
+    }
+    Ok(())
+}
+
+/// The fault that a register has, or `None`.
+pub(super) fn fault(alloc: Global, register: &Register) -> Result<Option<Unsound>, Fail> {
+    match check(alloc, register) {
+        Ok(()) => Ok(None),
+        Err(Unsound::Memory) => Err(AllocError.into()),
+        Err(fault) => Ok(Some(fault)),
+    }
+}
+
+/// All fields of a value, in one line.
+pub(super) fn fields<T: Debug>(alloc: Global, value: &T) -> Result<String, AllocError> {
+    format!(in alloc; "{value:?}")
+}

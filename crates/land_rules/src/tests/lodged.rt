@@ -1,0 +1,104 @@
+//! Mutations that are put together by hand.
+use super::facts::text;
+use land_core::content::{Content, Discharge, Mortgage, Transfer};
+use land_core::mutation::{MutationRecord, MutationState};
+use land_fraction::Fraction;
+use std::alloc::Global;
+use std::test::Fail;
+
+/// What a mutation asks for.
+#[derive(Drop)]
+pub(super) enum Asked {
+    /// A unit, a right, a receiver, and the numerator and denominator of a share.
+    Transfer(u64, u64, u64, u64, u64),
+    /// A unit, a creditor, an amount and a currency.
+    Mortgage(u64, u64, u64, &'static str),
+    /// A unit and a mortgage.
+    Discharge(u64, u64),
+}
+
+/// A lodger, its reference, a source, a state, and what is asked for.
+#[derive(Drop)]
+pub(super) struct Lodged(
+    pub u64,
+    pub &'static str,
+    pub u64,
+    pub MutationState,
+    pub Asked,
+);
+
+/// When all of them were lodged.
+pub(super) const MOMENT: i64 = 1000;
+
+pub(super) fn content(alloc: Global, it: &Asked) -> Result<Content, Fail> {
+    Ok(match it {
+        Asked::Transfer(unit, right, receiver, n, d) => Content::Transfer(Transfer {
+            unit: *unit,
+            right: *right,
+            receiver: *receiver,
+            share: Fraction::new(*n, *d)?,
+        }),
+        Asked::Mortgage(unit, creditor, amount, currency) => Content::Mortgage(Mortgage {
+            unit: *unit,
+            creditor: *creditor,
+            amount: *amount,
+            currency: text(alloc, currency)?,
+        }),
+        Asked::Discharge(unit, mortgage) => Content::Discharge(Discharge {
+            unit: *unit,
+            mortgage: *mortgage,
+        }),
+    })
+}
+
+pub(super) fn mutation(alloc: Global, it: &Lodged) -> Result<MutationRecord, Fail> {
+    Ok(MutationRecord {
+        lodger: it.0,
+        reference: text(alloc, it.1)?,
+        source: it.2,
+        lodged: MOMENT,
+        state: it.3,
+        content: content(alloc, &it.4)?,
+    })
+}
+
+fn is_transfer(it: &Transfer, asked: &Asked) -> bool {
+    match asked {
+        Asked::Transfer(unit, right, receiver, n, d) => {
+            it.unit == *unit
+                && it.right == *right
+                && it.receiver == *receiver
+                && it.share.numerator() == *n
+                && it.share.denominator() == *d
+        }
+        _ => false,
+    }
+}
+
+fn is_mortgage(it: &Mortgage, asked: &Asked) -> bool {
+    match asked {
+        Asked::Mortgage(unit, creditor, amount, currency) => {
+            it.unit == *unit
+                && it.creditor == *creditor
+                && it.amount == *amount
+                && it.currency.as_str() == *currency
+        }
+        _ => false,
+    }
+}
+
+fn is_discharge(it: &Discharge, asked: &Asked) -> bool {
+    match asked {
+        Asked::Discharge(unit, mortgage) => it.unit == *unit && it.mortgage == *mortgage,
+        _ => false,
+    }
+}
+
+/// Whether this is asked for.
+pub(super) fn is_asked(content: &Content, asked: &Asked) -> bool {
+    match content {
+        Content::Transfer(it) => is_transfer(it, asked),
+        Content::Mortgage(it) => is_mortgage(it, asked),
+        Content::Discharge(it) => is_discharge(it, asked),
+    }
+}
