@@ -4,6 +4,4 @@
 pub mod laws;
 mod relations;
 pub mod rules;
-#[cfg(test)]
-mod tests;
 pub mod verdict;

@@ -23,6 +23,3 @@ pub use crate::faults::ShapeFault;
 pub use crate::outline::Ring;
 pub use crate::plane::Point;
 pub use crate::reading::read_wkt;
-
-#[cfg(test)]
-mod tests;

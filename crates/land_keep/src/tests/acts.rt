@@ -4,6 +4,7 @@ ghost use Rattle.land_core.specs.Acts.{is_well_formed};
 ghost use Rattle.land_core.specs.Soundness.{IsSound};
 
 mod burdens;
+mod crowd;
 mod deciding;
 mod enrolling;
 mod grouping;
@@ -11,11 +12,14 @@ mod registering;
 mod roles;
 
 use super::asked::{OFFICE, RowAct, act, text};
-use super::told::done_line;
+use super::told::write_done;
+use crowd::crowd;
 use land_acts::plan::plan;
 use land_acts::refusal::{Planned, Refusal};
 use land_acts::slice::slice_of;
 use land_core::act::Act;
+use land_core::change::{Change, Done};
+use land_core::kind::Kind;
 use land_core::kind::PartyKind::NaturalPerson;
 use land_core::party::PartyRecord;
 use land_core::register::{Register, apply};
@@ -26,8 +30,23 @@ use std::alloc::{AllocError, Global};
 use std::process::Abort;
 use std::test::Fail;
 
-/// An act, its stamp, and what its caller is told in one line.
-struct Row(RowAct, Option<i64>, &'static str);
+/// What is done to a register in turn, and looked at.
+enum Step {
+    /// An act, its stamp, and what its caller is told in one line.
+    Row(RowAct, Option<i64>, &'static str),
+    /// The unit 6 gets so many restrictions, under the numbers from 20 on, and the next number is 1000.
+    Crowd(u64),
+    /// Whether a party holds a role.
+    Holds(u64, Role, bool),
+    /// Whether a group has a member.
+    Has(u64, u64, bool),
+    /// Whether an object stands.
+    Stands(Kind, u64, bool),
+    /// The next number.
+    Next(u64),
+    /// The register is sound.
+    Sound,
+}
 
 const STAMP: Option<i64> = Some(1000);
 
@@ -47,14 +66,6 @@ fn enter_all(alloc: Global, register: &mut Register) -> Result<(), AllocError> {
     enter(alloc, register, 2, "Anna")?;
     enter(alloc, register, 3, "Ben")?;
     enter(alloc, register, 4, "Sam")
-}
-
-/// A register with Anna, Ben and Sam as parties 2 to 4, citizens, and a next number.
-fn persons(alloc: Global, next: u64) -> Result<Register, AllocError> {
-    let mut register = Register::new(alloc)?;
-    enter_all(alloc, &mut register)?;
-    register.next = next;
-    Ok(register)
 }
 
 fn is_sound(alloc: Global, register: &Register) -> Result<bool, AllocError>
@@ -83,79 +94,129 @@ fn planned(
     }
 }
 
-/// Makes the change of an outcome, and gives what the caller is told.
-fn told(
+fn is_done_line(alloc: Global, it: &Done, line: &str) -> Result<bool, AllocError> {
+    let mut told = String::new(alloc);
+    write_done(&mut told, it)?;
+    Ok(told.as_str() == line)
+}
+
+fn is_refused_line(alloc: Global, number: u16, line: &str) -> Result<bool, AllocError> {
+    let mut told = String::new(alloc);
+    write!(told, "refused {number}")?;
+    Ok(told.as_str() == line)
+}
+
+/// Makes a change, and answers whether this is what its caller is told.
+fn is_applied(
+    alloc: Global,
+    register: &mut Register,
+    change: &Change,
+    done: &Done,
+    line: &str,
+) -> Result<bool, AllocError> {
+    apply(alloc, register, change)?;
+    is_done_line(alloc, done, line)
+}
+
+/// Makes the change of an outcome, and answers whether its caller is told this line.
+fn is_outcome(
     alloc: Global,
     register: &mut Register,
     outcome: &Result<Planned, Refusal>,
-) -> Result<String, AllocError> {
+    line: &str,
+) -> Result<bool, AllocError> {
     match outcome {
-        Ok(Planned::New(change, done)) => {
-            apply(alloc, register, change)?;
-            done_line(alloc, done)
-        }
-        Ok(Planned::Repeat(done)) => done_line(alloc, done),
+        Ok(Planned::New(change, done)) => is_applied(alloc, register, change, done, line),
+        Ok(Planned::Repeat(done)) => is_done_line(alloc, done, line),
         Err(Refusal::NoMemory) => Err(AllocError),
-        Err(refusal) => format!(in alloc; "refused {}", refusal.number()),
+        Err(refusal) => is_refused_line(alloc, refusal.number(), line),
     }
 }
 
-/// Does an act, and gives what its caller is told.
-fn outcome_line(
+/// Does an act, and answers whether its caller is told this line.
+fn is_made(
     alloc: Global,
     register: &mut Register,
     act: &Act,
     stamp: Option<i64>,
-) -> Result<String, AllocError>
+    line: &str,
+) -> Result<bool, AllocError>
     requires formed { is_well_formed act.now ≡ true }
     requires sound { IsSound register.old }
 {
     let outcome = planned(alloc, register, act, stamp);
-    told(alloc, register, &outcome)
+    is_outcome(alloc, register, &outcome, line)
 }
 
-/// Does an act, and answers whether its caller is told this line.
+/// Does an act over a sound register where it is well formed, and answers whether its caller is told this line.
 fn is_told(
     alloc: Global,
     register: &mut Register,
     act: &Act,
-    row: &Row,
-) -> Result<bool, AllocError> {
+    stamp: Option<i64>,
+    line: &str,
+) -> Result<bool, Fail> {
     if !act.is_well_formed() {
-        return Ok(row.2 == "not well formed");
+        return Ok(line == "not well formed");
     }
     if !is_sound(alloc, register)? {
         return Ok(false);
     }
-    let line = outcome_line(alloc, register, act, row.1)?;
-    Ok(line.as_str() == row.2)
+    Ok(is_made(alloc, register, act, stamp, line)?)
 }
 
-/// Does the act of a row, and answers whether its caller is told as expected.
-fn is_done(alloc: Global, register: &mut Register, row: &Row) -> Result<bool, Fail> {
-    let act = act(alloc, &row.0)?;
-    Ok(is_told(alloc, register, &act, row)?)
+/// Does the act of a row, and answers whether its caller is told this line.
+fn is_done(
+    alloc: Global,
+    register: &mut Register,
+    it: &RowAct,
+    stamp: Option<i64>,
+    line: &str,
+) -> Result<bool, Fail> {
+    let act = act(alloc, it)?;
+    is_told(alloc, register, &act, stamp, line)
 }
 
-/// How many rows are told as expected, before the first that is not.
-fn told_rows(alloc: Global, register: &mut Register, rows: &[Row]) -> Result<usize, Fail> {
-    for (place, row) in rows.iter().enumerate() {
-        if !is_done(alloc, register, row)? {
-            return Ok(place);
+/// Takes a step, and answers whether all is as expected.
+fn is_taken(alloc: Global, register: &mut Register, step: &Step) -> Result<bool, Fail> {
+    match step {
+        Step::Row(it, stamp, line) => is_done(alloc, register, it, *stamp, line),
+        Step::Crowd(count) => crowd(alloc, register, *count),
+        Step::Holds(party, role, so) => Ok(register.holds(*party, *role) == *so),
+        Step::Has(group, party, so) => Ok(register.is_member(*group, *party) == *so),
+        Step::Stands(kind, number, so) => Ok(register.stands(*kind, *number) == *so),
+        Step::Next(number) => Ok(register.next == *number),
+        Step::Sound => Ok(is_sound(alloc, register)?),
+    }
+}
+
+/// The place of the first step that is not as expected, if any, from a next number on.
+fn wrong_step(
+    alloc: Global,
+    register: &mut Register,
+    next: u64,
+    steps: &[Step],
+) -> Result<Option<usize>, Fail> {
+    enter_all(alloc, register)?;
+    register.next = next;
+    for (place, step) in steps.iter().enumerate() {
+        if !is_taken(alloc, register, step)? {
+            return Ok(Some(place));
         }
     }
-    Ok(rows.len())
+    Ok(None)
 }
 
-/// Does the acts of rows over a register of the three persons, and gives how many are told as expected.
-fn acted(alloc: Global, next: u64, rows: &[Row]) -> Result<usize, Fail> {
-    let mut register = persons(alloc, next)?;
-    told_rows(alloc, &mut register, rows)
+/// Takes steps over a register with Anna, Ben and Sam as parties 2 to 4, citizens.
+fn wrong_of(alloc: Global, next: u64, steps: &[Step]) -> Result<Option<usize>, Fail> {
+    let mut register = Register::new(alloc)?;
+    wrong_step(alloc, &mut register, next, steps)
 }
 
-/// Does the acts of rows over a register of the three persons, and compares what their callers are told.
-fn assert_acts(rt: &impl Abort, alloc: Global, next: u64, rows: &[Row]) -> Result<(), Fail> {
-    let told = acted(alloc, next, rows)?;
-    assert!(rt; told == rows.len(), "row {told}");
-    Ok(())
+/// Takes steps over a register of the three persons and a next number; each has to be as expected.
+fn assert_steps(rt: &impl Abort, alloc: Global, next: u64, steps: &[Step]) -> Result<(), Fail> {
+    match wrong_of(alloc, next, steps)? {
+        Some(place) => panic!(rt; "step {place}"),
+        None => Ok(()),
+    }
 }

@@ -73,12 +73,16 @@ pub(super) fn text(alloc: Global, text: &str) -> Result<Text, AllocError> {
     Ok(Text::new(String::from_str(alloc, text)?))
 }
 
+pub(super) fn share(n: u64, d: u64) -> Result<Fraction, Fail> {
+    Ok(Fraction::new(n, d)?)
+}
+
 fn members(alloc: Global, shares: &[Share]) -> Result<Sequence<Member>, Fail> {
     let mut members = Sequence::new(alloc);
     for (party, n, d) in shares {
         members.push(Member {
             party: *party,
-            share: Fraction::new(*n, *d)?,
+            share: share(*n, *d)?,
         })?;
     }
     Ok(members)
@@ -106,7 +110,7 @@ fn rights(alloc: Global, rows: &[Right]) -> Result<Sequence<NewRight>, Fail> {
         rights.push(NewRight {
             party: *party,
             right_type: *right_type,
-            share: Fraction::new(*n, *d)?,
+            share: share(*n, *d)?,
         })?;
     }
     Ok(rights)

@@ -2,8 +2,8 @@
 use super::asked::RowAct::Enrol;
 use super::asked::RowAsk::{Do, List, View};
 use super::asked::{OFFICE, RowAsk};
-use super::rows::{Row, assert_rows};
-use super::steps::{ANNA, BEN, NEW};
+use super::rows::Row;
+use super::steps::{ANNA, BEN, assert_anew};
 use land_core::caller::Caller;
 use land_core::kind::Kind::Party;
 use land_core::kind::PartyKind::NaturalPerson;
@@ -36,7 +36,7 @@ const DENIED: &[Row] = &[
 
 #[test]
 fn a_stranger_and_a_missing_role_are_denied(rt: HostRuntime) -> Result<(), Fail> {
-    assert_rows(&rt, rt.alloc(), NEW, DENIED)
+    assert_anew(&rt, rt.alloc(), DENIED)
 }
 
 const RISING: &[Row] = &[
@@ -55,7 +55,7 @@ const RISING: &[Row] = &[
 
 #[test]
 fn stamps_rise_whatever_the_clock_reads(rt: HostRuntime) -> Result<(), Fail> {
-    assert_rows(&rt, rt.alloc(), NEW, RISING)
+    assert_anew(&rt, rt.alloc(), RISING)
 }
 
 const ITSELF: &[Row] = &[
@@ -73,7 +73,7 @@ const ITSELF: &[Row] = &[
 
 #[test]
 fn a_citizen_sees_itself(rt: HostRuntime) -> Result<(), Fail> {
-    assert_rows(&rt, rt.alloc(), NEW, ITSELF)
+    assert_anew(&rt, rt.alloc(), ITSELF)
 }
 
 const PAST: &[Row] = &[
@@ -88,7 +88,7 @@ const PAST: &[Row] = &[
 
 #[test]
 fn the_past_is_read_at_its_moment(rt: HostRuntime) -> Result<(), Fail> {
-    assert_rows(&rt, rt.alloc(), NEW, PAST)
+    assert_anew(&rt, rt.alloc(), PAST)
 }
 
 const ENDING_IN_A_DENIAL: &[Row] = &[
@@ -98,6 +98,6 @@ const ENDING_IN_A_DENIAL: &[Row] = &[
 
 #[test]
 fn a_run_may_be_empty_or_end_in_a_denial(rt: HostRuntime) -> Result<(), Fail> {
-    assert_rows(&rt, rt.alloc(), NEW, &[])?;
-    assert_rows(&rt, rt.alloc(), NEW, ENDING_IN_A_DENIAL)
+    assert_anew(&rt, rt.alloc(), &[])?;
+    assert_anew(&rt, rt.alloc(), ENDING_IN_A_DENIAL)
 }

@@ -2,8 +2,8 @@
 use super::asked::RowAct::{Grant, Group, Regroup, Revoke};
 use super::asked::RowAsk::{Do, List, View};
 use super::asked::{OFFICE, RowAsk, Share};
-use super::rows::{Row, assert_rows};
-use super::steps::{ANNA, BANK_ITSELF, BEN, NORA, WITH_GROUP, WITH_PARTIES};
+use super::rows::Row;
+use super::steps::{ANNA, BANK_ITSELF, BEN, NORA, assert_with_group, assert_with_parties};
 use land_core::caller::Caller;
 use land_core::kind::Kind::Party;
 use land_core::role::Role::{Bank, Citizen, Notary, StateAdministrator};
@@ -53,7 +53,7 @@ const SHARES: &[Row] = &[
 
 #[test]
 fn shares_of_a_group_are_whole(rt: HostRuntime) -> Result<(), Fail> {
-    assert_rows(&rt, rt.alloc(), WITH_PARTIES, SHARES)
+    assert_with_parties(&rt, rt.alloc(), SHARES)
 }
 
 const GROUPS_AND_ROLES: &[Row] = &[
@@ -90,7 +90,7 @@ const GROUPS_AND_ROLES: &[Row] = &[
 
 #[test]
 fn groups_and_roles(rt: HostRuntime) -> Result<(), Fail> {
-    assert_rows(&rt, rt.alloc(), WITH_GROUP, GROUPS_AND_ROLES)
+    assert_with_group(&rt, rt.alloc(), GROUPS_AND_ROLES)
 }
 
 const BEFORE: &str = "party 7 Group Anna and Ben [(2 1/3)(3 2/3)] []";
@@ -118,7 +118,7 @@ const MEMBERS: &[Row] = &[
 
 #[test]
 fn members_see_their_group_while_they_are_members(rt: HostRuntime) -> Result<(), Fail> {
-    assert_rows(&rt, rt.alloc(), WITH_GROUP, MEMBERS)
+    assert_with_group(&rt, rt.alloc(), MEMBERS)
 }
 
 const NO_GROUP: &[Row] = &[
@@ -132,7 +132,7 @@ const NO_GROUP: &[Row] = &[
 
 #[test]
 fn what_is_no_group_is_not_regrouped(rt: HostRuntime) -> Result<(), Fail> {
-    assert_rows(&rt, rt.alloc(), WITH_GROUP, NO_GROUP)
+    assert_with_group(&rt, rt.alloc(), NO_GROUP)
 }
 
 const ANNA_AS_OFFICE: Caller = Caller {
@@ -171,7 +171,7 @@ const ANOTHER: &[Row] = &[
 
 #[test]
 fn another_administrator_may_go_first(rt: HostRuntime) -> Result<(), Fail> {
-    assert_rows(&rt, rt.alloc(), WITH_GROUP, ANOTHER)
+    assert_with_group(&rt, rt.alloc(), ANOTHER)
 }
 
 /// The first moment that is none.
@@ -192,5 +192,5 @@ const AT_THE_END: &[Row] = &[
 
 #[test]
 fn nothing_is_done_at_the_end_of_time(rt: HostRuntime) -> Result<(), Fail> {
-    assert_rows(&rt, rt.alloc(), WITH_GROUP, AT_THE_END)
+    assert_with_group(&rt, rt.alloc(), AT_THE_END)
 }

@@ -1,9 +1,8 @@
 //! Mutations: what rows ask for, the lodgings made of it, and what is shown of them in one line.
-use super::asked::text;
+use super::asked::{share, text};
 use land_core::act::Lodging;
 use land_core::content::{Content, Discharge, Mortgage, Transfer};
 use land_core::mutation::Mutation;
-use land_fraction::Fraction;
 use std::alloc::{AllocError, Global};
 use std::test::Fail;
 
@@ -17,7 +16,16 @@ pub(super) enum RowContent {
     Discharge(u64, u64),
 }
 
-fn mortgage(alloc: Global, unit: u64, creditor: u64, amount: u64) -> Result<Content, AllocError> {
+fn transfer(unit: u64, right: u64, receiver: u64, n: u64, d: u64) -> Result<Content, Fail> {
+    Ok(Content::Transfer(Transfer {
+        unit,
+        right,
+        receiver,
+        share: share(n, d)?,
+    }))
+}
+
+fn mortgage(alloc: Global, unit: u64, creditor: u64, amount: u64) -> Result<Content, Fail> {
     Ok(Content::Mortgage(Mortgage {
         unit,
         creditor,
@@ -27,21 +35,16 @@ fn mortgage(alloc: Global, unit: u64, creditor: u64, amount: u64) -> Result<Cont
 }
 
 fn content(alloc: Global, it: &RowContent) -> Result<Content, Fail> {
-    Ok(match it {
-        RowContent::Transfer(unit, right, receiver, n, d) => Content::Transfer(Transfer {
-            unit: *unit,
-            right: *right,
-            receiver: *receiver,
-            share: Fraction::new(*n, *d)?,
-        }),
-        RowContent::Mortgage(unit, creditor, amount) => {
-            mortgage(alloc, *unit, *creditor, *amount)?
+    match it {
+        RowContent::Transfer(unit, right, receiver, n, d) => {
+            transfer(*unit, *right, *receiver, *n, *d)
         }
-        RowContent::Discharge(unit, mortgage) => Content::Discharge(Discharge {
+        RowContent::Mortgage(unit, creditor, amount) => mortgage(alloc, *unit, *creditor, *amount),
+        RowContent::Discharge(unit, mortgage) => Ok(Content::Discharge(Discharge {
             unit: *unit,
             mortgage: *mortgage,
-        }),
-    })
+        })),
+    }
 }
 
 pub(super) fn lodging(
@@ -57,33 +60,42 @@ pub(super) fn lodging(
     })
 }
 
-fn content_line(alloc: Global, content: &Content) -> Result<String, AllocError> {
+fn write_transfer(line: &mut String, it: &Transfer) -> Result<(), AllocError> {
+    write!(
+        line,
+        " Transfer {} of {} in {} to {}",
+        it.share, it.right, it.unit, it.receiver
+    )
+}
+
+fn write_mortgage(line: &mut String, it: &Mortgage) -> Result<(), AllocError> {
+    write!(
+        line,
+        " Mortgage {} {} on {} of {}",
+        it.amount,
+        it.currency.as_str(),
+        it.unit,
+        it.creditor
+    )
+}
+
+fn write_content(line: &mut String, content: &Content) -> Result<(), AllocError> {
     match content {
-        Content::Transfer(it) => format!(in alloc;
-            "Transfer {} of {} in {} to {}",
-            it.share, it.right, it.unit, it.receiver
-        ),
-        Content::Mortgage(it) => format!(in alloc;
-            "Mortgage {} {} on {} of {}",
-            it.amount,
-            it.currency.as_str(),
-            it.unit,
-            it.creditor
-        ),
-        Content::Discharge(it) => { format!(in alloc; "Discharge {} on {}", it.mortgage, it.unit) }
+        Content::Transfer(it) => write_transfer(line, it),
+        Content::Mortgage(it) => write_mortgage(line, it),
+        Content::Discharge(it) => write!(line, " Discharge {} on {}", it.mortgage, it.unit),
     }
 }
 
-pub(super) fn mutation_line(alloc: Global, it: &Mutation) -> Result<String, AllocError> {
-    let content = content_line(alloc, &it.content)?;
-    format!(in alloc;
-        "mutation {} {} of {} from {} at {}: {:?} {}",
+pub(super) fn write_mutation(line: &mut String, it: &Mutation) -> Result<(), AllocError> {
+    write!(
+        line,
+        "mutation {} {} of {} from {}",
         it.number,
         it.reference.as_str(),
         it.lodger,
-        it.source,
-        it.lodged,
-        it.state,
-        content.as_str()
-    )
+        it.source
+    )?;
+    write!(line, " at {}: {:?}", it.lodged, it.state)?;
+    write_content(line, &it.content)
 }

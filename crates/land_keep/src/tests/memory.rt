@@ -9,7 +9,8 @@ use super::asked::RowAct::{
 use super::asked::RowAsk::{Do, Sheet, View};
 use super::asked::{OFFICE, Right, RowAsk, Share};
 use super::lodged::RowContent::{Mortgage, Transfer};
-use super::rows::{is_told, request};
+use super::rows::request;
+use super::told::is_told;
 use crate::keeper::Keeper;
 use crate::machine::{answer, finish, prepare};
 use crate::plain_keeper::PlainKeeper;
@@ -45,6 +46,24 @@ fn failed(last: i64, fault: StoreFault) -> Result<bool, AllocError> {
     }
 }
 
+/// Whether a reply is that of the enrolment, told at the moment of the last change.
+fn is_enrolled(alloc: Global, reply: &Reply, last: i64, moment: i64) -> Result<bool, AllocError> {
+    Ok(is_told(alloc, reply, ENROLLED)? && last == moment)
+}
+
+/// Whether an enrolment waited, and is done now.
+fn is_done(
+    alloc: Global,
+    waited: Result<bool, AllocError>,
+    last: i64,
+    finished: &Result<Reply, StoreFault>,
+) -> Result<bool, AllocError> {
+    match finished {
+        Ok(reply) => Ok(waited? && is_enrolled(alloc, reply, last, 1000)?),
+        Err(fault) => failed(last, *fault),
+    }
+}
+
 /// Whether an enrolment is prepared, which changes nothing, and then finished.
 fn is_finished(
     alloc: Global,
@@ -53,13 +72,12 @@ fn is_finished(
 ) -> Result<bool, AllocError>
     requires { is_well_formed_request request.now ≡ true }
 {
-    let prepared = match prepare(alloc, keeper, 1000, request) {
-        Ok(prepared) => prepared,
-        Err(fault) => return failed(keeper.last(), fault),
-    };
-    let waits = is_told(alloc, prepared.reply(), ENROLLED)? && keeper.last() == 0;
-    match finish(alloc, keeper, prepared) {
-        Ok(reply) => Ok(waits && is_told(alloc, &reply, ENROLLED)? && keeper.last() == 1000),
+    match prepare(alloc, keeper, 1000, request) {
+        Ok(prepared) => {
+            let waited = is_enrolled(alloc, prepared.reply(), keeper.last(), 0);
+            let finished = finish(alloc, keeper, prepared);
+            is_done(alloc, waited, keeper.last(), &finished)
+        }
         Err(fault) => failed(keeper.last(), fault),
     }
 }
@@ -96,13 +114,25 @@ enum Outcome {
     Wrong,
 }
 
-/// How a reply was told, where it is this line; a wrong one otherwise.
-fn told(alloc: Global, reply: &Reply, line: &str, good: Outcome) -> Result<Outcome, AllocError> {
-    if is_told(alloc, reply, line)? {
-        Ok(good)
-    } else {
-        Ok(Outcome::Wrong)
+/// Whether a reply is this line; nothing where memory was refused.
+fn told(alloc: Global, reply: &Reply, line: &str) -> Result<Option<bool>, AllocError> {
+    match reply {
+        Reply::Store(501) => Ok(None),
+        _ => Ok(Some(is_told(alloc, reply, line)?)),
     }
+}
+
+/// Whether a request has this reply; nothing where memory was refused.
+fn asked_once(
+    alloc: Global,
+    keeper: &mut PlainKeeper,
+    request: &Request,
+    line: &str,
+) -> Result<Option<bool>, AllocError>
+    requires { is_well_formed_request request.now ≡ true }
+{
+    let reply = answer(alloc, keeper, 1000, request);
+    told(alloc, &reply, line)
 }
 
 /// Asks a second time: nothing has changed before.
@@ -118,8 +148,11 @@ fn asked_again(
     if keeper.last() != last || keeper.is_closed() {
         return Ok(Outcome::Wrong);
     }
-    let reply = answer(alloc, keeper, 1000, request);
-    told(alloc, &reply, line, Outcome::Late)
+    match asked_once(alloc, keeper, request, line)? {
+        Some(true) => Ok(Outcome::Late),
+        Some(false) => Ok(Outcome::Wrong),
+        None => Err(AllocError),
+    }
 }
 
 /// Asks, and where memory was refused once more.
@@ -132,9 +165,10 @@ fn asked(
     requires { is_well_formed_request request.now ≡ true }
 {
     let last = keeper.last();
-    match answer(alloc, keeper, 1000, request) {
-        Reply::Store(501) => asked_again(alloc, keeper, last, request, line),
-        reply => told(alloc, &reply, line, Outcome::AtOnce),
+    match asked_once(alloc, keeper, request, line)? {
+        Some(true) => Ok(Outcome::AtOnce),
+        Some(false) => Ok(Outcome::Wrong),
+        None => asked_again(alloc, keeper, last, request, line),
     }
 }
 

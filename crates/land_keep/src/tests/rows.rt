@@ -1,6 +1,6 @@
 //! Rows: requests that are run in turn over a new register, each with its full reply.
 use super::asked::{RowAsk, ask};
-use super::told::reply_line;
+use super::told::is_told;
 use crate::clock::Clock;
 use crate::machine::{are_well_formed, run};
 use crate::plain_keeper::PlainKeeper;
@@ -82,11 +82,6 @@ pub(super) fn answered(
     let mut keeper = PlainKeeper::new(alloc)?;
     let mut clock = RowClock { rows, next: 0 };
     Ok(run(alloc, &mut keeper, &mut clock, requests)?)
-}
-
-/// Whether a reply is this line. A reply of 501 is want of memory.
-pub(super) fn is_told(alloc: Global, reply: &Reply, line: &str) -> Result<bool, AllocError> {
-    Ok(reply_line(alloc, reply)?.as_str() == line)
 }
 
 /// The place of the first row with another reply, if any.

@@ -3,11 +3,14 @@ use super::asked::RowAct::{Approve, Enrol, Grant, Group, Lodge, Register};
 use super::asked::RowAsk::Do;
 use super::asked::{OFFICE, Right, RowAsk, Share};
 use super::lodged::RowContent::Mortgage;
-use super::rows::Row;
+use super::rows::{Row, assert_rows};
 use land_core::caller::Caller;
 use land_core::kind::PartyKind::{NaturalPerson, NonNaturalPerson};
 use land_core::role::Role::{Bank, CertifiedSurveyor, Citizen, Notary};
 use land_core::rrr::RightType::{Lease, Ownership};
+use std::alloc::Global;
+use std::process::Abort;
+use std::test::Fail;
 
 pub(super) const ANNA: Caller = Caller {
     party: 2,
@@ -115,15 +118,6 @@ const REGISTERED: &[Row] = &[Row(
     "done 9 made [8, 9, 10, 11, 12, 13] at 1009",
 )];
 
-/// Nothing was done.
-pub(super) const NEW: &[&[Row]] = &[];
-
-pub(super) const WITH_PARTIES: &[&[Row]] = &[ENROLLED];
-
-pub(super) const WITH_GROUP: &[&[Row]] = &[ENROLLED, GROUPED];
-
-pub(super) const WITH_GARDEN: &[&[Row]] = &[ENROLLED, GROUPED, REGISTERED];
-
 /// The bank lends on the garden.
 pub(super) const LOAN: RowAsk = Do(Lodge("M1", "Loan 1", Mortgage(9, 4, 2_500_000)));
 
@@ -133,6 +127,45 @@ const LODGED: &[Row] = &[Row(1000, BANK, LOAN, "done 15 made [14, 15] at 1010")]
 /// The loan is approved.
 const MORTGAGED: &[Row] = &[Row(1000, OFFICE, Do(Approve(15)), "done 15 made [16] at 1011")];
 
-pub(super) const WITH_LOAN: &[&[Row]] = &[ENROLLED, GROUPED, REGISTERED, LODGED];
+/// Runs rows over a new register, and compares the replies in full.
+pub(super) fn assert_anew(rt: &impl Abort, alloc: Global, rows: &[Row]) -> Result<(), Fail> {
+    assert_rows(rt, alloc, &[], rows)
+}
 
-pub(super) const WITH_MORTGAGE: &[&[Row]] = &[ENROLLED, GROUPED, REGISTERED, LODGED, MORTGAGED];
+/// Runs rows where Anna, Ben and the bank are enrolled.
+pub(super) fn assert_with_parties(
+    rt: &impl Abort,
+    alloc: Global,
+    rows: &[Row],
+) -> Result<(), Fail> {
+    assert_rows(rt, alloc, &[ENROLLED], rows)
+}
+
+/// Runs rows where there is the group of Anna and Ben, too.
+pub(super) fn assert_with_group(rt: &impl Abort, alloc: Global, rows: &[Row]) -> Result<(), Fail> {
+    assert_rows(rt, alloc, &[ENROLLED, GROUPED], rows)
+}
+
+/// Runs rows where the garden is registered, too.
+pub(super) fn assert_with_garden(rt: &impl Abort, alloc: Global, rows: &[Row]) -> Result<(), Fail> {
+    assert_rows(rt, alloc, &[ENROLLED, GROUPED, REGISTERED], rows)
+}
+
+/// Runs rows where the loan is lodged, too.
+pub(super) fn assert_with_loan(rt: &impl Abort, alloc: Global, rows: &[Row]) -> Result<(), Fail> {
+    assert_rows(rt, alloc, &[ENROLLED, GROUPED, REGISTERED, LODGED], rows)
+}
+
+/// Runs rows where the loan is approved, too.
+pub(super) fn assert_with_mortgage(
+    rt: &impl Abort,
+    alloc: Global,
+    rows: &[Row],
+) -> Result<(), Fail> {
+    assert_rows(
+        rt,
+        alloc,
+        &[ENROLLED, GROUPED, REGISTERED, LODGED, MORTGAGED],
+        rows,
+    )
+}

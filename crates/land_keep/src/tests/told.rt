@@ -1,108 +1,143 @@
 //! Objects and replies in one line each.
-use super::lodged::mutation_line;
+use super::lodged::write_mutation;
 use crate::reply::Reply;
-use crate::view::View;
+use crate::view::{NamedRrr, View};
 use land_core::change::Done;
 use land_core::member::Member;
 use land_core::object::Object;
 use land_core::parcel::Parcel;
 use land_core::party::Party;
 use land_core::rrr::{Class, Rrr};
+use land_core::source::Source;
+use land_core::unit::Unit;
 use std::alloc::{AllocError, Global};
 
 /// The members of a group, each as a number and a share.
-fn member_line(alloc: Global, members: &[Member]) -> Result<String, AllocError> {
-    let mut line = String::new(alloc);
+fn write_members(line: &mut String, members: &[Member]) -> Result<(), AllocError> {
     for member in members {
         write!(line, "({} {})", member.party, member.share)?;
     }
-    Ok(line)
+    Ok(())
 }
 
-fn party_line(alloc: Global, it: &Party) -> Result<String, AllocError> {
-    let members = member_line(alloc, it.members.as_slice())?;
-    format!(in alloc;
-        "party {} {:?} {} [{}] {:?}",
+fn write_party(line: &mut String, it: &Party) -> Result<(), AllocError> {
+    write!(
+        line,
+        "party {} {:?} {} [",
         it.number,
         it.kind,
+        it.name.as_str()
+    )?;
+    write_members(line, it.members.as_slice())?;
+    write!(line, "] {:?}", it.roles.as_slice())
+}
+
+fn write_unit(line: &mut String, it: &Unit) -> Result<(), AllocError> {
+    write!(
+        line,
+        "unit {} {} {}",
+        it.number,
         it.name.as_str(),
-        members.as_str(),
-        it.roles.as_slice()
+        it.checked
     )
 }
 
-fn parcel_line(alloc: Global, it: &Parcel) -> Result<String, AllocError> {
+fn write_outline(line: &mut String, it: &Parcel) -> Result<(), AllocError> {
     let outline = it.outline.write_wkt()?;
-    format!(in alloc;
-        "parcel {} in {}: {} of {} from {}: {}",
+    line.push_str(outline.as_str())
+}
+
+fn write_parcel(line: &mut String, it: &Parcel) -> Result<(), AllocError> {
+    write!(
+        line,
+        "parcel {} in {}: {}",
         it.number,
         it.unit,
-        it.label.as_str(),
+        it.label.as_str()
+    )?;
+    write!(
+        line,
+        " of {} from {}: ",
         it.outline.doubled_area(),
-        it.source,
-        outline.as_str()
-    )
+        it.source
+    )?;
+    write_outline(line, it)
 }
 
-fn class_line(alloc: Global, class: &Class) -> Result<String, AllocError> {
+fn write_class(line: &mut String, class: &Class) -> Result<(), AllocError> {
     match class {
-        Class::Right { right_type, share } => format!(in alloc; "{:?} {}", right_type, share),
-        Class::Restriction { words } => format!(in alloc; "Restriction {}", words.as_str()),
-        Class::Responsibility { words } => format!(in alloc; "Responsibility {}", words.as_str()),
+        Class::Right { right_type, share } => write!(line, "{:?} {}", right_type, share),
+        Class::Restriction { words } => write!(line, "Restriction {}", words.as_str()),
+        Class::Responsibility { words } => write!(line, "Responsibility {}", words.as_str()),
         Class::Mortgage {
             amount,
             currency,
             rank,
-        } => format!(in alloc; "Mortgage {amount} {} of rank {rank}", currency.as_str()),
+        } => write!(
+            line,
+            "Mortgage {amount} {} of rank {rank}",
+            currency.as_str()
+        ),
     }
 }
 
-fn rrr_line(alloc: Global, it: &Rrr) -> Result<String, AllocError> {
-    let class = class_line(alloc, &it.class)?;
-    format!(in alloc;
-        "rrr {} in {} of {}: {} from {}",
+fn write_rrr(line: &mut String, it: &Rrr) -> Result<(), AllocError> {
+    write!(line, "rrr {} in {} of {}: ", it.number, it.unit, it.party)?;
+    write_class(line, &it.class)?;
+    write!(line, " from {}", it.source)
+}
+
+fn write_source(line: &mut String, it: &Source) -> Result<(), AllocError> {
+    write!(
+        line,
+        "source {} {:?} {}",
         it.number,
-        it.unit,
-        it.party,
-        class.as_str(),
-        it.source
+        it.kind,
+        it.title.as_str()
     )
 }
 
-pub(super) fn object_line(alloc: Global, object: &Object) -> Result<String, AllocError> {
+fn write_object(line: &mut String, object: &Object) -> Result<(), AllocError> {
     match object {
-        Object::Party(it) => party_line(alloc, it),
-        Object::Unit(it) => {
-            format!(in alloc; "unit {} {} {}", it.number, it.name.as_str(), it.checked)
-        }
-        Object::Parcel(it) => parcel_line(alloc, it),
-        Object::Rrr(it) => rrr_line(alloc, it),
-        Object::Source(it) => {
-            format!(in alloc; "source {} {:?} {}", it.number, it.kind, it.title.as_str())
-        }
-        Object::Mutation(it) => mutation_line(alloc, it),
+        Object::Party(it) => write_party(line, it),
+        Object::Unit(it) => write_unit(line, it),
+        Object::Parcel(it) => write_parcel(line, it),
+        Object::Rrr(it) => write_rrr(line, it),
+        Object::Source(it) => write_source(line, it),
+        Object::Mutation(it) => write_mutation(line, it),
     }
 }
 
+fn write_parcels(line: &mut String, parcels: &[Parcel]) -> Result<(), AllocError> {
+    for parcel in parcels {
+        write!(line, " parcel {}", parcel.number)?;
+    }
+    Ok(())
+}
+
+fn write_entries(line: &mut String, entries: &[NamedRrr]) -> Result<(), AllocError> {
+    for entry in entries {
+        write!(line, " rrr {} {}", entry.rrr.number, entry.name.as_str())?;
+    }
+    Ok(())
+}
+
 /// A title sheet: the unit, its parcels' numbers, and its entries with their parties' names.
-fn sheet_line(alloc: Global, it: &View) -> Result<String, AllocError> {
-    let mut line = format!(in alloc;
+fn write_sheet(line: &mut String, it: &View) -> Result<(), AllocError> {
+    write!(
+        line,
         "sheet {} {} at {}:",
         it.unit.number,
         it.unit.name.as_str(),
         it.at
     )?;
-    for parcel in it.parcels.as_slice() {
-        write!(line, " parcel {}", parcel.number)?;
-    }
-    for entry in it.rrrs.as_slice() {
-        write!(line, " rrr {} {}", entry.rrr.number, entry.name.as_str())?;
-    }
-    Ok(line)
+    write_parcels(line, it.parcels.as_slice())?;
+    write_entries(line, it.rrrs.as_slice())
 }
 
-pub(super) fn done_line(alloc: Global, it: &Done) -> Result<String, AllocError> {
-    format!(in alloc;
+pub(super) fn write_done(line: &mut String, it: &Done) -> Result<(), AllocError> {
+    write!(
+        line,
         "done {} made {:?} at {}",
         it.number,
         it.made.as_slice(),
@@ -111,16 +146,23 @@ pub(super) fn done_line(alloc: Global, it: &Done) -> Result<String, AllocError> 
 }
 
 /// A reply in one line. A reply of 501 is want of memory.
-pub(super) fn reply_line(alloc: Global, reply: &Reply) -> Result<String, AllocError> {
+fn write_reply(line: &mut String, reply: &Reply) -> Result<(), AllocError> {
     match reply {
-        Reply::Object(object) => object_line(alloc, object),
-        Reply::Sheet(it) => sheet_line(alloc, it),
-        Reply::Numbers(numbers) => format!(in alloc; "numbers {:?}", numbers.as_slice()),
-        Reply::Done(it) => done_line(alloc, it),
-        Reply::Denied(rule) => format!(in alloc; "denied {rule}"),
-        Reply::Fault(number) => format!(in alloc; "fault {number}"),
-        Reply::Refused(number) => format!(in alloc; "refused {number}"),
+        Reply::Object(object) => write_object(line, object),
+        Reply::Sheet(it) => write_sheet(line, it),
+        Reply::Numbers(numbers) => write!(line, "numbers {:?}", numbers.as_slice()),
+        Reply::Done(it) => write_done(line, it),
+        Reply::Denied(rule) => write!(line, "denied {rule}"),
+        Reply::Fault(number) => write!(line, "fault {number}"),
+        Reply::Refused(number) => write!(line, "refused {number}"),
         Reply::Store(501) => Err(AllocError),
-        Reply::Store(number) => format!(in alloc; "store {number}"),
+        Reply::Store(number) => write!(line, "store {number}"),
     }
+}
+
+/// Whether a reply is this line. A reply of 501 is want of memory.
+pub(super) fn is_told(alloc: Global, reply: &Reply, line: &str) -> Result<bool, AllocError> {
+    let mut told = String::new(alloc);
+    write_reply(&mut told, reply)?;
+    Ok(told.as_str() == line)
 }

@@ -2,9 +2,9 @@
 use super::asked::RowAct::{Burden, Grant, Lift, Register};
 use super::asked::RowAsk::{Do, List, Sheet, View};
 use super::asked::{OFFICE, Right, RowAsk};
-use super::rows::{Row, assert_rows};
+use super::rows::Row;
 use super::steps::{
-    ANNA, BANK, BANK_ITSELF, BEN, NORA, NORA_HERSELF, SAM, SHARED, SURVEYOR, WITH_GARDEN,
+    ANNA, BANK, BANK_ITSELF, BEN, NORA, NORA_HERSELF, SAM, SHARED, SURVEYOR, assert_with_garden,
 };
 use land_core::act::BurdenClass::{Responsibility, Restriction};
 use land_core::caller::Caller;
@@ -60,7 +60,7 @@ const UNITS_AND_SIGHT: &[Row] = &[
 
 #[test]
 fn units_and_sight(rt: HostRuntime) -> Result<(), Fail> {
-    assert_rows(&rt, rt.alloc(), WITH_GARDEN, UNITS_AND_SIGHT)
+    assert_with_garden(&rt, rt.alloc(), UNITS_AND_SIGHT)
 }
 
 const HOLDINGS: &[Row] = &[
@@ -80,7 +80,7 @@ const HOLDINGS: &[Row] = &[
 
 #[test]
 fn holders_see_their_holdings(rt: HostRuntime) -> Result<(), Fail> {
-    assert_rows(&rt, rt.alloc(), WITH_GARDEN, HOLDINGS)
+    assert_with_garden(&rt, rt.alloc(), HOLDINGS)
 }
 
 const SHOWN: &[Row] = &[
@@ -122,7 +122,7 @@ const SHOWN: &[Row] = &[
 
 #[test]
 fn what_is_registered_is_shown(rt: HostRuntime) -> Result<(), Fail> {
-    assert_rows(&rt, rt.alloc(), WITH_GARDEN, SHOWN)
+    assert_with_garden(&rt, rt.alloc(), SHOWN)
 }
 
 const SHEET: RowAsk = Sheet(9, None);
@@ -184,5 +184,5 @@ const SHEETS: &[Row] = &[
 
 #[test]
 fn a_sheet_has_what_its_caller_sees(rt: HostRuntime) -> Result<(), Fail> {
-    assert_rows(&rt, rt.alloc(), WITH_GARDEN, SHEETS)
+    assert_with_garden(&rt, rt.alloc(), SHEETS)
 }

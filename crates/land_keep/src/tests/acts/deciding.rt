@@ -1,16 +1,17 @@
 //! Lodging and deciding where there is hardly room: in a unit of 256 entries, and at the last numbers.
-use super::burdens::{UNIT, restrict};
-use super::{FIRST, Row, STAMP, assert_acts, persons, told_rows};
+use super::Step::{self, Crowd, Row};
+use super::burdens::UNIT;
+use super::{FIRST, STAMP, assert_steps};
 use crate::tests::asked::RowAct::{Approve, Grant, Lift, Lodge, Refuse, Register};
 use crate::tests::lodged::RowContent::{Mortgage, Transfer};
-use land_core::register::Register as Registered;
 use land_core::role::Role::Bank;
 use land_core::rrr::RightType::Ownership;
-use std::alloc::Global;
 use std::test::Fail;
 
-/// In a full unit a right moves as a whole, or grows, and no other comes.
-const FULL: &[Row] = &[
+/// In a unit with a right and 255 restrictions the right moves as a whole, or grows, and no other comes.
+const FULL: &[Step] = &[
+    UNIT,
+    Crowd(255),
     Row(
         Lodge("A", "Deed 2", Transfer(6, 8, 3, 1, 2)),
         STAMP,
@@ -51,30 +52,13 @@ const FULL: &[Row] = &[
     Row(Approve(1003), STAMP, "done 1003 made [1012] at 1000"),
 ];
 
-/// How many rows are told as expected over the unit with its right and 255 restrictions, and 1000 as the next number.
-fn crowded(alloc: Global, register: &mut Registered) -> Result<usize, Fail> {
-    if told_rows(alloc, register, &[UNIT])? != 1 {
-        return Ok(0);
-    }
-    restrict(alloc, register, 255)?;
-    register.next = 1000;
-    told_rows(alloc, register, FULL)
-}
-
-fn full(alloc: Global) -> Result<usize, Fail> {
-    let mut register = persons(alloc, FIRST)?;
-    crowded(alloc, &mut register)
-}
-
 #[test]
 fn the_whole_of_a_right_moves_in_a_unit_of_256_entries(rt: HostRuntime) -> Result<(), Fail> {
-    let told = full(rt.alloc())?;
-    assert!(&rt; told == FULL.len(), "row {told}");
-    Ok(())
+    assert_steps(&rt, rt.alloc(), FIRST, FULL)
 }
 
 /// Unit 999999991 with right 999999993; what is lodged leaves one number.
-const LAST_NUMBERS: &[Row] = &[
+const LAST_NUMBERS: &[Step] = &[
     Row(
         Register(true, 1, &[(2, Ownership, 1, 1)]),
         STAMP,
@@ -131,10 +115,10 @@ const LAST_NUMBERS: &[Row] = &[
 
 #[test]
 fn mutations_take_numbers_up_to_the_last(rt: HostRuntime) -> Result<(), Fail> {
-    assert_acts(&rt, rt.alloc(), 999_999_990, LAST_NUMBERS)
+    assert_steps(&rt, rt.alloc(), 999_999_990, LAST_NUMBERS)
 }
 
-const OUT_OF_LIMITS: &[Row] = &[
+const OUT_OF_LIMITS: &[Step] = &[
     Row(Approve(0), STAMP, "not well formed"),
     Row(Refuse(1_000_000_001), STAMP, "not well formed"),
     Row(
@@ -148,5 +132,5 @@ const OUT_OF_LIMITS: &[Row] = &[
 
 #[test]
 fn decisions_are_of_mutations(rt: HostRuntime) -> Result<(), Fail> {
-    assert_acts(&rt, rt.alloc(), FIRST, OUT_OF_LIMITS)
+    assert_steps(&rt, rt.alloc(), FIRST, OUT_OF_LIMITS)
 }

@@ -1,9 +1,8 @@
 //! Groups: made, given other members, and refused.
-use super::{FIRST, Row, STAMP, assert_acts, is_sound, persons, told_rows};
+use super::Step::{self, Has, Row, Sound};
+use super::{FIRST, STAMP, assert_steps};
 use crate::tests::asked::RowAct::{Group, Regroup};
 use crate::tests::asked::Share;
-use land_core::register::Register;
-use std::alloc::{AllocError, Global};
 use std::test::Fail;
 
 const THIRDS: &[Share] = &[(2, 1, 3), (3, 1, 3), (4, 1, 3)];
@@ -24,7 +23,7 @@ const NESTED: &[Share] = &[(2, 1, 2), (5, 1, 2)];
 
 const ALONE: &[Share] = &[(2, 1, 1)];
 
-const SHARES: &[Row] = &[
+const SHARES: &[Step] = &[
     Row(Group("All", STRANGE), STAMP, "refused 205"),
     Row(Group("All", TOO_FINE), STAMP, "refused 207"),
     Row(Group("All", NOT_WHOLE), STAMP, "refused 213"),
@@ -38,12 +37,12 @@ const SHARES: &[Row] = &[
 
 #[test]
 fn shares_are_whole_and_no_party_stands_twice(rt: HostRuntime) -> Result<(), Fail> {
-    assert_acts(&rt, rt.alloc(), FIRST, SHARES)
+    assert_steps(&rt, rt.alloc(), FIRST, SHARES)
 }
 
 const LAST: u64 = 1_000_000_000;
 
-const LAST_NUMBER: &[Row] = &[
+const LAST_NUMBER: &[Step] = &[
     Row(
         Group("All", THIRDS),
         STAMP,
@@ -60,39 +59,25 @@ const LAST_NUMBER: &[Row] = &[
 
 #[test]
 fn a_group_takes_the_last_number(rt: HostRuntime) -> Result<(), Fail> {
-    assert_acts(&rt, rt.alloc(), LAST, LAST_NUMBER)
+    assert_steps(&rt, rt.alloc(), LAST, LAST_NUMBER)
 }
 
-const REGROUPED: &[Row] = &[
+/// Anna and Sam are members then and Ben is none, in a sound register.
+const REGROUPED: &[Step] = &[
     Row(Group("All", THIRDS), STAMP, "done 5 made [5] at 1000"),
     Row(Regroup(5, HALVES), STAMP, "done 5 made [] at 1000"),
+    Has(5, 2, true),
+    Has(5, 4, true),
+    Has(5, 3, false),
+    Sound,
 ];
-
-/// Whether Anna and Sam are members and Ben is none, in a sound register.
-fn are_others(alloc: Global, register: &Register) -> Result<bool, AllocError> {
-    Ok(
-        register.is_member(5, 2)
-            && register.is_member(5, 4)
-            && !register.is_member(5, 3)
-            && is_sound(alloc, register)?,
-    )
-}
-
-/// How many rows are told as expected, and whether the members are others.
-fn regrouped(alloc: Global) -> Result<(usize, bool), Fail> {
-    let mut register = persons(alloc, FIRST)?;
-    let told = told_rows(alloc, &mut register, REGROUPED)?;
-    Ok((told, are_others(alloc, &register)?))
-}
 
 #[test]
 fn other_members_take_the_place_of_the_old_ones(rt: HostRuntime) -> Result<(), Fail> {
-    let (told, good) = regrouped(rt.alloc())?;
-    assert!(&rt; told == REGROUPED.len() && good, "row {told}");
-    Ok(())
+    assert_steps(&rt, rt.alloc(), FIRST, REGROUPED)
 }
 
-const NO_MEMBER: &[Row] = &[
+const NO_MEMBER: &[Step] = &[
     Row(Group("All", THIRDS), STAMP, "done 5 made [5] at 1000"),
     Row(Group("All", NESTED), STAMP, "refused 205"),
     Row(Regroup(5, NESTED), STAMP, "refused 205"),
@@ -106,5 +91,5 @@ const NO_MEMBER: &[Row] = &[
 
 #[test]
 fn a_group_is_regrouped_and_is_no_member(rt: HostRuntime) -> Result<(), Fail> {
-    assert_acts(&rt, rt.alloc(), FIRST, NO_MEMBER)
+    assert_steps(&rt, rt.alloc(), FIRST, NO_MEMBER)
 }

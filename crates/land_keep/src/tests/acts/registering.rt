@@ -1,18 +1,18 @@
 //! Registering units.
-use super::{FIRST, Row, STAMP, assert_acts, is_sound, persons, told_rows};
+use super::Step::{self, Next, Row, Sound, Stands};
+use super::{FIRST, STAMP, assert_steps};
 use crate::tests::asked::Right;
 use crate::tests::asked::RowAct::Register;
 use land_core::kind::Kind;
-use land_core::register::Register as Registered;
 use land_core::rrr::RightType::{Lease, Ownership};
-use std::alloc::{AllocError, Global};
 use std::test::Fail;
 
 const SHARED: &[Right] = &[(2, Ownership, 1, 4), (3, Ownership, 3, 4), (4, Lease, 1, 1)];
 
 const HALVES: &[Right] = &[(2, Ownership, 1, 2), (3, Ownership, 1, 2)];
 
-const WITH_ALL: &[Row] = &[
+/// Both units stand then with all that they have, in a sound register.
+const WITH_ALL: &[Step] = &[
     Row(
         Register(true, 1, SHARED),
         STAMP,
@@ -23,34 +23,21 @@ const WITH_ALL: &[Row] = &[
         STAMP,
         "done 12 made [11, 12, 13, 14, 15, 16] at 1000",
     ),
+    Stands(Kind::Source, 5, true),
+    Stands(Kind::Unit, 6, true),
+    Stands(Kind::Parcel, 7, true),
+    Stands(Kind::Rrr, 8, true),
+    Stands(Kind::Rrr, 10, true),
+    Stands(Kind::Rrr, 11, false),
+    Stands(Kind::Parcel, 14, true),
+    Stands(Kind::Rrr, 15, true),
+    Next(17),
+    Sound,
 ];
-
-/// Whether both units stand with all that they have, in a sound register.
-fn has_units(alloc: Global, register: &Registered) -> Result<bool, AllocError> {
-    let first = register.stands(Kind::Source, 5)
-        && register.stands(Kind::Unit, 6)
-        && register.stands(Kind::Parcel, 7)
-        && register.stands(Kind::Rrr, 8)
-        && register.stands(Kind::Rrr, 10);
-    let second = !register.stands(Kind::Rrr, 11)
-        && register.stands(Kind::Parcel, 14)
-        && register.stands(Kind::Rrr, 15)
-        && register.next == 17;
-    Ok(first && second && is_sound(alloc, register)?)
-}
-
-/// How many rows are told as expected, and whether the units stand.
-fn registered(alloc: Global) -> Result<(usize, bool), Fail> {
-    let mut register = persons(alloc, FIRST)?;
-    let told = told_rows(alloc, &mut register, WITH_ALL)?;
-    Ok((told, has_units(alloc, &register)?))
-}
 
 #[test]
 fn a_unit_comes_with_its_source_parcels_and_rights(rt: HostRuntime) -> Result<(), Fail> {
-    let (told, good) = registered(rt.alloc())?;
-    assert!(&rt; told == WITH_ALL.len() && good, "row {told}");
-    Ok(())
+    assert_steps(&rt, rt.alloc(), FIRST, WITH_ALL)
 }
 
 const PARTS: &[Right] = &[(2, Ownership, 1, 2), (3, Ownership, 1, 3)];
@@ -62,7 +49,7 @@ const FINE: &[Right] = &[
     (3, Ownership, 1, 1_000_000_000),
 ];
 
-const SHARES: &[Row] = &[
+const SHARES: &[Step] = &[
     Row(Register(true, 1, PARTS), STAMP, "refused 213"),
     Row(Register(true, 1, LEASED), None, "refused 213"),
     Row(Register(true, 1, FINE), None, "refused 207"),
@@ -81,7 +68,7 @@ const SHARES: &[Row] = &[
 
 #[test]
 fn shares_of_each_type_are_whole_in_a_checked_unit(rt: HostRuntime) -> Result<(), Fail> {
-    assert_acts(&rt, rt.alloc(), FIRST, SHARES)
+    assert_steps(&rt, rt.alloc(), FIRST, SHARES)
 }
 
 const ABSENT: &[Right] = &[(2, Ownership, 1, 2), (9, Ownership, 1, 2)];
@@ -92,7 +79,7 @@ const BOTH: &[Right] = &[(2, Ownership, 1, 1), (2, Lease, 1, 1)];
 
 const NO_OWNER: &[Right] = &[(2, Lease, 1, 1)];
 
-const PARTIES: &[Row] = &[
+const PARTIES: &[Step] = &[
     Row(Register(true, 1, ABSENT), None, "refused 205"),
     Row(Register(true, 1, TWICE), STAMP, "refused 219"),
     Row(Register(false, 1, TWICE), None, "refused 217"),
@@ -107,10 +94,10 @@ const PARTIES: &[Row] = &[
 
 #[test]
 fn parties_stand_and_have_one_right_of_a_type(rt: HostRuntime) -> Result<(), Fail> {
-    assert_acts(&rt, rt.alloc(), FIRST, PARTIES)
+    assert_steps(&rt, rt.alloc(), FIRST, PARTIES)
 }
 
-const LAST_NUMBERS: &[Row] = &[
+const LAST_NUMBERS: &[Step] = &[
     Row(Register(true, 1, HALVES), STAMP, "refused 210"),
     Row(
         Register(true, 1, &[(2, Ownership, 1, 1)]),
@@ -121,5 +108,5 @@ const LAST_NUMBERS: &[Row] = &[
 
 #[test]
 fn the_last_numbers_are_given_and_none_after_them(rt: HostRuntime) -> Result<(), Fail> {
-    assert_acts(&rt, rt.alloc(), 999_999_997, LAST_NUMBERS)
+    assert_steps(&rt, rt.alloc(), 999_999_997, LAST_NUMBERS)
 }

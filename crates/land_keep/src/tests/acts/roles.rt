@@ -1,12 +1,12 @@
 //! Roles: granted, revoked, and refused.
-use super::{FIRST, Row, STAMP, assert_acts, persons, told_rows};
+use super::Step::{self, Holds, Row};
+use super::{FIRST, STAMP, assert_steps};
 use crate::tests::asked::RowAct::{Grant, Group, Revoke};
-use land_core::register::Register;
 use land_core::role::Role::{Bank, Citizen, Notary, StateAdministrator};
-use std::alloc::Global;
 use std::test::Fail;
 
-const ONCE: &[Row] = &[
+/// Anna is a bank then and no notary, and Ben is one.
+const ONCE: &[Step] = &[
     Row(Grant(2, Notary), None, "refused 217"),
     Row(Grant(2, Notary), STAMP, "done 2 made [] at 1000"),
     Row(Grant(2, Notary), None, "refused 215"),
@@ -15,31 +15,18 @@ const ONCE: &[Row] = &[
     Row(Revoke(2, Notary), STAMP, "done 2 made [] at 1000"),
     Row(Revoke(2, Notary), None, "refused 216"),
     Row(Revoke(2, Bank), None, "refused 217"),
+    Holds(2, Notary, false),
+    Holds(2, Bank, true),
+    Holds(2, Citizen, true),
+    Holds(3, Notary, true),
 ];
-
-/// Whether Anna is a bank and no notary, and Ben is one.
-fn are_held(register: &Register) -> bool {
-    !register.holds(2, Notary)
-        && register.holds(2, Bank)
-        && register.holds(2, Citizen)
-        && register.holds(3, Notary)
-}
-
-/// How many rows are told as expected, and whether the roles are held.
-fn granted(alloc: Global) -> Result<(usize, bool), Fail> {
-    let mut register = persons(alloc, FIRST)?;
-    let told = told_rows(alloc, &mut register, ONCE)?;
-    Ok((told, are_held(&register)))
-}
 
 #[test]
 fn a_role_is_granted_once_and_revoked_once(rt: HostRuntime) -> Result<(), Fail> {
-    let (told, good) = granted(rt.alloc())?;
-    assert!(&rt; told == ONCE.len() && good, "row {told}");
-    Ok(())
+    assert_steps(&rt, rt.alloc(), FIRST, ONCE)
 }
 
-const NOBODY: &[Row] = &[
+const NOBODY: &[Step] = &[
     Row(
         Group("Both", &[(2, 1, 2), (3, 1, 2)]),
         STAMP,
@@ -54,10 +41,10 @@ const NOBODY: &[Row] = &[
 
 #[test]
 fn nobody_and_groups_have_no_roles(rt: HostRuntime) -> Result<(), Fail> {
-    assert_acts(&rt, rt.alloc(), FIRST, NOBODY)
+    assert_steps(&rt, rt.alloc(), FIRST, NOBODY)
 }
 
-const LAST: &[Row] = &[
+const LAST: &[Step] = &[
     Row(Revoke(1, StateAdministrator), STAMP, "refused 218"),
     Row(Revoke(1, StateAdministrator), None, "refused 217"),
     Row(
@@ -75,5 +62,5 @@ const LAST: &[Row] = &[
 
 #[test]
 fn the_last_administrator_stays(rt: HostRuntime) -> Result<(), Fail> {
-    assert_acts(&rt, rt.alloc(), FIRST, LAST)
+    assert_steps(&rt, rt.alloc(), FIRST, LAST)
 }

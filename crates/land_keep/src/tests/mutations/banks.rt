@@ -3,8 +3,8 @@ use crate::tests::asked::OFFICE;
 use crate::tests::asked::RowAct::{Approve, Enrol, Grant, Lodge, Refuse, Revoke};
 use crate::tests::asked::RowAsk::{self, Do, List, View};
 use crate::tests::lodged::RowContent::{Discharge, Mortgage};
-use crate::tests::rows::{Row, assert_rows};
-use crate::tests::steps::{ANNA, BANK, NORA, SURVEYOR, WITH_MORTGAGE};
+use crate::tests::rows::Row;
+use crate::tests::steps::{ANNA, BANK, NORA, SURVEYOR, assert_with_mortgage};
 use land_core::caller::Caller;
 use land_core::kind::Kind::{Mutation, Rrr};
 use land_core::kind::PartyKind::NonNaturalPerson;
@@ -77,7 +77,7 @@ const TWO_BANKS: &[Row] = &[
 
 #[test]
 fn two_banks_lend_on_one_unit(rt: HostRuntime) -> Result<(), Fail> {
-    assert_rows(&rt, rt.alloc(), WITH_MORTGAGE, TWO_BANKS)
+    assert_with_mortgage(&rt, rt.alloc(), TWO_BANKS)
 }
 
 const SOUTH_ITSELF: Caller = Caller {
@@ -127,7 +127,7 @@ const OTHERS: &[Row] = &[
 
 #[test]
 fn banks_lodge_for_themselves_alone(rt: HostRuntime) -> Result<(), Fail> {
-    assert_rows(&rt, rt.alloc(), WITH_MORTGAGE, OTHERS)
+    assert_with_mortgage(&rt, rt.alloc(), OTHERS)
 }
 
 /// After a discharge the next mortgage comes after those that stand.
@@ -182,7 +182,7 @@ const RANKS: &[Row] = &[
 
 #[test]
 fn a_mortgage_comes_after_those_that_stand(rt: HostRuntime) -> Result<(), Fail> {
-    assert_rows(&rt, rt.alloc(), WITH_MORTGAGE, RANKS)
+    assert_with_mortgage(&rt, rt.alloc(), RANKS)
 }
 
 const NO_LONGER_A_BANK: &[Row] = &[
@@ -196,5 +196,5 @@ const NO_LONGER_A_BANK: &[Row] = &[
 
 #[test]
 fn mortgages_stay_where_the_role_of_the_bank_ends(rt: HostRuntime) -> Result<(), Fail> {
-    assert_rows(&rt, rt.alloc(), WITH_MORTGAGE, NO_LONGER_A_BANK)
+    assert_with_mortgage(&rt, rt.alloc(), NO_LONGER_A_BANK)
 }

@@ -4,8 +4,8 @@ use crate::tests::asked::OFFICE;
 use crate::tests::asked::RowAct::{Approve, Grant, Lodge, Refuse};
 use crate::tests::asked::RowAsk::{self, Do, List, View};
 use crate::tests::lodged::RowContent::{Discharge, Mortgage, Transfer};
-use crate::tests::rows::{Row, assert_rows};
-use crate::tests::steps::{ANNA, BANK, SURVEYOR, WITH_MORTGAGE};
+use crate::tests::rows::Row;
+use crate::tests::steps::{ANNA, BANK, SURVEYOR, assert_with_mortgage};
 use land_core::caller::Caller;
 use land_core::kind::Kind::{Mutation, Party, Rrr, Unit};
 use land_core::role::Role::Conveyancer;
@@ -53,7 +53,7 @@ const APPROVED: &[Row] = &[
 
 #[test]
 fn a_conveyancer_sees_a_unit_until_its_mutation_is_approved(rt: HostRuntime) -> Result<(), Fail> {
-    assert_rows(&rt, rt.alloc(), WITH_MORTGAGE, APPROVED)
+    assert_with_mortgage(&rt, rt.alloc(), APPROVED)
 }
 
 const REFUSED: &[Row] = &[
@@ -87,7 +87,7 @@ const REFUSED: &[Row] = &[
 
 #[test]
 fn what_is_refused_is_not_done(rt: HostRuntime) -> Result<(), Fail> {
-    assert_rows(&rt, rt.alloc(), WITH_MORTGAGE, REFUSED)
+    assert_with_mortgage(&rt, rt.alloc(), REFUSED)
 }
 
 const WHO_LODGES: &[Row] = &[
@@ -114,7 +114,7 @@ const WHO_LODGES: &[Row] = &[
 
 #[test]
 fn conveyancers_lodge_transfers_alone(rt: HostRuntime) -> Result<(), Fail> {
-    assert_rows(&rt, rt.alloc(), WITH_MORTGAGE, WHO_LODGES)
+    assert_with_mortgage(&rt, rt.alloc(), WHO_LODGES)
 }
 
 /// Lodging looks at no unit. A unit that does not stand is in nobody's sight.
@@ -135,5 +135,5 @@ const NO_UNIT: &[Row] = &[
 
 #[test]
 fn lodging_looks_at_no_unit(rt: HostRuntime) -> Result<(), Fail> {
-    assert_rows(&rt, rt.alloc(), WITH_MORTGAGE, NO_UNIT)
+    assert_with_mortgage(&rt, rt.alloc(), NO_UNIT)
 }

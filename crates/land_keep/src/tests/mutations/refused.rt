@@ -4,8 +4,8 @@ use crate::tests::asked::RowAct::{Approve, Grant, Lodge, Refuse, Register};
 use crate::tests::asked::RowAsk::{Do, View};
 use crate::tests::asked::{OFFICE, Right};
 use crate::tests::lodged::RowContent::{Discharge, Mortgage, Transfer};
-use crate::tests::rows::{Row, assert_rows};
-use crate::tests::steps::{NORA, WITH_LOAN, WITH_MORTGAGE};
+use crate::tests::rows::Row;
+use crate::tests::steps::{NORA, assert_with_loan, assert_with_mortgage};
 use land_core::kind::Kind::{Mutation, Rrr};
 use land_core::role::Role::Bank;
 use land_core::rrr::RightType::Ownership;
@@ -24,7 +24,7 @@ const NOT_LODGED: &[Row] = &[
 
 #[test]
 fn what_is_no_undecided_mutation_is_not_decided(rt: HostRuntime) -> Result<(), Fail> {
-    assert_rows(&rt, rt.alloc(), WITH_MORTGAGE, NOT_LODGED)
+    assert_with_mortgage(&rt, rt.alloc(), NOT_LODGED)
 }
 
 const ORCHARD: &[Right] = &[(3, Ownership, 1, 1)];
@@ -99,7 +99,7 @@ const TRANSFERS: &[Row] = &[
 
 #[test]
 fn transfers_are_of_rights_that_stand(rt: HostRuntime) -> Result<(), Fail> {
-    assert_rows(&rt, rt.alloc(), WITH_MORTGAGE, TRANSFERS)
+    assert_with_mortgage(&rt, rt.alloc(), TRANSFERS)
 }
 
 const MORTGAGES: &[Row] = &[
@@ -144,7 +144,7 @@ const MORTGAGES: &[Row] = &[
 
 #[test]
 fn the_creditor_is_a_bank_at_the_approval(rt: HostRuntime) -> Result<(), Fail> {
-    assert_rows(&rt, rt.alloc(), WITH_MORTGAGE, MORTGAGES)
+    assert_with_mortgage(&rt, rt.alloc(), MORTGAGES)
 }
 
 const DISCHARGES: &[Row] = &[
@@ -196,7 +196,7 @@ const DISCHARGES: &[Row] = &[
 
 #[test]
 fn discharges_are_of_mortgages_of_the_unit(rt: HostRuntime) -> Result<(), Fail> {
-    assert_rows(&rt, rt.alloc(), WITH_MORTGAGE, DISCHARGES)
+    assert_with_mortgage(&rt, rt.alloc(), DISCHARGES)
 }
 
 /// The first moment that is none.
@@ -237,5 +237,5 @@ const NO_MOMENT: &[Row] = &[
 
 #[test]
 fn nothing_is_lodged_or_decided_at_the_end_of_time(rt: HostRuntime) -> Result<(), Fail> {
-    assert_rows(&rt, rt.alloc(), WITH_LOAN, NO_MOMENT)
+    assert_with_loan(&rt, rt.alloc(), NO_MOMENT)
 }

@@ -4,8 +4,8 @@ use crate::tests::asked::OFFICE;
 use crate::tests::asked::RowAct::{Approve, Grant, Lodge, Refuse};
 use crate::tests::asked::RowAsk::{self, Do, List};
 use crate::tests::lodged::RowContent::{Discharge, Mortgage, Transfer};
-use crate::tests::rows::{Row, assert_rows};
-use crate::tests::steps::{BANK, LOAN, NORA, WITH_LOAN, WITH_MORTGAGE};
+use crate::tests::rows::Row;
+use crate::tests::steps::{BANK, LOAN, NORA, assert_with_loan, assert_with_mortgage};
 use land_core::caller::Caller;
 use land_core::kind::Kind::Mutation;
 use land_core::role::Role::{Conveyancer, Notary};
@@ -48,7 +48,7 @@ const LOANS: &[Row] = &[
 
 #[test]
 fn a_lodging_is_told_again_as_it_was_told_first(rt: HostRuntime) -> Result<(), Fail> {
-    assert_rows(&rt, rt.alloc(), WITH_LOAN, LOANS)
+    assert_with_loan(&rt, rt.alloc(), LOANS)
 }
 
 /// The quarter as two eighths.
@@ -108,7 +108,7 @@ const SPELLINGS: &[Row] = &[
 
 #[test]
 fn a_share_in_another_spelling_is_the_same(rt: HostRuntime) -> Result<(), Fail> {
-    assert_rows(&rt, rt.alloc(), WITH_MORTGAGE, SPELLINGS)
+    assert_with_mortgage(&rt, rt.alloc(), SPELLINGS)
 }
 
 /// What is refused is not lodged anew under its reference.
@@ -135,7 +135,7 @@ const REFUSED: &[Row] = &[
 
 #[test]
 fn references_are_kept_for_good(rt: HostRuntime) -> Result<(), Fail> {
-    assert_rows(&rt, rt.alloc(), WITH_MORTGAGE, REFUSED)
+    assert_with_mortgage(&rt, rt.alloc(), REFUSED)
 }
 
 const NORA_CONVEYS: Caller = Caller {
@@ -170,7 +170,7 @@ const LODGERS: &[Row] = &[
 
 #[test]
 fn a_reference_is_that_of_its_lodger(rt: HostRuntime) -> Result<(), Fail> {
-    assert_rows(&rt, rt.alloc(), WITH_MORTGAGE, LODGERS)
+    assert_with_mortgage(&rt, rt.alloc(), LODGERS)
 }
 
 /// The office as a notary lodges, and then has to leave the decision to others.
@@ -189,5 +189,5 @@ const ITS_OWN: &[Row] = &[
 
 #[test]
 fn nobody_decides_what_it_lodged(rt: HostRuntime) -> Result<(), Fail> {
-    assert_rows(&rt, rt.alloc(), WITH_MORTGAGE, ITS_OWN)
+    assert_with_mortgage(&rt, rt.alloc(), ITS_OWN)
 }

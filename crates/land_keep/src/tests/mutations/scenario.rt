@@ -4,9 +4,9 @@ use crate::tests::asked::OFFICE;
 use crate::tests::asked::RowAct::{Approve, Lodge, Revoke};
 use crate::tests::asked::RowAsk::{self, Do, List, Sheet, View};
 use crate::tests::lodged::RowContent::Transfer;
-use crate::tests::rows::{Row, assert_rows};
+use crate::tests::rows::Row;
 use crate::tests::steps::{
-    ANNA, BANK, LOAN, NORA, NORA_HERSELF, SAM, SURVEYOR, WITH_GARDEN, WITH_MORTGAGE,
+    ANNA, BANK, LOAN, NORA, NORA_HERSELF, SAM, SURVEYOR, assert_with_garden, assert_with_mortgage,
 };
 use land_core::kind::Kind::{Mutation, Party, Rrr, Source, Unit};
 use land_core::role::Role::Notary;
@@ -64,7 +64,7 @@ const STEPS: &[Row] = &[
 
 #[test]
 fn each_lodging_is_done_once(rt: HostRuntime) -> Result<(), Fail> {
-    assert_rows(&rt, rt.alloc(), WITH_GARDEN, STEPS)
+    assert_with_garden(&rt, rt.alloc(), STEPS)
 }
 
 const SHOWN: &[Row] = &[
@@ -126,7 +126,7 @@ const SHOWN: &[Row] = &[
 
 #[test]
 fn what_is_lodged_and_approved_is_shown(rt: HostRuntime) -> Result<(), Fail> {
-    assert_rows(&rt, rt.alloc(), WITH_MORTGAGE, SHOWN)
+    assert_with_mortgage(&rt, rt.alloc(), SHOWN)
 }
 
 const MORTGAGED: &[Row] = &[
@@ -146,7 +146,7 @@ const MORTGAGED: &[Row] = &[
 
 #[test]
 fn owners_see_the_mortgage_and_the_lessee_does_not(rt: HostRuntime) -> Result<(), Fail> {
-    assert_rows(&rt, rt.alloc(), WITH_MORTGAGE, MORTGAGED)
+    assert_with_mortgage(&rt, rt.alloc(), MORTGAGED)
 }
 
 const GROWN: &[Row] = &[
@@ -163,7 +163,7 @@ const GROWN: &[Row] = &[
 
 #[test]
 fn a_right_ends_where_all_of_it_goes(rt: HostRuntime) -> Result<(), Fail> {
-    assert_rows(&rt, rt.alloc(), WITH_MORTGAGE, GROWN)
+    assert_with_mortgage(&rt, rt.alloc(), GROWN)
 }
 
 const MORE_THAN_THE_RIGHT: &[Row] = &[
@@ -184,7 +184,7 @@ const MORE_THAN_THE_RIGHT: &[Row] = &[
 
 #[test]
 fn a_refused_approval_leaves_the_mutation_lodged(rt: HostRuntime) -> Result<(), Fail> {
-    assert_rows(&rt, rt.alloc(), WITH_MORTGAGE, MORE_THAN_THE_RIGHT)
+    assert_with_mortgage(&rt, rt.alloc(), MORE_THAN_THE_RIGHT)
 }
 
 const GIVEN_UP: &[Row] = &[
@@ -202,7 +202,7 @@ const GIVEN_UP: &[Row] = &[
 
 #[test]
 fn who_gave_up_a_unit_sees_it_as_it_was(rt: HostRuntime) -> Result<(), Fail> {
-    assert_rows(&rt, rt.alloc(), WITH_MORTGAGE, GIVEN_UP)
+    assert_with_mortgage(&rt, rt.alloc(), GIVEN_UP)
 }
 
 const REVOKED: &[Row] = &[
@@ -218,5 +218,5 @@ const REVOKED: &[Row] = &[
 
 #[test]
 fn who_is_no_notary_now_was_none_for_the_past(rt: HostRuntime) -> Result<(), Fail> {
-    assert_rows(&rt, rt.alloc(), WITH_MORTGAGE, REVOKED)
+    assert_with_mortgage(&rt, rt.alloc(), REVOKED)
 }

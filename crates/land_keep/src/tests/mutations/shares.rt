@@ -3,8 +3,8 @@ use crate::tests::asked::RowAct::{Approve, Lodge, Register};
 use crate::tests::asked::RowAsk::{Do, List, View};
 use crate::tests::asked::{OFFICE, Right};
 use crate::tests::lodged::RowContent::Transfer;
-use crate::tests::rows::{Row, assert_rows};
-use crate::tests::steps::{NORA, WITH_GROUP, WITH_MORTGAGE};
+use crate::tests::rows::Row;
+use crate::tests::steps::{NORA, assert_with_group, assert_with_mortgage};
 use land_core::kind::Kind::Rrr;
 use land_core::rrr::RightType::{Lease, Ownership};
 use std::test::Fail;
@@ -78,7 +78,7 @@ const WHOLES: &[Row] = &[
 
 #[test]
 fn the_whole_of_a_right_goes_to_a_party_or_a_group(rt: HostRuntime) -> Result<(), Fail> {
-    assert_rows(&rt, rt.alloc(), WITH_GROUP, WHOLES)
+    assert_with_group(&rt, rt.alloc(), WHOLES)
 }
 
 /// All but the finest part goes to the bank, and then a third of that is too fine.
@@ -139,7 +139,7 @@ const FINEST: &[Row] = &[
 
 #[test]
 fn shares_are_as_fine_as_fractions_are(rt: HostRuntime) -> Result<(), Fail> {
-    assert_rows(&rt, rt.alloc(), WITH_GROUP, FINEST)
+    assert_with_group(&rt, rt.alloc(), FINEST)
 }
 
 const THREE: &[Right] = &[
@@ -206,7 +206,7 @@ const TOGETHER: &[Row] = &[
 
 #[test]
 fn shares_of_a_checked_unit_have_a_common_denominator(rt: HostRuntime) -> Result<(), Fail> {
-    assert_rows(&rt, rt.alloc(), WITH_GROUP, TOGETHER)
+    assert_with_group(&rt, rt.alloc(), TOGETHER)
 }
 
 const HALVES: &[Right] = &[(2, Ownership, 1, 2), (3, Ownership, 1, 2)];
@@ -259,7 +259,7 @@ const ITSELF: &[Row] = &[
 
 #[test]
 fn a_right_is_not_transferred_to_its_holder(rt: HostRuntime) -> Result<(), Fail> {
-    assert_rows(&rt, rt.alloc(), WITH_GROUP, ITSELF)
+    assert_with_group(&rt, rt.alloc(), ITSELF)
 }
 
 const NOT_WHOLE: &[Right] = &[
@@ -313,7 +313,7 @@ const UNCHECKED: &[Row] = &[
 
 #[test]
 fn nobody_has_more_than_the_whole(rt: HostRuntime) -> Result<(), Fail> {
-    assert_rows(&rt, rt.alloc(), WITH_GROUP, UNCHECKED)
+    assert_with_group(&rt, rt.alloc(), UNCHECKED)
 }
 
 const PARTIAL: &[Row] = &[
@@ -346,5 +346,5 @@ const PARTIAL: &[Row] = &[
 
 #[test]
 fn a_part_of_a_right_goes_to_who_has_another(rt: HostRuntime) -> Result<(), Fail> {
-    assert_rows(&rt, rt.alloc(), WITH_MORTGAGE, PARTIAL)
+    assert_with_mortgage(&rt, rt.alloc(), PARTIAL)
 }

@@ -1,9 +1,9 @@
 //! Each fault of mutations, and what lies just beside it.
 use super::garden::{ANNA, ANNAS, BEN, DEED, GARDEN, LAWN, LEASE, LOAN, NOBODY, RECORDS, SAM};
 use super::{Case, GROUP, PERSONS, REFERENCE, assert_faults};
-use crate::tests::facts::Fact::{self, Mutation, Next};
-use crate::tests::lodged::Asked::{self, Discharge, Mortgage, Transfer};
-use crate::tests::lodged::Lodged;
+use crate::facts::Fact::{self, Mutation, Next};
+use crate::lodged::Asked::{self, Discharge, Mortgage, Transfer};
+use crate::lodged::Lodged;
 use land_core::mutation::MutationState::{Approved, Lodged as Open, Refused};
 use land_core::soundness::Unsound;
 use std::test::Fail;

@@ -1,7 +1,7 @@
 //! How many members a group has, and how many parcels and entries a unit: at the limit, and just above it.
 use super::garden::{DEED, GARDEN, SAM};
 use super::{WITH_GARDEN, fault_of};
-use crate::tests::facts::{Fact, Held};
+use crate::facts::{Fact, Held};
 use land_core::kind::PartyKind::{Group, NaturalPerson};
 use land_core::soundness::Unsound;
 use std::alloc::{AllocError, Global};
@@ -24,13 +24,18 @@ fn one(crowd: Crowd, number: u64) -> Fact {
     }
 }
 
-/// So many of a crowd, under the numbers from 20 on, and 1000 as the next number.
-fn crowd_of(alloc: Global, crowd: Crowd, count: u64) -> Result<Vec<Fact>, AllocError> {
-    let mut facts = Vec::new(alloc);
+fn add_crowd(facts: &mut Vec<Fact>, crowd: Crowd, count: u64) -> Result<(), AllocError> {
     for place in 0..count {
         facts.push(one(crowd, place.saturating_add(20)))?;
     }
     facts.push(Fact::Next(1000))?;
+    Ok(())
+}
+
+/// So many of a crowd, under the numbers from 20 on, and 1000 as the next number.
+fn crowd_of(alloc: Global, crowd: Crowd, count: u64) -> Result<Vec<Fact>, AllocError> {
+    let mut facts = Vec::new(alloc);
+    add_crowd(&mut facts, crowd, count)?;
     Ok(facts)
 }
 

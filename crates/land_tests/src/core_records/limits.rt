@@ -2,7 +2,7 @@
 use super::drafts::{Draft, burden, registration};
 use super::garden::{ANNA, GARDEN, PATH};
 use super::is_good;
-use crate::tests::facts::{Right, text};
+use crate::facts::{Right, text};
 use Tried::{Burden, Lift, Register};
 use land_core::act::BurdenClass::{Responsibility, Restriction};
 use land_core::act::{Act, BurdenClass, Enrol, NewGroup, Regroup};
@@ -110,7 +110,7 @@ enum Tried {
 /// An act, and whether it may be asked for.
 struct Limit(Tried, bool);
 
-fn enrols(alloc: Global, kind: PartyKind) -> Result<bool, AllocError> {
+fn enrols(alloc: Global, kind: PartyKind) -> Result<bool, Fail> {
     let name = text(alloc, "Anna")?;
     Ok(is_good(Act::Enrol(Enrol { kind, name })))
 }
@@ -125,7 +125,7 @@ fn registers(alloc: Global, parcels: usize, rights: &[Right]) -> Result<bool, Fa
     Ok(is_good(Act::Register(registration(alloc, &draft, rights)?)))
 }
 
-fn burdens(alloc: Global, class: BurdenClass, unit: u64, party: u64) -> Result<bool, AllocError> {
+fn burdens(alloc: Global, class: BurdenClass, unit: u64, party: u64) -> Result<bool, Fail> {
     let mut burden = burden(alloc, class, "No well", "Order")?;
     burden.unit = unit;
     burden.party = party;
@@ -133,12 +133,12 @@ fn burdens(alloc: Global, class: BurdenClass, unit: u64, party: u64) -> Result<b
 }
 
 fn may_be_asked(alloc: Global, it: &Tried) -> Result<bool, Fail> {
-    Ok(match it {
-        Tried::Enrol(kind) => enrols(alloc, *kind)?,
-        Tried::Register(parcels, rights) => registers(alloc, *parcels, rights)?,
-        Tried::Burden(class, unit, party) => burdens(alloc, *class, *unit, *party)?,
-        Tried::Lift(rrr) => is_good(Act::Lift(land_core::act::Lift { rrr: *rrr })),
-    })
+    match it {
+        Tried::Enrol(kind) => enrols(alloc, *kind),
+        Tried::Register(parcels, rights) => registers(alloc, *parcels, rights),
+        Tried::Burden(class, unit, party) => burdens(alloc, *class, *unit, *party),
+        Tried::Lift(rrr) => Ok(is_good(Act::Lift(land_core::act::Lift { rrr: *rrr }))),
+    }
 }
 
 fn assert_limits(rt: &impl Abort, alloc: Global, limits: &[Limit]) -> Result<(), Fail> {
@@ -218,13 +218,18 @@ fn rights_are_of_parties_with_numbers(rt: HostRuntime) -> Result<(), Fail> {
     assert_limits(&rt, rt.alloc(), HOLDERS)
 }
 
-/// Whether a unit may be registered with so many leases and an ownership.
-fn leases(alloc: Global, count: usize) -> Result<bool, Fail> {
-    let mut rights = Vec::new(alloc);
+fn add_leases(rights: &mut Vec<Right>, count: usize) -> Result<(), AllocError> {
     for _ in 0..count {
         rights.push((ANNA, Lease, 1, 1))?;
     }
     rights.push((ANNA, Ownership, 1, 1))?;
+    Ok(())
+}
+
+/// Whether a unit may be registered with so many leases and an ownership.
+fn leases(alloc: Global, count: usize) -> Result<bool, Fail> {
+    let mut rights = Vec::new(alloc);
+    add_leases(&mut rights, count)?;
     registers(alloc, 1, rights.as_slice())
 }
 

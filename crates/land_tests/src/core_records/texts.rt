@@ -2,13 +2,13 @@
 use super::drafts::{Draft, burden, lodging, registration};
 use super::garden::{ANNA, GARDEN, LOAN};
 use super::is_good;
-use crate::tests::facts::{Right, text};
-use crate::tests::lodged::Asked;
+use crate::facts::{Right, text};
+use crate::lodged::Asked;
 use land_core::act::BurdenClass::{Responsibility, Restriction};
-use land_core::act::{Act, Enrol};
+use land_core::act::{Act, BurdenClass, Enrol};
 use land_core::kind::PartyKind;
 use land_core::rrr::RightType::Ownership;
-use std::alloc::{AllocError, Global};
+use std::alloc::Global;
 use std::process::Abort;
 use std::test::Fail;
 
@@ -27,7 +27,7 @@ enum Place {
     LodgedDocument,
 }
 
-fn enrolment(alloc: Global, name: &str) -> Result<Act, AllocError> {
+fn enrolment(alloc: Global, name: &str) -> Result<Act, Fail> {
     Ok(Act::Enrol(Enrol {
         kind: PartyKind::NaturalPerson,
         name: text(alloc, name)?,
@@ -44,32 +44,48 @@ fn first_registration(alloc: Global, name: &str, document: &str, label: &str) ->
     Ok(Act::Register(registration(alloc, &draft, OWNED)?))
 }
 
+fn burdening(alloc: Global, class: BurdenClass, words: &str, document: &str) -> Result<Act, Fail> {
+    Ok(Act::Burden(burden(alloc, class, words, document)?))
+}
+
+fn lodging_letter(alloc: Global, reference: &str, document: &str) -> Result<Act, Fail> {
+    Ok(Act::Lodge(lodging(alloc, reference, document, &LETTER)?))
+}
+
 /// An act with a text in its place, and all else within the limits.
 fn with_text(alloc: Global, place: &Place, given: &str) -> Result<Act, Fail> {
-    Ok(match place {
-        Place::PartyName => enrolment(alloc, given)?,
-        Place::UnitName => first_registration(alloc, given, "Deed 1", "12")?,
-        Place::Document => first_registration(alloc, "Garden", given, "12")?,
-        Place::Label => first_registration(alloc, "Garden", "Deed 1", given)?,
-        Place::BurdenWords => Act::Burden(burden(alloc, Restriction, given, "Order")?),
-        Place::BurdenDocument => Act::Burden(burden(alloc, Responsibility, "No well", given)?),
-        Place::Reference => Act::Lodge(lodging(alloc, given, "Deed 2", &LETTER)?),
-        Place::LodgedDocument => Act::Lodge(lodging(alloc, "D1", given, &LETTER)?),
-    })
+    match place {
+        Place::PartyName => enrolment(alloc, given),
+        Place::UnitName => first_registration(alloc, given, "Deed 1", "12"),
+        Place::Document => first_registration(alloc, "Garden", given, "12"),
+        Place::Label => first_registration(alloc, "Garden", "Deed 1", given),
+        Place::BurdenWords => burdening(alloc, Restriction, given, "Order"),
+        Place::BurdenDocument => burdening(alloc, Responsibility, "No well", given),
+        Place::Reference => lodging_letter(alloc, given, "Deed 2"),
+        Place::LodgedDocument => lodging_letter(alloc, "D1", given),
+    }
 }
 
 const LETTER: Asked = Asked::Discharge(GARDEN, LOAN);
 
 const OWNED: &[Right] = &[(ANNA, Ownership, 1, 1)];
 
-fn keeps_limit(alloc: Global, place: &Place, row: &Row) -> Result<bool, Fail> {
+/// Whether an act may have a text in its place.
+fn may_have(alloc: Global, place: &Place, given: &str) -> Result<bool, Fail> {
+    Ok(is_good(with_text(alloc, place, given)?))
+}
+
+fn may_have_so_many(alloc: Global, place: &Place, row: &Row) -> Result<bool, Fail> {
     let given = row.0.repeat(alloc, row.1)?;
-    Ok(is_good(with_text(alloc, place, given.as_str())?) == row.2)
+    may_have(alloc, place, given.as_str())
 }
 
 fn assert_texts(rt: &impl Abort, alloc: Global, place: &Place, rows: &[Row]) -> Result<(), Fail> {
     for (number, row) in rows.iter().enumerate() {
-        assert!(rt; keeps_limit(alloc, place, row)?, "row {number}");
+        assert!(rt;
+            may_have_so_many(alloc, place, row)? == row.2,
+            "row {number}"
+        );
     }
     Ok(())
 }

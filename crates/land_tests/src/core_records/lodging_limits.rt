@@ -2,7 +2,7 @@
 use super::drafts::lodging;
 use super::garden::{ANNA, ANNAS, GARDEN, LOAN, SAM};
 use super::is_good;
-use crate::tests::lodged::Asked::{self, Discharge, Mortgage, Transfer};
+use crate::lodged::Asked::{self, Discharge, Mortgage, Transfer};
 use land_core::act::{Act, Decision};
 use std::alloc::Global;
 use std::process::Abort;

@@ -3,7 +3,7 @@ use super::{
     ANNA_A_THIRD, Case, FAMILY, OFFICE_ALONE, PERSONS, REFERENCE, WITH_GROUP, WITH_PERSONS,
     assert_faults,
 };
-use crate::tests::facts::{Fact, Share};
+use crate::facts::{Fact, Share};
 use land_core::kind::PartyKind::NaturalPerson;
 use land_core::role::Role;
 use land_core::soundness::Unsound;

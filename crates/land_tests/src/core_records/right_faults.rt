@@ -1,7 +1,7 @@
 //! Each fault of rights and mortgages, and what lies just beside it.
 use super::garden::{ANNA, BEN, DEED, GARDEN, ORCHARD, RECORDS, SAM, WITH_ORCHARD, WITHOUT_RIGHTS};
 use super::{Case, PERSONS, WITH_TWO_UNITS, assert_faults, fault_of};
-use crate::tests::facts::{Fact, Held, Right};
+use crate::facts::{Fact, Held, Right};
 use land_core::rrr::RightType::{Lease, Ownership, Usufruct};
 use land_core::soundness::Unsound;
 use std::alloc::{AllocError, Global};
@@ -36,11 +36,15 @@ fn held(alloc: Global, base: &[&[Fact]], rights: &[Right]) -> Result<Option<Unso
 /// Rights, and the faults of the garden where its shares are checked and where they are not.
 struct Holding(&'static [Right], Option<Unsound>, Option<Unsound>);
 
+/// Whether the garden has the faults of its rights, checked and unchecked.
+fn has_faults(alloc: Global, it: &Holding) -> Result<bool, Fail> {
+    let checked = held(alloc, CHECKED_BARE, it.0)?;
+    Ok(checked == it.1 && held(alloc, UNCHECKED_BARE, it.0)? == it.2)
+}
+
 fn assert_held(rt: &impl Abort, alloc: Global, holdings: &[Holding]) -> Result<(), Fail> {
     for (place, it) in holdings.iter().enumerate() {
-        let checked = held(alloc, CHECKED_BARE, it.0)?;
-        let unchecked = held(alloc, UNCHECKED_BARE, it.0)?;
-        assert!(rt; checked == it.1 && unchecked == it.2, "row {place}");
+        assert!(rt; has_faults(alloc, it)?, "row {place}");
     }
     Ok(())
 }

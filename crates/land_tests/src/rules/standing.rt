@@ -2,8 +2,7 @@
 use super::{
     ABSENT, ANNA, FARM, LENA, NORA, NORTH, OFFICE, SAM, caller, farm_and_house, told, verdict_on,
 };
-use crate::rules::verdict;
-use crate::tests::facts::text;
+use crate::facts::text;
 use land_core::act::{Act, Burden, BurdenClass, Lift};
 use land_core::ask::Ask;
 use land_core::kind::Kind;
@@ -11,6 +10,7 @@ use land_core::register::Register;
 use land_core::role::Role::{
     self, Bank, CertifiedSurveyor, Citizen, Conveyancer, Notary, StateAdministrator,
 };
+use land_rules::rules::verdict;
 use std::alloc::{AllocError, Global};
 use std::process::Abort;
 use std::test::Fail;

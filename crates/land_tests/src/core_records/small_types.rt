@@ -1,5 +1,5 @@
 //! The small types give back what they were made of.
-use crate::tests::facts::text;
+use crate::facts::text;
 use land_core::duplicate::Duplicate;
 use land_core::records::Records;
 use land_core::role::Role;

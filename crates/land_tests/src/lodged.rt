@@ -2,8 +2,9 @@
 use super::facts::text;
 use land_core::content::{Content, Discharge, Mortgage, Transfer};
 use land_core::mutation::{MutationRecord, MutationState};
-use land_fraction::Fraction;
-use std::alloc::Global;
+use land_core::text::Text;
+use land_fraction::{Fraction, FractionFault};
+use std::alloc::{AllocError, Global};
 use std::test::Fail;
 
 /// What a mutation asks for.
@@ -30,25 +31,47 @@ pub(super) struct Lodged(
 /// When all of them were lodged.
 pub(super) const MOMENT: i64 = 1000;
 
+fn transfer(
+    unit: u64,
+    right: u64,
+    receiver: u64,
+    share: Result<Fraction, FractionFault>,
+) -> Result<Content, Fail> {
+    Ok(Content::Transfer(Transfer {
+        unit,
+        right,
+        receiver,
+        share: share?,
+    }))
+}
+
+fn mortgage(
+    unit: u64,
+    creditor: u64,
+    amount: u64,
+    currency: Result<Text, AllocError>,
+) -> Result<Content, Fail> {
+    Ok(Content::Mortgage(Mortgage {
+        unit,
+        creditor,
+        amount,
+        currency: currency?,
+    }))
+}
+
 pub(super) fn content(alloc: Global, it: &Asked) -> Result<Content, Fail> {
-    Ok(match it {
-        Asked::Transfer(unit, right, receiver, n, d) => Content::Transfer(Transfer {
-            unit: *unit,
-            right: *right,
-            receiver: *receiver,
-            share: Fraction::new(*n, *d)?,
-        }),
-        Asked::Mortgage(unit, creditor, amount, currency) => Content::Mortgage(Mortgage {
-            unit: *unit,
-            creditor: *creditor,
-            amount: *amount,
-            currency: text(alloc, currency)?,
-        }),
-        Asked::Discharge(unit, mortgage) => Content::Discharge(Discharge {
+    match it {
+        Asked::Transfer(unit, right, receiver, n, d) => {
+            transfer(*unit, *right, *receiver, Fraction::new(*n, *d))
+        }
+        Asked::Mortgage(unit, creditor, amount, currency) => {
+            mortgage(*unit, *creditor, *amount, text(alloc, currency))
+        }
+        Asked::Discharge(unit, mortgage) => Ok(Content::Discharge(Discharge {
             unit: *unit,
             mortgage: *mortgage,
-        }),
-    })
+        })),
+    }
 }
 
 pub(super) fn mutation(alloc: Global, it: &Lodged) -> Result<MutationRecord, Fail> {

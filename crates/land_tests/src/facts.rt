@@ -160,43 +160,46 @@ fn grant(roles: &mut Roles, party: u64, role: Role) -> Result<(), Fail> {
     Ok(roles.insert(Grant { party, role })?)
 }
 
-fn revoke(roles: &mut Roles, party: u64, role: Role) {
+fn revoke(roles: &mut Roles, party: u64, role: Role) -> Result<(), Fail> {
     roles.remove(Grant { party, role });
+    Ok(())
+}
+
+fn go_on_from(register: &mut Register, next: u64) -> Result<(), Fail> {
+    register.next = next;
+    Ok(())
 }
 
 /// Puts a fact into a register.
 fn tell(alloc: Global, register: &mut Register, fact: &Fact) -> Result<(), Fail> {
     match fact {
-        Fact::Next(next) => register.next = *next,
+        Fact::Next(next) => go_on_from(register, *next),
         Fact::Party(number, kind, name) => {
-            return enter(&mut register.parties, *number, party(alloc, *kind, name));
+            enter(&mut register.parties, *number, party(alloc, *kind, name))
         }
-        Fact::Grant(party, role) => return grant(&mut register.roles, *party, *role),
+        Fact::Grant(party, role) => grant(&mut register.roles, *party, *role),
         Fact::Revoke(party, role) => revoke(&mut register.roles, *party, *role),
         Fact::Members(group, shares) => {
-            return enter(&mut register.members, *group, members(alloc, shares));
+            enter(&mut register.members, *group, members(alloc, shares))
         }
-        Fact::Crowd(group, count) => {
-            return enter(&mut register.members, *group, crowd(alloc, *count));
-        }
-        Fact::Source(number) => return enter(&mut register.sources, *number, source(alloc)),
+        Fact::Crowd(group, count) => enter(&mut register.members, *group, crowd(alloc, *count)),
+        Fact::Source(number) => enter(&mut register.sources, *number, source(alloc)),
         Fact::Unit(number, name, checked) => {
-            return enter(&mut register.units, *number, unit(alloc, name, *checked));
+            enter(&mut register.units, *number, unit(alloc, name, *checked))
         }
         Fact::Parcel(number, unit, label, source) => {
             let parcel = parcel(alloc, *unit, label, *source);
-            return enter(&mut register.parcels, *number, parcel);
+            enter(&mut register.parcels, *number, parcel)
         }
         Fact::Rrr(number, unit, party, source, held) => {
             let entry = rrr(alloc, *unit, *party, *source, held);
-            return enter(&mut register.rrrs, *number, entry);
+            enter(&mut register.rrrs, *number, entry)
         }
         Fact::Mutation(number, lodged) => {
-            return enter(&mut register.mutations, *number, mutation(alloc, lodged));
+            enter(&mut register.mutations, *number, mutation(alloc, lodged))
         }
-        Fact::Ended(kind, number) => return end(register, *kind, *number),
+        Fact::Ended(kind, number) => end(register, *kind, *number),
     }
-    Ok(())
 }
 
 /// Ends a parcel or an entry.
@@ -226,6 +229,11 @@ pub(super) fn register_of(
     let mut register = Register::new(alloc)?;
     tell_parts(alloc, &mut register, parts, facts)?;
     Ok(register)
+}
+
+/// The new register, which is told the facts of all parts.
+pub(super) fn register_with(alloc: Global, parts: &[&[Fact]]) -> Result<Register, Fail> {
+    register_of(alloc, parts, &[])
 }
 
 fn tell_parts(

@@ -5,7 +5,7 @@ use super::garden::{
 };
 use super::objects::{Look, Shown, shown_rows};
 use super::{OFFICE_ALONE, WITH_GARDEN, WITH_GROUP, WITH_LODGED};
-use crate::tests::facts::{Fact, SQUARE, Share, change_all, fault, fields, register_of};
+use crate::facts::{Fact, SQUARE, Share, change_all, fault, fields, register_with};
 use land_core::change::Change;
 use land_core::kind::Kind;
 use land_core::kind::PartyKind::{Group, NaturalPerson};
@@ -43,12 +43,22 @@ fn make_late(
     Ok(Made::Late)
 }
 
+/// Makes a change of a register whose fields are these.
+fn make_from(
+    alloc: Global,
+    register: &mut Register,
+    change: &Change,
+    before: &str,
+) -> Result<Made, AllocError> {
+    match apply(alloc, register, change) {
+        Ok(()) => Ok(Made::AtOnce),
+        Err(AllocError) => make_late(alloc, register, change, before),
+    }
+}
+
 fn make(alloc: Global, register: &mut Register, change: &Change) -> Result<Made, AllocError> {
     let before = fields(alloc, register)?;
-    if apply(alloc, register, change).is_ok() {
-        return Ok(Made::AtOnce);
-    }
-    make_late(alloc, register, change, before.as_str())
+    make_from(alloc, register, change, before.as_str())
 }
 
 /// The numbers of all that stands, by kinds: parties, units, parcels, entries and sources.
@@ -133,7 +143,7 @@ fn change_well(alloc: Global, register: &mut Register, it: &Changing) -> Result<
 
 /// Whether a change leaves what is expected.
 fn changes(alloc: Global, it: &Changing) -> Result<bool, Fail> {
-    let mut register = register_of(alloc, it.base, &[])?;
+    let mut register = register_with(alloc, it.base)?;
     change_well(alloc, &mut register, it)
 }
 
@@ -207,7 +217,7 @@ fn change_members(
 
 /// The members after a change.
 fn members_after(alloc: Global, it: &Changing) -> Result<Membership, Fail> {
-    let mut register = register_of(alloc, it.base, &[])?;
+    let mut register = register_with(alloc, it.base)?;
     change_members(alloc, &mut register, it)
 }
 

@@ -1,6 +1,6 @@
 //! A register with one unit, its two parcels, its entries and the source of all of them.
-use crate::tests::facts::{Fact, Held};
-use crate::tests::lodged::{Asked, Lodged};
+use crate::facts::{Fact, Held};
+use crate::lodged::{Asked, Lodged};
 use land_core::kind::Kind;
 use land_core::mutation::MutationState;
 use land_core::rrr::RightType::{Lease, Ownership};

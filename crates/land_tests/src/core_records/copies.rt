@@ -2,7 +2,7 @@
 use super::WITH_ALL;
 use super::garden::{ANNA, DEED, GARDEN, HEDGE, LEASE, LOAN, PATH, POND};
 use super::objects::{OFFICE, is_shown};
-use crate::tests::facts::{fault, fields, register_of};
+use crate::facts::{fault, fields, register_with};
 use land_core::duplicate::Duplicate;
 use land_core::kind::Kind;
 use land_core::object::Object;
@@ -24,8 +24,12 @@ fn is_new(alloc: Global, register: &Register) -> Result<bool, Fail> {
     )
 }
 
+fn new_register(alloc: Global) -> Result<Register, Fail> {
+    Ok(Register::new(alloc)?)
+}
+
 fn is_made_new(alloc: Global) -> Result<bool, Fail> {
-    let register = Register::new(alloc)?;
+    let register = new_register(alloc)?;
     is_new(alloc, &register)
 }
 
@@ -57,7 +61,7 @@ fn is_copied_new(alloc: Global, register: &Register) -> Result<bool, Fail> {
 }
 
 fn stays_new(alloc: Global) -> Result<bool, Fail> {
-    let register = Register::new(alloc)?;
+    let register = new_register(alloc)?;
     is_copied_new(alloc, &register)
 }
 
@@ -82,8 +86,12 @@ fn are_sound(alloc: Global, register: &Register, other: &Register) -> Result<boo
     )
 }
 
+fn copy_of(alloc: Global, register: &Register) -> Result<Register, Fail> {
+    Ok(register.copy(alloc)?)
+}
+
 fn has_sound_copy(alloc: Global, register: &Register) -> Result<bool, Fail> {
-    let copy = register.copy(alloc)?;
+    let copy = copy_of(alloc, register)?;
     are_sound(alloc, register, &copy)
 }
 
@@ -91,9 +99,14 @@ fn is_well_copied(alloc: Global, register: &Register) -> Result<bool, Fail> {
     Ok(has_sound_copy(alloc, register)? && is_copied(alloc, register)?)
 }
 
+/// A register of many records.
+fn with_all(alloc: Global) -> Result<Register, Fail> {
+    register_with(alloc, WITH_ALL)
+}
+
 /// Whether a copy of a register of many records is alike and sound.
 fn is_whole_copied(alloc: Global) -> Result<bool, Fail> {
-    let register = register_of(alloc, WITH_ALL, &[])?;
+    let register = with_all(alloc)?;
     is_well_copied(alloc, &register)
 }
 
@@ -143,7 +156,7 @@ fn copied_rows(alloc: Global, register: &Register) -> Result<usize, Fail> {
 }
 
 fn copied(alloc: Global) -> Result<usize, Fail> {
-    let register = register_of(alloc, WITH_ALL, &[])?;
+    let register = with_all(alloc)?;
     copied_rows(alloc, &register)
 }
 

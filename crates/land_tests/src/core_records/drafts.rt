@@ -1,7 +1,7 @@
 //! Acts whose limits are tried.
 use super::garden::{ANNA, GARDEN};
-use crate::tests::facts::{Right, SQUARE, text};
-use crate::tests::lodged::{Asked, content};
+use crate::facts::{Right, SQUARE, text};
+use crate::lodged::{Asked, content};
 use land_core::act::{Burden, BurdenClass, Lodging, NewParcel, NewRight, NewUnit};
 use land_core::sequence::Sequence;
 use land_fraction::Fraction;
@@ -11,7 +11,7 @@ use std::test::Fail;
 
 /// What is written in a first registration: the unit's name, its document's title, and the label of its parcels, with the
 /// number of these.
-#[derive(Drop)]
+#[derive(Clone, Copy)]
 pub(super) struct Draft<'a> {
     pub name: &'a str,
     pub document: &'a str,

@@ -5,9 +5,7 @@ mod mutations;
 mod standing;
 mod views;
 
-use super::facts::{Fact, Held, Share, fault, register_of};
-use crate::rules::verdict;
-use crate::verdict::Verdict;
+use super::facts::{Fact, Held, Share, fault, register_with};
 use land_core::ask::Ask;
 use land_core::caller::Caller;
 use land_core::kind::PartyKind::{Group, NaturalPerson, NonNaturalPerson};
@@ -15,6 +13,8 @@ use land_core::register::Register;
 use land_core::role::Role;
 use land_core::rrr::RightType::{Lease, Ownership};
 use land_core::soundness::Unsound;
+use land_rules::rules::verdict;
+use land_rules::verdict::Verdict;
 use std::alloc::Global;
 use std::test::Fail;
 
@@ -117,7 +117,7 @@ fn verdict_on(now: &Register, at: &Register, caller: Caller, ask: Ask, past: boo
 
 /// A register with the farm and the house.
 fn farm_and_house(alloc: Global) -> Result<Register, Fail> {
-    register_of(alloc, ALL, &[])
+    register_with(alloc, ALL)
 }
 
 fn fault_of_all(alloc: Global) -> Result<Option<Unsound>, Fail> {

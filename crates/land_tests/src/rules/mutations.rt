@@ -2,15 +2,17 @@
 use super::lists::{Row as Shown, shown_rows};
 use super::standing::{Row, told_of};
 use super::{ABSENT, ALL, ANNA, DEED, FARM, HOUSE, LENA, NORA, NORTH, OFFICE, SAM, SOUTH};
-use crate::tests::facts::{Fact, fault, register_of, text};
-use crate::tests::lodged::{Asked, Lodged, content};
+use crate::facts::{Fact, fault, register_of, text};
+use crate::lodged::{Asked, Lodged, content};
 use land_core::act::{Act, Decision, Lodging};
 use land_core::ask::Ask;
 use land_core::kind::Kind::{Mutation, Party, Rrr, Unit};
 use land_core::mutation::MutationState::{Approved, Lodged as Open, Refused};
+use land_core::register::Register;
 use land_core::role::Role::{
     Bank, CertifiedSurveyor, Citizen, Conveyancer, Notary, StateAdministrator,
 };
+use land_core::soundness::Unsound;
 use std::alloc::Global;
 use std::test::Fail;
 
@@ -97,25 +99,30 @@ const SEEN: &[Shown] = &[
     Shown(SAM, Conveyancer, Unit, &[]),
 ];
 
-fn is_sound(alloc: Global) -> Result<bool, Fail> {
-    let register = register_of(alloc, ALL, MUTATIONS)?;
-    Ok(fault(alloc, &register)? == None)
+/// The register with the farm, the house and their mutations.
+fn with_mutations(alloc: Global) -> Result<Register, Fail> {
+    register_of(alloc, ALL, MUTATIONS)
+}
+
+fn fault_of_all(alloc: Global) -> Result<Option<Unsound>, Fail> {
+    let register = with_mutations(alloc)?;
+    fault(alloc, &register)
 }
 
 #[test]
 fn the_mutations_are_soundly_registered(rt: HostRuntime) -> Result<(), Fail> {
-    assert!(&rt; is_sound(rt.alloc())?);
+    assert!(&rt; fault_of_all(rt.alloc())? == None);
     Ok(())
 }
 
-fn seen_of_all(alloc: Global) -> Result<usize, Fail> {
-    let at = register_of(alloc, ALL, MUTATIONS)?;
-    shown_rows(alloc, &at, SEEN)
+fn seen_of_all(alloc: Global, rows: &[Shown]) -> Result<usize, Fail> {
+    let at = with_mutations(alloc)?;
+    shown_rows(alloc, &at, rows)
 }
 
 #[test]
 fn lodgers_and_holders_see_mutations(rt: HostRuntime) -> Result<(), Fail> {
-    let shown = seen_of_all(rt.alloc())?;
+    let shown = seen_of_all(rt.alloc(), SEEN)?;
     assert!(&rt; shown == SEEN.len(), "row {shown}");
     Ok(())
 }
@@ -130,7 +137,7 @@ fn lodging(alloc: Global, it: &Asked) -> Result<Ask, Fail> {
 
 /// How many callers are told as expected of an ask over the farm and the house with their mutations.
 fn told_rows(alloc: Global, ask: &Ask, rows: &[Row]) -> Result<usize, Fail> {
-    let register = register_of(alloc, ALL, MUTATIONS)?;
+    let register = with_mutations(alloc)?;
     Ok(told_of(&register, ask, false, rows))
 }
 

@@ -1,7 +1,7 @@
 //! What no clause says: worked rows, and texts of the faults. Want of memory ends a test with an `Err`, so that it fails
 //! unless an allocation was refused.
 
-use crate::{Point, Ring, ShapeFault, laws, read_wkt};
+use land_shape::{Point, Ring, ShapeFault, laws, read_wkt};
 use std::alloc::{AllocError, Global};
 use std::process::Abort;
 use std::test::Fail;

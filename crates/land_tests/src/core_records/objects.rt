@@ -4,8 +4,8 @@ use super::garden::{
     PATH, POND, SAM, SHARE,
 };
 use super::{ANNA_A_THIRD, WITH_ALL, WITH_GARDEN};
-use crate::tests::facts::{Fact, Held, SQUARE, Share, register_of};
-use crate::tests::lodged::{Lodged, MOMENT, is_asked};
+use crate::facts::{Fact, Held, SQUARE, Share, register_with};
+use crate::lodged::{Lodged, MOMENT, is_asked};
 use land_core::kind::Kind;
 use land_core::kind::PartyKind::{self, Group, NaturalPerson, NonNaturalPerson};
 use land_core::member::Member;
@@ -189,7 +189,7 @@ pub(super) fn shown_rows(
 
 /// How many rows a register of these facts shows before the first that it does not.
 fn rows_of(alloc: Global, facts: &[&[Fact]], rows: &[Shown]) -> Result<usize, Fail> {
-    let register = register_of(alloc, facts, &[])?;
+    let register = register_with(alloc, facts)?;
     shown_rows(alloc, &register, rows)
 }
 

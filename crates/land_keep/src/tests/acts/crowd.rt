@@ -1,0 +1,29 @@
+//! A unit with as many entries as it may have.
+use crate::tests::asked::text;
+use land_core::register::Register;
+use land_core::rrr::{Class, RrrRecord};
+use std::alloc::{AllocError, Global};
+use std::test::Fail;
+
+/// A restriction of Anna on the unit 6.
+fn restriction(alloc: Global) -> Result<RrrRecord, AllocError> {
+    Ok(RrrRecord {
+        unit: 6,
+        party: 2,
+        class: Class::Restriction {
+            words: text(alloc, "No fence")?,
+        },
+        source: 5,
+    })
+}
+
+/// Puts so many restrictions into a register, under the numbers from 20 on, and makes 1000 the next number.
+pub(super) fn crowd(alloc: Global, register: &mut Register, count: u64) -> Result<bool, Fail> {
+    for place in 0..count {
+        register
+            .rrrs
+            .insert(place.saturating_add(20), restriction(alloc)?)?;
+    }
+    register.next = 1000;
+    Ok(true)
+}

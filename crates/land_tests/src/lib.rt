@@ -1,0 +1,20 @@
+//! Tests of `land_fraction`, `land_shape`, `land_core` and `land_rules`, and nothing else. A crate that has tests is proved
+//! twice: those four have none of their own, and this one has nothing to prove.
+//!
+//! The tests hold what no clause says: that the calls succeed up to the limits, worked examples, and what a refused
+//! allocation leaves. Want of memory ends a test with an `Err`, so that it fails unless an allocation was refused.
+//! `.ci/refusals` runs these tests with each allocation refused in turn: a test may then end so, and no assertion may fail.
+#![tactic(auto)]
+
+#[cfg(test)]
+mod core_records;
+#[cfg(test)]
+mod facts;
+#[cfg(test)]
+mod fraction;
+#[cfg(test)]
+mod lodged;
+#[cfg(test)]
+mod rules;
+#[cfg(test)]
+mod shape;
