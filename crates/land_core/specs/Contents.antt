@@ -1,8 +1,10 @@
 -- Contents of mutations: what a lodging asks for.
-use Rattle.std.specs.Prelude.{ℕ, Bool, false, ◌&&◌, nat_eq, nat_le, List, length}
-use Rattle.std.specs.List.{list_all}
+use Rattle.std.specs.Prelude.{ℕ, Bool, false, ◌&&◌, ◌||◌, nat_eq, nat_le, List, length}
+use Rattle.std.specs.List.{list_all, list_any}
 use Rattle.std.specs.Str.{bytes_eq}
+use Rattle.land_core.specs.Mergers.{is_merger, is_same_merger}
 use Rattle.land_core.specs.Numbers.{is_number}
+use Rattle.land_core.specs.Subdivisions.{is_subdivision, is_same_subdivision}
 use Rattle.land_core.specs.declared.content.Content.{Content}
 use Rattle.land_core.specs.declared.content.Content.TheVariants as content
 use Rattle.land_core.specs.declared.content.Discharge.{Discharge}
@@ -40,6 +42,8 @@ is_discharge it = is_number it.unit && is_number it.mortgage
 
 abbrev pub is_well_formed_content : Content → Bool
 is_well_formed_content (content.Transfer it) = is_transfer it
+is_well_formed_content (content.Subdivision it) = is_subdivision it
+is_well_formed_content (content.Merger it) = is_merger it
 is_well_formed_content (content.Mortgage it) = is_mortgage it
 is_well_formed_content (content.Discharge it) = is_discharge it
 
@@ -62,12 +66,28 @@ is_same_discharge it other = nat_eq it.unit other.unit && nat_eq it.mortgage oth
 
 abbrev pub is_same_content : Content → Content → Bool
 is_same_content (content.Transfer it) (content.Transfer other) = is_same_transfer it other
+is_same_content (content.Transfer it) (content.Subdivision other) = false
+is_same_content (content.Transfer it) (content.Merger other) = false
 is_same_content (content.Transfer it) (content.Mortgage other) = false
 is_same_content (content.Transfer it) (content.Discharge other) = false
+is_same_content (content.Subdivision it) (content.Transfer other) = false
+is_same_content (content.Subdivision it) (content.Subdivision other) = is_same_subdivision it other
+is_same_content (content.Subdivision it) (content.Merger other) = false
+is_same_content (content.Subdivision it) (content.Mortgage other) = false
+is_same_content (content.Subdivision it) (content.Discharge other) = false
+is_same_content (content.Merger it) (content.Transfer other) = false
+is_same_content (content.Merger it) (content.Subdivision other) = false
+is_same_content (content.Merger it) (content.Merger other) = is_same_merger it other
+is_same_content (content.Merger it) (content.Mortgage other) = false
+is_same_content (content.Merger it) (content.Discharge other) = false
 is_same_content (content.Mortgage it) (content.Transfer other) = false
+is_same_content (content.Mortgage it) (content.Subdivision other) = false
+is_same_content (content.Mortgage it) (content.Merger other) = false
 is_same_content (content.Mortgage it) (content.Mortgage other) = is_same_mortgage it other
 is_same_content (content.Mortgage it) (content.Discharge other) = false
 is_same_content (content.Discharge it) (content.Transfer other) = false
+is_same_content (content.Discharge it) (content.Subdivision other) = false
+is_same_content (content.Discharge it) (content.Merger other) = false
 is_same_content (content.Discharge it) (content.Mortgage other) = false
 is_same_content (content.Discharge it) (content.Discharge other) = is_same_discharge it other
 
@@ -76,6 +96,8 @@ is_same_content (content.Discharge it) (content.Discharge other) = is_same_disch
 -- whether a unit that stands in a content passes a test
 abbrev pub names_where : (ℕ → Bool) → Content → Bool
 names_where passes (content.Transfer it) = passes it.unit
+names_where passes (content.Subdivision it) = passes it.unit
+names_where passes (content.Merger it) = passes it.unit || list_any passes it.others
 names_where passes (content.Mortgage it) = passes it.unit
 names_where passes (content.Discharge it) = passes it.unit
 

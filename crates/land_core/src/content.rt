@@ -4,6 +4,8 @@ ghost use Rattle.land_core.specs.Contents.{are_letters, is_amount, is_capital, i
 
 use crate::duplicate::Duplicate;
 use crate::limits::is_number;
+use crate::merger::{Merger, lists_number};
+use crate::subdivision::Subdivision;
 use crate::text::Text;
 use land_fraction::Fraction;
 use std::alloc::{AllocError, Global};
@@ -48,6 +50,10 @@ pub struct Discharge {
 pub enum Content {
     /// A share of a unit goes from a right to a receiver.
     Transfer(Transfer),
+    /// A parcel of a unit is cut into parts.
+    Subdivision(Subdivision),
+    /// Parcels of a unit, and of others that end with it, become one.
+    Merger(Merger),
     /// A unit becomes a security for a loan.
     Mortgage(Mortgage),
     /// A mortgage ends.
@@ -63,6 +69,8 @@ impl Content {
     {
         match self {
             Content::Transfer(it) => it.is_well_formed(),
+            Content::Subdivision(it) => it.is_well_formed(),
+            Content::Merger(it) => it.is_well_formed(),
             Content::Mortgage(it) => it.is_well_formed(),
             Content::Discharge(it) => it.is_well_formed(),
         }
@@ -74,6 +82,8 @@ impl Content {
     {
         match (self, other) {
             (Content::Transfer(it), Content::Transfer(other)) => it.is_same(other),
+            (Content::Subdivision(it), Content::Subdivision(other)) => it.is_same(other),
+            (Content::Merger(it), Content::Merger(other)) => it.is_same(other),
             (Content::Mortgage(it), Content::Mortgage(other)) => it.is_same(other),
             (Content::Discharge(it), Content::Discharge(other)) => it.is_same(other),
             _ => false,
@@ -86,6 +96,8 @@ impl Content {
     {
         match self {
             Content::Transfer(it) => it.unit == unit,
+            Content::Subdivision(it) => it.unit == unit,
+            Content::Merger(it) => it.unit == unit || lists_number(it.others.as_slice(), unit),
             Content::Mortgage(it) => it.unit == unit,
             Content::Discharge(it) => it.unit == unit,
         }
@@ -174,6 +186,8 @@ impl Duplicate for Content {
     fn copy(&self, alloc: Global) -> Result<Content, AllocError> {
         match self {
             Content::Transfer(it) => Ok(Content::Transfer(*it)),
+            Content::Subdivision(it) => Ok(Content::Subdivision(it.copy(alloc)?)),
+            Content::Merger(it) => Ok(Content::Merger(it.copy(alloc)?)),
             Content::Mortgage(it) => Ok(Content::Mortgage(it.copy(alloc)?)),
             Content::Discharge(it) => Ok(Content::Discharge(*it)),
         }

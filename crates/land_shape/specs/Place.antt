@@ -1,10 +1,19 @@
-use Rattle.std.specs.Prelude.{ℤ, List, [], ◌∷◌, ◌++◌, pos, ◌+ℤ◌, take}
+use Rattle.std.specs.Prelude.{ℤ, Bool, ◌&&◌, List, [], ◌∷◌, ◌++◌, pos, ◌+ℤ◌, take}
+use Rattle.std.specs.Cmp.Lexicographic.{pointwise}
+use Rattle.std.specs.Ordering.{int_eq}
 use Rattle.land_shape.specs.Coordinate.{cross_of}
 
 -- a point of the plane with whole coordinates
 pub record Place : Type 0 where
   pub x : ℤ
   pub y : ℤ
+
+abbrev pub is_same_place : Place → Place → Bool
+is_same_place p q = int_eq p.x q.x && int_eq p.y q.y
+
+-- whether two rings have the same points, from the first one on
+abbrev pub is_same_ring : List Place → List Place → Bool
+is_same_ring ring other = pointwise is_same_place ring other
 
 -- a directed edge
 pub record Edge : Type 0 where

@@ -2,7 +2,7 @@
 
 ghost use Rattle.std.specs.Prelude.{◌≡◌, ◌<◌, ◌≤◌, ◌≤ℤ◌, IfOk, length, pos, string_bytes};
 ghost use Rattle.land_shape.specs.Outline.{IsOutline, counterclockwise, doubled_area};
-ghost use Rattle.land_shape.specs.Place.{area_of, ring_edges};
+ghost use Rattle.land_shape.specs.Place.{area_of, is_same_ring, ring_edges};
 ghost use Rattle.land_shape.specs.Printed.{printed};
 ghost use Rattle.land_shape.specs.Simple.{places};
 ghost use Rattle.land_shape.specs.Steps.{Encloses};
@@ -63,6 +63,13 @@ impl Ring {
         ensures { IfOk result (λ text. string_bytes text ≡ printed self.now) }
     {
         write_points(*self.points.allocator(), &self.points)
+    }
+
+    /// Whether two rings have the same points, from the first one on. The same ring begun at another point is another one.
+    pub fn is_same(&self, other: &Ring) -> bool
+        ensures { result ≡ is_same_ring self.now other.now }
+    {
+        self.points() == other.points()
     }
 
     /// The same ring once more.

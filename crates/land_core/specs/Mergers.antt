@@ -1,0 +1,44 @@
+-- Mergers: parcels of a unit, and of others that end with it, become one parcel.
+use Rattle.std.specs.Prelude.{ℕ, Bool, true, not, ◌&&◌, nat_eq, nat_le, nat_lt, List, [], ◌∷◌, length}
+use Rattle.std.specs.Cmp.Lexicographic.{pointwise}
+use Rattle.std.specs.List.{list_all, list_any}
+use Rattle.std.specs.Str.{bytes_eq}
+use Rattle.land_shape.specs.Place.{is_same_ring}
+use Rattle.land_core.specs.Numbers.{is_number}
+use Rattle.land_core.specs.Texts.{is_label}
+use Rattle.land_core.specs.declared.merger.Merger.{Merger}
+
+-- ---- limits
+
+-- whether each of some numbers is above the one before it, and the first above a last one
+abbrev pub rise_above : (last : ℕ) → List ℕ → Bool
+rise_above last [] = true
+rise_above last (n ∷ ns) = nat_lt last n && rise_above n ns
+
+-- numbers of objects, strictly ascending
+abbrev pub are_rising : List ℕ → Bool
+are_rising numbers = rise_above 0 numbers && list_all is_number numbers
+
+abbrev pub lists_number : List ℕ → (number : ℕ) → Bool
+lists_number numbers n = list_any (λ it. nat_eq it n) numbers
+
+-- up to 15 other units end, and the unit itself is not among them
+abbrev pub are_others : (unit : ℕ) → (others : List ℕ) → Bool
+are_others unit others = nat_le (length others) 15 && are_rising others && not (lists_number others unit)
+
+-- 2 to 16 parcels become one
+abbrev pub are_merged : (parcels : List ℕ) → Bool
+are_merged parcels = nat_le 2 (length parcels) && nat_le (length parcels) 16 && are_rising parcels
+
+-- a merger names a unit, others and parcels, and has a label
+abbrev pub is_merger : Merger → Bool
+is_merger it = is_number it.unit && are_others it.unit it.others && are_merged it.parcels && is_label it.label
+
+-- ---- which mergers are the same
+
+abbrev pub are_same_numbers : List ℕ → List ℕ → Bool
+are_same_numbers numbers others = pointwise nat_eq numbers others
+
+abbrev pub is_same_merger : Merger → Merger → Bool
+is_same_merger it other =
+    nat_eq it.unit other.unit && are_same_numbers it.others other.others && are_same_numbers it.parcels other.parcels && bytes_eq it.label other.label && is_same_ring it.outline other.outline

@@ -1,0 +1,58 @@
+-- Subdivisions: a parcel of a unit is cut into parts. The first stays in the unit; each other part stays there too, or goes to a new
+-- unit.
+use Rattle.std.specs.Prelude.{ℕ, Bool, true, false, ◌&&◌, nat_eq, nat_le, List, length, Option, Some, None}
+use Rattle.std.specs.Cmp.Lexicographic.{pointwise}
+use Rattle.std.specs.List.{list_all}
+use Rattle.std.specs.Str.{bytes_eq}
+use Rattle.land_shape.specs.Place.{is_same_ring}
+use Rattle.land_core.specs.Numbers.{is_number}
+use Rattle.land_core.specs.Texts.{is_label, is_name}
+use Rattle.land_core.specs.declared.act.NewParcel.{NewParcel}
+use Rattle.land_core.specs.declared.subdivision.Part.{Part}
+use Rattle.land_core.specs.declared.subdivision.Subdivision.{Subdivision}
+
+-- ---- limits
+
+-- a new unit has a name
+abbrev pub is_new_name : Option (List ℕ) → Bool
+is_new_name None = true
+is_new_name (Some name) = is_name name
+
+abbrev pub is_part : Part → Bool
+is_part part = is_label part.label && is_new_name part.unit
+
+-- beside the first there are 1 to 15 parts
+abbrev pub is_rest_count : ℕ → Bool
+is_rest_count count = nat_le 1 count && nat_le count 15
+
+abbrev pub have_names : List Part → Bool
+have_names parts = list_all is_part parts
+
+abbrev pub is_rest : List Part → Bool
+is_rest parts = is_rest_count (length parts) && have_names parts
+
+-- a subdivision names a unit and a parcel, and has parts
+abbrev pub is_subdivision : Subdivision → Bool
+is_subdivision it = is_number it.unit && is_number it.parcel && is_label it.first.label && is_rest it.rest
+
+-- ---- which subdivisions are the same
+
+-- outlines are rings, so the same outline has the same points, from the first one that was given
+abbrev pub is_same_parcel : NewParcel → NewParcel → Bool
+is_same_parcel it other = bytes_eq it.label other.label && is_same_ring it.outline other.outline
+
+abbrev pub is_same_name : Option (List ℕ) → Option (List ℕ) → Bool
+is_same_name None None = true
+is_same_name None (Some other) = false
+is_same_name (Some name) None = false
+is_same_name (Some name) (Some other) = bytes_eq name other
+
+abbrev pub is_same_part : Part → Part → Bool
+is_same_part it other = bytes_eq it.label other.label && is_same_ring it.outline other.outline && is_same_name it.unit other.unit
+
+abbrev pub are_same_parts : List Part → List Part → Bool
+are_same_parts parts others = pointwise is_same_part parts others
+
+abbrev pub is_same_subdivision : Subdivision → Subdivision → Bool
+is_same_subdivision it other =
+    nat_eq it.unit other.unit && nat_eq it.parcel other.parcel && is_same_parcel it.first other.first && are_same_parts it.rest other.rest

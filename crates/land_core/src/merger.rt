@@ -1,0 +1,108 @@
+//! Mergers: parcels become one.
+ghost use Rattle.std.specs.Prelude.{◌≡◌};
+ghost use Rattle.std.specs.List.{list_all};
+ghost use Rattle.land_core.specs.Mergers.{are_merged, are_others, are_rising, is_merger, is_same_merger, lists_number, rise_above};
+ghost use Rattle.land_core.specs.Numbers.{is_number};
+
+use crate::duplicate::Duplicate;
+use crate::limits::{is_label, is_number};
+use crate::sequence::NumberList;
+use crate::text::Text;
+use land_shape::Ring;
+use std::alloc::{AllocError, Global};
+
+/// Parcels of a unit, and of others that end with it, become one parcel of the unit.
+#[derive(Debug, Drop)]
+pub struct Merger {
+    /// The unit's number.
+    pub unit: u64,
+    /// The numbers of up to 15 other units, which end: strictly ascending, the unit not among them.
+    pub others: NumberList,
+    /// The numbers of the 2 to 16 parcels that end: strictly ascending.
+    pub parcels: NumberList,
+    /// What the new parcel is called on the map: 1 to 40 characters.
+    pub label: Text,
+    /// The new parcel's outline, in millimetres.
+    pub outline: Ring,
+}
+
+impl Merger {
+    pub(crate) fn is_well_formed(&self) -> bool
+        ensures { result ≡ is_merger self.now }
+    {
+        is_number(self.unit)
+            && are_others(self.unit, self.others.as_slice())
+            && are_merged(self.parcels.as_slice())
+            && is_label(self.label.as_str())
+    }
+
+    pub(crate) fn is_same(&self, other: &Merger) -> bool
+        ensures { result ≡ is_same_merger self.now other.now }
+    {
+        self.unit == other.unit
+            && self.others.as_slice() == other.others.as_slice()
+            && self.parcels.as_slice() == other.parcels.as_slice()
+            && self.label.as_str() == other.label.as_str()
+            && self.outline.is_same(&other.outline)
+    }
+}
+
+/// Whether a number is listed.
+pub fn lists_number(numbers: &[u64], number: u64) -> bool
+    ensures { result ≡ lists_number numbers.now number }
+{
+    numbers.iter().any(|it| *it == number)
+}
+
+/// Whether other units may end with a unit.
+fn are_others(unit: u64, others: &[u64]) -> bool
+    ensures { result ≡ are_others unit others.now }
+{
+    others.len() <= 15 && are_rising(others) && !lists_number(others, unit)
+}
+
+/// Whether parcels may become one.
+fn are_merged(parcels: &[u64]) -> bool
+    ensures { result ≡ are_merged parcels.now }
+{
+    2 <= parcels.len() && parcels.len() <= 16 && are_rising(parcels)
+}
+
+/// Whether numbers of objects are strictly ascending.
+fn are_rising(numbers: &[u64]) -> bool
+    ensures { result ≡ are_rising numbers.now }
+{
+    rise_above(0, numbers) && are_numbers(numbers)
+}
+
+/// Whether each number is above the one before it, and the first above a last one.
+fn rise_above(last: u64, numbers: &[u64]) -> bool
+    ensures { result ≡ rise_above last numbers.now }
+{
+    let mut above = last;
+    for number in numbers {
+        if *number <= above {
+            return false;
+        }
+        above = *number;
+    }
+    true
+}
+
+fn are_numbers(numbers: &[u64]) -> bool
+    ensures { result ≡ list_all is_number numbers.now }
+{
+    numbers.iter().all(|number| is_number(*number))
+}
+
+impl Duplicate for Merger {
+    fn copy(&self, alloc: Global) -> Result<Merger, AllocError> {
+        Ok(Merger {
+            unit: self.unit,
+            others: self.others.copy(alloc)?,
+            parcels: self.parcels.copy(alloc)?,
+            label: self.label.copy(alloc)?,
+            outline: Ring::copy(&self.outline)?,
+        })
+    }
+}
