@@ -34,14 +34,19 @@ use Rattle.land_acts.specs.Discharging.{discharge_change, has_entry_in, has_mort
 use Rattle.land_acts.specs.Mortgaging.{mortgage_change}
 use Rattle.land_acts.specs.Outcome.{first_that_holds}
 use Rattle.land_acts.specs.Planning.{lacks_numbers}
+use Rattle.land_acts.specs.Subdividing.{subdivision_change}
 use Rattle.land_acts.specs.Transferring.{are_too_fine, are_too_many, grows_at, has_right_where, held_at, is_itself, is_too_large, move_change, number_after}
 use Rattle.land_acts.specs.declared.refusal.Refusal.{Refusal}
 use Rattle.land_acts.specs.declared.refusal.Refusal.TheVariants.{NoSuchUnit, NoSuchRight, NoSuchParty, ShareTooLarge, SharesTooFine, TooMany, NotBank, NotMortgage, ClockOut, SameParty}
 use Rattle.land_acts.specs.declared.transfer.Held.{Held}
 use Rattle.land_acts.proofs.DecidedMutations.{decided_is_sound}
 use Rattle.land_acts.proofs.DischargedEntries.{discharged_is_sound}
+use Rattle.land_acts.proofs.MergedApprovals.{approved_merger_is_sound, approved_merger_once, tight_mutation}
 use Rattle.land_acts.proofs.MortgagedUnits.{mortgaged_is_sound}
 use Rattle.land_acts.proofs.Outcomes.{first_none}
+use Rattle.land_acts.proofs.SubdividedAreas.{unrefused_subdivision}
+use Rattle.land_acts.proofs.SubdividedKeys.{subdivision_names_once}
+use Rattle.land_acts.proofs.SubdividedRegisters.{subdivided_is_sound, subdivision_grows}
 use Rattle.land_acts.proofs.Transfers.{sound_names_once, transferred_is_sound}
 
 -- who holds a role stands
@@ -135,18 +140,23 @@ unrefused_discharge r it stamp none =
 -- ---- approvals
 
 module _ (law : WholenessLaw) (r : Register) (stamp : ℤ) (sound : IsSound r) where
-  content_is_sound : (number : ℕ) (m : MutationRecord) (c : Content) → map.get r.mutations number ≡ Some m → first_that_holds (content_refusals r c (Some stamp)) ≡ None
+  content_is_sound : (number : ℕ) (m : MutationRecord) (c : Content) → map.get r.mutations number ≡ Some m → is_well_formed_content c ≡ true → first_that_holds (content_refusals r c (Some stamp)) ≡ None
       → IsSound (after (with_state Approved number m (content_change r m.source c)) r)
-  content_is_sound number m (content.Transfer it) is none =
+  content_is_sound number m (content.Transfer it) is formed none =
       let move = unrefused_move r it (Some stamp) none in
       subst (λ (o : Option Held). IsSound (after (with_state Approved number m (transfer_change r m.source it o)) r)) (sym move.held)
       (decided_is_sound (after (move_change r m.source it move.from) r) number m Approved is
       (transferred_is_sound law r m.source it move.from sound move.held (source_stands r sound number m is) move.receiver move.not_large move.not_fine move.not_many move.other))
-  content_is_sound number m (content.Mortgage it) is none =
+  content_is_sound number m (content.Merger it) is formed none = approved_merger_is_sound r it (Some stamp) none sound number m is formed
+  content_is_sound number m (content.Subdivision it) is formed none =
+      let free = unrefused_subdivision r it (Some stamp) none in
+      decided_is_sound (after (subdivision_change r m.source it) r) number m Approved is
+      (subdivided_is_sound r m.source it sound (source_stands r sound number m is) free.unit free.parcel free.room free.few)
+  content_is_sound number m (content.Mortgage it) is formed none =
       let mortgage = unrefused_mortgage r it (Some stamp) none in
       decided_is_sound (after (mortgage_change r m.source it) r) number m Approved is
       (mortgaged_is_sound r m.source it sound (source_stands r sound number m is) mortgage.unit mortgage.creditor mortgage.room mortgage.few)
-  content_is_sound number m (content.Discharge it) is none =
+  content_is_sound number m (content.Discharge it) is formed none =
       decided_is_sound (after (discharge_change r it) r) number m Approved is (discharged_is_sound r it sound (unrefused_discharge r it (Some stamp) none))
 
   pub approved_is_sound : (it : Decision) → first_that_holds (option_map_or (λ m. content_refusals r m.content (Some stamp)) (map.get r.mutations it.mutation) []) ≡ None → IsSound (after (approve_change r it) r)
@@ -155,7 +165,7 @@ module _ (law : WholenessLaw) (r : Register) (stamp : ℤ) (sound : IsSound r) w
       found : (o : Option MutationRecord) → map.get r.mutations it.mutation ≡ o → first_that_holds (option_map_or (λ m. content_refusals r m.content (Some stamp)) o []) ≡ None
           → IsSound (after (option_map_or (λ m. with_state Approved it.mutation m (content_change r m.source m.content)) o (no_change r.next)) r)
       found None e h = sound
-      found (Some m) e h = content_is_sound it.mutation m m.content e h
+      found (Some m) e h = content_is_sound it.mutation m m.content e (tight_mutation r sound it.mutation m e).formed h
 
 pub refused_is_sound : (r : Register) (it : Decision) → IsSound r → IsSound (after (refuse_change r it) r)
 refused_is_sound r it sound = found (map.get r.mutations it.mutation) refl
@@ -176,6 +186,8 @@ content_grows r source (content.Transfer it) = found (held_at r it.unit it.right
     found : (o : Option Held) → r.next ≤ (transfer_change r source it o).next
     found None = omega arith
     found (Some from) = counted from (grows_at r it from)
+content_grows r source (content.Merger it) = omega arith
+content_grows r source (content.Subdivision it) = subdivision_grows r source it
 content_grows r source (content.Mortgage it) = omega arith
 content_grows r source (content.Discharge it) = omega arith
 
@@ -196,23 +208,27 @@ refuse_grows r it = found (map.get r.mutations it.mutation)
 nothing_once : (next : ℕ) → NamesKeysOnce (no_change next)
 nothing_once next = record { parties = refl; roles = refl; members = refl; units = refl; parcels = refl; rrrs = refl; sources = refl; mutations = refl }
 
-content_once : (r : Register) (number : ℕ) (m : MutationRecord) (c : Content) (stamp : ℤ) → IsSound r → first_that_holds (content_refusals r c (Some stamp)) ≡ None
+content_once : (r : Register) (number : ℕ) (m : MutationRecord) (c : Content) (stamp : ℤ) → IsSound r → is_well_formed_content c ≡ true → first_that_holds (content_refusals r c (Some stamp)) ≡ None
     → NamesKeysOnce (with_state Approved number m (content_change r m.source c))
-content_once r number m (content.Transfer it) stamp sound none =
+content_once r number m (content.Transfer it) stamp sound formed none =
     let move = unrefused_move r it (Some stamp) none in
     subst (λ (o : Option Held). NamesKeysOnce (with_state Approved number m (transfer_change r m.source it o))) (sym move.held)
     (record { parties = refl; roles = refl; members = refl; units = refl; parcels = refl; rrrs = (sound_names_once r m.source it move.from sound move.held move.other).rrrs; sources = refl; mutations = refl })
-content_once r number m (content.Mortgage it) stamp sound none = record { parties = refl; roles = refl; members = refl; units = refl; parcels = refl; rrrs = refl; sources = refl; mutations = refl }
-content_once r number m (content.Discharge it) stamp sound none = record { parties = refl; roles = refl; members = refl; units = refl; parcels = refl; rrrs = refl; sources = refl; mutations = refl }
+content_once r number m (content.Merger it) stamp sound formed none = approved_merger_once r it (Some stamp) none sound number m formed
+content_once r number m (content.Subdivision it) stamp sound formed none =
+    let named = subdivision_names_once r m.source it sound (unrefused_subdivision r it (Some stamp) none).parcel in
+    record { parties = refl; roles = refl; members = refl; units = named.units; parcels = named.parcels; rrrs = named.rrrs; sources = refl; mutations = refl }
+content_once r number m (content.Mortgage it) stamp sound formed none = record { parties = refl; roles = refl; members = refl; units = refl; parcels = refl; rrrs = refl; sources = refl; mutations = refl }
+content_once r number m (content.Discharge it) stamp sound formed none = record { parties = refl; roles = refl; members = refl; units = refl; parcels = refl; rrrs = refl; sources = refl; mutations = refl }
 
 pub approve_once : (r : Register) (it : Decision) (stamp : ℤ) → IsSound r → first_that_holds (option_map_or (λ m. content_refusals r m.content (Some stamp)) (map.get r.mutations it.mutation) []) ≡ None
     → NamesKeysOnce (approve_change r it)
-approve_once r it stamp sound none = found (map.get r.mutations it.mutation) none
+approve_once r it stamp sound none = found (map.get r.mutations it.mutation) refl none
   where
-    found : (o : Option MutationRecord) → first_that_holds (option_map_or (λ m. content_refusals r m.content (Some stamp)) o []) ≡ None
+    found : (o : Option MutationRecord) → map.get r.mutations it.mutation ≡ o → first_that_holds (option_map_or (λ m. content_refusals r m.content (Some stamp)) o []) ≡ None
         → NamesKeysOnce (option_map_or (λ m. with_state Approved it.mutation m (content_change r m.source m.content)) o (no_change r.next))
-    found None h = nothing_once r.next
-    found (Some m) h = content_once r it.mutation m m.content stamp sound h
+    found None e h = nothing_once r.next
+    found (Some m) e h = content_once r it.mutation m m.content stamp sound (tight_mutation r sound it.mutation m e).formed h
 
 pub refuse_once : (r : Register) (it : Decision) → NamesKeysOnce (refuse_change r it)
 refuse_once r it = found (map.get r.mutations it.mutation)

@@ -22,14 +22,14 @@ use Rattle.land_acts.specs.Outcome.{first_that_holds}
 use Rattle.land_acts.proofs.MortgageSlices.{AgreeOnUnit}
 use Rattle.land_acts.proofs.Numbers.{one_number, same_number, tied_number}
 
-one_of : (n m : ℕ) → nat_eq n m ≡ true → n ≡ m
+pub one_of : (n m : ℕ) → nat_eq n m ≡ true → n ≡ m
 one_of n m same = one_number n m (tied_number n m ∙ same)
 
 -- ---- a test of what stands at a number
 
 module _ {V : Type 0} (m : FinMap nat_cmp V) (test : V → Bool) (n : ℕ) where
   -- it is a test of the entries, since there is no other entry at the number
-  at_as_some : option_map_or test (map.get m n) false ≡ some (λ k v. nat_eq k n && test v) m
+  pub at_as_some : option_map_or test (map.get m n) false ≡ some (λ k v. nat_eq k n && test v) m
   at_as_some = by_case (map.get m n) refl
     where
       only_there : ((v : V) → map.get m n ≡ Some v → test v ≡ false) → some (λ k v. nat_eq k n && test v) m ≡ false

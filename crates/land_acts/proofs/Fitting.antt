@@ -21,12 +21,15 @@ use Rattle.land_acts.specs.Mortgaging.{next_rank}
 use Rattle.land_acts.specs.Outcome.{IsUnrefused, first_that_holds}
 use Rattle.land_acts.specs.Planning.{lacks_numbers}
 use Rattle.land_acts.specs.Slices.{IsOfSound, looks_at_rrr}
+use Rattle.land_acts.specs.Subdividing.{subdivision_count}
 use Rattle.land_acts.specs.Transferring.{are_too_many, grows_at, move_change, number_after}
 use Rattle.land_acts.specs.declared.refusal.Refusal.TheVariants.{NotLodged}
 use Rattle.land_acts.specs.declared.transfer.Held.{Held}
 use Rattle.land_acts.proofs.Approvals.{unrefused_mortgage, unrefused_move}
+use Rattle.land_acts.proofs.MergedApprovals.{merger_fits}
 use Rattle.land_acts.proofs.MortgageRanks.{next_rank_fits_kept}
 use Rattle.land_acts.proofs.Outcomes.{first_none}
+use Rattle.land_acts.proofs.SubdividedAreas.{unrefused_subdivision}
 
 one_left : (s : Register) → lacks_numbers s 1 ≡ false → s.next ≤ 1000000000
 one_left s h = let most : s.next + 1 ≤ 1000000001 = ltb-false 1000000001 (s.next + 1) h in omega (arith, most)
@@ -58,6 +61,8 @@ module _ (s : Register) (caller : Caller) (it : Decision) (slice : IsOfSound s c
     where
       one_right : {a b : Held} → Some a ≡ Some b → a ≡ b
       one_right e = cc
+  content_fits stamp (content.Subdivision it) none = ltb-false 1000000001 (s.next + subdivision_count s it) (unrefused_subdivision s it stamp none).room
+  content_fits stamp (content.Merger it) none = merger_fits s it stamp none
   content_fits stamp (content.Mortgage it) none =
       let mortgage = unrefused_mortgage s it stamp none in
       (one_left s mortgage.room, rank_fits it.unit mortgage.room)

@@ -73,7 +73,7 @@ filter_map-kept {X} {Y} h kept (x ∷ xs) all =
     ] refl
 
 -- no more pass a test among those that another test keeps
-fewer : {X : Type 0} (p q : X → Bool) (xs : List X) → length (filter p (filter q xs)) ≤ length (filter p xs)
+pub fewer : {X : Type 0} (p q : X → Bool) (xs : List X) → length (filter p (filter q xs)) ≤ length (filter p xs)
 fewer p q [] = omega arith
 fewer {X} p q (x ∷ xs) =
     let rest = fewer p q xs in

@@ -18,11 +18,10 @@ use Rattle.land_core.specs.declared.caller.Caller.{Caller}
 use Rattle.land_core.specs.declared.mutation.MutationRecord.{MutationRecord}
 use Rattle.land_core.specs.declared.register.Register.{Register}
 use Rattle.land_core.specs.declared.soundness.Unsound.TheVariants.{Reference, Shares, Group, Bare, Crowded, Twice, Rank, Administrator, Reused, Memory}
-use Rattle.land_core.specs.declared.source.SourceKind.TheVariants.{Administrative}
 use Rattle.land_core.specs.declared.source.SourceRecord.{SourceRecord}
 use Rattle.land_core.proofs.Reflection.{none_at, none_passes}
 use Rattle.land_core.proofs.SoundRegisters.{are_used, are_used_back, next_above_zero, refers, refers_back, unused_from, used_bounds, used_from}
-use Rattle.land_acts.specs.Lodging.{has_lodged_other, is_same_lodging, lodge_change, lodge_repeat, lodged_record, lodged_told, lodged_under, repeat_of}
+use Rattle.land_acts.specs.Lodging.{document_kind, has_lodged_other, is_same_lodging, lodge_change, lodge_repeat, lodged_record, lodged_told, lodged_under, repeat_of}
 use Rattle.land_acts.specs.Planning.{lacks_numbers}
 use Rattle.land_acts.proofs.BurdenedUnits.{each_record, here, there}
 use Rattle.land_acts.proofs.Growth.{anchored, anchored_back, has_stays, mutations_stay, placed, placed_back, ranks_grow, unused_grows, used_grows}
@@ -57,7 +56,7 @@ module _ (r : Register) (caller : Caller) (it : Lodging) (stamp : ℤ) (sound : 
   more = after (lodge_change r caller it stamp) r
 
   abbrev document : SourceRecord
-  document = record { kind = Administrative; title = it.document }
+  document = record { kind = document_kind it.content; title = it.document }
 
   abbrev lodged : MutationRecord
   lodged = lodged_record caller it r.next stamp

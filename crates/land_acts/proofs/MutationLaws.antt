@@ -16,7 +16,13 @@ use Rattle.land_core.specs.Entries.{updated}
 use Rattle.land_core.specs.Contents.{is_same_content}
 use Rattle.land_core.specs.Mutations.{is_lodged_as, is_undecided}
 use Rattle.land_core.specs.Soundness.{IsSound}
+use Rattle.land_core.specs.Mergers.{are_same_numbers}
+use Rattle.land_core.specs.Subdivisions.{is_same_name, is_same_part}
 use Rattle.land_core.specs.declared.act.Act.{Act}
+use Rattle.land_core.specs.declared.subdivision.Part.{Part}
+use Rattle.land_shape.specs.Place.{Place, is_same_place, is_same_ring}
+use Rattle.std.specs.Cmp.Lexicographic.{pointwise}
+use Rattle.std.proofs.lemmas.Bool.Decides.{Decides-int_eq}
 use Rattle.land_core.specs.declared.act.Act.TheVariants as act
 use Rattle.land_core.specs.declared.act.Lodging.{Lodging}
 use Rattle.land_core.specs.declared.caller.Caller.{Caller}
@@ -38,7 +44,7 @@ use Rattle.land_core.proofs.LookUps.{by_look_ups}
 use Rattle.land_core.proofs.Reflection.{each_there, some_at}
 use Rattle.land_core.proofs.SoundRegisters.{are_used, refers, used_bounds, used_from}
 use Rattle.land_acts.specs.Deciding.{content_change, content_refusals, decided, is_lodged, transfer_change, with_state}
-use Rattle.land_acts.specs.Lodging.{in_order, is_same_lodging, lodge_repeat, lodged_record, lodged_told, lodged_under, repeat_of}
+use Rattle.land_acts.specs.Lodging.{document_kind, in_order, is_same_lodging, lodge_repeat, lodged_record, lodged_told, lodged_under, repeat_of}
 use Rattle.land_acts.specs.MutationLaws.{DecisionsStay, LodgingsStand, LodgingsStay, ReceiversHaveOneRight, RepeatsAreToldTheFirst, StandsAsLodged, TransfersKeepSums}
 use Rattle.land_acts.specs.Outcome.{change_of, done_of, first_that_holds, refusals_of, refused_else, repeated_else, stamped}
 use Rattle.land_acts.specs.Transferring.{are_too_fine, held_at, is_itself, is_too_large, transfer_refusals}
@@ -101,6 +107,8 @@ module _ (r : Register) (sound : IsSound r) where
   -- the content of an approval touches no source, and ends no mutation
   content_touches : (source : ℕ) (c : Content) → IsUntouched (content_change r source c)
   content_touches source (content.Transfer it) = transfer_touches source it (held_at r it.unit it.right)
+  content_touches source (content.Subdivision it) = record { mutations = refl; put = refl; ended = refl }
+  content_touches source (content.Merger it) = record { mutations = refl; put = refl; ended = refl }
   content_touches source (content.Mortgage it) = record { mutations = refl; put = refl; ended = refl }
   content_touches source (content.Discharge it) = record { mutations = refl; put = refl; ended = refl }
 
@@ -151,7 +159,7 @@ module _ (r : Register) (sound : IsSound r) where
   source_stays caller (act.Register it) stamp n s is = there r.sources r.next (record { kind = Administrative; title = it.document }) n s (source_below n s is) is
   source_stays caller (act.Burden it) stamp n s is = there r.sources r.next (record { kind = Administrative; title = it.document }) n s (source_below n s is) is
   source_stays caller (act.Lift it) stamp n s is = is
-  source_stays caller (act.Lodge it) stamp n s is = there r.sources r.next (record { kind = Administrative; title = it.document }) n s (source_below n s is) is
+  source_stays caller (act.Lodge it) stamp n s is = there r.sources r.next (record { kind = document_kind it.content; title = it.document }) n s (source_below n s is) is
   source_stays caller (act.Approve it) stamp n s is =
       ap (λ sources. map.get sources n) (sources_by_decision it.mutation Approved (λ m. content_change r m.source m.content) (λ m. content_touches m.source m.content) (map.get r.mutations it.mutation)) ∙ is
   source_stays caller (act.Refuse it) stamp n s is =
@@ -172,7 +180,7 @@ lodgings_stand r caller it stamp change done is =
     (record {
       state = Lodged;
       mutation = here r.mutations (r.next + 1) (lodged_record caller it r.next stamp);
-      document = here r.sources r.next (record { kind = Administrative; title = it.document });
+      document = here r.sources r.next (record { kind = document_kind it.content; title = it.document });
     })
 
 pub lodgings_stay : LodgingsStay
@@ -180,16 +188,41 @@ lodgings_stay r caller it source number lodged stamp change sound h standing =
     let plan = planned r h.caller h.act stamp change h.done h.outcome in
     let mutation = becomes r sound h.caller h.act stamp plan.none_holds number (decided standing.state (lodged_record caller it source lodged)) standing.mutation in
     subst (λ (made : Change). StandsAsLodged (after made r) caller it source number lodged) plan.same
-    (record { state = mutation.0; mutation = mutation.1; document = source_stays r sound h.caller h.act stamp source (record { kind = Administrative; title = it.document }) standing.document })
+    (record { state = mutation.0; mutation = mutation.1; document = source_stays r sound h.caller h.act stamp source (record { kind = document_kind it.content; title = it.document }) standing.document })
 
 -- ---- repeats
 
 all_same : (a b : Bool) → a ≡ true → b ≡ true → (a && b) ≡ true
 all_same a b x y = ap (λ t. t && b) x ∙ y
 
+-- what is compared item by item is the same as itself
+list_itself : {A : Type 0} (same : A → A → Bool) → ((x : A) → same x x ≡ true) → (xs : List A) → pointwise same xs xs ≡ true
+list_itself same each [] = refl
+list_itself same each (x ∷ xs) = all_same _ _ (each x) (list_itself same each xs)
+
+text_itself : (text : List ℕ) → bytes_eq text text ≡ true
+text_itself text = (bytes_eq-Decides text text).1 refl
+
+ring_itself : (ring : List Place) → is_same_ring ring ring ≡ true
+ring_itself ring = list_itself is_same_place (λ p. all_same _ _ ((Decides-int_eq p.x p.x).1 refl) ((Decides-int_eq p.y p.y).1 refl)) ring
+
+name_itself : (name : Option (List ℕ)) → is_same_name name name ≡ true
+name_itself None = refl
+name_itself (Some name) = text_itself name
+
+part_itself : (part : Part) → is_same_part part part ≡ true
+part_itself part = all_same _ _ (all_same _ _ (text_itself part.label) (ring_itself part.outline)) (name_itself part.unit)
+
+numbers_itself : (numbers : List ℕ) → are_same_numbers numbers numbers ≡ true
+numbers_itself numbers = list_itself nat_eq same_number numbers
+
 content_itself : (c : Content) → is_same_content c c ≡ true
 content_itself (content.Transfer it) =
     all_same _ _ (all_same _ _ (all_same _ _ (same_number it.unit) (same_number it.right)) (same_number it.receiver)) (all_same _ _ (same_number it.share.numerator) (same_number it.share.denominator))
+content_itself (content.Subdivision it) =
+    all_same _ _ (all_same _ _ (all_same _ _ (same_number it.unit) (same_number it.parcel)) (all_same _ _ (text_itself it.first.label) (ring_itself it.first.outline))) (list_itself is_same_part part_itself it.rest)
+content_itself (content.Merger it) =
+    all_same _ _ (all_same _ _ (all_same _ _ (all_same _ _ (same_number it.unit) (numbers_itself it.others)) (numbers_itself it.parcels)) (text_itself it.label)) (ring_itself it.outline)
 content_itself (content.Mortgage it) =
     all_same _ _ (all_same _ _ (all_same _ _ (same_number it.unit) (same_number it.creditor)) (same_number it.amount)) ((bytes_eq-Decides it.currency it.currency).1 refl)
 content_itself (content.Discharge it) = all_same _ _ (same_number it.unit) (same_number it.mortgage)

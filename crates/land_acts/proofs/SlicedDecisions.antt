@@ -21,6 +21,7 @@ use Rattle.land_core.specs.declared.register.Register.{Register}
 use Rattle.land_core.specs.declared.role.Role.TheVariants.{Bank}
 use Rattle.land_core.proofs.Reflection.{get-only}
 use Rattle.land_acts.specs.Deciding.{content_change, content_made, content_refusals, with_state}
+use Rattle.land_acts.specs.Merging.{is_named}
 use Rattle.land_acts.specs.Outcome.{first_that_holds, outcome_of, refused_else, stamped}
 use Rattle.land_acts.specs.Planning.{told_of}
 use Rattle.land_acts.specs.Slices.{content_names_party, looks_at_mutation, looks_at_rrr, names_party, names_rrr, names_unit, slice_of}
@@ -28,8 +29,10 @@ use Rattle.land_acts.specs.declared.refusal.Planned.{Planned}
 use Rattle.land_acts.specs.declared.refusal.Refusal.{Refusal}
 use Rattle.land_acts.specs.declared.refusal.Refusal.TheVariants.{ClockOut, NotLodged}
 use Rattle.land_acts.proofs.DischargeSlices.{discharge_change_agrees, discharge_refusal_agrees}
+use Rattle.land_acts.proofs.MergerSlices.{merger_change_agrees, merger_refusal_agrees, named_in_content}
 use Rattle.land_acts.proofs.MortgageSlices.{AgreeOnUnit, mortgage_change_agrees, mortgage_refusals_agree}
 use Rattle.land_acts.proofs.Numbers.{one_number, same_number, tied_number}
+use Rattle.land_acts.proofs.SubdivisionSlices.{AgreeOnUnits, subdivision_change_agrees, subdivision_made_agrees, subdivision_refusal_agrees}
 use Rattle.land_acts.proofs.TransferSlices.{transfer_agrees}
 use Rattle.land_acts.proofs.SlicedWords.{holds_same, stands_same, unit_same}
 
@@ -65,6 +68,18 @@ module _ (r : Register) (caller : Caller) (it : Decision) (m : MutationRecord) (
   checked_same : (unit : ℕ) → content_names_unit unit m.content ≡ true → map.get s.units unit ≡ map.get r.units unit
   checked_same unit names = get-only nat_cmp_total nat_cmp-IsAntisymmetric (λ k u. names_unit r a k) r.units unit (λ v. unit_named unit names)
 
+  agree_on_units : AgreeOnUnits s r (λ n. content_names_unit n m.content)
+  agree_on_units = record {
+    units = checked_same;
+    kept_parcels = λ n p. names_unit r a p.unit;
+    parcels = refl;
+    keeps_parcels = λ n p names. unit_named p.unit names;
+    kept_entries = λ n e. looks_at_rrr r a n e;
+    entries = refl;
+    keeps_entries = λ n e names. or_left (names_unit r a e.unit) (names_rrr r a n) (unit_named e.unit names);
+    next = refl;
+  }
+
   record IsSameContent (c : Content) (stamp : Option ℤ) : Type 0 where
     refusal : first_that_holds (content_refusals s c stamp) ≡ first_that_holds (content_refusals r c stamp)
     change : content_change s m.source c ≡ content_change r m.source c
@@ -76,6 +91,22 @@ module _ (r : Register) (caller : Caller) (it : Decision) (m : MutationRecord) (
       let party : content_names_party it.receiver m.content ≡ true = ap (content_names_party it.receiver) is ∙ same_number it.receiver in
       let same = transfer_agrees s r it (agree it.unit unit) (stands_same r caller a it.receiver (party_named it.receiver party)) (checked_same it.unit unit) in
       record { refusal = ap first_that_holds (same.refusals stamp); change = same.change m.source; made = same.made }
+  content_same (content.Subdivision it) is stamp =
+      let unit : content_names_unit it.unit m.content ≡ true = ap (content_names_unit it.unit) is ∙ same_number it.unit in
+      let named : ℕ → Bool = λ n. content_names_unit n m.content in
+      record {
+        refusal = subdivision_refusal_agrees s r it named agree_on_units unit stamp;
+        change = subdivision_change_agrees s r it named agree_on_units unit m.source;
+        made = subdivision_made_agrees s r it named agree_on_units unit;
+      }
+  content_same (content.Merger it) is stamp =
+      let names : (n : ℕ) → is_named it n ≡ true → content_names_unit n m.content ≡ true = λ n name. ap (content_names_unit n) is ∙ named_in_content it n name in
+      let named : ℕ → Bool = λ n. content_names_unit n m.content in
+      record {
+        refusal = merger_refusal_agrees s r it named agree_on_units names stamp;
+        change = merger_change_agrees s r it named agree_on_units names m.source;
+        made = refl;
+      }
   content_same (content.Mortgage it) is stamp =
       let unit : content_names_unit it.unit m.content ≡ true = ap (content_names_unit it.unit) is ∙ same_number it.unit in
       let party = party_named it.creditor (ap (content_names_party it.creditor) is ∙ same_number it.creditor) in

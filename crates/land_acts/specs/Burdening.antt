@@ -11,6 +11,7 @@ use Rattle.land_core.specs.declared.change.Done.{Done}
 use Rattle.land_core.specs.declared.register.Register.{Register}
 use Rattle.land_core.specs.declared.rrr.Class.{Class}
 use Rattle.land_core.specs.declared.rrr.Class.TheVariants as class
+use Rattle.land_core.specs.declared.source.SourceKind.TheVariants.{Administrative}
 use Rattle.land_acts.specs.declared.refusal.Refusal.{Refusal}
 use Rattle.land_acts.specs.declared.refusal.Refusal.TheVariants.{NoSuchUnit, NoSuchParty, TooMany, ClockOut}
 use Rattle.land_acts.specs.Planning.{document_source, lacks_numbers}
@@ -38,7 +39,7 @@ abbrev pub burden_change : Register → Burden → Change
 burden_change r it = record {
   put = record no_put {
     rrrs = (r.next + 1, record { unit = it.unit; party = it.party; class = class_of it.class it.words; source = r.next }) ∷ [];
-    sources = document_source r.next it.document;
+    sources = document_source r.next Administrative it.document;
   };
   ended = no_ended;
   next = r.next + 2;

@@ -1,4 +1,6 @@
 -- Definitions of the acts.
+pub mod AreaLaws
+pub mod Areas
 pub mod Burdening
 pub mod Deciding
 pub mod Discharging
@@ -9,6 +11,7 @@ pub mod Grouping
 pub mod Laws
 pub mod Lifting
 pub mod Lodging
+pub mod Merging
 pub mod Mortgaging
 pub mod MutationLaws
 pub mod Numbering
@@ -19,4 +22,5 @@ pub mod Regrouping
 pub mod Revoking
 pub mod Sharing
 pub mod Slices
+pub mod Subdividing
 pub mod Transferring

@@ -11,9 +11,13 @@ use Rattle.land_core.specs.declared.act.Lodging.{Lodging}
 use Rattle.land_core.specs.declared.caller.Caller.{Caller}
 use Rattle.land_core.specs.declared.change.Change.{Change}
 use Rattle.land_core.specs.declared.change.Done.{Done}
+use Rattle.land_core.specs.declared.content.Content.{Content}
+use Rattle.land_core.specs.declared.content.Content.TheVariants as content
 use Rattle.land_core.specs.declared.mutation.MutationRecord.{MutationRecord}
 use Rattle.land_core.specs.declared.mutation.MutationState.TheVariants.{Lodged}
 use Rattle.land_core.specs.declared.register.Register.{Register}
+use Rattle.land_core.specs.declared.source.SourceKind.{SourceKind}
+use Rattle.land_core.specs.declared.source.SourceKind.TheVariants.{Administrative, Spatial}
 use Rattle.land_acts.specs.declared.refusal.Refusal.{Refusal}
 use Rattle.land_acts.specs.declared.refusal.Refusal.TheVariants.{TooMany, ReferenceUsed, ClockOut}
 use Rattle.land_acts.specs.Planning.{document_source, lacks_numbers}
@@ -54,6 +58,14 @@ has_lodged_other r caller it = option_map_or (λ e. not (is_same_lodging r it e.
 abbrev pub lodge_refusals : Register → Caller → Lodging → Option ℤ → List (Refusal × Bool)
 lodge_refusals r caller it stamp = (TooMany, lacks_numbers r 2) ∷ (ReferenceUsed, has_lodged_other r caller it) ∷ (ClockOut, is_none stamp) ∷ []
 
+-- the document of a subdivision or a merger is a plan: a spatial source
+abbrev pub document_kind : Content → SourceKind
+document_kind (content.Transfer it) = Administrative
+document_kind (content.Subdivision it) = Spatial
+document_kind (content.Merger it) = Spatial
+document_kind (content.Mortgage it) = Administrative
+document_kind (content.Discharge it) = Administrative
+
 -- the mutation as it is lodged: undecided
 abbrev pub lodged_record : Caller → Lodging → (source : ℕ) → ℤ → MutationRecord
 lodged_record caller it source stamp = record { lodger = caller.party; reference = it.reference; source = source; lodged = stamp; state = Lodged; content = it.content }
@@ -62,7 +74,7 @@ lodged_record caller it source stamp = record { lodger = caller.party; reference
 abbrev pub lodge_change : Register → Caller → Lodging → ℤ → Change
 lodge_change r caller it stamp = record {
   put = record no_put {
-    sources = document_source r.next it.document;
+    sources = document_source r.next (document_kind it.content) it.document;
     mutations = (r.next + 1, lodged_record caller it r.next stamp) ∷ [];
   };
   ended = no_ended;

@@ -18,11 +18,10 @@ use Rattle.land_core.specs.declared.mutation.MutationState.{MutationState}
 use Rattle.land_core.specs.declared.register.Register.{Register}
 use Rattle.land_core.specs.declared.rrr.RightType.{RightType}
 use Rattle.land_core.specs.declared.rrr.RrrRecord.{RrrRecord}
-use Rattle.land_core.specs.declared.source.SourceKind.TheVariants.{Administrative}
 use Rattle.land_fraction.specs.Wholeness.{IsCommonMultiple, parts_of}
 use Rattle.land_acts.specs.Deciding.{decided}
 use Rattle.land_acts.specs.Laws.{IsAccepted}
-use Rattle.land_acts.specs.Lodging.{lodged_record}
+use Rattle.land_acts.specs.Lodging.{document_kind, lodged_record}
 use Rattle.land_acts.specs.Outcome.{first_that_holds, outcome_of}
 use Rattle.land_acts.specs.Transferring.{held_at, is_checked, move_change, transfer_refusals}
 use Rattle.land_acts.specs.declared.refusal.Planned.TheVariants.{New, Repeat}
@@ -32,7 +31,7 @@ use Rattle.land_acts.specs.declared.transfer.Held.{Held}
 pub record StandsAsLodged (r : Register) (caller : Caller) (it : Lodging) (source number : ℕ) (stamp : ℤ) : Type 0 where
   pub state : MutationState
   pub mutation : map.get r.mutations number ≡ Some (decided state (lodged_record caller it source stamp))
-  pub document : map.get r.sources source ≡ Some (record { kind = Administrative; title = it.document })
+  pub document : map.get r.sources source ≡ Some (record { kind = document_kind it.content; title = it.document })
 
 -- what is lodged stands after its change, under the next two numbers
 abbrev pub LodgingsStand : Type 0

@@ -6,19 +6,22 @@ use Rattle.land_core.specs.Role.{is_role}
 use Rattle.land_core.specs.declared.change.Done.{Done}
 use Rattle.land_core.specs.declared.register.Register.{Register}
 use Rattle.land_core.specs.declared.role.Role.TheVariants.{StateAdministrator}
-use Rattle.land_core.specs.declared.source.SourceKind.TheVariants.{Administrative}
+use Rattle.land_core.specs.declared.source.SourceKind.{SourceKind}
 use Rattle.land_core.specs.declared.source.SourceRecord.{SourceRecord}
 use Rattle.land_acts.specs.declared.refusal.Refusal.{Refusal}
-use Rattle.land_acts.specs.declared.refusal.Refusal.TheVariants.{NotLodged, NoSuchUnit, NoSuchRight, NoSuchParty, ShareTooLarge, SharesTooFine, TooMany, NotBank, NotMortgage, SharesNotWhole, ReferenceUsed, RoleHeld, RoleNotHeld, ClockOut, LastAdministrator, SameParty, NoMemory}
+use Rattle.land_acts.specs.declared.refusal.Refusal.TheVariants.{NotLodged, NoSuchUnit, NoSuchParcel, NoSuchRight, NoSuchParty, ShareTooLarge, SharesTooFine, AreaNotKept, UnlikeUnits, TooMany, NotBank, NotMortgage, SharesNotWhole, ReferenceUsed, RoleHeld, RoleNotHeld, ClockOut, LastAdministrator, SameParty, NoMemory}
 
 -- the number that a caller is told for a refusal
 abbrev pub number_of : Refusal → ℕ
 number_of NotLodged = 201
 number_of NoSuchUnit = 202
+number_of NoSuchParcel = 203
 number_of NoSuchRight = 204
 number_of NoSuchParty = 205
 number_of ShareTooLarge = 206
 number_of SharesTooFine = 207
+number_of AreaNotKept = 208
+number_of UnlikeUnits = 209
 number_of TooMany = 210
 number_of NotBank = 211
 number_of NotMortgage = 212
@@ -39,9 +42,9 @@ lacks_numbers r count = nat_lt 1000000001 (r.next + count)
 abbrev pub has_administrator_beside : Register → ℕ → Bool
 has_administrator_beside r n = list_any (λ grant. is_role grant.role StateAdministrator && not (nat_eq grant.party n)) (grants_in r.roles)
 
--- the administrative source that a document is, under its number (LA_AdministrativeSource)
-abbrev pub document_source : (number : ℕ) → (document : List ℕ) → List (ℕ × SourceRecord)
-document_source number document = (number, record { kind = Administrative; title = document }) ∷ []
+-- the source that a document is, under its number (LA_AdministrativeSource, LA_SpatialSource)
+abbrev pub document_source : (number : ℕ) → SourceKind → (document : List ℕ) → List (ℕ × SourceRecord)
+document_source number kind document = (number, record { kind = kind; title = document }) ∷ []
 
 -- what is told of an act on an object that makes nothing
 abbrev pub told_of : (number : ℕ) → ℤ → Done

@@ -10,6 +10,7 @@ use Rattle.land_core.specs.declared.parcel.ParcelRecord.{ParcelRecord}
 use Rattle.land_core.specs.declared.register.Register.{Register}
 use Rattle.land_core.specs.declared.rrr.Class.TheVariants.{Right}
 use Rattle.land_core.specs.declared.rrr.RrrRecord.{RrrRecord}
+use Rattle.land_core.specs.declared.source.SourceKind.TheVariants.{Administrative}
 use Rattle.land_acts.specs.declared.refusal.Refusal.{Refusal}
 use Rattle.land_acts.specs.declared.refusal.Refusal.TheVariants.{NoSuchParty, SharesTooFine, TooMany, SharesNotWhole, ClockOut, SameParty}
 use Rattle.land_acts.specs.FirstRights.{lists_absent, are_types_too_fine, are_types_whole, has_right_twice}
@@ -45,7 +46,7 @@ register_change r it = record {
     units = (r.next + 1, record { name = it.name; checked = it.checked }) ∷ [];
     parcels = numbered (r.next + 2) (map_list (parcel_of (r.next + 1) r.next) it.parcels);
     rrrs = numbered (r.next + 2 + length it.parcels) (map_list (right_of (r.next + 1) r.next) it.rights);
-    sources = document_source r.next it.document;
+    sources = document_source r.next Administrative it.document;
   };
   ended = no_ended;
   next = r.next + new_count it;

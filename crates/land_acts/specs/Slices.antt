@@ -24,6 +24,8 @@ use Rattle.land_acts.specs.Sharing.{lists_party}
 -- whether a party stands in a content: who receives, or who lends
 abbrev pub content_names_party : (party : ℕ) → Content → Bool
 content_names_party n (content.Transfer it) = nat_eq n it.receiver
+content_names_party n (content.Subdivision it) = false
+content_names_party n (content.Merger it) = false
 content_names_party n (content.Mortgage it) = nat_eq n it.creditor
 content_names_party n (content.Discharge it) = false
 

@@ -13,6 +13,7 @@ use land_core::duplicate::Duplicate;
 use land_core::kind::Kind;
 use land_core::rrr::{Class, RrrRecord};
 use land_core::sequence::Sequence;
+use land_core::source::SourceKind;
 use land_core::text::Text;
 use std::alloc::{AllocError, Global};
 
@@ -52,7 +53,7 @@ pub(crate) fn planned(
 {
     let source = slice.next;
     let number = source + 1;
-    let sources = document_source(alloc, source, &it.document)?;
+    let sources = document_source(alloc, source, SourceKind::Administrative, &it.document)?;
     let entry = RrrRecord {
         unit: it.unit,
         party: it.party,

@@ -7,8 +7,9 @@ ghost use Rattle.land_acts.specs.Planning.{told_of};
 
 use crate::plan::told_of;
 use crate::refusal::Refusal;
+use crate::register::numbers_from;
 use crate::slice::Slice;
-use crate::{discharge, mortgage, transfer};
+use crate::{discharge, merge, mortgage, subdivide, transfer};
 use land_core::act::Decision;
 use land_core::change::{Change, Done};
 use land_core::content::Content;
@@ -45,6 +46,8 @@ fn content_refusal(
 {
     match content {
         Content::Transfer(it) => transfer::refusal(alloc, slice, it, stamp),
+        Content::Subdivision(it) => Ok(subdivide::refusal(slice, it, stamp)),
+        Content::Merger(it) => Ok(merge::refusal(slice, it, stamp)),
         Content::Mortgage(it) => Ok(mortgage::refusal(slice, it, stamp)),
         Content::Discharge(it) => Ok(discharge::refusal(slice, it, stamp)),
     }
@@ -147,6 +150,8 @@ fn content_change(
             Some(from) => transfer::change(alloc, slice, source, it, &from),
             None => Ok(Change::nothing(alloc, slice.next)),
         },
+        Content::Subdivision(it) => subdivide::change(alloc, slice, source, it),
+        Content::Merger(it) => merge::change(alloc, slice, source, it),
         Content::Mortgage(it) => mortgage::change(alloc, slice, source, it),
         Content::Discharge(it) => discharge::change(alloc, slice, it),
     }
@@ -154,6 +159,7 @@ fn content_change(
 
 /// The numbers of the objects that a content makes.
 fn content_made(alloc: Global, slice: &Slice, content: &Content) -> Result<NumberList, AllocError>
+    requires { Fits slice.now content.now }
     ensures { IfOk result (λ made. made ≡ content_made slice.now content.now) }
 {
     match content {
@@ -161,7 +167,10 @@ fn content_made(alloc: Global, slice: &Slice, content: &Content) -> Result<Numbe
             Some(from) => transfer::made(alloc, slice, it, &from),
             None => Ok(Sequence::new(alloc)),
         },
-        Content::Mortgage(_) => Sequence::of_one(alloc, slice.next),
+        Content::Subdivision(it) => {
+            numbers_from(alloc, slice.next, subdivide::count(slice, it) as u64)
+        }
+        Content::Merger(_) | Content::Mortgage(_) => Sequence::of_one(alloc, slice.next),
         Content::Discharge(_) => Ok(Sequence::new(alloc)),
     }
 }

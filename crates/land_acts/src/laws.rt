@@ -1,4 +1,5 @@
 //! Laws, each stated over the definitions alone.
+ghost use Rattle.land_acts.specs.AreaLaws.{MergersKeepAreas, SubdivisionsKeepAreas};
 ghost use Rattle.land_acts.specs.Laws.{SlicesSuffice, AcceptedKeepsSound, AcceptedNamesKeysOnce, AcceptedTellsStamp, NothingWithoutStamp};
 ghost use Rattle.land_acts.specs.MutationLaws.{DecisionsStay, LodgingsStand, LodgingsStay, ReceiversHaveOneRight, RepeatsAreToldTheFirst, TransfersKeepSums};
 
@@ -55,4 +56,14 @@ pub fn transfers_keep_sums()
 /// After a transfer that is not refused, the receiver has one right of the type in the unit.
 pub fn receivers_have_one_right()
     ensures { ReceiversHaveOneRight }
+{}
+
+/// The parcels of an approved subdivision have together the area of the parcel that ended.
+pub fn subdivisions_keep_areas()
+    ensures { SubdivisionsKeepAreas }
+{}
+
+/// The parcel of an approved merger has the area of the parcels that ended together.
+pub fn mergers_keep_areas()
+    ensures { MergersKeepAreas }
 {}

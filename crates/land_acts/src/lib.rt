@@ -1,6 +1,7 @@
 //! The acts of the office: when each is refused, what it changes, and what its caller is told.
 #![tactic(auto)]
 
+mod areas;
 mod burden;
 mod decide;
 mod discharge;
@@ -11,6 +12,7 @@ mod group;
 pub mod laws;
 mod lift;
 mod lodge;
+mod merge;
 mod mortgage;
 pub mod plan;
 pub mod refusal;
@@ -19,4 +21,5 @@ mod regroup;
 mod revoke;
 mod sharing;
 pub mod slice;
+mod subdivide;
 mod transfer;

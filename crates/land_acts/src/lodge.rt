@@ -1,6 +1,6 @@
 //! Lodging a mutation.
 ghost use Rattle.std.specs.Prelude.{◌≡◌, ◌≤◌, ◌∷◌, [], IfOk};
-ghost use Rattle.land_acts.specs.Lodging.{has_lodged_other, has_title, in_order, is_same_lodging, lodge_change, lodge_done, lodge_refusals, lodge_repeat, lodged_record, lodged_told};
+ghost use Rattle.land_acts.specs.Lodging.{document_kind, has_lodged_other, has_title, in_order, is_same_lodging, lodge_change, lodge_done, lodge_refusals, lodge_repeat, lodged_record, lodged_told};
 ghost use Rattle.land_acts.specs.Outcome.{first_that_holds};
 
 use crate::plan::{document_source, lacks_numbers};
@@ -9,9 +9,11 @@ use crate::slice::Slice;
 use land_core::act::Lodging;
 use land_core::caller::Caller;
 use land_core::change::{Change, Done};
+use land_core::content::Content;
 use land_core::duplicate::Duplicate;
 use land_core::mutation::{MutationRecord, MutationState};
 use land_core::sequence::{NumberList, Sequence};
+use land_core::source::SourceKind;
 use std::alloc::{AllocError, Global};
 
 /// What was told of an earlier lodging that this one repeats: one of the same caller under the same reference, with the
@@ -128,7 +130,7 @@ pub(crate) fn planned(
 {
     let source = slice.next;
     let number = source + 1;
-    let sources = document_source(alloc, source, &it.document)?;
+    let sources = document_source(alloc, source, document_kind(&it.content), &it.document)?;
     let mutation = lodged(alloc, caller, it, source, stamp)?;
     let mutations = Sequence::of_one(alloc, (number, mutation))?;
     let made = two_numbers(alloc, source, number)?;
@@ -143,6 +145,18 @@ pub(crate) fn planned(
             stamp,
         },
     ))
+}
+
+/// What the document of a mutation is: a plan where outlines change.
+fn document_kind(content: &Content) -> SourceKind
+    ensures { result ≡ document_kind content.now }
+{
+    match content {
+        Content::Subdivision(_) | Content::Merger(_) => SourceKind::Spatial,
+        Content::Transfer(_) | Content::Mortgage(_) | Content::Discharge(_) => {
+            SourceKind::Administrative
+        }
+    }
 }
 
 /// The mutation as it is lodged, undecided.

@@ -113,22 +113,23 @@ fn planned(
 }
 
 /// Whether there are too few numbers left for so many new objects.
-pub(crate) fn lacks_numbers(slice: &Slice, count: u64) -> bool
+pub(crate) fn lacks_numbers(slice: &Slice, count: u128) -> bool
     ensures { result ≡ lacks_numbers slice.now count }
 {
-    1_000_000_001 < u128::from(slice.next) + u128::from(count)
+    1_000_000_001 < u128::from(slice.next).saturating_add(count)
 }
 
-/// The administrative source that a document is, under its number.
+/// The source that a document is, under its number.
 pub(crate) fn document_source(
     alloc: Global,
     number: u64,
+    kind: SourceKind,
     document: &Text,
 ) -> Result<Sequence<(u64, SourceRecord)>, AllocError>
-    ensures { IfOk result (λ it. it ≡ document_source number document.now) }
+    ensures { IfOk result (λ it. it ≡ document_source number kind document.now) }
 {
     let record = SourceRecord {
-        kind: SourceKind::Administrative,
+        kind,
         title: document.copy(alloc)?,
     };
     Sequence::of_one(alloc, (number, record))

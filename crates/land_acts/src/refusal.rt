@@ -11,6 +11,8 @@ pub enum Refusal {
     NotLodged,
     /// 202: a unit that is named does not stand.
     NoSuchUnit,
+    /// 203: a parcel that is named does not stand in a unit that is named.
+    NoSuchParcel,
     /// 204: an entry that is named does not stand, or is not of the class that is asked for.
     NoSuchRight,
     /// 205: a party that is named does not stand, or is not of the kind that is asked for.
@@ -19,7 +21,11 @@ pub enum Refusal {
     ShareTooLarge,
     /// 207: the shares have no common denominator up to 1_000_000_000.
     SharesTooFine,
-    /// 210: a new number would be above 1_000_000_000, or a unit would have more than 256 entries.
+    /// 208: the new outlines have not together the area of the old ones.
+    AreaNotKept,
+    /// 209: a unit that is to end would keep a parcel, or is not checked alike, or has other entries.
+    UnlikeUnits,
+    /// 210: a new number would be above 1_000_000_000, or a unit would have more than 256 parcels or entries.
     TooMany,
     /// 211: the creditor does not hold the role of a bank.
     NotBank,
@@ -53,10 +59,13 @@ impl Refusal {
         match self {
             Refusal::NotLodged => 201,
             Refusal::NoSuchUnit => 202,
+            Refusal::NoSuchParcel => 203,
             Refusal::NoSuchRight => 204,
             Refusal::NoSuchParty => 205,
             Refusal::ShareTooLarge => 206,
             Refusal::SharesTooFine => 207,
+            Refusal::AreaNotKept => 208,
+            Refusal::UnlikeUnits => 209,
             Refusal::TooMany => 210,
             Refusal::NotBank => 211,
             Refusal::NotMortgage => 212,

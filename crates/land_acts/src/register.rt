@@ -15,6 +15,7 @@ use land_core::duplicate::Duplicate;
 use land_core::parcel::ParcelRecord;
 use land_core::rrr::{Class, RrrRecord};
 use land_core::sequence::{NumberList, Sequence};
+use land_core::source::SourceKind;
 use land_core::unit::UnitRecord;
 use land_shape::Ring;
 use std::alloc::{AllocError, Global};
@@ -34,7 +35,7 @@ pub(crate) fn refusal(
         Ok(Some(Refusal::NoSuchParty))
     } else if it.checked && are_types_too_fine(alloc, rights)? {
         Ok(Some(Refusal::SharesTooFine))
-    } else if lacks_numbers(slice, new_count(it)) {
+    } else if lacks_numbers(slice, u128::from(new_count(it))) {
         Ok(Some(Refusal::TooMany))
     } else if it.checked && !are_types_whole(alloc, rights)? {
         Ok(Some(Refusal::SharesNotWhole))
@@ -70,7 +71,7 @@ pub(crate) fn planned(
     let unit = source + 1;
     let count = new_count(it);
     let first_right = source + 2 + it.parcels.as_slice().len() as u64;
-    let sources = document_source(alloc, source, &it.document)?;
+    let sources = document_source(alloc, source, SourceKind::Administrative, &it.document)?;
     let record = UnitRecord {
         name: it.name.copy(alloc)?,
         checked: it.checked,
@@ -150,7 +151,7 @@ fn placed_rights(
 }
 
 /// So many numbers from `first` on.
-fn numbers_from(alloc: Global, first: u64, count: u64) -> Result<NumberList, AllocError>
+pub(crate) fn numbers_from(alloc: Global, first: u64, count: u64) -> Result<NumberList, AllocError>
     requires { first + count ≤ 1_000_000_001 }
     ensures { IfOk result (λ it. it ≡ numbers_from first count) }
 {

@@ -213,7 +213,7 @@ fn content_names_party(content: &Content, party: u64) -> bool
     match content {
         Content::Transfer(it) => party == it.receiver,
         Content::Mortgage(it) => party == it.creditor,
-        Content::Discharge(_) => false,
+        Content::Subdivision(_) | Content::Merger(_) | Content::Discharge(_) => false,
     }
 }
 

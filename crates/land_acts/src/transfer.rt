@@ -229,7 +229,7 @@ fn are_too_fine(
 }
 
 /// Whether a unit that stands is checked.
-fn is_checked(slice: &Slice, unit: u64) -> bool
+pub(crate) fn is_checked(slice: &Slice, unit: u64) -> bool
     ensures { result ≡ is_checked slice.now unit }
 {
     match slice.units.get(unit) {

@@ -1,0 +1,54 @@
+-- What an approval puts in the place of parcels has together their area.
+use Rattle.std.proofs.Common.{◌≡◌, not, Some, None, [], sym, ap, ◌∙◌, arith}
+use Rattle.std.specs.Prelude.{ℤ, Ok}
+use Rattle.std.specs.Option.{option_map_or}
+use Rattle.std.specs.FinMap as map
+use Rattle.land_core.specs.Changes.{no_change}
+use Rattle.land_core.specs.declared.act.Act.TheVariants.{Approve}
+use Rattle.land_core.specs.declared.act.Decision.{Decision}
+use Rattle.land_core.specs.declared.caller.Caller.{Caller}
+use Rattle.land_core.specs.declared.change.Change.{Change}
+use Rattle.land_core.specs.declared.change.Done.{Done}
+use Rattle.land_core.specs.declared.content.Content.{Content}
+use Rattle.land_core.specs.declared.content.Content.TheVariants as content
+use Rattle.land_core.specs.declared.mutation.MutationRecord.{MutationRecord}
+use Rattle.land_core.specs.declared.mutation.MutationState.TheVariants.{Approved}
+use Rattle.land_core.specs.declared.register.Register.{Register}
+use Rattle.land_acts.specs.AreaLaws.{MergersKeepAreas, SubdivisionsKeepAreas, outlines_put}
+use Rattle.land_acts.specs.Areas.{doubled_areas}
+use Rattle.land_acts.specs.Deciding.{content_change, content_refusals, is_lodged, with_state}
+use Rattle.land_acts.specs.Outcome.{first_that_holds, outcome_of}
+use Rattle.land_acts.specs.declared.refusal.Planned.TheVariants.{New}
+use Rattle.land_acts.specs.declared.refusal.Refusal.TheVariants.{NotLodged}
+use Rattle.land_acts.proofs.Accepted.{planned}
+use Rattle.land_acts.proofs.MergedKeys.{merged_area}
+use Rattle.land_acts.proofs.Outcomes.{first_none}
+use Rattle.land_acts.proofs.SubdividedAreas.{subdivision_keeps_area}
+
+-- what is approved puts the parcels of its content, which is not refused
+record IsApproved (r : Register) (m : MutationRecord) (c : Content) (stamp : ℤ) (change : Change) : Type 0 where
+  unrefused : first_that_holds (content_refusals r c (Some stamp)) ≡ None
+  puts : outlines_put change ≡ outlines_put (content_change r m.source c)
+
+approved : (r : Register) (caller : Caller) (decision : Decision) (m : MutationRecord) (c : Content) (stamp : ℤ) (change : Change) (done : Done)
+    → map.get r.mutations decision.mutation ≡ Some m → m.content ≡ c → outcome_of r caller (Approve decision) (Some stamp) ≡ Ok (New change done) → IsApproved r m c stamp change
+approved r caller decision m c stamp change done there is outcome =
+    let plan = planned r caller (Approve decision) stamp change done outcome in
+    let lines = (first_none NotLodged (not (is_lodged r decision.mutation)) (option_map_or (λ m. content_refusals r m.content (Some stamp)) (map.get r.mutations decision.mutation) []) plan.none_holds).rest in
+    record {
+      unrefused = sym (ap (λ o. first_that_holds (option_map_or (λ m. content_refusals r m.content (Some stamp)) o [])) there ∙ ap (λ c. first_that_holds (content_refusals r c (Some stamp))) is) ∙ lines;
+      puts = sym (ap outlines_put plan.same)
+          ∙ ap (λ o. outlines_put (option_map_or (λ m. with_state Approved decision.mutation m (content_change r m.source m.content)) o (no_change r.next))) there
+          ∙ ap (λ c. outlines_put (content_change r m.source c)) is;
+    }
+
+pub subdivisions_keep_areas : SubdivisionsKeepAreas
+subdivisions_keep_areas r caller decision m it old stamp change done there is stands outcome =
+    let approval = approved r caller decision m (content.Subdivision it) stamp change done there is outcome in
+    ap doubled_areas approval.puts ∙ subdivision_keeps_area r m.source it (Some stamp) approval.unrefused old stands
+
+pub mergers_keep_areas : MergersKeepAreas
+mergers_keep_areas r caller decision m it stamp change done there is outcome =
+    let approval = approved r caller decision m (content.Merger it) stamp change done there is outcome in
+    let same = merged_area r it (Some stamp) approval.unrefused in
+    ap doubled_areas approval.puts ∙ omega (arith, same)

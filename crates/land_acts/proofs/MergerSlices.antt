@@ -1,0 +1,117 @@
+-- What merging reads of a slice is what it reads of the register.
+use Rattle.std.proofs.Common.{◌≡◌, ◌+◌, ℕ, Bool, true, false, cond, not, ◌||◌, Some, List, [], ◌∷◌, refl, sym, ap, ◌∙◌}
+use Rattle.std.specs.Prelude.{ℤ, Option, is_none, nat_eq, nat_lt, map as map_list}
+use Rattle.std.specs.List.{list_any}
+use Rattle.std.specs.Cmp.{eq_by_cmp_equiv, nat_cmp_total}
+use Rattle.land_core.specs.Contents.{names_unit as content_names_unit}
+use Rattle.land_core.specs.Entries.{has}
+use Rattle.land_core.specs.Mergers.{lists_number}
+use Rattle.land_core.specs.declared.content.Content.TheVariants as content
+use Rattle.land_core.specs.declared.merger.Merger.{Merger}
+use Rattle.land_core.specs.declared.register.Register.{Register}
+use Rattle.land_core.specs.declared.rrr.RrrRecord.{RrrRecord}
+use Rattle.land_core.proofs.Pairs.{list_any_same}
+use Rattle.land_acts.specs.declared.refusal.Refusal.{Refusal}
+use Rattle.land_acts.specs.declared.refusal.Refusal.TheVariants.{NoSuchUnit, NoSuchParcel, AreaNotKept, UnlikeUnits, TooMany, ClockOut}
+use Rattle.land_acts.specs.Areas.{do_areas_differ, outlines_at}
+use Rattle.land_acts.specs.Merging.{are_same_entries, entries_of_others, has_unlike, is_named, is_parcel_named, is_same_mark, is_unlike, lacks_parcel, lacks_unit, merger_change, merger_refusals, would_have_more_parcels}
+use Rattle.land_acts.specs.Outcome.{first_that_holds}
+use Rattle.land_acts.specs.Planning.{lacks_numbers}
+use Rattle.land_acts.specs.Subdividing.{entries_of, parcels_beside}
+use Rattle.land_acts.specs.Transferring.{is_checked}
+use Rattle.land_acts.proofs.Numbers.{same_number, tied_number}
+use Rattle.land_acts.proofs.SlicedWords.{or_right}
+use Rattle.land_acts.proofs.SubdivisionSlices.{AgreeOnUnits, beside_agrees, checked_agrees, entries_agree, entries_passing_agree, later_lines, outlines_agree, parcel_agrees, stands_agrees}
+
+-- tests that agree on the listed numbers pass alike
+any_listed : (p q : ℕ → Bool) (ns : List ℕ) → ((n : ℕ) → lists_number ns n ≡ true → p n ≡ q n) → list_any p ns ≡ list_any q ns
+any_listed p q [] same = refl
+any_listed p q (n ∷ ns) same =
+    ap (λ b. b || list_any p ns) (same n (ap (λ b. b || lists_number ns n) (same_number n)))
+    ∙ ap (λ b. q n || b) (any_listed p q ns (λ k listed. same k (or_right (nat_eq n k) (lists_number ns k) listed)))
+
+-- the units that are named are those that stand in the content
+pub named_in_content : (it : Merger) (n : ℕ) → is_named it n ≡ true → content_names_unit n (content.Merger it) ≡ true
+named_in_content it n names = ap (λ b. b || lists_number it.others n) turned ∙ names
+  where
+    turned : nat_eq it.unit n ≡ nat_eq n it.unit
+    turned = sym (tied_number it.unit n) ∙ (eq_by_cmp_equiv nat_cmp_total).symm it.unit n ∙ tied_number n it.unit
+
+module _ (s r : Register) (it : Merger) (named : ℕ → Bool) (agree : AgreeOnUnits s r named) (names : (n : ℕ) → is_named it n ≡ true → named n ≡ true) where
+  unit_named : named it.unit ≡ true
+  unit_named = names it.unit (ap (λ b. b || lists_number it.others it.unit) (same_number it.unit))
+
+  other_named : (n : ℕ) → lists_number it.others n ≡ true → named n ≡ true
+  other_named n listed = names n (or_right (nat_eq n it.unit) (lists_number it.others n) listed)
+
+  -- ---- the refusals
+
+  units_agree : lacks_unit s it ≡ lacks_unit r it
+  units_agree =
+      ap (λ b. not b || list_any (λ n. not (has s.units n)) it.others) (stands_agrees s r named agree it.unit unit_named)
+      ∙ ap (λ b. not (has r.units it.unit) || b)
+      (any_listed (λ n. not (has s.units n)) (λ n. not (has r.units n)) it.others (λ n listed. ap not (stands_agrees s r named agree n (other_named n listed))))
+
+  parcels_agree : lacks_parcel s it ≡ lacks_parcel r it
+  parcels_agree =
+      list_any_same (λ n. not (is_parcel_named s it n)) (λ n. not (is_parcel_named r it n))
+      (λ n. ap not (parcel_agrees s r named agree (λ p. is_named it p.unit) (λ p passes. names p.unit passes) n)) it.parcels
+
+  -- whether outlines have not the area of the new one
+  abbrev is_lost : Register → Bool
+  is_lost at = do_areas_differ (outlines_at at it.parcels) (it.outline ∷ [])
+
+  lost_agrees : lacks_parcel r it ≡ false → is_lost s ≡ is_lost r
+  lost_agrees none =
+      ap (λ old. do_areas_differ old (it.outline ∷ [])) (outlines_agree s r named agree (λ p. is_named it p.unit) (λ p passes. names p.unit passes) it.parcels none)
+
+  -- whether a unit is unlike the unit, by what is read of the two
+  abbrev is_unlike_by : (beside : ℕ) (checked mark : Bool) (entries others : List RrrRecord) → Bool
+  is_unlike_by beside checked mark entries others = nat_lt 0 beside || not (is_same_mark checked mark) || not (are_same_entries entries others)
+
+  one_agrees : (n : ℕ) → named n ≡ true → is_unlike s it n ≡ is_unlike r it n
+  one_agrees n name =
+      ap (λ beside. is_unlike_by beside (is_checked s n) (is_checked s it.unit) (entries_of s n) (entries_of s it.unit)) (beside_agrees s r named agree n name it.parcels)
+      ∙ ap (λ checked. is_unlike_by (parcels_beside r n it.parcels) checked (is_checked s it.unit) (entries_of s n) (entries_of s it.unit)) (checked_agrees s r named agree n name)
+      ∙ ap (λ mark. is_unlike_by (parcels_beside r n it.parcels) (is_checked r n) mark (entries_of s n) (entries_of s it.unit)) (checked_agrees s r named agree it.unit unit_named)
+      ∙ ap (λ entries. is_unlike_by (parcels_beside r n it.parcels) (is_checked r n) (is_checked r it.unit) entries (entries_of s it.unit)) (entries_agree s r named agree n name)
+      ∙ ap (λ others. is_unlike_by (parcels_beside r n it.parcels) (is_checked r n) (is_checked r it.unit) (entries_of r n) others) (entries_agree s r named agree it.unit unit_named)
+
+  unlike_agree : has_unlike s it ≡ has_unlike r it
+  unlike_agree = any_listed (is_unlike s it) (is_unlike r it) it.others (λ n listed. one_agrees n (other_named n listed))
+
+  -- whether there are too few numbers, or too many parcels
+  abbrev is_many : Register → Bool
+  is_many at = lacks_numbers at 1 || would_have_more_parcels at it
+
+  many_agrees : is_many s ≡ is_many r
+  many_agrees =
+      ap (λ next. nat_lt 1000000001 (next + 1) || would_have_more_parcels s it) agree.next
+      ∙ ap (λ beside. lacks_numbers r 1 || nat_lt 256 (beside + 1)) (beside_agrees s r named agree it.unit unit_named it.parcels)
+
+  -- where a listed parcel is one of no named unit, its outline may be in the one and not in the other; but then it is refused before
+  pub merger_refusal_agrees : (stamp : Option ℤ) → first_that_holds (merger_refusals s it stamp) ≡ first_that_holds (merger_refusals r it stamp)
+  merger_refusal_agrees stamp =
+      ap (λ b. first_that_holds ((NoSuchUnit, b) ∷ (NoSuchParcel, lacks_parcel s it) ∷ of_slice)) units_agree
+      ∙ ap (λ b. first_that_holds ((NoSuchUnit, lacks_unit r it) ∷ (NoSuchParcel, b) ∷ of_slice)) parcels_agree
+      ∙ ap (cond (lacks_unit r it) (Some NoSuchUnit)) (later_lines NoSuchParcel (lacks_parcel r it) of_slice of_register rest)
+    where
+      of_slice : List (Refusal × Bool)
+      of_slice = (AreaNotKept, is_lost s) ∷ (UnlikeUnits, has_unlike s it) ∷ (TooMany, is_many s) ∷ (ClockOut, is_none stamp) ∷ []
+
+      of_register : List (Refusal × Bool)
+      of_register = (AreaNotKept, is_lost r) ∷ (UnlikeUnits, has_unlike r it) ∷ (TooMany, is_many r) ∷ (ClockOut, is_none stamp) ∷ []
+
+      rest : lacks_parcel r it ≡ false → first_that_holds of_slice ≡ first_that_holds of_register
+      rest none =
+          ap (λ b. first_that_holds ((AreaNotKept, b) ∷ (UnlikeUnits, has_unlike s it) ∷ (TooMany, is_many s) ∷ (ClockOut, is_none stamp) ∷ [])) (lost_agrees none)
+          ∙ ap (λ b. first_that_holds ((AreaNotKept, is_lost r) ∷ (UnlikeUnits, b) ∷ (TooMany, is_many s) ∷ (ClockOut, is_none stamp) ∷ [])) unlike_agree
+          ∙ ap (λ b. first_that_holds ((AreaNotKept, is_lost r) ∷ (UnlikeUnits, has_unlike r it) ∷ (TooMany, b) ∷ (ClockOut, is_none stamp) ∷ [])) many_agrees
+
+  -- ---- the change
+
+  others_agree : entries_of_others s it ≡ entries_of_others r it
+  others_agree = ap (map_list (λ e. e.0)) (entries_passing_agree s r named agree (λ e. lists_number it.others e.1.unit) (λ e listed. other_named e.1.unit listed))
+
+  pub merger_change_agrees : (source : ℕ) → merger_change s source it ≡ merger_change r source it
+  merger_change_agrees source = rw (agree.next, others_agree) refl

@@ -1,0 +1,35 @@
+-- Laws of areas, over the definitions alone: what an approval puts in the place of parcels has together their area.
+use Rattle.std.specs.Prelude.{◌≡◌, ℤ, List, map as map_list, Some, Ok}
+use Rattle.std.specs.FinMap as map
+use Rattle.land_core.specs.declared.act.Act.TheVariants.{Approve}
+use Rattle.land_core.specs.declared.act.Decision.{Decision}
+use Rattle.land_core.specs.declared.caller.Caller.{Caller}
+use Rattle.land_core.specs.declared.change.Change.{Change}
+use Rattle.land_core.specs.declared.change.Done.{Done}
+use Rattle.land_core.specs.declared.content.Content.TheVariants as content
+use Rattle.land_core.specs.declared.merger.Merger.{Merger}
+use Rattle.land_core.specs.declared.mutation.MutationRecord.{MutationRecord}
+use Rattle.land_core.specs.declared.parcel.ParcelRecord.{ParcelRecord}
+use Rattle.land_core.specs.declared.register.Register.{Register}
+use Rattle.land_core.specs.declared.subdivision.Subdivision.{Subdivision}
+use Rattle.land_shape.specs.Outline.{doubled_area}
+use Rattle.land_shape.specs.Place.{Place}
+use Rattle.land_acts.specs.Areas.{doubled_areas, outlines_at}
+use Rattle.land_acts.specs.Outcome.{outcome_of}
+use Rattle.land_acts.specs.declared.refusal.Planned.TheVariants.{New}
+
+-- the outlines of the parcels that a change puts
+abbrev pub outlines_put : Change → List (List Place)
+outlines_put change = map_list (λ e. e.1.outline) change.put.parcels
+
+-- the parcels of an approved subdivision have together the area of the old parcel
+abbrev pub SubdivisionsKeepAreas : Type 0
+SubdivisionsKeepAreas = (r : Register) (caller : Caller) (decision : Decision) (m : MutationRecord) (it : Subdivision) (old : ParcelRecord) (stamp : ℤ) (change : Change) (done : Done)
+    → map.get r.mutations decision.mutation ≡ Some m → m.content ≡ content.Subdivision it → map.get r.parcels it.parcel ≡ Some old
+    → outcome_of r caller (Approve decision) (Some stamp) ≡ Ok (New change done) → doubled_areas (outlines_put change) ≡ doubled_area old.outline
+
+-- the parcel of an approved merger has the area of the listed parcels together
+abbrev pub MergersKeepAreas : Type 0
+MergersKeepAreas = (r : Register) (caller : Caller) (decision : Decision) (m : MutationRecord) (it : Merger) (stamp : ℤ) (change : Change) (done : Done)
+    → map.get r.mutations decision.mutation ≡ Some m → m.content ≡ content.Merger it
+    → outcome_of r caller (Approve decision) (Some stamp) ≡ Ok (New change done) → doubled_areas (outlines_put change) ≡ doubled_areas (outlines_at r it.parcels)
