@@ -52,18 +52,32 @@ is_of_mortgages caller = is_role caller.role Bank || is_role caller.role Notary
 -- whether a content is a transfer
 abbrev pub is_transfer : Content → Bool
 is_transfer (content.Transfer it) = true
+is_transfer (content.Subdivision it) = false
+is_transfer (content.Merger it) = false
 is_transfer (content.Mortgage it) = false
 is_transfer (content.Discharge it) = false
+
+-- whether a content is a subdivision or a merger: whether it asks for new outlines
+abbrev pub is_of_outlines : Content → Bool
+is_of_outlines (content.Transfer it) = false
+is_of_outlines (content.Subdivision it) = true
+is_of_outlines (content.Merger it) = true
+is_of_outlines (content.Mortgage it) = false
+is_of_outlines (content.Discharge it) = false
 
 -- whether a content makes or ends a mortgage
 abbrev pub is_of_a_mortgage : Content → Bool
 is_of_a_mortgage (content.Transfer it) = false
+is_of_a_mortgage (content.Subdivision it) = false
+is_of_a_mortgage (content.Merger it) = false
 is_of_a_mortgage (content.Mortgage it) = true
 is_of_a_mortgage (content.Discharge it) = true
 
 -- whether a content is a mortgage whose creditor is another than the party
 abbrev pub is_mortgage_of_another : (party : ℕ) → Content → Bool
 is_mortgage_of_another party (content.Transfer it) = false
+is_mortgage_of_another party (content.Subdivision it) = false
+is_mortgage_of_another party (content.Merger it) = false
 is_mortgage_of_another party (content.Mortgage it) = not (nat_eq it.creditor party)
 is_mortgage_of_another party (content.Discharge it) = false
 
@@ -75,5 +89,7 @@ is_mortgage_of party e = is_mortgage e.class && nat_eq e.party party
 -- or the mortgage of another
 abbrev pub is_discharge_of_another : (now : Register) → (party : ℕ) → Content → Bool
 is_discharge_of_another now party (content.Transfer it) = false
+is_discharge_of_another now party (content.Subdivision it) = false
+is_discharge_of_another now party (content.Merger it) = false
 is_discharge_of_another now party (content.Mortgage it) = false
 is_discharge_of_another now party (content.Discharge it) = not (is_rrr_where (is_mortgage_of party) now it.mortgage)

@@ -13,7 +13,7 @@ use Rattle.land_core.specs.declared.ask.Ask.{Ask}
 use Rattle.land_core.specs.declared.ask.Ask.TheVariants as ask
 use Rattle.land_core.specs.declared.register.Register.{Register}
 use Rattle.land_core.specs.declared.rrr.RrrRecord.{RrrRecord}
-use Rattle.land_rules.specs.Acts.{decides, is_discharge_of_another, is_mortgage_of_another, is_of_a_mortgage, is_of_mortgages, is_of_transfers, is_office_act, is_transfer, lodges}
+use Rattle.land_rules.specs.Acts.{decides, is_discharge_of_another, is_mortgage_of_another, is_of_a_mortgage, is_of_mortgages, is_of_outlines, is_of_transfers, is_office_act, is_transfer, lodges}
 use Rattle.land_rules.specs.Relations.{has_lodged, is_creditor_on, is_holder, is_lodger_on, is_member_of, is_mutation_where, is_rrr_where, is_told_to_creditor, is_told_to_holder, names_holding}
 use Rattle.land_rules.specs.declared.verdict.Verdict.{Verdict}
 use Rattle.land_rules.specs.declared.verdict.Verdict.TheVariants.{Allowed, Denied}
@@ -52,6 +52,8 @@ act_rules now caller a =
     (4, is_office_act a && not (is_role caller.role StateAdministrator))
     -- a transfer is lodged in another role than conveyancer or notary
     ∷ (5, lodges is_transfer a && not (is_of_transfers caller))
+    -- a subdivision or a merger is lodged in another role than certified surveyor
+    ∷ (6, lodges is_of_outlines a && not (is_role caller.role CertifiedSurveyor))
     -- a mortgage or a discharge is lodged in another role than bank or notary
     ∷ (7, lodges is_of_a_mortgage a && not (is_of_mortgages caller))
     -- a bank lodges a mortgage of which another is the creditor

@@ -1,7 +1,8 @@
 //! What a caller holds and lodged in a register. A list collects it once, in passes over the entries and the mutations, and
 //! then asks for each object.
-ghost use Rattle.std.specs.Prelude.{◌≡◌, ℕ, ◌||◌, IfOk, OnOk};
+ghost use Rattle.std.specs.Prelude.{◌≡◌, ℕ, ◌||◌, nat_eq, IfOk, OnOk};
 ghost use Rattle.land_core.specs.Contents.{names_unit};
+ghost use Rattle.land_core.specs.Mergers.{lists_number};
 ghost use Rattle.land_rules.specs.Holdings.{AreHoldings, AreLodgedOn, AreTied, has_number, is_tied};
 
 use crate::relations::{is_credit, is_held_ownership, is_held_right, is_pending_of};
@@ -111,9 +112,31 @@ fn insert_named(units: &mut BTreeSet<u64>, content: &Content) -> Result<(), Allo
     ensures { OnOk result ((unit : ℕ) → has_number units.new unit ≡ (has_number units.old unit || names_unit unit content.now)) }
 {
     match content {
-        Content::Transfer(it) => units.insert(it.unit)?,
-        Content::Mortgage(it) => units.insert(it.unit)?,
-        Content::Discharge(it) => units.insert(it.unit)?,
-    };
+        Content::Transfer(it) => insert_unit(units, it.unit),
+        Content::Subdivision(it) => insert_unit(units, it.unit),
+        Content::Merger(it) => {
+            insert_unit(units, it.unit)?;
+            insert_units(units, it.others.as_slice())
+        }
+        Content::Mortgage(it) => insert_unit(units, it.unit),
+        Content::Discharge(it) => insert_unit(units, it.unit),
+    }
+}
+
+/// Puts a unit among others.
+fn insert_unit(units: &mut BTreeSet<u64>, unit: u64) -> Result<(), AllocError>
+    ensures { OnOk result ((other : ℕ) → has_number units.new other ≡ (has_number units.old other || nat_eq unit other)) }
+{
+    units.insert(unit)?;
+    Ok(())
+}
+
+/// Puts some units among others.
+fn insert_units(units: &mut BTreeSet<u64>, more: &[u64]) -> Result<(), AllocError>
+    ensures { OnOk result ((unit : ℕ) → has_number units.new unit ≡ (has_number units.old unit || lists_number more.now unit)) }
+{
+    for unit in more {
+        insert_unit(units, *unit)?;
+    }
     Ok(())
 }

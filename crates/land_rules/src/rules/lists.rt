@@ -1,6 +1,7 @@
 //! What a caller sees of units, entries, parties and mutations. What its sight of them depends on is collected once, then each
 //! object is asked for by look-ups.
 ghost use Rattle.std.specs.Prelude.{◌≡◌, IfOk, true};
+ghost use Rattle.std.specs.List.{list_any};
 ghost use Rattle.land_core.specs.declared.kind.Kind.TheVariants as kind;
 ghost use Rattle.land_core.specs.Contents.{names_where};
 ghost use Rattle.land_rules.specs.Holdings.{AreHoldings, AreMet, AreTied, meets_parties};
@@ -216,6 +217,14 @@ fn citizen_sees_mutation(at: &Register, caller: Caller, holdings: &Holdings, num
     }
 }
 
+/// Whether a party is a holder in one of some units.
+fn holds_some(at: &Register, party: u64, held: &BTreeSet<u64>, units: &[u64]) -> bool
+    requires { AreTied Holder at.now party held.now }
+    ensures { result ≡ list_any (is_holder at.now party) units.now }
+{
+    units.iter().any(|unit| held.contains(unit))
+}
+
 /// Whether a content names one of the units in which a party is a holder.
 fn names_held(at: &Register, party: u64, held: &BTreeSet<u64>, content: &Content) -> bool
     requires { AreTied Holder at.now party held.now }
@@ -223,6 +232,10 @@ fn names_held(at: &Register, party: u64, held: &BTreeSet<u64>, content: &Content
 {
     match content {
         Content::Transfer(it) => held.contains(&it.unit),
+        Content::Subdivision(it) => held.contains(&it.unit),
+        Content::Merger(it) => {
+            held.contains(&it.unit) || holds_some(at, party, held, it.others.as_slice())
+        }
         Content::Mortgage(it) => held.contains(&it.unit),
         Content::Discharge(it) => held.contains(&it.unit),
     }

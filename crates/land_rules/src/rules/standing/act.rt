@@ -1,6 +1,6 @@
 //! Standing rules on acts: who may do what the office does, lodge and decide, by the register now.
 ghost use Rattle.std.specs.Prelude.{◌≡◌};
-ghost use Rattle.land_rules.specs.Acts.{decides, is_discharge_of_another, is_mortgage_of, is_mortgage_of_another, is_of_a_mortgage, is_of_mortgages, is_of_transfers, is_office_act, is_transfer, lodges};
+ghost use Rattle.land_rules.specs.Acts.{decides, is_discharge_of_another, is_mortgage_of, is_mortgage_of_another, is_of_a_mortgage, is_of_mortgages, is_of_outlines, is_of_transfers, is_office_act, is_transfer, lodges};
 ghost use Rattle.land_rules.specs.Relations.{has_lodged, is_rrr_where};
 ghost use Rattle.land_rules.specs.Rules.{first_denial, act_rules};
 
@@ -20,6 +20,8 @@ pub(crate) fn verdict(now: &Register, caller: Caller, act: &Act) -> Verdict
         Verdict::Denied(4)
     } else if lodges_transfer(act) && !is_of_transfers(caller) {
         Verdict::Denied(5)
+    } else if lodges_outlines(act) && caller.role != Role::CertifiedSurveyor {
+        Verdict::Denied(6)
     } else if lodges_of_a_mortgage(act) && !is_of_mortgages(caller) {
         Verdict::Denied(7)
     } else if caller.role == Role::Bank && lodges_mortgage_of_another(caller.party, act) {
@@ -79,7 +81,29 @@ fn is_transfer(content: &Content) -> bool
 {
     match content {
         Content::Transfer(_) => true,
-        Content::Mortgage(_) | Content::Discharge(_) => false,
+        Content::Subdivision(_)
+        | Content::Merger(_)
+        | Content::Mortgage(_)
+        | Content::Discharge(_) => false,
+    }
+}
+
+fn lodges_outlines(act: &Act) -> bool
+    ensures { result ≡ lodges is_of_outlines act.now }
+{
+    match act {
+        Act::Lodge(it) => is_of_outlines(&it.content),
+        _ => false,
+    }
+}
+
+/// Whether a content is a subdivision or a merger.
+fn is_of_outlines(content: &Content) -> bool
+    ensures { result ≡ is_of_outlines content.now }
+{
+    match content {
+        Content::Subdivision(_) | Content::Merger(_) => true,
+        Content::Transfer(_) | Content::Mortgage(_) | Content::Discharge(_) => false,
     }
 }
 
@@ -98,7 +122,7 @@ fn is_of_a_mortgage(content: &Content) -> bool
 {
     match content {
         Content::Mortgage(_) | Content::Discharge(_) => true,
-        Content::Transfer(_) => false,
+        Content::Transfer(_) | Content::Subdivision(_) | Content::Merger(_) => false,
     }
 }
 
@@ -117,7 +141,10 @@ fn is_mortgage_of_another(party: u64, content: &Content) -> bool
 {
     match content {
         Content::Mortgage(it) => it.creditor != party,
-        Content::Transfer(_) | Content::Discharge(_) => false,
+        Content::Transfer(_)
+        | Content::Subdivision(_)
+        | Content::Merger(_)
+        | Content::Discharge(_) => false,
     }
 }
 
@@ -136,7 +163,10 @@ fn is_discharge_of_another(now: &Register, party: u64, content: &Content) -> boo
 {
     match content {
         Content::Discharge(it) => !has_mortgage_of(now, party, it.mortgage),
-        Content::Transfer(_) | Content::Mortgage(_) => false,
+        Content::Transfer(_)
+        | Content::Subdivision(_)
+        | Content::Merger(_)
+        | Content::Mortgage(_) => false,
     }
 }
 
