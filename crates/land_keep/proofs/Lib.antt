@@ -3,3 +3,4 @@ pub mod Past
 pub mod Steps
 pub mod Timelines
 pub mod TwoRegisters
+pub mod WholeShares

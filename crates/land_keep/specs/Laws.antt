@@ -1,10 +1,17 @@
 -- Laws over the definitions alone.
-use Rattle.std.specs.Prelude.{◌≡◌, Bool, false, Err, ℤ, ◌<ℤ◌, ◌≤ℤ◌}
+use Rattle.std.specs.Prelude.{◌≡◌, ℕ, Bool, true, false, Some, Err, ℤ, ◌<ℤ◌, ◌≤ℤ◌}
+use Rattle.std.specs.FinMap as map
 use Rattle.land_core.specs.Changes.{after}
+use Rattle.land_core.specs.Members.{are_group_shares}
+use Rattle.land_core.specs.Register.{is_single, shares_of}
+use Rattle.land_core.specs.Units.{has_whole_shares}
 use Rattle.land_core.specs.declared.ask.Ask.{Ask}
 use Rattle.land_core.specs.declared.ask.Ask.TheVariants as ask
 use Rattle.land_core.specs.declared.ask.Request.{Request}
 use Rattle.land_core.specs.declared.change.Change.{Change}
+use Rattle.land_core.specs.declared.party.PartyRecord.{PartyRecord}
+use Rattle.land_core.specs.declared.register.Register.{Register}
+use Rattle.land_core.specs.declared.unit.UnitRecord.{UnitRecord}
 use Rattle.land_keep.specs.Keeping.{CanWrite, Closes}
 use Rattle.land_keep.specs.Machine.{step, written, now_of, moment_of}
 use Rattle.land_keep.specs.Timeline.{Timeline, IsSoundTimeline, register_at, last_register}
@@ -22,6 +29,19 @@ PastStays = (tl : Timeline) (change : Change) (stamp t : ℤ) → t <ℤ stamp �
 -- a change stands from its stamp on
 abbrev pub ChangeStands : Type 0
 ChangeStands = (tl : Timeline) (change : Change) (stamp t : ℤ) → stamp ≤ℤ t → register_at (written tl change stamp) t ≡ after change (last_register tl)
+
+-- in each checked unit the shares of each type of right that occurs make a whole, and so do those of each group's members
+pub record HasWholeShares (r : Register) : Type 0 where
+  pub units : (n : ℕ) (u : UnitRecord) → map.get r.units n ≡ Some u → u.checked ≡ true → has_whole_shares r n ≡ true
+  pub groups : (n : ℕ) (p : PartyRecord) → map.get r.parties n ≡ Some p → is_single p.kind ≡ false → are_group_shares (shares_of r n) ≡ true
+
+-- at each moment of a sound timeline all checked shares are whole
+abbrev pub SharesAreWhole : Type 0
+SharesAreWhole = (tl : Timeline) (t : ℤ) → IsSoundTimeline tl → HasWholeShares (register_at tl t)
+
+-- and so they are after every accepted change, at each moment of the timeline that has it
+abbrev pub ChangesKeepSharesWhole : Type 0
+ChangesKeepSharesWhole = (tl : Timeline) (change : Change) (stamp t : ℤ) → IsSoundTimeline tl → CanWrite tl change stamp → HasWholeShares (register_at (written tl change stamp) t)
 
 -- a keeper that is open after a call, as one in memory always is, gave no fault but that it had no memory: never 502 or 503
 abbrev pub OpenKeepersLackMemoryAlone : Type 0

@@ -1,5 +1,5 @@
 //! Laws, each stated over the definitions alone.
-ghost use Rattle.land_keep.specs.Laws.{WritingKeepsSound, PastStays, ChangeStands, OpenKeepersLackMemoryAlone, ReadsLookAtTwoRegisters};
+ghost use Rattle.land_keep.specs.Laws.{ChangesKeepSharesWhole, SharesAreWhole, WritingKeepsSound, PastStays, ChangeStands, OpenKeepersLackMemoryAlone, ReadsLookAtTwoRegisters};
 
 /// A timeline stays sound after each change that may be written.
 pub fn writing_keeps_soundness()
@@ -14,6 +14,16 @@ pub fn the_past_stays()
 /// From its stamp on, the register is the last one with the change made.
 pub fn a_change_stands_from_its_stamp_on()
     ensures { ChangeStands }
+{}
+
+/// At each moment all checked shares are whole, and those of groups.
+pub fn shares_are_whole()
+    ensures { SharesAreWhole }
+{}
+
+/// After every accepted change all checked shares are whole, and those of groups.
+pub fn changes_keep_shares_whole()
+    ensures { ChangesKeepSharesWhole }
 {}
 
 /// A keeper that stays open answers, or had no memory; the keeper in memory always stays open.

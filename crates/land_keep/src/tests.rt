@@ -12,6 +12,7 @@ mod large_unit;
 mod lodged;
 mod memory;
 mod mutations;
+mod parcels;
 mod rows;
 mod steps;
 mod told;

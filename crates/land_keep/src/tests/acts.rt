@@ -8,12 +8,13 @@ mod crowd;
 mod deciding;
 mod enrolling;
 mod grouping;
+mod parcels;
 mod registering;
 mod roles;
 
 use super::asked::{OFFICE, RowAct, act, text};
 use super::told::write_done;
-use crowd::crowd;
+use crowd::{crowd, crowd_parcels};
 use land_acts::plan::plan;
 use land_acts::refusal::{Planned, Refusal};
 use land_acts::slice::slice_of;
@@ -36,6 +37,8 @@ enum Step {
     Row(RowAct, Option<i64>, &'static str),
     /// The unit 6 gets so many restrictions, under the numbers from 20 on, and the next number is 1000.
     Crowd(u64),
+    /// The unit 6 gets so many parcels, likewise.
+    Parcels(u64),
     /// Whether a party holds a role.
     Holds(u64, Role, bool),
     /// Whether a group has a member.
@@ -182,6 +185,7 @@ fn is_taken(alloc: Global, register: &mut Register, step: &Step) -> Result<bool,
     match step {
         Step::Row(it, stamp, line) => is_done(alloc, register, it, *stamp, line),
         Step::Crowd(count) => crowd(alloc, register, *count),
+        Step::Parcels(count) => crowd_parcels(alloc, register, *count),
         Step::Holds(party, role, so) => Ok(register.holds(*party, *role) == *so),
         Step::Has(group, party, so) => Ok(register.is_member(*group, *party) == *so),
         Step::Stands(kind, number, so) => Ok(register.stands(*kind, *number) == *so),

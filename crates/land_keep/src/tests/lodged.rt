@@ -1,15 +1,30 @@
 //! Mutations: what rows ask for, the lodgings made of it, and what is shown of them in one line.
 use super::asked::{share, text};
-use land_core::act::Lodging;
+use land_core::act::{Lodging, NewParcel};
 use land_core::content::{Content, Discharge, Mortgage, Transfer};
+use land_core::merger::Merger;
 use land_core::mutation::Mutation;
+use land_core::sequence::{NumberList, Sequence};
+use land_core::subdivision::{Part, Subdivision};
+use land_core::text::Text;
+use land_shape::{Ring, read_wkt};
 use std::alloc::{AllocError, Global};
 use std::test::Fail;
+
+/// A parcel's label and outline.
+pub(super) struct RowParcel(pub &'static str, pub &'static str);
+
+/// A part's label and outline, and the name of the new unit that it goes to.
+pub(super) struct RowPart(pub &'static str, pub &'static str, pub Option<&'static str>);
 
 /// What a mutation of a row asks for.
 pub(super) enum RowContent {
     /// A unit, a right, a receiver, and the numerator and denominator of a share.
     Transfer(u64, u64, u64, u64, u64),
+    /// A unit and a parcel, the first part and the others.
+    Subdivision(u64, u64, RowParcel, &'static [RowPart]),
+    /// A unit, others, parcels, and the new parcel.
+    Merger(u64, &'static [u64], &'static [u64], RowParcel),
     /// A unit, a creditor, and an amount of euros in cents.
     Mortgage(u64, u64, u64),
     /// A unit and a mortgage.
@@ -22,6 +37,71 @@ fn transfer(unit: u64, right: u64, receiver: u64, n: u64, d: u64) -> Result<Cont
         right,
         receiver,
         share: share(n, d)?,
+    }))
+}
+
+fn new_parcel(alloc: Global, it: &RowParcel) -> Result<NewParcel, Fail> {
+    Ok(NewParcel {
+        label: text(alloc, it.0)?,
+        outline: read_wkt(alloc, it.1)?,
+    })
+}
+
+fn unit_name(alloc: Global, name: Option<&str>) -> Result<Option<Text>, AllocError> {
+    match name {
+        Some(name) => Ok(Some(text(alloc, name)?)),
+        None => Ok(None),
+    }
+}
+
+fn part(alloc: Global, it: &RowPart) -> Result<Part, Fail> {
+    Ok(Part {
+        label: text(alloc, it.0)?,
+        outline: read_wkt(alloc, it.1)?,
+        unit: unit_name(alloc, it.2)?,
+    })
+}
+
+fn parts(alloc: Global, rows: &[RowPart]) -> Result<Sequence<Part>, Fail> {
+    let mut parts = Sequence::new(alloc);
+    for row in rows {
+        parts.push(part(alloc, row)?)?;
+    }
+    Ok(parts)
+}
+
+fn subdivision(
+    alloc: Global,
+    unit: u64,
+    parcel: u64,
+    first: &RowParcel,
+    rest: &[RowPart],
+) -> Result<Content, Fail> {
+    Ok(Content::Subdivision(Subdivision {
+        unit,
+        parcel,
+        first: new_parcel(alloc, first)?,
+        rest: parts(alloc, rest)?,
+    }))
+}
+
+fn numbers(alloc: Global, rows: &[u64]) -> Result<NumberList, AllocError> {
+    Ok(Sequence::from_vec(Vec::from_slice(alloc, rows)?))
+}
+
+fn merger(
+    alloc: Global,
+    unit: u64,
+    others: &[u64],
+    parcels: &[u64],
+    new: &RowParcel,
+) -> Result<Content, Fail> {
+    Ok(Content::Merger(Merger {
+        unit,
+        others: numbers(alloc, others)?,
+        parcels: numbers(alloc, parcels)?,
+        label: text(alloc, new.0)?,
+        outline: read_wkt(alloc, new.1)?,
     }))
 }
 
@@ -38,6 +118,12 @@ fn content(alloc: Global, it: &RowContent) -> Result<Content, Fail> {
     match it {
         RowContent::Transfer(unit, right, receiver, n, d) => {
             transfer(*unit, *right, *receiver, *n, *d)
+        }
+        RowContent::Subdivision(unit, parcel, first, rest) => {
+            subdivision(alloc, *unit, *parcel, first, rest)
+        }
+        RowContent::Merger(unit, others, parcels, new) => {
+            merger(alloc, *unit, others, parcels, new)
         }
         RowContent::Mortgage(unit, creditor, amount) => mortgage(alloc, *unit, *creditor, *amount),
         RowContent::Discharge(unit, mortgage) => Ok(Content::Discharge(Discharge {
@@ -68,6 +154,38 @@ fn write_transfer(line: &mut String, it: &Transfer) -> Result<(), AllocError> {
     )
 }
 
+fn write_outline(line: &mut String, label: &Text, outline: &Ring) -> Result<(), AllocError> {
+    let outline = outline.write_wkt()?;
+    write!(line, " {} {}", label.as_str(), outline.as_str())
+}
+
+fn write_part(line: &mut String, it: &Part) -> Result<(), AllocError> {
+    write_outline(line, &it.label, &it.outline)?;
+    match &it.unit {
+        Some(name) => write!(line, " in {}", name.as_str()),
+        None => Ok(()),
+    }
+}
+
+fn write_subdivision(line: &mut String, it: &Subdivision) -> Result<(), AllocError> {
+    write!(line, " Subdivision {} in {}:", it.parcel, it.unit)?;
+    write_outline(line, &it.first.label, &it.first.outline)?;
+    for part in it.rest.as_slice() {
+        write_part(line, part)?;
+    }
+    Ok(())
+}
+
+fn write_merger(line: &mut String, it: &Merger) -> Result<(), AllocError> {
+    let (others, parcels) = (it.others.as_slice(), it.parcels.as_slice());
+    write!(
+        line,
+        " Merger {:?} in {} and {:?}:",
+        parcels, it.unit, others
+    )?;
+    write_outline(line, &it.label, &it.outline)
+}
+
 fn write_mortgage(line: &mut String, it: &Mortgage) -> Result<(), AllocError> {
     write!(
         line,
@@ -82,6 +200,8 @@ fn write_mortgage(line: &mut String, it: &Mortgage) -> Result<(), AllocError> {
 fn write_content(line: &mut String, content: &Content) -> Result<(), AllocError> {
     match content {
         Content::Transfer(it) => write_transfer(line, it),
+        Content::Subdivision(it) => write_subdivision(line, it),
+        Content::Merger(it) => write_merger(line, it),
         Content::Mortgage(it) => write_mortgage(line, it),
         Content::Discharge(it) => write!(line, " Discharge {} on {}", it.mortgage, it.unit),
     }

@@ -8,7 +8,8 @@ use super::asked::RowAct::{
 };
 use super::asked::RowAsk::{Do, Sheet, View};
 use super::asked::{OFFICE, Right, RowAsk, Share};
-use super::lodged::RowContent::{Mortgage, Transfer};
+use super::lodged::RowContent::{Merger, Mortgage, Subdivision, Transfer};
+use super::lodged::{RowParcel, RowPart};
 use super::rows::request;
 use super::told::is_told;
 use crate::keeper::Keeper;
@@ -21,7 +22,7 @@ use land_core::ask::Request;
 use land_core::caller::Caller;
 use land_core::kind::Kind::{Mutation, Party};
 use land_core::kind::PartyKind::NaturalPerson;
-use land_core::role::Role::{Bank, Citizen, Notary};
+use land_core::role::Role::{Bank, CertifiedSurveyor, Citizen, Notary};
 use land_core::rrr::RightType::Ownership;
 use std::alloc::{AllocError, Global};
 use std::process::Abort;
@@ -367,4 +368,77 @@ const LENDING: &[Row] = &[
 #[test]
 fn after_want_of_memory_the_same_mortgage_is_approved(rt: HostRuntime) -> Result<(), Fail> {
     assert_told(&rt, rt.alloc(), LENDING)
+}
+
+const ANNA_AS_SURVEYOR: Caller = Caller {
+    party: 2,
+    role: CertifiedSurveyor,
+};
+
+/// Anna's unit is cut into halves, one of which goes to a new unit, and the halves become one parcel again.
+const SURVEYING: &[Row] = &[
+    Row(OFFICE, ENROL, "done 2 made [2] at 1000"),
+    Row(
+        OFFICE,
+        Do(Register(true, 1, OWNED)),
+        "done 4 made [3, 4, 5, 6] at 1001",
+    ),
+    Row(
+        OFFICE,
+        Do(Grant(2, CertifiedSurveyor)),
+        "done 2 made [] at 1002",
+    ),
+    Row(
+        ANNA_AS_SURVEYOR,
+        Do(Lodge(
+            "S1",
+            "Plan 1",
+            Subdivision(
+                4,
+                5,
+                RowParcel("12a", "POLYGON ((0 0, 5000 0, 5000 10000, 0 10000, 0 0))"),
+                &[RowPart(
+                    "12b",
+                    "POLYGON ((5000 0, 10000 0, 10000 10000, 5000 10000, 5000 0))",
+                    Some("Orchard"),
+                )],
+            ),
+        )),
+        "done 8 made [7, 8] at 1003",
+    ),
+    Row(
+        OFFICE,
+        Do(Approve(8)),
+        "done 8 made [9, 10, 11, 12] at 1004",
+    ),
+    Row(
+        OFFICE,
+        Sheet(10, None),
+        "sheet 10 Orchard at 1004: parcel 11 rrr 12 Anna",
+    ),
+    Row(
+        ANNA_AS_SURVEYOR,
+        Do(Lodge(
+            "G1",
+            "Plan 2",
+            Merger(
+                4,
+                &[10],
+                &[9, 11],
+                RowParcel("12", "POLYGON ((0 0, 10000 0, 10000 10000, 0 10000, 0 0))"),
+            ),
+        )),
+        "done 14 made [13, 14] at 1005",
+    ),
+    Row(OFFICE, Do(Approve(14)), "done 14 made [15] at 1006"),
+    Row(
+        OFFICE,
+        Sheet(4, None),
+        "sheet 4 Garden at 1006: parcel 15 rrr 6 Anna",
+    ),
+];
+
+#[test]
+fn after_want_of_memory_the_same_parcels_are_cut_and_merged(rt: HostRuntime) -> Result<(), Fail> {
+    assert_told(&rt, rt.alloc(), SURVEYING)
 }

@@ -2,7 +2,7 @@
 use super::asked::RowAct::{Approve, Enrol, Grant, Group, Lodge, Register};
 use super::asked::RowAsk::Do;
 use super::asked::{OFFICE, Right, RowAsk, Share};
-use super::lodged::RowContent::Mortgage;
+use super::lodged::RowContent::{Mortgage, Transfer};
 use super::rows::{Row, assert_rows};
 use land_core::caller::Caller;
 use land_core::kind::PartyKind::{NaturalPerson, NonNaturalPerson};
@@ -127,6 +127,20 @@ const LODGED: &[Row] = &[Row(1000, BANK, LOAN, "done 15 made [14, 15] at 1010")]
 /// The loan is approved.
 const MORTGAGED: &[Row] = &[Row(1000, OFFICE, Do(Approve(15)), "done 15 made [16] at 1011")];
 
+/// Anna's quarter of the garden goes to the group.
+pub(super) const QUARTER: RowAsk = Do(Lodge("T1", "Deed 2", Transfer(9, 11, 7, 1, 4)));
+
+/// The group's whole of the garden goes to Ben.
+pub(super) const WHOLE: RowAsk = Do(Lodge("T2", "Deed 3", Transfer(9, 12, 3, 1, 1)));
+
+/// Ben has bought the garden.
+const SOLD: &[Row] = &[
+    Row(1000, NORA, QUARTER, "done 18 made [17, 18] at 1012"),
+    Row(1000, OFFICE, Do(Approve(18)), "done 18 made [] at 1013"),
+    Row(1000, NORA, WHOLE, "done 20 made [19, 20] at 1014"),
+    Row(1000, OFFICE, Do(Approve(20)), "done 20 made [21] at 1015"),
+];
+
 /// Runs rows over a new register, and compares the replies in full.
 pub(super) fn assert_anew(rt: &impl Abort, alloc: Global, rows: &[Row]) -> Result<(), Fail> {
     assert_rows(rt, alloc, &[], rows)
@@ -166,6 +180,16 @@ pub(super) fn assert_with_mortgage(
         rt,
         alloc,
         &[ENROLLED, GROUPED, REGISTERED, LODGED, MORTGAGED],
+        rows,
+    )
+}
+
+/// Runs rows where Ben has bought the garden, too.
+pub(super) fn assert_with_sale(rt: &impl Abort, alloc: Global, rows: &[Row]) -> Result<(), Fail> {
+    assert_rows(
+        rt,
+        alloc,
+        &[ENROLLED, GROUPED, REGISTERED, LODGED, MORTGAGED, SOLD],
         rows,
     )
 }

@@ -1,7 +1,9 @@
-//! A unit with as many entries as it may have.
+//! A unit with as many entries, or parcels, as it may have.
 use crate::tests::asked::text;
+use land_core::parcel::ParcelRecord;
 use land_core::register::Register;
 use land_core::rrr::{Class, RrrRecord};
+use land_shape::read_wkt;
 use std::alloc::{AllocError, Global};
 use std::test::Fail;
 
@@ -23,6 +25,31 @@ pub(super) fn crowd(alloc: Global, register: &mut Register, count: u64) -> Resul
         register
             .rrrs
             .insert(place.saturating_add(20), restriction(alloc)?)?;
+    }
+    register.next = 1000;
+    Ok(true)
+}
+
+/// A parcel of the unit 6.
+fn parcel(alloc: Global) -> Result<ParcelRecord, Fail> {
+    Ok(ParcelRecord {
+        unit: 6,
+        label: text(alloc, "12")?,
+        outline: read_wkt(alloc, "POLYGON ((0 0, 10000 0, 10000 10000, 0 10000, 0 0))")?,
+        source: 5,
+    })
+}
+
+/// Puts so many parcels into a register, under the numbers from 20 on, and makes 1000 the next number.
+pub(super) fn crowd_parcels(
+    alloc: Global,
+    register: &mut Register,
+    count: u64,
+) -> Result<bool, Fail> {
+    for place in 0..count {
+        register
+            .parcels
+            .insert(place.saturating_add(20), parcel(alloc)?)?;
     }
     register.next = 1000;
     Ok(true)

@@ -1,11 +1,11 @@
 //! Approvals that are refused: what is named does not stand or is of another kind, or no moment is left.
-use super::{QUARTER, QUARTER_LODGED};
+use super::QUARTER_LODGED;
 use crate::tests::asked::RowAct::{Approve, Grant, Lodge, Refuse, Register};
 use crate::tests::asked::RowAsk::{Do, View};
 use crate::tests::asked::{OFFICE, Right};
 use crate::tests::lodged::RowContent::{Discharge, Mortgage, Transfer};
 use crate::tests::rows::Row;
-use crate::tests::steps::{NORA, assert_with_loan, assert_with_mortgage};
+use crate::tests::steps::{NORA, QUARTER, assert_with_loan, assert_with_mortgage};
 use land_core::kind::Kind::{Mutation, Rrr};
 use land_core::role::Role::Bank;
 use land_core::rrr::RightType::Ownership;

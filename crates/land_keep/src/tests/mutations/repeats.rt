@@ -1,11 +1,11 @@
 //! Lodgings that are sent again: as they were, in another spelling, and with something else under the reference.
-use super::{QUARTER, QUARTER_APPROVED, QUARTER_LODGED};
+use super::{QUARTER_APPROVED, QUARTER_LODGED};
 use crate::tests::asked::OFFICE;
 use crate::tests::asked::RowAct::{Approve, Grant, Lodge, Refuse};
 use crate::tests::asked::RowAsk::{self, Do, List};
 use crate::tests::lodged::RowContent::{Discharge, Mortgage, Transfer};
 use crate::tests::rows::Row;
-use crate::tests::steps::{BANK, LOAN, NORA, assert_with_loan, assert_with_mortgage};
+use crate::tests::steps::{BANK, LOAN, NORA, QUARTER, assert_with_loan, assert_with_mortgage};
 use land_core::caller::Caller;
 use land_core::kind::Kind::Mutation;
 use land_core::role::Role::{Conveyancer, Notary};

@@ -1,21 +1,19 @@
 //! The garden is mortgaged and changes hands, step by step; each lodging is sent twice.
-use super::{QUARTER, QUARTER_APPROVED, QUARTER_LODGED, UNIT};
+use super::{QUARTER_APPROVED, QUARTER_LODGED, UNIT};
 use crate::tests::asked::OFFICE;
 use crate::tests::asked::RowAct::{Approve, Lodge, Revoke};
 use crate::tests::asked::RowAsk::{self, Do, List, Sheet, View};
 use crate::tests::lodged::RowContent::Transfer;
 use crate::tests::rows::Row;
 use crate::tests::steps::{
-    ANNA, BANK, LOAN, NORA, NORA_HERSELF, SAM, SURVEYOR, assert_with_garden, assert_with_mortgage,
+    ANNA, BANK, LOAN, NORA, NORA_HERSELF, QUARTER, SAM, SURVEYOR, WHOLE, assert_with_garden,
+    assert_with_mortgage,
 };
 use land_core::kind::Kind::{Mutation, Party, Rrr, Source, Unit};
 use land_core::role::Role::Notary;
 use std::test::Fail;
 
 const LOAN_LODGED: Row = Row(1000, BANK, LOAN, "done 15 made [14, 15] at 1010");
-
-/// The group's whole of the garden goes to Ben.
-const WHOLE: RowAsk = Do(Lodge("T2", "Deed 3", Transfer(9, 12, 3, 1, 1)));
 
 const WHOLE_LODGED: Row = Row(1000, NORA, WHOLE, "done 20 made [19, 20] at 1014");
 
