@@ -121,6 +121,7 @@ fn is_discharge(it: &Discharge, asked: &Asked) -> bool {
 pub(super) fn is_asked(content: &Content, asked: &Asked) -> bool {
     match content {
         Content::Transfer(it) => is_transfer(it, asked),
+        Content::Subdivision(_) | Content::Merger(_) => false,
         Content::Mortgage(it) => is_mortgage(it, asked),
         Content::Discharge(it) => is_discharge(it, asked),
     }

@@ -2,6 +2,7 @@
 //! the rest.
 mod lists;
 mod mutations;
+mod parcels;
 mod standing;
 mod views;
 

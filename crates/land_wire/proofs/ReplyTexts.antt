@@ -10,7 +10,7 @@ use Rattle.land_fraction.specs.Text.{text_of}
 use Rattle.serde_json.specs.Data.{Data, string}
 use Rattle.serde_json.specs.Find.{of_integer, is_float}
 use Rattle.serde_json.specs.View.{items_of}
-use Rattle.serde_json.specs.Written.{compact_text, items_text, has_float, items_have_float}
+use Rattle.serde_json.specs.Written.{compact_text, items_text, has_float, items_have_float, members_have_float}
 use Rattle.serde_json.proofs.OnLiterals.{serde_json_on_literals}
 use Rattle.land_core.specs.declared.content.Content.{Content}
 use Rattle.land_core.specs.declared.content.Content.TheVariants as content
@@ -24,12 +24,14 @@ use Rattle.land_core.specs.declared.rrr.Class.TheVariants.{Right, Restriction, R
 use Rattle.land_core.specs.declared.rrr.Rrr.{Rrr}
 use Rattle.land_core.specs.declared.role.Role.{Role}
 use Rattle.land_core.specs.declared.role.Role.TheVariants as role
+use Rattle.land_core.specs.declared.subdivision.Part.{Part}
 use Rattle.land_keep.specs.declared.reply.Reply.{Reply}
 use Rattle.land_keep.specs.declared.reply.Reply.TheVariants as reply
 use Rattle.land_wire.specs.Mutations.{content_data}
 use Rattle.land_wire.specs.Parties.{role_data, member_data, kind_word, role_text, member_text, party_text}
 use Rattle.land_wire.specs.Replies.{object_data, reply_data, reply_text, short_text, numbers_text, done_text}
 use Rattle.land_wire.specs.Rrrs.{class_data}
+use Rattle.land_wire.specs.Subdivisions.{name_members, part_data}
 use Rattle.land_wire.specs.Values.{number_data, after_comma, with_commas, quoted_word, share_text}
 
 -- ---- no reply has a float
@@ -56,8 +58,18 @@ class_has_no_float entry (Restriction words) = refl
 class_has_no_float entry (Responsibility words) = refl
 class_has_no_float entry (Mortgage amount currency rank) = refl
 
+name_has_no_float : (name : Option (List ℕ)) → members_have_float (name_members name) ≡ false
+name_has_no_float None = refl
+name_has_no_float (Some name) = refl
+
+parts_have_no_float : (ps : List Part) → items_have_float (items_of (map part_data ps)) ≡ false
+parts_have_no_float [] = refl
+parts_have_no_float (p ∷ ps) = rw (name_has_no_float p.unit) (parts_have_no_float ps)
+
 content_has_no_float : (it : Content) → has_float (content_data it) ≡ false
 content_has_no_float (content.Transfer it) = refl
+content_has_no_float (content.Subdivision it) = rw (parts_have_no_float it.rest) refl
+content_has_no_float (content.Merger it) = rw (numbers_have_no_float it.others, numbers_have_no_float it.parcels) refl
 content_has_no_float (content.Mortgage it) = refl
 content_has_no_float (content.Discharge it) = refl
 

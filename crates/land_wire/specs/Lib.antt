@@ -3,6 +3,7 @@ pub mod Bodies
 pub mod Decimals
 pub mod Fields
 pub mod Laws
+pub mod Mergers
 pub mod Mutations
 pub mod Parcels
 pub mod Parties
@@ -12,5 +13,6 @@ pub mod RequestFaults
 pub mod Routes
 pub mod Rrrs
 pub mod Sources
+pub mod Subdivisions
 pub mod Units
 pub mod Values

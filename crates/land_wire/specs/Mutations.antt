@@ -10,6 +10,8 @@ use Rattle.land_core.specs.declared.content.Transfer.{Transfer}
 use Rattle.land_core.specs.declared.mutation.Mutation.{Mutation}
 use Rattle.land_core.specs.declared.mutation.MutationState.{MutationState}
 use Rattle.land_core.specs.declared.mutation.MutationState.TheVariants.{Lodged, Approved, Refused}
+use Rattle.land_wire.specs.Mergers.{merger_data}
+use Rattle.land_wire.specs.Subdivisions.{subdivision_data}
 use Rattle.land_wire.specs.Values.{number_data, share_data}
 
 -- ---- what a mutation asks for
@@ -17,6 +19,8 @@ use Rattle.land_wire.specs.Values.{number_data, share_data}
 -- the act that lodged it
 abbrev pub act_word : Content → List ℕ
 act_word (content.Transfer it) = codes "transfer"
+act_word (content.Subdivision it) = codes "subdivision"
+act_word (content.Merger it) = codes "merger"
 act_word (content.Mortgage it) = codes "mortgage"
 act_word (content.Discharge it) = codes "discharge"
 
@@ -42,6 +46,8 @@ discharge_data it =
 -- the fields of a content, without the word of its act
 abbrev pub content_data : Content → Data
 content_data (content.Transfer it) = transfer_data it
+content_data (content.Subdivision it) = subdivision_data it
+content_data (content.Merger it) = merger_data it
 content_data (content.Mortgage it) = mortgage_data it
 content_data (content.Discharge it) = discharge_data it
 

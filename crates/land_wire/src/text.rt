@@ -7,11 +7,13 @@ ghost use Rattle.land_wire.specs.Replies.{IsStoreFault, done_data, is_sheet, obj
 ghost use Rattle.land_wire.specs.Values.{numbers_data};
 ghost use Rattle.land_keep.specs.declared.reply.Reply.TheVariants as reply;
 
+mod merger;
 mod mutation;
 mod parcel;
 mod party;
 mod rrr;
 mod source;
+mod subdivision;
 mod unit;
 
 use crate::text::mutation::mutation_value;

@@ -1,10 +1,15 @@
 //! The texts of mutations, one for each content and each state.
+use land_core::act::NewParcel;
 use land_core::content::{Content, Discharge, Mortgage, Transfer};
+use land_core::merger::Merger;
 use land_core::mutation::{Mutation, MutationState};
 use land_core::object::Object;
+use land_core::sequence::{NumberList, Sequence};
+use land_core::subdivision::{Part, Subdivision};
 use land_core::text::Text;
 use land_fraction::Fraction;
 use land_keep::reply::Reply;
+use land_shape::{Ring, read_wkt};
 use land_wire::text::{is_sheet, reply_text};
 use std::alloc::{AllocError, Global};
 use std::test::Fail;
@@ -13,6 +18,8 @@ use std::test::Fail;
 #[derive(Clone, Copy)]
 enum Asked {
     Transfer,
+    Subdivision,
+    Merger,
     Mortgage,
     Discharge,
 }
@@ -41,6 +48,26 @@ const ROWS: &[Row] = &[
         text: "{\"object\":{\"act\":\"transfer\",\"content\":{\"receiver\":7,\"right\":11,\"share\":\"1/4\",\"unit\":9},\"lodged\":1012,\"lodger\":5,\"number\":18,\"reference\":\"T1\",\"source\":17,\"state\":\"lodged\"}}",
     },
     Row {
+        number: 23,
+        lodger: 6,
+        reference: "S1",
+        source: 22,
+        lodged: 1016,
+        state: MutationState::Approved,
+        asked: Asked::Subdivision,
+        text: "{\"object\":{\"act\":\"subdivision\",\"content\":{\"first\":{\"label\":\"12a\",\"outline\":\"POLYGON ((0 0, 5 0, 5 9, 0 9, 0 0))\"},\"parcel\":10,\"rest\":[{\"label\":\"12b\",\"outline\":\"POLYGON ((5 0, 9 0, 9 9, 5 9, 5 0))\",\"unit\":\"Orchard\"},{\"label\":\"12c\",\"outline\":\"POLYGON ((9 0, 12 0, 12 9, 9 9, 9 0))\"}],\"unit\":9},\"lodged\":1016,\"lodger\":6,\"number\":23,\"reference\":\"S1\",\"source\":22,\"state\":\"approved\"}}",
+    },
+    Row {
+        number: 31,
+        lodger: 6,
+        reference: "S2",
+        source: 30,
+        lodged: 1018,
+        state: MutationState::Lodged,
+        asked: Asked::Merger,
+        text: "{\"object\":{\"act\":\"merger\",\"content\":{\"label\":\"12\",\"others\":[25],\"outline\":\"POLYGON ((-3 0, 12 0, 12 9, -3 9, -3 0))\",\"parcels\":[24,26],\"unit\":9},\"lodged\":1018,\"lodger\":6,\"number\":31,\"reference\":\"S2\",\"source\":30,\"state\":\"lodged\"}}",
+    },
+    Row {
         number: 15,
         lodger: 4,
         reference: "M1",
@@ -66,7 +93,71 @@ fn text(alloc: Global, words: &str) -> Result<Text, AllocError> {
     Ok(Text::new(String::from_str(alloc, words)?))
 }
 
-/// A quarter for the group, a loan, or the end of one.
+fn outline(alloc: Global, words: &str) -> Result<Ring, Fail> {
+    Ok(read_wkt(alloc, words)?)
+}
+
+fn first(alloc: Global) -> Result<NewParcel, Fail> {
+    Ok(NewParcel {
+        label: text(alloc, "12a")?,
+        outline: outline(alloc, "POLYGON ((0 0, 5 0, 5 9, 0 9, 0 0))")?,
+    })
+}
+
+/// The part for the orchard.
+fn orchard(alloc: Global) -> Result<Part, Fail> {
+    Ok(Part {
+        label: text(alloc, "12b")?,
+        outline: outline(alloc, "POLYGON ((5 0, 9 0, 9 9, 5 9, 5 0))")?,
+        unit: Some(text(alloc, "Orchard")?),
+    })
+}
+
+/// A part that stays. Its outline is given clockwise, with the numbers written otherwise.
+fn strip(alloc: Global) -> Result<Part, Fail> {
+    Ok(Part {
+        label: text(alloc, "12c")?,
+        outline: outline(alloc, "polygon((9 0,9 +9.0,12 9,012 -0,9 0))")?,
+        unit: None,
+    })
+}
+
+fn rest(alloc: Global) -> Result<Sequence<Part>, Fail> {
+    let mut parts = Sequence::of_one(alloc, orchard(alloc)?)?;
+    parts.push(strip(alloc)?)?;
+    Ok(parts)
+}
+
+/// The garden is cut into three.
+fn subdivision(alloc: Global) -> Result<Subdivision, Fail> {
+    Ok(Subdivision {
+        unit: 9,
+        parcel: 10,
+        first: first(alloc)?,
+        rest: rest(alloc)?,
+    })
+}
+
+fn numbers(alloc: Global, numbers: &[u64]) -> Result<NumberList, AllocError> {
+    let mut list = Sequence::new(alloc);
+    for number in numbers {
+        list.push(*number)?;
+    }
+    Ok(list)
+}
+
+/// The orchard comes back to the garden.
+fn merger(alloc: Global) -> Result<Merger, Fail> {
+    Ok(Merger {
+        unit: 9,
+        others: numbers(alloc, &[25])?,
+        parcels: numbers(alloc, &[24, 26])?,
+        label: text(alloc, "12")?,
+        outline: outline(alloc, "POLYGON ((-3 0, 12 0, 12 9, -3 9, -3 0))")?,
+    })
+}
+
+/// A quarter for the group, parts of a parcel, parcels that become one, a loan, or the end of one.
 fn content(alloc: Global, asked: Asked) -> Result<Content, Fail> {
     Ok(match asked {
         Asked::Transfer => Content::Transfer(Transfer {
@@ -75,6 +166,8 @@ fn content(alloc: Global, asked: Asked) -> Result<Content, Fail> {
             receiver: 7,
             share: Fraction::new(1, 4).map_err(|_| "a share")?,
         }),
+        Asked::Subdivision => Content::Subdivision(subdivision(alloc)?),
+        Asked::Merger => Content::Merger(merger(alloc)?),
         Asked::Mortgage => Content::Mortgage(Mortgage {
             unit: 9,
             creditor: 4,

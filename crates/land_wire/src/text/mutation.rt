@@ -3,7 +3,9 @@ ghost use Rattle.std.specs.Prelude.{◌≡◌, IfOk};
 ghost use Rattle.serde_json.specs.View.{view};
 ghost use Rattle.land_wire.specs.Mutations.{act_word, content_data, discharge_data, mortgage_data, mutation_data, state_word, transfer_data};
 
+use crate::text::merger::merger_value;
 use crate::text::share_value;
+use crate::text::subdivision::subdivision_value;
 use land_core::content::{Content, Discharge, Mortgage, Transfer};
 use land_core::mutation::{Mutation, MutationState};
 use serde_json::{Value, json};
@@ -30,6 +32,8 @@ fn content_value(alloc: Global, content: &Content) -> Result<Value, AllocError>
 {
     match content {
         Content::Transfer(it) => transfer_value(alloc, it),
+        Content::Subdivision(it) => subdivision_value(alloc, it),
+        Content::Merger(it) => merger_value(alloc, it),
         Content::Mortgage(it) => mortgage_value(alloc, it),
         Content::Discharge(it) => discharge_value(alloc, it),
     }
@@ -69,6 +73,8 @@ fn act_word(content: &Content) -> &'static str
 {
     match content {
         Content::Transfer(_) => "transfer",
+        Content::Subdivision(_) => "subdivision",
+        Content::Merger(_) => "merger",
         Content::Mortgage(_) => "mortgage",
         Content::Discharge(_) => "discharge",
     }

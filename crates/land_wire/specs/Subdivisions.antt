@@ -1,0 +1,35 @@
+-- What subdivisions ask for, in JSON.
+use Rattle.std.specs.Prelude.{ℕ, List, map, codes, Option, Some, None}
+use Rattle.serde_json.specs.Data.{Data, string, array, object, Members, no_members, member}
+use Rattle.serde_json.specs.View.{items_of}
+use Rattle.land_core.specs.declared.act.NewParcel.{NewParcel}
+use Rattle.land_core.specs.declared.subdivision.Part.{Part}
+use Rattle.land_core.specs.declared.subdivision.Subdivision.{Subdivision}
+use Rattle.land_shape.specs.Printed.{printed}
+use Rattle.land_wire.specs.Values.{number_data}
+
+-- the part that stays, its outline as it is printed
+abbrev pub first_data : NewParcel → Data
+first_data it =
+    object (member (codes "label") (string it.label)
+    (member (codes "outline") (string (printed it.outline)) no_members))
+
+-- the name of a new unit; a part that stays in the unit has no such member
+abbrev pub name_members : Option (List ℕ) → Members
+name_members None = no_members
+name_members (Some name) = member (codes "unit") (string name) no_members
+
+abbrev pub part_data : Part → Data
+part_data part =
+    object (member (codes "label") (string part.label)
+    (member (codes "outline") (string (printed part.outline)) (name_members part.unit)))
+
+abbrev pub parts_data : List Part → Data
+parts_data parts = array (items_of (map part_data parts))
+
+abbrev pub subdivision_data : Subdivision → Data
+subdivision_data it =
+    object (member (codes "first") (first_data it.first)
+    (member (codes "parcel") (number_data it.parcel)
+    (member (codes "rest") (parts_data it.rest)
+    (member (codes "unit") (number_data it.unit) no_members))))
