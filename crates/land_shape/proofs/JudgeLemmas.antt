@@ -280,6 +280,15 @@ no_fault_left text none NotClosed h = none NotClosed (omega arith) h
 no_fault_left text none NotSimple h = none NotSimple (omega arith) h
 no_fault_left text none AreaTooLarge h = none AreaTooLarge (omega arith) h
 
+pub simple_stands : (text : List ℕ) (ps : List Place) → IsClosedList text ps → IsSimple (ring_of ps) → doubled_area (ring_of ps) ≤ 1000000000000000000
+    → StandsFor text (ring_of ps)
+simple_stands text ps c simple small = record {
+  no_fault = no_fault_left text (none_at_all text ps c simple small);
+  places = ps;
+  listed = is_listed text ps c.list;
+  is_ring = refl;
+}
+
 pub stands : (text : List ℕ) (ps ring : List Place) → IsClosedList text ps → ring ≡ ring_of ps → IsOutline ring → StandsFor text ring
 stands text ps ring c is o =
     let outline : IsOutline (ring_of ps) = subst IsOutline is o in

@@ -4,6 +4,7 @@ pub mod Bounds
 pub mod Meeting
 pub mod Folding
 pub mod CornerLemmas
+pub mod BoxLemmas
 pub mod AreaLemmas
 pub mod Turned
 pub mod OutlineLemmas
@@ -15,6 +16,8 @@ pub mod NumberLemmas
 pub mod SomeLemmas
 pub mod ListingLemmas
 pub mod JudgeLemmas
+pub mod Deciding
+pub mod Answering
 -- printing
 pub mod PrintLemmas
 pub mod PrintedTokens

@@ -1,5 +1,5 @@
 -- The faults of a text, each as a condition on the whole text
-use Rattle.std.specs.Prelude.{◌≡◌, ◌⊎◌, ℕ, ℤ, ◌<◌, ◌≤◌, ◌-◌, Bool, true, List, [], ◌∷◌, length, Some, None}
+use Rattle.std.specs.Prelude.{◌≡◌, ◌⊎◌, ℕ, ℤ, ◌<◌, ◌≤◌, ◌-◌, Bool, true, List, [], ◌∷◌, length, Some, None, Result, Ok, Err}
 use Rattle.land_shape.specs.declared.faults.ShapeFault.{ShapeFault}
 use Rattle.land_shape.specs.declared.faults.ShapeFault.TheVariants.{NotPolygon, Empty, Inner, ZOrM, Number, Range, FewPoints, ManyPoints, NotClosed, NotSimple, AreaTooLarge, NoMemory}
 use Rattle.land_shape.specs.Coordinate.{IsCoordinate}
@@ -89,3 +89,8 @@ pub record StandsFor (text : List ℕ) (ring : List Place) : Type 0 where
   pub places : List Place
   pub listed : ListsPlaces text places
   pub is_ring : ring ≡ ring_of places
+
+-- the answer to a text: a ring that it stands for, or its first fault
+abbrev pub IsOutlineAnswer : List ℕ → Result (List Place) ShapeFault → Type 0
+IsOutlineAnswer text (Ok ring) = StandsFor text ring
+IsOutlineAnswer text (Err fault) = IsFirst text fault

@@ -1,7 +1,7 @@
 -- Laws of the definitions
-use Rattle.std.specs.Prelude.{◌≡◌, ℕ, List}
+use Rattle.std.specs.Prelude.{◌≡◌, ℕ, List, Result}
 use Rattle.land_shape.specs.declared.faults.ShapeFault.{ShapeFault}
-use Rattle.land_shape.specs.Faults.{IsFirst, StandsFor}
+use Rattle.land_shape.specs.Faults.{IsFirst, StandsFor, IsOutlineAnswer}
 use Rattle.land_shape.specs.Outline.{IsOutline}
 use Rattle.land_shape.specs.Place.{Place}
 use Rattle.land_shape.specs.Printed.{printed}
@@ -16,3 +16,7 @@ pub record OneAnswerLaw : Type 0 where
   pub one_ring : (text : List ℕ) (ring other : List Place) → StandsFor text ring → StandsFor text other → ring ≡ other
   pub one_fault : (text : List ℕ) (fault other : ShapeFault) → IsFirst text fault → IsFirst text other → fault ≡ other
   pub not_both : (text : List ℕ) (ring : List Place) (fault : ShapeFault) → StandsFor text ring → ¬ IsFirst text fault
+
+-- Each text has an answer: a ring that it stands for, or a first fault.
+abbrev pub AnswerLaw : Type 0
+AnswerLaw = (text : List ℕ) → (answer : Result (List Place) ShapeFault) × IsOutlineAnswer text answer

@@ -1,8 +1,9 @@
 -- What the test for a common point looks at
-use Rattle.std.specs.Prelude.{◌≡◌, ℤ, ◌-ℤ◌, ◌≤ℤ◌}
+use Rattle.std.specs.Prelude.{◌≡◌, ℕ, ◌<◌, ◌≤◌, ℤ, ◌-ℤ◌, ◌≤ℤ◌, List}
 use Rattle.std.specs.Int.{int_min, int_max}
 use Rattle.land_shape.specs.Coordinate.{cross_of}
 use Rattle.land_shape.specs.Place.{Place}
+use Rattle.land_shape.specs.Simple.{place_at, next_at}
 
 -- on one axis, the segments a b and c d overlap
 pub record Overlap (a b c d : ℤ) : Type 0 where
@@ -25,3 +26,15 @@ pub record AreTurns (a b c d : Place) (whole first second : ℤ) : Type 0 where
 -- the boxes of the segments a b and c d overlap
 abbrev pub BoxesOverlap : Place → Place → Place → Place → Type 0
 BoxesOverlap a b c d = Overlap a.x b.x c.x d.x × Overlap a.y b.y c.y d.y
+
+-- the place lies in the box with these corners of least and of greatest coordinates
+pub record IsInBox (least greatest place : Place) : Type 0 where
+  pub left : least.x ≤ℤ place.x
+  pub right : place.x ≤ℤ greatest.x
+  pub low : least.y ≤ℤ place.y
+  pub high : place.y ≤ℤ greatest.y
+
+-- both ends of each edge of a ring from the one at start to before the one at end lie in the box
+abbrev pub HoldsEdges : List Place → (start end : ℕ) → (least greatest : Place) → Type 0
+HoldsEdges ps start end least greatest =
+    (i : ℕ) → start ≤ i → i < end → IsInBox least greatest (place_at ps i) × IsInBox least greatest (next_at ps i)

@@ -1,6 +1,6 @@
 //! Laws over the definitions alone, each the contract of a function that does nothing.
 
-ghost use Rattle.land_shape.specs.Laws.{PrintedLaw, OneAnswerLaw};
+ghost use Rattle.land_shape.specs.Laws.{PrintedLaw, OneAnswerLaw, AnswerLaw};
 
 /// The printed form of a ring stands for that ring and no other.
 pub fn printed_rings()
@@ -10,4 +10,9 @@ pub fn printed_rings()
 /// No text has two answers.
 pub fn one_answer()
     ensures { OneAnswerLaw }
+{}
+
+/// Each text has an answer: a ring that it stands for, or a first fault.
+pub fn every_text_is_judged()
+    ensures { AnswerLaw }
 {}

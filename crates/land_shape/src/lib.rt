@@ -3,7 +3,9 @@
 
 mod area;
 mod body;
+mod boxes;
 mod closing;
+mod corners;
 mod faults;
 pub mod laws;
 mod listing;

@@ -43,7 +43,7 @@ fn overlap(a: i64, b: i64, c: i64, d: i64) -> bool
 }
 
 /// Whether the boxes of the segments from `a` to `b` and from `c` to `d` overlap.
-fn boxes_overlap(a: Point, b: Point, c: Point, d: Point) -> bool
+pub(crate) fn boxes_overlap(a: Point, b: Point, c: Point, d: Point) -> bool
     ensures { IsTrue result ↔ BoxesOverlap (place_of a) (place_of b) (place_of c) (place_of d) }
 {
     overlap(a.x, b.x, c.x, d.x) && overlap(a.y, b.y, c.y, d.y)

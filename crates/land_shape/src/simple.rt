@@ -4,29 +4,14 @@ ghost use Rattle.std.specs.Prelude.{◌≡◌, ◌↔◌, ◌<◌, ◌≤◌, �
 ghost use Rattle.land_shape.specs.Simple.{place_of, places, place_at, next_at, MeetRightly, AllMeetRightly, HaveLength};
 ghost use Rattle.land_shape.specs.Segment.{MeetOnlyAt, HaveCommonPoint};
 
+use crate::boxes::box_of;
 use crate::closing::is_same_place;
+use crate::corners::{corner, corner_after};
 use crate::plane::Point;
 use crate::segment::have_common_point;
 
-/// The corner at `i`.
-fn corner(points: &[Point], i: usize) -> Point
-    requires { i < length points.now }
-    ensures { place_of result ≡ place_at (places points.now) i }
-{
-    points[i]
-}
-
-/// The corner after the one at `i`.
-fn corner_after(points: &[Point], i: usize) -> Point
-    requires { i < length points.now }
-    ensures { place_of result ≡ next_at (places points.now) i }
-{
-    if i + 1 == points.len() {
-        corner(points, 0)
-    } else {
-        corner(points, i + 1)
-    }
-}
+/// How many edges in a row are held against each later edge at once.
+const GROUP: usize = 8;
 
 /// Whether the edges from `i` and from a later `j`, which are no neighbours, have a common point.
 fn edges_meet(points: &[Point], i: usize, j: usize) -> bool
@@ -77,18 +62,49 @@ fn meet_rightly(points: &[Point], i: usize, j: usize) -> bool
     }
 }
 
-/// Whether the edge from `i` meets each later one rightly.
-fn meets_later_rightly(points: &[Point], i: usize) -> bool
-    requires within { i < length points.now }
+/// Whether those edges from `start` to before `end` that come before `j` meet the edge from `j` rightly.
+fn earlier_meet_rightly(points: &[Point], start: usize, end: usize, j: usize) -> bool
+    requires within { j < length points.now }
     requires long { HaveLength (places points.now) }
-    ensures { IsTrue result ↔ ((j : ℕ) → i < j → j < length points.now → MeetRightly (places points.now) i j) }
+    ensures { IsTrue result ↔ ((i : ℕ) → start ≤ i → i < end → i < j → MeetRightly (places points.now) i j) }
 {
-    for j in i + 1..points.len() {
-        if !meet_rightly(points, i, j) {
+    for i in start..end {
+        if i < j && !meet_rightly(points, i, j) {
             return false;
         }
     }
     true
+}
+
+/// Whether the edges from `start` to before `end` meet each later one rightly. An edge that does not reach their box meets none.
+fn group_meets_rightly(points: &[Point], start: usize, end: usize) -> bool
+    requires order { start < end }
+    requires within { end ≤ length points.now }
+    requires long { HaveLength (places points.now) }
+    ensures { IsTrue result ↔ ((i j : ℕ) → start ≤ i → i < end → i < j → j < length points.now → MeetRightly (places points.now) i j) }
+{
+    let around = box_of(points, start, end);
+    for j in start + 1..points.len() {
+        if around.is_reached(corner(points, j), corner_after(points, j))
+            && !earlier_meet_rightly(points, start, end, j)
+        {
+            return false;
+        }
+    }
+    true
+}
+
+/// Where the group of edges that starts at `start` ends.
+fn group_end(count: usize, start: usize) -> usize
+    requires { start < count }
+    ensures some { start < result }
+    ensures within { result ≤ count }
+{
+    if count - start > GROUP {
+        start + GROUP
+    } else {
+        count
+    }
 }
 
 /// Whether no two different edges have a common point but the joint of neighbours.
@@ -96,10 +112,13 @@ fn all_meet_rightly(points: &[Point]) -> bool
     requires long { HaveLength (places points.now) }
     ensures { IsTrue result ↔ AllMeetRightly (places points.now) }
 {
-    for i in 0..points.len() {
-        if !meets_later_rightly(points, i) {
+    let mut start = 0;
+    while start < points.len() {
+        let end = group_end(points.len(), start);
+        if !group_meets_rightly(points, start, end) {
             return false;
         }
+        start = end;
     }
     true
 }
