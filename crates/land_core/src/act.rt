@@ -238,7 +238,8 @@ fn have_parties(rights: &[NewRight]) -> bool
     rights.iter().all(|right| is_number(right.party))
 }
 
-fn have_owner(rights: &[NewRight]) -> bool
+/// Whether one of some rights is an ownership.
+pub fn have_owner(rights: &[NewRight]) -> bool
     ensures { result ≡ have_owner rights.now }
 {
     rights

@@ -157,14 +157,14 @@ impl Discharge {
 }
 
 /// Whether so many minor units may be lent: 1 to 1_000_000_000_000_000.
-fn is_amount(amount: u64) -> bool
+pub fn is_amount(amount: u64) -> bool
     ensures { result ≡ is_amount amount }
 {
     1 <= amount && amount <= 1_000_000_000_000_000
 }
 
 /// Whether a text is three letters from A to Z.
-fn is_currency(text: &str) -> bool
+pub fn is_currency(text: &str) -> bool
     ensures { result ≡ is_currency text.now }
 {
     text.len() == 3 && are_letters(text.as_bytes())

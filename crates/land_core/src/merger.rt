@@ -76,7 +76,7 @@ fn are_rising(numbers: &[u64]) -> bool
 }
 
 /// Whether each number is above the one before it, and the first above a last one.
-fn rise_above(last: u64, numbers: &[u64]) -> bool
+pub fn rise_above(last: u64, numbers: &[u64]) -> bool
     ensures { result ≡ rise_above last numbers.now }
 {
     let mut above = last;
