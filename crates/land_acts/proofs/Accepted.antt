@@ -1,5 +1,5 @@
 -- Accepted acts keep a register sound, and name no key twice.
-use Rattle.std.proofs.Common.{◌≡◌, ◌≤◌, true, false, ◌&&◌, not, Some, None, Ok, [], ◌∷◌, length, refl, sym, subst, arith}
+use Rattle.std.proofs.Common.{◌≡◌, ◌≤◌, true, false, ◌&&◌, not, Some, None, Ok, [], ◌∷◌, length, refl, subst, arith}
 use Rattle.std.specs.Prelude.{ℤ, ◌||◌, ◌+◌, map as map_list}
 use Rattle.std.specs.FinMap as map
 use Rattle.std.specs.Option.{option_map_or}
@@ -22,19 +22,17 @@ use Rattle.land_core.specs.declared.register.Register.{Register}
 use Rattle.land_core.specs.declared.role.Role.TheVariants.{StateAdministrator}
 use Rattle.land_core.proofs.Booleans.{both_of, or_false, not_false}
 use Rattle.land_fraction.specs.Laws.{WholenessLaw}
-use Rattle.land_fraction.specs.Wholeness.{IsWholeness}
-use Rattle.land_fraction.specs.declared.lists.Whole.{Whole}
-use Rattle.land_fraction.proofs.Wholes.{the_wholeness, wholeness-is}
-use Rattle.land_acts.specs.declared.refusal.Planned.TheVariants.{New}
-use Rattle.land_acts.specs.declared.refusal.Refusal.TheVariants.{NotLodged, NoSuchUnit, NoSuchRight, NoSuchParty, SharesTooFine, TooMany, SharesNotWhole, ReferenceUsed, RoleHeld, RoleNotHeld, ClockOut, LastAdministrator, SameParty}
-use Rattle.land_acts.specs.Burdening.{would_crowd}
+use Rattle.land_mutations.specs.declared.refusal.Planned.TheVariants.{New}
+use Rattle.land_mutations.specs.declared.refusal.Refusal.TheVariants.{NotLodged, NoSuchUnit, NoSuchRight, NoSuchParty, SharesTooFine, TooMany, SharesNotWhole, ReferenceUsed, RoleHeld, RoleNotHeld, ClockOut, LastAdministrator, SameParty}
+use Rattle.land_mutations.specs.Planning.{would_crowd, first_that_holds, lacks_numbers}
 use Rattle.land_acts.specs.FirstRights.{lists_absent, are_types_too_fine, are_types_whole, has_right_twice}
 use Rattle.land_acts.specs.Laws.{AcceptedKeepsSound, AcceptedNamesKeysOnce, AcceptedTellsStamp, NothingWithoutStamp}
-use Rattle.land_acts.specs.Deciding.{content_refusals, is_lodged}
+use Rattle.land_mutations.specs.Asking.{content_refusals}
+use Rattle.land_acts.specs.Deciding.{is_lodged}
 use Rattle.land_acts.specs.Lifting.{has_burden}
 use Rattle.land_acts.specs.Lodging.{has_lodged_other}
-use Rattle.land_acts.specs.Outcome.{outcome_of, first_that_holds, refusals_of, change_of, done_of, repeated_done}
-use Rattle.land_acts.specs.Planning.{lacks_numbers, has_administrator_beside}
+use Rattle.land_acts.specs.Outcome.{outcome_of, refusals_of, change_of, done_of, repeated_done}
+use Rattle.land_acts.specs.Revoking.{has_administrator_beside}
 use Rattle.land_acts.specs.Registering.{new_count, parcel_of, right_of}
 use Rattle.land_acts.specs.Sharing.{lists_stranger, are_too_fine, are_whole, lists_twice}
 use Rattle.land_acts.proofs.BurdenedUnits.{burdened_is_sound}
@@ -42,9 +40,11 @@ use Rattle.land_acts.proofs.Approvals.{approve_grows, approve_once, approved_is_
 use Rattle.land_acts.proofs.GroupActs.{enrolled_is_sound, grouped_is_sound, regrouped_is_sound}
 use Rattle.land_acts.proofs.LiftedEntries.{lifted_is_sound}
 use Rattle.land_acts.proofs.LodgedMutations.{fresh, lodged_is_sound}
-use Rattle.land_acts.proofs.NewObjects.{numbered_once}
-use Rattle.land_acts.proofs.Outcomes.{IsPlanned, planned_from, unstamped, first_none}
+use Rattle.land_mutations.proofs.NewObjects.{numbered_once}
+use Rattle.land_acts.proofs.Outcomes.{IsPlanned, planned_from, unstamped}
+use Rattle.land_mutations.proofs.Refusals.{first_none}
 use Rattle.land_acts.proofs.RegisteredUnits.{registered_is_sound}
+use Rattle.land_mutations.proofs.TransferLaws.{whole_law}
 use Rattle.land_acts.proofs.RoleActs.{granted_is_sound, revoked_is_sound}
 
 -- ---- each act, where none of its refusals holds
@@ -157,9 +157,6 @@ pub planned : (r : Register) (caller : Caller) (a : Act) (stamp : ℤ) (change :
     → IsPlanned (repeated_done r caller a) (refusals_of r caller a (Some stamp)) (λ at. change_of r caller a at) change (λ at. done_of r caller a at) done stamp
 planned r caller a stamp change done is =
     planned_from (repeated_done r caller a) (refusals_of r caller a (Some stamp)) (λ at. change_of r caller a at) change (λ at. done_of r caller a at) done stamp is
-
-pub whole_law : WholenessLaw
-whole_law shares whole = (the_wholeness shares whole, λ e. subst (λ (w : Whole). IsWholeness shares w) (sym e) (wholeness-is shares))
 
 pub accepted_sound : AcceptedKeepsSound
 accepted_sound r change stamp sound h =

@@ -1,6 +1,6 @@
 -- What a decision leaves sound, and which keys its change names.
-use Rattle.std.proofs.Common.{◌≡◌, ℕ, ◌≤◌, Bool, true, false, ◌||◌, ◌&&◌, not, Option, Some, None, List, [], ◌∷◌, refl, sym, ap, ◌∙◌, subst, arith}
-use Rattle.std.specs.Prelude.{ℤ, is_none, is_some}
+use Rattle.std.proofs.Common.{◌≡◌, ℕ, ◌≤◌, true, ◌&&◌, Option, Some, None, [], refl, sym, ap, subst, arith}
+use Rattle.std.specs.Prelude.{ℤ, is_some}
 use Rattle.std.specs.Option.{option_map_or}
 use Rattle.std.specs.Cmp.{nat_cmp_total}
 use Rattle.std.specs.FinMap as map
@@ -16,38 +16,31 @@ use Rattle.land_core.specs.declared.act.Decision.{Decision}
 use Rattle.land_core.specs.declared.caller.Caller.{Caller}
 use Rattle.land_core.specs.declared.content.Content.{Content}
 use Rattle.land_core.specs.declared.content.Content.TheVariants as content
-use Rattle.land_core.specs.declared.content.Discharge.{Discharge}
-use Rattle.land_core.specs.declared.content.Mortgage.{Mortgage}
-use Rattle.land_core.specs.declared.content.Transfer.{Transfer}
 use Rattle.land_core.specs.declared.mutation.MutationRecord.{MutationRecord}
 use Rattle.land_core.specs.declared.mutation.MutationState.TheVariants.{Approved, Refused}
 use Rattle.land_core.specs.declared.register.Register.{Register}
-use Rattle.land_core.specs.declared.role.Role.TheVariants.{Bank}
 use Rattle.land_core.specs.declared.soundness.Unsound.TheVariants.{Reference}
-use Rattle.land_core.proofs.Booleans.{both_of, not_false, or_false}
+use Rattle.land_core.proofs.Booleans.{both_of, not_false}
 use Rattle.land_core.proofs.Reflection.{none_at}
 use Rattle.land_core.proofs.SoundRegisters.{refers, single_from, stands_from}
 use Rattle.land_fraction.specs.Laws.{WholenessLaw}
-use Rattle.land_acts.specs.Burdening.{would_crowd}
-use Rattle.land_acts.specs.Deciding.{approve_change, content_change, content_refusals, refuse_change, transfer_change, with_state}
-use Rattle.land_acts.specs.Discharging.{discharge_change, has_entry_in, has_mortgage}
-use Rattle.land_acts.specs.Mortgaging.{mortgage_change}
-use Rattle.land_acts.specs.Outcome.{first_that_holds}
-use Rattle.land_acts.specs.Planning.{lacks_numbers}
-use Rattle.land_acts.specs.Subdividing.{subdivision_change}
-use Rattle.land_acts.specs.Transferring.{are_too_fine, are_too_many, grows_at, has_right_where, held_at, is_itself, is_too_large, move_change, number_after}
-use Rattle.land_acts.specs.declared.refusal.Refusal.{Refusal}
-use Rattle.land_acts.specs.declared.refusal.Refusal.TheVariants.{NoSuchUnit, NoSuchRight, NoSuchParty, ShareTooLarge, SharesTooFine, TooMany, NotBank, NotMortgage, ClockOut, SameParty}
-use Rattle.land_acts.specs.declared.transfer.Held.{Held}
+use Rattle.land_mutations.specs.Planning.{first_that_holds}
+use Rattle.land_acts.specs.Deciding.{approve_change, refuse_change, with_state}
+use Rattle.land_mutations.specs.Asking.{content_change, content_refusals, transfer_change}
+use Rattle.land_mutations.specs.Discharging.{discharge_change}
+use Rattle.land_mutations.specs.Mortgaging.{mortgage_change}
+use Rattle.land_mutations.specs.Subdividing.{subdivision_change}
+use Rattle.land_mutations.specs.Transferring.{grows_at, held_at, move_change, number_after}
+use Rattle.land_mutations.specs.declared.transfer.Held.{Held}
 use Rattle.land_acts.proofs.DecidedMutations.{decided_is_sound}
-use Rattle.land_acts.proofs.DischargedEntries.{discharged_is_sound}
+use Rattle.land_mutations.proofs.DischargedEntries.{discharged_is_sound}
+use Rattle.land_mutations.proofs.UnrefusedContents.{unrefused_discharge, unrefused_mortgage, unrefused_move}
 use Rattle.land_acts.proofs.MergedApprovals.{approved_merger_is_sound, approved_merger_once, tight_mutation}
-use Rattle.land_acts.proofs.MortgagedUnits.{mortgaged_is_sound}
-use Rattle.land_acts.proofs.Outcomes.{first_none}
-use Rattle.land_acts.proofs.SubdividedAreas.{unrefused_subdivision}
-use Rattle.land_acts.proofs.SubdividedKeys.{subdivision_names_once}
-use Rattle.land_acts.proofs.SubdividedRegisters.{subdivided_is_sound, subdivision_grows}
-use Rattle.land_acts.proofs.Transfers.{sound_names_once, transferred_is_sound}
+use Rattle.land_mutations.proofs.MortgagedUnits.{mortgaged_is_sound}
+use Rattle.land_mutations.proofs.SubdividedAreas.{unrefused_subdivision}
+use Rattle.land_mutations.proofs.SubdividedKeys.{subdivision_names_once}
+use Rattle.land_mutations.proofs.SubdividedRegisters.{subdivided_is_sound, subdivision_grows}
+use Rattle.land_mutations.proofs.Transfers.{sound_names_once, transferred_is_sound}
 
 -- who holds a role stands
 pub caller_stands : (r : Register) (caller : Caller) → IsSound r → holds r caller.party caller.role ≡ true → has r.parties caller.party ≡ true
@@ -64,78 +57,6 @@ source_stands : (r : Register) → IsSound r → (n : ℕ) (m : MutationRecord) 
 source_stands r sound n m is =
     let all = not_false _ (none_at nat_cmp_total nat_cmp-IsAntisymmetric (λ n m. is_loose_mutation r m) r.mutations n m (refers r (sound Reference)).mutations is) in
     (both_of (has r.parties m.lodger) (has r.sources m.source) (both_of (has r.parties m.lodger && has r.sources m.source) (is_well_formed_content m.content) all).0).1
-
--- ---- what holds where a transfer is not refused
-
-pub record IsUnrefusedMove (r : Register) (it : Transfer) : Type 0 where
-  pub from : Held
-  pub held : held_at r it.unit it.right ≡ Some from
-  pub unit : has r.units it.unit ≡ true
-  pub receiver : has r.parties it.receiver ≡ true
-  pub not_large : is_too_large r it from ≡ false
-  pub not_fine : are_too_fine r it from ≡ false
-  pub not_many : are_too_many r it from ≡ false
-  pub other : is_itself it from ≡ false
-
--- a test of the right that fails, where the right stands
-fails_at : (r : Register) (it : Transfer) (test : Held → Bool) (from : Held) → held_at r it.unit it.right ≡ Some from → has_right_where test r it ≡ false → test from ≡ false
-fails_at r it test from e fails = sym (ap (λ o. option_map_or test o false) e) ∙ fails
-
-pub unrefused_move : (r : Register) (it : Transfer) (stamp : Option ℤ) → first_that_holds (content_refusals r (content.Transfer it) stamp) ≡ None → IsUnrefusedMove r it
-unrefused_move r it stamp none =
-    let last : List (Refusal × Bool) = (ClockOut, is_none stamp) ∷ (SameParty, has_right_where (is_itself it) r it) ∷ [] in
-    let fourth : List (Refusal × Bool) = (TooMany, has_right_where (are_too_many r it) r it) ∷ last in
-    let third : List (Refusal × Bool) = (SharesTooFine, has_right_where (are_too_fine r it) r it) ∷ fourth in
-    let second : List (Refusal × Bool) = (ShareTooLarge, has_right_where (is_too_large r it) r it) ∷ third in
-    let first : List (Refusal × Bool) = (NoSuchParty, not (has r.parties it.receiver)) ∷ second in
-    let unit = first_none NoSuchUnit (not (has r.units it.unit)) ((NoSuchRight, is_none (held_at r it.unit it.right)) ∷ first) none in
-    let right = first_none NoSuchRight (is_none (held_at r it.unit it.right)) first unit.rest in
-    let party = first_none NoSuchParty (not (has r.parties it.receiver)) second right.rest in
-    let large = first_none ShareTooLarge (has_right_where (is_too_large r it) r it) third party.rest in
-    let fine = first_none SharesTooFine (has_right_where (are_too_fine r it) r it) fourth large.rest in
-    let many = first_none TooMany (has_right_where (are_too_many r it) r it) last fine.rest in
-    let late = first_none ClockOut (is_none stamp) ((SameParty, has_right_where (is_itself it) r it) ∷ []) many.rest in
-    let itself = first_none SameParty (has_right_where (is_itself it) r it) [] late.rest in
-    found (not_false _ unit.first) right.first (not_false _ party.first) large.first fine.first many.first itself.first (held_at r it.unit it.right) refl
-  where
-    found : has r.units it.unit ≡ true → is_none (held_at r it.unit it.right) ≡ false → has r.parties it.receiver ≡ true → has_right_where (is_too_large r it) r it ≡ false
-        → has_right_where (are_too_fine r it) r it ≡ false → has_right_where (are_too_many r it) r it ≡ false → has_right_where (is_itself it) r it ≡ false
-        → (o : Option Held) → held_at r it.unit it.right ≡ o → IsUnrefusedMove r it
-    found unit right party large fine many itself None e = absurd (false≢true (sym right ∙ ap is_none e))
-    found unit right party large fine many itself (Some from) e = record {
-      from = from;
-      held = e;
-      unit = unit;
-      receiver = party;
-      not_large = fails_at r it (is_too_large r it) from e large;
-      not_fine = fails_at r it (are_too_fine r it) from e fine;
-      not_many = fails_at r it (are_too_many r it) from e many;
-      other = fails_at r it (is_itself it) from e itself;
-    }
-
--- ---- what holds where a mortgage and a discharge are not refused
-
-pub record IsUnrefusedMortgage (r : Register) (it : Mortgage) : Type 0 where
-  pub unit : has r.units it.unit ≡ true
-  pub creditor : has r.parties it.creditor ≡ true
-  pub room : lacks_numbers r 1 ≡ false
-  pub few : would_crowd r it.unit 1 ≡ false
-
-pub unrefused_mortgage : (r : Register) (it : Mortgage) (stamp : Option ℤ) → first_that_holds (content_refusals r (content.Mortgage it) stamp) ≡ None → IsUnrefusedMortgage r it
-unrefused_mortgage r it stamp none =
-    let many = lacks_numbers r 1 || would_crowd r it.unit 1 in
-    let bank = not (holds r it.creditor Bank) in
-    let unit = first_none NoSuchUnit (not (has r.units it.unit)) ((NoSuchParty, not (has r.parties it.creditor)) ∷ (TooMany, many) ∷ (NotBank, bank) ∷ (ClockOut, is_none stamp) ∷ []) none in
-    let party = first_none NoSuchParty (not (has r.parties it.creditor)) ((TooMany, many) ∷ (NotBank, bank) ∷ (ClockOut, is_none stamp) ∷ []) unit.rest in
-    let room = or_false (lacks_numbers r 1) (would_crowd r it.unit 1) (first_none TooMany many ((NotBank, bank) ∷ (ClockOut, is_none stamp) ∷ []) party.rest).first in
-    record { unit = not_false _ unit.first; creditor = not_false _ party.first; room = room.0; few = room.1 }
-
-pub unrefused_discharge : (r : Register) (it : Discharge) (stamp : Option ℤ) → first_that_holds (content_refusals r (content.Discharge it) stamp) ≡ None → has_mortgage r it.mortgage ≡ true
-unrefused_discharge r it stamp none =
-    let mortgage = not (has_mortgage r it.mortgage) in
-    let unit = first_none NoSuchUnit (not (has r.units it.unit)) ((NoSuchRight, not (has_entry_in r it.unit it.mortgage)) ∷ (NotMortgage, mortgage) ∷ (ClockOut, is_none stamp) ∷ []) none in
-    let entry = first_none NoSuchRight (not (has_entry_in r it.unit it.mortgage)) ((NotMortgage, mortgage) ∷ (ClockOut, is_none stamp) ∷ []) unit.rest in
-    not_false _ (first_none NotMortgage mortgage ((ClockOut, is_none stamp) ∷ []) entry.rest).first
 
 -- ---- approvals
 

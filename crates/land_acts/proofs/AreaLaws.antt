@@ -15,15 +15,17 @@ use Rattle.land_core.specs.declared.mutation.MutationRecord.{MutationRecord}
 use Rattle.land_core.specs.declared.mutation.MutationState.TheVariants.{Approved}
 use Rattle.land_core.specs.declared.register.Register.{Register}
 use Rattle.land_acts.specs.AreaLaws.{MergersKeepAreas, SubdivisionsKeepAreas, outlines_put}
-use Rattle.land_acts.specs.Areas.{doubled_areas}
-use Rattle.land_acts.specs.Deciding.{content_change, content_refusals, is_lodged, with_state}
-use Rattle.land_acts.specs.Outcome.{first_that_holds, outcome_of}
-use Rattle.land_acts.specs.declared.refusal.Planned.TheVariants.{New}
-use Rattle.land_acts.specs.declared.refusal.Refusal.TheVariants.{NotLodged}
+use Rattle.land_mutations.specs.Areas.{doubled_areas}
+use Rattle.land_mutations.specs.Asking.{content_change, content_refusals}
+use Rattle.land_acts.specs.Deciding.{is_lodged, with_state}
+use Rattle.land_mutations.specs.Planning.{first_that_holds}
+use Rattle.land_acts.specs.Outcome.{outcome_of}
+use Rattle.land_mutations.specs.declared.refusal.Planned.TheVariants.{New}
+use Rattle.land_mutations.specs.declared.refusal.Refusal.TheVariants.{NotLodged}
 use Rattle.land_acts.proofs.Accepted.{planned}
-use Rattle.land_acts.proofs.MergedKeys.{merged_area}
-use Rattle.land_acts.proofs.Outcomes.{first_none}
-use Rattle.land_acts.proofs.SubdividedAreas.{subdivision_keeps_area}
+use Rattle.land_mutations.proofs.MergedKeys.{merged_area}
+use Rattle.land_mutations.proofs.Refusals.{first_none}
+use Rattle.land_mutations.proofs.SubdividedAreas.{subdivision_keeps_area}
 
 -- what is approved puts the parcels of its content, which is not refused
 record IsApproved (r : Register) (m : MutationRecord) (c : Content) (stamp : ℤ) (change : Change) : Type 0 where

@@ -14,7 +14,7 @@ use Rattle.land_core.specs.declared.soundness.Unsound.TheVariants.{Reference, Sh
 use Rattle.land_core.proofs.Reflection.{none_at, none_passes}
 use Rattle.land_core.proofs.SoundRegisters.{are_used, are_used_back, refers, refers_back, unused_from, used_from}
 use Rattle.land_acts.specs.Deciding.{decided}
-use Rattle.land_acts.proofs.Numbers.{one_number}
+use Rattle.land_mutations.proofs.Numbers.{one_number}
 
 module _ (r : Register) (number : ℕ) (m : MutationRecord) (state : MutationState) where
   abbrev new : Register

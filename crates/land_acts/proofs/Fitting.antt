@@ -16,20 +16,21 @@ use Rattle.land_core.specs.declared.register.Register.{Register}
 use Rattle.land_core.specs.declared.soundness.Unsound.TheVariants.{Reference}
 use Rattle.land_core.proofs.Booleans.{or_false}
 use Rattle.land_core.proofs.SoundRegisters.{refers}
-use Rattle.land_acts.specs.Deciding.{Fits, content_refusals, is_lodged}
-use Rattle.land_acts.specs.Mortgaging.{next_rank}
-use Rattle.land_acts.specs.Outcome.{IsUnrefused, first_that_holds}
-use Rattle.land_acts.specs.Planning.{lacks_numbers}
+use Rattle.land_mutations.specs.Asking.{Fits, content_refusals}
+use Rattle.land_acts.specs.Deciding.{is_lodged}
+use Rattle.land_mutations.specs.Mortgaging.{next_rank}
+use Rattle.land_acts.specs.Outcome.{IsUnrefused}
+use Rattle.land_mutations.specs.Planning.{first_that_holds, lacks_numbers}
 use Rattle.land_acts.specs.Slices.{IsOfSound, looks_at_rrr}
-use Rattle.land_acts.specs.Subdividing.{subdivision_count}
-use Rattle.land_acts.specs.Transferring.{are_too_many, grows_at, move_change, number_after}
-use Rattle.land_acts.specs.declared.refusal.Refusal.TheVariants.{NotLodged}
-use Rattle.land_acts.specs.declared.transfer.Held.{Held}
-use Rattle.land_acts.proofs.Approvals.{unrefused_mortgage, unrefused_move}
+use Rattle.land_mutations.specs.Subdividing.{subdivision_count}
+use Rattle.land_mutations.specs.Transferring.{are_too_many, grows_at, move_change, number_after}
+use Rattle.land_mutations.specs.declared.refusal.Refusal.TheVariants.{NotLodged}
+use Rattle.land_mutations.specs.declared.transfer.Held.{Held}
+use Rattle.land_mutations.proofs.UnrefusedContents.{unrefused_mortgage, unrefused_move}
 use Rattle.land_acts.proofs.MergedApprovals.{merger_fits}
-use Rattle.land_acts.proofs.MortgageRanks.{next_rank_fits_kept}
-use Rattle.land_acts.proofs.Outcomes.{first_none}
-use Rattle.land_acts.proofs.SubdividedAreas.{unrefused_subdivision}
+use Rattle.land_mutations.proofs.MortgageRanks.{next_rank_fits_kept}
+use Rattle.land_mutations.proofs.Refusals.{first_none}
+use Rattle.land_mutations.proofs.SubdividedAreas.{unrefused_subdivision}
 
 one_left : (s : Register) → lacks_numbers s 1 ≡ false → s.next ≤ 1000000000
 one_left s h = let most : s.next + 1 ≤ 1000000001 = ltb-false 1000000001 (s.next + 1) h in omega (arith, most)

@@ -26,12 +26,12 @@ use Rattle.land_core.proofs.FiniteSets.{grants_total, exact_grants}
 use Rattle.land_core.proofs.SoundRegisters.{AreTight, refers, refers_back, loose_from, single_from, loose_members_from, members_from, unbroken_from, whole_from, administrator_from, administrator_at, apart_itself}
 use Rattle.land_acts.specs.Enrolment.{enrol_change}
 use Rattle.land_acts.specs.Grouping.{group_change}
-use Rattle.land_acts.specs.Planning.{lacks_numbers}
+use Rattle.land_mutations.specs.Planning.{lacks_numbers}
 use Rattle.land_acts.specs.Regrouping.{regroup_change}
 use Rattle.land_acts.specs.Sharing.{lists_stranger, lists_twice, are_whole, members_of_list}
-use Rattle.land_acts.proofs.Growth.{has_stays, mutations_stay, ranks_grow}
+use Rattle.land_mutations.proofs.Growth.{has_stays, mutations_stay, ranks_grow}
 use Rattle.land_acts.proofs.ListedMembers.{group_shares, listed_single}
-use Rattle.land_acts.proofs.Numbers.{one_number}
+use Rattle.land_mutations.proofs.Numbers.{one_number}
 use Rattle.land_acts.proofs.PartyActs.{single_stays, tight_stays, stay, put_there, each_party, all_used, no_loose_grant, no_loose_rrr}
 
 -- ---- members that are put at a number

@@ -23,7 +23,7 @@ use Rattle.land_fraction.proofs.Moves.{wholeness-permuted}
 use Rattle.land_core.proofs.Booleans.{both_of, or_false, not_false}
 use Rattle.land_core.proofs.FiniteMaps.{none_is_not_some, nothing_from_length}
 use Rattle.land_acts.specs.Sharing.{listed_shares, lists_stranger, are_whole, lists_twice, same_party, members_of_list}
-use Rattle.land_acts.proofs.Numbers.{one_number, tied_number, turned_number}
+use Rattle.land_mutations.proofs.Numbers.{one_number, tied_number, turned_number}
 
 abbrev entry : Member → ℕ × Ratio
 entry member = (member.party, member.share)

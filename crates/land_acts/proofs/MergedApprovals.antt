@@ -18,12 +18,13 @@ use Rattle.land_core.specs.declared.soundness.Unsound.TheVariants.{Reference}
 use Rattle.land_core.proofs.Booleans.{both_of, not_false}
 use Rattle.land_core.proofs.Reflection.{none_at}
 use Rattle.land_core.proofs.SoundRegisters.{refers}
-use Rattle.land_acts.specs.Deciding.{Fits, content_refusals, with_state}
-use Rattle.land_acts.specs.Merging.{merger_change}
-use Rattle.land_acts.specs.Outcome.{first_that_holds}
+use Rattle.land_mutations.specs.Asking.{Fits, content_refusals}
+use Rattle.land_acts.specs.Deciding.{with_state}
+use Rattle.land_mutations.specs.Merging.{merger_change}
+use Rattle.land_mutations.specs.Planning.{first_that_holds}
 use Rattle.land_acts.proofs.DecidedMutations.{decided_is_sound}
-use Rattle.land_acts.proofs.MergedKeys.{merger_names_once, unrefused_merger}
-use Rattle.land_acts.proofs.MergedUnits.{merged_is_sound}
+use Rattle.land_mutations.proofs.MergedKeys.{merger_names_once, unrefused_merger}
+use Rattle.land_mutations.proofs.MergedUnits.{merged_is_sound}
 
 -- what a mutation of a sound register comes from stands, and its content is within its limits
 pub record IsTight (r : Register) (m : MutationRecord) : Type 0 where

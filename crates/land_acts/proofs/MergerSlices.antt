@@ -11,15 +11,14 @@ use Rattle.land_core.specs.declared.merger.Merger.{Merger}
 use Rattle.land_core.specs.declared.register.Register.{Register}
 use Rattle.land_core.specs.declared.rrr.RrrRecord.{RrrRecord}
 use Rattle.land_core.proofs.Pairs.{list_any_same}
-use Rattle.land_acts.specs.declared.refusal.Refusal.{Refusal}
-use Rattle.land_acts.specs.declared.refusal.Refusal.TheVariants.{NoSuchUnit, NoSuchParcel, AreaNotKept, UnlikeUnits, TooMany, ClockOut}
-use Rattle.land_acts.specs.Areas.{do_areas_differ, outlines_at}
-use Rattle.land_acts.specs.Merging.{are_same_entries, entries_of_others, has_unlike, is_named, is_parcel_named, is_same_mark, is_unlike, lacks_parcel, lacks_unit, merger_change, merger_refusals, would_have_more_parcels}
-use Rattle.land_acts.specs.Outcome.{first_that_holds}
-use Rattle.land_acts.specs.Planning.{lacks_numbers}
-use Rattle.land_acts.specs.Subdividing.{entries_of, parcels_beside}
-use Rattle.land_acts.specs.Transferring.{is_checked}
-use Rattle.land_acts.proofs.Numbers.{same_number, tied_number}
+use Rattle.land_mutations.specs.declared.refusal.Refusal.{Refusal}
+use Rattle.land_mutations.specs.declared.refusal.Refusal.TheVariants.{NoSuchUnit, NoSuchParcel, AreaNotKept, UnlikeUnits, TooMany, ClockOut}
+use Rattle.land_mutations.specs.Areas.{do_areas_differ, outlines_at}
+use Rattle.land_mutations.specs.Merging.{are_same_entries, entries_of_others, has_unlike, is_named, is_parcel_named, is_same_mark, is_unlike, lacks_parcel, lacks_unit, merger_change, merger_refusals, would_have_more_parcels}
+use Rattle.land_mutations.specs.Planning.{first_that_holds, lacks_numbers}
+use Rattle.land_mutations.specs.Subdividing.{entries_of, parcels_beside}
+use Rattle.land_mutations.specs.Transferring.{is_checked}
+use Rattle.land_mutations.proofs.Numbers.{same_number, tied_number}
 use Rattle.land_acts.proofs.SlicedWords.{or_right}
 use Rattle.land_acts.proofs.SubdivisionSlices.{AgreeOnUnits, beside_agrees, checked_agrees, entries_agree, entries_passing_agree, later_lines, outlines_agree, parcel_agrees, stands_agrees}
 

@@ -14,9 +14,8 @@ use Rattle.land_core.specs.declared.register.Register.{Register}
 use Rattle.land_core.specs.declared.role.Role.TheVariants.{Bank}
 use Rattle.land_core.specs.declared.rrr.RrrRecord.{RrrRecord}
 use Rattle.land_core.proofs.Reflection.{entries-only}
-use Rattle.land_acts.specs.Mortgaging.{greatest, mortgage_change, mortgage_refusals, next_rank, rank_in, ranks_in}
-use Rattle.land_acts.proofs.LiftedEntries.{filter_map-kept}
-use Rattle.land_acts.proofs.SlicedWords.{filter_within}
+use Rattle.land_mutations.specs.Mortgaging.{greatest, mortgage_change, mortgage_refusals, next_rank, rank_in, ranks_in}
+use Rattle.land_mutations.proofs.EndedEntries.{filter_map-kept, filter_within}
 
 -- a register has only some entries of another one, but all those of a unit; they agree whether the unit stands, and on the next number
 pub record AgreeOnUnit (s r : Register) (unit : ℕ) : Type 0 where

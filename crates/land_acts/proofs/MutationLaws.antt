@@ -43,21 +43,21 @@ use Rattle.land_core.proofs.FiniteMaps.{none_is_not_some}
 use Rattle.land_core.proofs.LookUps.{by_look_ups}
 use Rattle.land_core.proofs.Reflection.{each_there, some_at}
 use Rattle.land_core.proofs.SoundRegisters.{are_used, refers, used_bounds, used_from}
-use Rattle.land_acts.specs.Deciding.{content_change, content_refusals, decided, is_lodged, transfer_change, with_state}
+use Rattle.land_mutations.specs.Asking.{content_change, content_refusals, transfer_change}
+use Rattle.land_acts.specs.Deciding.{decided, is_lodged, with_state}
 use Rattle.land_acts.specs.Lodging.{document_kind, in_order, is_same_lodging, lodge_repeat, lodged_record, lodged_told, lodged_under, repeat_of}
-use Rattle.land_acts.specs.MutationLaws.{DecisionsStay, LodgingsStand, LodgingsStay, ReceiversHaveOneRight, RepeatsAreToldTheFirst, StandsAsLodged, TransfersKeepSums}
-use Rattle.land_acts.specs.Outcome.{change_of, done_of, first_that_holds, refusals_of, refused_else, repeated_else, stamped}
-use Rattle.land_acts.specs.Transferring.{are_too_fine, held_at, is_itself, is_too_large, transfer_refusals}
-use Rattle.land_acts.specs.declared.transfer.Held.{Held}
-use Rattle.land_acts.specs.declared.refusal.Refusal.TheVariants.{ClockOut, NotLodged}
-use Rattle.land_acts.proofs.Accepted.{planned, whole_law}
-use Rattle.land_acts.proofs.Approvals.{IsUnrefusedMove, unrefused_move}
-use Rattle.land_acts.proofs.BurdenedUnits.{here, there}
+use Rattle.land_acts.specs.MutationLaws.{DecisionsStay, LodgingsStand, LodgingsStay, RepeatsAreToldTheFirst, StandsAsLodged}
+use Rattle.land_acts.specs.Outcome.{change_of, done_of, refusals_of, refused_else, repeated_else, stamped}
+use Rattle.land_mutations.specs.Planning.{first_that_holds}
+use Rattle.land_mutations.specs.Transferring.{held_at}
+use Rattle.land_mutations.specs.declared.transfer.Held.{Held}
+use Rattle.land_mutations.specs.declared.refusal.Refusal.TheVariants.{ClockOut, NotLodged}
+use Rattle.land_acts.proofs.Accepted.{planned}
+use Rattle.land_mutations.proofs.TransferLaws.{whole_law}
+use Rattle.land_mutations.proofs.EnteredEntries.{here, there}
 use Rattle.land_acts.proofs.LodgedMutations.{none_found}
-use Rattle.land_acts.proofs.Numbers.{one_number, same_number}
-use Rattle.land_acts.proofs.Outcomes.{first_none}
-use Rattle.land_acts.proofs.TransferShares.{same_some}
-use Rattle.land_acts.proofs.Transfers.{receiver_has_one_right, transferred_keeps_sum}
+use Rattle.land_mutations.proofs.Numbers.{one_number, same_number}
+use Rattle.land_mutations.proofs.Refusals.{first_none}
 
 -- ---- what a change leaves
 
@@ -308,30 +308,3 @@ repeats_are_told r later caller it stamp now change done first sound standing =
     ap (λ (o : Option Done). repeated_else o (refused_else (first_that_holds (refusals_of later caller (act.Lodge it) now))
     (stamped (λ at. change_of later caller (act.Lodge it) at) (λ at. done_of later caller (act.Lodge it) at) now)))
     (repeated later sound caller it r.next (r.next + 1) stamp standing ∙ ap Some told)
-
--- ---- transfers
-
-module _ (r : Register) (it : Transfer) (from : Held) (stamp : ℤ) (none : first_that_holds (transfer_refusals r it (Some stamp)) ≡ None) (held : held_at r it.unit it.right ≡ Some from) where
-  move : IsUnrefusedMove r it
-  move = unrefused_move r it (Some stamp) none
-
-  -- what holds of the right that the transfer finds holds of this one
-  of_right : (P : Held → Type 0) → P move.from → P from
-  of_right P = subst P (same_some (sym move.held ∙ held))
-
-  not_large : is_too_large r it from ≡ false
-  not_large = of_right (λ h. is_too_large r it h ≡ false) move.not_large
-
-  not_fine : are_too_fine r it from ≡ false
-  not_fine = of_right (λ h. are_too_fine r it h ≡ false) move.not_fine
-
-  other : is_itself it from ≡ false
-  other = of_right (λ h. is_itself it h ≡ false) move.other
-
-pub transfers_keep_sums : TransfersKeepSums
-transfers_keep_sums r source it from stamp parts sound none held =
-    transferred_keeps_sum whole_law r source it from parts sound held (not_large r it from stamp none held) (not_fine r it from stamp none held) (other r it from stamp none held)
-
-pub receivers_have_one_right : ReceiversHaveOneRight
-receivers_have_one_right r source it from stamp sound none held =
-    receiver_has_one_right whole_law r source it from sound held (not_large r it from stamp none held) (not_fine r it from stamp none held) (other r it from stamp none held)

@@ -1,13 +1,14 @@
 -- What an outcome says of the refusals and of the change.
-use Rattle.std.proofs.Common.{◌≡◌, Bool, true, false, Option, Some, None, Ok, Err, List, ◌∷◌, refl}
+use Rattle.std.proofs.Common.{◌≡◌, Bool, Option, Some, None, Ok, Err, List, refl}
 use Rattle.std.specs.Prelude.{ℤ, Result}
 use Rattle.land_core.specs.declared.change.Change.{Change}
 use Rattle.land_core.specs.declared.change.Done.{Done}
-use Rattle.land_acts.specs.declared.refusal.Planned.{Planned}
-use Rattle.land_acts.specs.declared.refusal.Planned.TheVariants.{New, Repeat}
-use Rattle.land_acts.specs.declared.refusal.Refusal.{Refusal}
-use Rattle.land_acts.specs.declared.refusal.Refusal.TheVariants.{ClockOut}
-use Rattle.land_acts.specs.Outcome.{first_that_holds, refused_else, repeated_else, stamped}
+use Rattle.land_mutations.specs.declared.refusal.Planned.{Planned}
+use Rattle.land_mutations.specs.declared.refusal.Planned.TheVariants.{New, Repeat}
+use Rattle.land_mutations.specs.declared.refusal.Refusal.{Refusal}
+use Rattle.land_mutations.specs.declared.refusal.Refusal.TheVariants.{ClockOut}
+use Rattle.land_mutations.specs.Planning.{first_that_holds}
+use Rattle.land_acts.specs.Outcome.{refused_else, repeated_else, stamped}
 
 -- a change that is planned comes of no refusal and is no repeat, and is told with its stamp
 pub record IsPlanned (repeat : Option Done) (lines : List (Refusal × Bool)) (made : ℤ → Change) (change : Change) (told : ℤ → Done) (done : Done) (stamp : ℤ) : Type 0 where
@@ -43,15 +44,3 @@ unstamped None lines made change told done h = by_case (first_that_holds lines) 
     by_case : (o : Option Refusal) → refused_else o (Err ClockOut) ≡ Ok (New change done) → ⊥
     by_case None e = cc
     by_case (Some refusal) e = cc
-
--- a line before others does not hold, where none holds
-pub record NoneHolds (b : Bool) (lines : List (Refusal × Bool)) : Type 0 where
-  pub first : b ≡ false
-  pub rest : first_that_holds lines ≡ None
-
-pub first_none : (refusal : Refusal) (b : Bool) (lines : List (Refusal × Bool)) → first_that_holds ((refusal, b) ∷ lines) ≡ None → NoneHolds b lines
-first_none refusal true lines h = absurd (some_none h)
-  where
-    some_none : Some refusal ≡ None → ⊥
-    some_none e = cc
-first_none refusal false lines h = record { first = refl; rest = h }

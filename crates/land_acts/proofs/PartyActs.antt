@@ -15,8 +15,8 @@ use Rattle.land_core.specs.declared.party.PartyRecord.{PartyRecord}
 use Rattle.land_core.specs.declared.register.Register.{Register}
 use Rattle.land_core.specs.declared.soundness.Unsound.TheVariants.{Reference}
 use Rattle.land_core.proofs.SoundRegisters.{are_used, are_used_back, refers, used_from, unused_from, used_bounds, next_above_zero, loose_from, single_from, AreTight}
-use Rattle.land_acts.proofs.Growth.{used_grows, unused_grows, has_stays, anchored, anchored_back}
-use Rattle.land_acts.proofs.Numbers.{one_number, lesser_apart}
+use Rattle.land_mutations.proofs.Growth.{used_grows, unused_grows, has_stays, anchored, anchored_back}
+use Rattle.land_mutations.proofs.Numbers.{one_number, lesser_apart}
 
 -- each party that stands in a register stands in another one too, as it was
 abbrev pub StayParties : Register → Register → Type 0

@@ -33,13 +33,13 @@ use Rattle.land_core.proofs.Reflection.{none_passes, none_at}
 use Rattle.land_core.proofs.SoundRegisters.{refers, refers_back, are_used, are_used_back, used_from, unused_from, used_bounds, next_above_zero}
 use Rattle.land_fraction.specs.Ratio.{Ratio}
 use Rattle.land_acts.specs.FirstRights.{lists_absent, listed_of_type, share_listed, are_types_whole, is_same_right, has_right_twice}
-use Rattle.land_acts.specs.Numbering.{numbered}
-use Rattle.land_acts.specs.Planning.{lacks_numbers}
+use Rattle.land_mutations.specs.Numbering.{numbered}
+use Rattle.land_mutations.specs.Planning.{lacks_numbers}
 use Rattle.land_acts.specs.Registering.{new_count, parcel_of, right_of, register_change}
-use Rattle.land_acts.proofs.BurdenedUnits.{here, there, each_record}
-use Rattle.land_acts.proofs.Growth.{used_grows, unused_grows, ranks_grow, has_stays, mutations_stay, anchored, placed}
-use Rattle.land_acts.proofs.NewObjects.{below_later, entries-numbered, below_next}
-use Rattle.land_acts.proofs.Numbers.{same_number, turned_number}
+use Rattle.land_mutations.proofs.EnteredEntries.{here, there, each_record}
+use Rattle.land_mutations.proofs.Growth.{used_grows, unused_grows, ranks_grow, has_stays, mutations_stay, anchored, placed}
+use Rattle.land_mutations.proofs.NewObjects.{below_later, entries-numbered, below_next}
+use Rattle.land_mutations.proofs.Numbers.{same_number, turned_number}
 
 and_false : (b : Bool) → (b && false) ≡ false
 and_false true = refl

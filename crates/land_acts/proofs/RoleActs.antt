@@ -19,9 +19,8 @@ use Rattle.land_core.proofs.FiniteSets.{grants_total, exact_grants}
 use Rattle.land_core.proofs.Reflection.{Passes, some_passes, list_any-map}
 use Rattle.land_core.proofs.SoundRegisters.{refers, refers_back, loose_from, single_from, administrator_from, administrator_at}
 use Rattle.land_acts.specs.Granting.{grant_change}
-use Rattle.land_acts.specs.Planning.{has_administrator_beside}
-use Rattle.land_acts.specs.Revoking.{revoke_change}
-use Rattle.land_acts.proofs.Numbers.{same_number}
+use Rattle.land_acts.specs.Revoking.{has_administrator_beside, revoke_change}
+use Rattle.land_mutations.proofs.Numbers.{same_number}
 
 unit_is : (u : Unit {0}) → u ≡ tt
 unit_is u = refl

@@ -20,18 +20,19 @@ use Rattle.land_core.specs.declared.mutation.MutationState.TheVariants.{Approved
 use Rattle.land_core.specs.declared.register.Register.{Register}
 use Rattle.land_core.specs.declared.role.Role.TheVariants.{Bank}
 use Rattle.land_core.proofs.Reflection.{get-only}
-use Rattle.land_acts.specs.Deciding.{content_change, content_made, content_refusals, with_state}
-use Rattle.land_acts.specs.Merging.{is_named}
-use Rattle.land_acts.specs.Outcome.{first_that_holds, outcome_of, refused_else, stamped}
-use Rattle.land_acts.specs.Planning.{told_of}
+use Rattle.land_mutations.specs.Asking.{content_change, content_made, content_refusals}
+use Rattle.land_acts.specs.Deciding.{with_state}
+use Rattle.land_mutations.specs.Merging.{is_named}
+use Rattle.land_mutations.specs.Planning.{first_that_holds, told_of}
+use Rattle.land_acts.specs.Outcome.{outcome_of, refused_else, stamped}
 use Rattle.land_acts.specs.Slices.{content_names_party, looks_at_mutation, looks_at_rrr, names_party, names_rrr, names_unit, slice_of}
-use Rattle.land_acts.specs.declared.refusal.Planned.{Planned}
-use Rattle.land_acts.specs.declared.refusal.Refusal.{Refusal}
-use Rattle.land_acts.specs.declared.refusal.Refusal.TheVariants.{ClockOut, NotLodged}
+use Rattle.land_mutations.specs.declared.refusal.Planned.{Planned}
+use Rattle.land_mutations.specs.declared.refusal.Refusal.{Refusal}
+use Rattle.land_mutations.specs.declared.refusal.Refusal.TheVariants.{ClockOut, NotLodged}
 use Rattle.land_acts.proofs.DischargeSlices.{discharge_change_agrees, discharge_refusal_agrees}
 use Rattle.land_acts.proofs.MergerSlices.{merger_change_agrees, merger_refusal_agrees, named_in_content}
 use Rattle.land_acts.proofs.MortgageSlices.{AgreeOnUnit, mortgage_change_agrees, mortgage_refusals_agree}
-use Rattle.land_acts.proofs.Numbers.{one_number, same_number, tied_number}
+use Rattle.land_mutations.proofs.Numbers.{one_number, same_number, tied_number}
 use Rattle.land_acts.proofs.SubdivisionSlices.{AgreeOnUnits, subdivision_change_agrees, subdivision_made_agrees, subdivision_refusal_agrees}
 use Rattle.land_acts.proofs.TransferSlices.{transfer_agrees}
 use Rattle.land_acts.proofs.SlicedWords.{holds_same, stands_same, unit_same}

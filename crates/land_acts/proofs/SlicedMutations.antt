@@ -17,7 +17,7 @@ use Rattle.land_core.specs.declared.register.Register.{Register}
 use Rattle.land_core.proofs.Reflection.{entries-only, get-only}
 use Rattle.land_acts.specs.Lodging.{has_lodged_other, is_same_lodging, lodge_repeat, lodged_under, lodged_told, repeat_of}
 use Rattle.land_acts.specs.Slices.{looks_at_source, slice_of}
-use Rattle.land_acts.proofs.Numbers.{same_number}
+use Rattle.land_mutations.proofs.Numbers.{same_number}
 
 -- what is found among what passes
 find_kept : {X : Type 0} (p : X → Bool) (xs : List X) → find p (filter p xs) ≡ find p xs

@@ -1,5 +1,5 @@
 -- What planning reads of a slice is what it reads of the register.
-use Rattle.std.proofs.Common.{◌≡◌, ℕ, Bool, true, false, cond, length, ◌||◌, ◌&&◌, not, Some, List, [], ◌∷◌, refl, sym, ap, ◌∙◌, subst}
+use Rattle.std.proofs.Common.{◌≡◌, ℕ, Bool, true, false, length, ◌||◌, ◌&&◌, not, Some, List, [], ◌∷◌, refl, sym, ap, ◌∙◌, subst}
 use Rattle.std.specs.Prelude.{is_some, nat_eq, filter}
 use Rattle.std.specs.Option.{option_map_or}
 use Rattle.std.specs.List.{list_any, AllByRecursion}
@@ -27,10 +27,11 @@ use Rattle.land_core.proofs.FiniteSets.{grants_total, exact_grants}
 use Rattle.land_core.proofs.Reflection.{get-only, entries-only, each_there, list_any-filter, list_any-map}
 use Rattle.land_acts.specs.FirstRights.{have_party, lists_absent}
 use Rattle.land_acts.specs.Lifting.{has_burden, is_burden}
-use Rattle.land_acts.specs.Planning.{has_administrator_beside}
+use Rattle.land_acts.specs.Revoking.{has_administrator_beside}
 use Rattle.land_acts.specs.Sharing.{lists_party, lists_stranger}
 use Rattle.land_acts.specs.Slices.{slice_of, looks_at_party, looks_at_rrr, names_party, names_rrr, names_unit}
-use Rattle.land_acts.proofs.Numbers.{same_number, one_number, tied_number}
+use Rattle.land_mutations.proofs.EndedEntries.{filter_within}
+use Rattle.land_mutations.proofs.Numbers.{same_number, one_number, tied_number}
 
 pub or_right : (x y : Bool) → y ≡ true → (x || y) ≡ true
 or_right true y h = refl
@@ -93,18 +94,6 @@ module _ (r : Register) (caller : Caller) (a : Act) where
       )
 
 -- ---- units and entries
-
--- of what passes a test among what another test keeps, nothing is lost where the one implies the other
-pub filter_within : {X : Type 0} (p q : X → Bool) → ((x : X) → p x ≡ true → q x ≡ true) → (xs : List X) → filter p (filter q xs) ≡ filter p xs
-filter_within p q implies [] = refl
-filter_within {X} p q implies (x ∷ xs) =
-    elim (q x) as (λ b. q x ≡ b → filter p (cond b (x ∷ filter q xs) (filter q xs)) ≡ cond (p x) (x ∷ filter p xs) (filter p xs)) [
-      | true ↦ λ kept. ap (λ (it : List X). cond (p x) (x ∷ it) it) (filter_within p q implies xs)
-      | false ↦ λ lost. filter_within p q implies xs ∙ ap (λ b. cond b (x ∷ filter p xs) (filter p xs)) (sym (not_passed lost))
-    ] refl
-  where
-    not_passed : q x ≡ false → p x ≡ false
-    not_passed lost = elim (p x) as (λ b. p x ≡ b → b ≡ false) [ true ↦ λ passed. absurd (false≢true (sym lost ∙ implies x passed)) | false ↦ λ failed. refl ] refl
 
 or_left : (x y : Bool) → x ≡ true → (x || y) ≡ true
 or_left x y h = ap (λ b. b || y) h

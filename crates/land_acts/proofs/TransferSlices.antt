@@ -18,14 +18,13 @@ use Rattle.land_core.specs.declared.rrr.RrrRecord.{RrrRecord}
 use Rattle.land_core.proofs.Reflection.{entries-only}
 use Rattle.land_fraction.specs.Ratio.{Ratio}
 use Rattle.land_fraction.specs.declared.fault.FractionFault.{FractionFault}
-use Rattle.land_acts.specs.declared.transfer.Held.{Held}
-use Rattle.land_acts.specs.Deciding.{transfer_change, transfer_made}
-use Rattle.land_acts.specs.Transferring.{are_too_fine, are_too_many, given_up, grown, grows_at, has_right_where, held_at, held_in, held_of, is_held_by, is_itself, is_too_large, kept, move_change, received, share_grown, share_left, transfer_refusals}
-use Rattle.land_acts.proofs.KeptEntries.{get-kept, kept_at, updated-kept}
-use Rattle.land_acts.proofs.LiftedEntries.{filter_map-kept}
+use Rattle.land_mutations.specs.declared.transfer.Held.{Held}
+use Rattle.land_mutations.specs.Asking.{transfer_change, transfer_made}
+use Rattle.land_mutations.specs.Transferring.{are_too_fine, are_too_many, given_up, grown, grows_at, has_right_where, held_at, held_in, held_of, is_held_by, is_itself, is_too_large, kept, move_change, received, share_grown, share_left, transfer_refusals}
+use Rattle.land_mutations.proofs.KeptEntries.{get-kept, kept_at, updated-kept}
+use Rattle.land_mutations.proofs.EndedEntries.{filter_map-kept, filter_within}
 use Rattle.land_acts.proofs.MortgageSlices.{AgreeOnUnit}
-use Rattle.land_acts.proofs.Numbers.{same_number}
-use Rattle.land_acts.proofs.SlicedWords.{filter_within}
+use Rattle.land_mutations.proofs.Numbers.{same_number}
 
 module _ (s r : Register) (it : Transfer) (agree : AgreeOnUnit s r it.unit) where
   -- what is not kept is of another unit

@@ -14,9 +14,9 @@ use Rattle.land_core.specs.declared.register.Register.{Register}
 use Rattle.land_core.specs.declared.subdivision.Subdivision.{Subdivision}
 use Rattle.land_shape.specs.Outline.{doubled_area}
 use Rattle.land_shape.specs.Place.{Place}
-use Rattle.land_acts.specs.Areas.{doubled_areas, outlines_at}
+use Rattle.land_mutations.specs.Areas.{doubled_areas, outlines_at}
 use Rattle.land_acts.specs.Outcome.{outcome_of}
-use Rattle.land_acts.specs.declared.refusal.Planned.TheVariants.{New}
+use Rattle.land_mutations.specs.declared.refusal.Planned.TheVariants.{New}
 
 -- the outlines of the parcels that a change puts
 abbrev pub outlines_put : Change → List (List Place)

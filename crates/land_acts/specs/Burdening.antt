@@ -1,8 +1,7 @@
 -- Burdening: a unit gets a restriction or a responsibility of a party.
-use Rattle.std.specs.Prelude.{ℕ, ◌+◌, ℤ, Bool, not, ◌||◌, nat_lt, List, [], ◌∷◌, Option, is_none}
+use Rattle.std.specs.Prelude.{ℕ, ◌+◌, ℤ, Bool, not, ◌||◌, List, [], ◌∷◌, Option, is_none}
 use Rattle.land_core.specs.Changes.{no_put, no_ended}
 use Rattle.land_core.specs.Entries.{has}
-use Rattle.land_core.specs.Units.{rrr_count}
 use Rattle.land_core.specs.declared.act.Burden.{Burden}
 use Rattle.land_core.specs.declared.act.BurdenClass.{BurdenClass}
 use Rattle.land_core.specs.declared.act.BurdenClass.TheVariants as burden
@@ -12,13 +11,9 @@ use Rattle.land_core.specs.declared.register.Register.{Register}
 use Rattle.land_core.specs.declared.rrr.Class.{Class}
 use Rattle.land_core.specs.declared.rrr.Class.TheVariants as class
 use Rattle.land_core.specs.declared.source.SourceKind.TheVariants.{Administrative}
-use Rattle.land_acts.specs.declared.refusal.Refusal.{Refusal}
-use Rattle.land_acts.specs.declared.refusal.Refusal.TheVariants.{NoSuchUnit, NoSuchParty, TooMany, ClockOut}
-use Rattle.land_acts.specs.Planning.{document_source, lacks_numbers}
-
--- whether a unit would have more than 256 entries with so many more
-abbrev pub would_crowd : Register → (unit more : ℕ) → Bool
-would_crowd r unit more = nat_lt 256 (rrr_count r unit + more)
+use Rattle.land_mutations.specs.declared.refusal.Refusal.{Refusal}
+use Rattle.land_mutations.specs.declared.refusal.Refusal.TheVariants.{NoSuchUnit, NoSuchParty, TooMany, ClockOut}
+use Rattle.land_mutations.specs.Planning.{document_source, lacks_numbers, would_crowd}
 
 -- its refusals, each with whether its condition holds, the least number first
 abbrev pub burden_refusals : Register → Burden → Option ℤ → List (Refusal × Bool)

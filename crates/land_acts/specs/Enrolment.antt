@@ -7,9 +7,9 @@ use Rattle.land_core.specs.declared.act.Enrol.{Enrol}
 use Rattle.land_core.specs.declared.change.Change.{Change}
 use Rattle.land_core.specs.declared.change.Done.{Done}
 use Rattle.land_core.specs.declared.register.Register.{Register}
-use Rattle.land_acts.specs.declared.refusal.Refusal.{Refusal}
-use Rattle.land_acts.specs.declared.refusal.Refusal.TheVariants.{TooMany, ClockOut}
-use Rattle.land_acts.specs.Planning.{lacks_numbers}
+use Rattle.land_mutations.specs.declared.refusal.Refusal.{Refusal}
+use Rattle.land_mutations.specs.declared.refusal.Refusal.TheVariants.{TooMany, ClockOut}
+use Rattle.land_mutations.specs.Planning.{lacks_numbers}
 
 -- its refusals, each with whether its condition holds, the least number first
 abbrev pub enrol_refusals : Register → Option ℤ → List (Refusal × Bool)

@@ -5,10 +5,10 @@ use Rattle.land_core.specs.Register.{has_single_party, holds}
 use Rattle.land_core.specs.declared.change.Change.{Change}
 use Rattle.land_core.specs.declared.change.Done.{Done}
 use Rattle.land_core.specs.declared.register.Register.{Register}
-use Rattle.land_acts.specs.declared.refusal.Refusal.{Refusal}
-use Rattle.land_acts.specs.declared.refusal.Refusal.TheVariants.{NoSuchParty, RoleHeld, ClockOut}
+use Rattle.land_mutations.specs.declared.refusal.Refusal.{Refusal}
+use Rattle.land_mutations.specs.declared.refusal.Refusal.TheVariants.{NoSuchParty, RoleHeld, ClockOut}
 use Rattle.land_core.specs.declared.roles.Grant.{Grant}
-use Rattle.land_acts.specs.Planning.{told_of}
+use Rattle.land_mutations.specs.Planning.{told_of}
 
 -- its refusals, each with whether its condition holds, the least number first
 abbrev pub grant_refusals : Register → Grant → Option ℤ → List (Refusal × Bool)

@@ -6,9 +6,9 @@ use Rattle.land_core.specs.declared.change.Change.{Change}
 use Rattle.land_core.specs.declared.change.Done.{Done}
 use Rattle.land_core.specs.declared.kind.PartyKind.TheVariants.{Group}
 use Rattle.land_core.specs.declared.register.Register.{Register}
-use Rattle.land_acts.specs.declared.refusal.Refusal.{Refusal}
-use Rattle.land_acts.specs.declared.refusal.Refusal.TheVariants.{NoSuchParty, SharesTooFine, TooMany, SharesNotWhole, ClockOut, SameParty}
-use Rattle.land_acts.specs.Planning.{lacks_numbers}
+use Rattle.land_mutations.specs.declared.refusal.Refusal.{Refusal}
+use Rattle.land_mutations.specs.declared.refusal.Refusal.TheVariants.{NoSuchParty, SharesTooFine, TooMany, SharesNotWhole, ClockOut, SameParty}
+use Rattle.land_mutations.specs.Planning.{lacks_numbers}
 use Rattle.land_acts.specs.Sharing.{lists_stranger, are_too_fine, are_whole, lists_twice, members_of_list}
 
 -- its refusals, each with whether its condition holds, the least number first

@@ -10,7 +10,7 @@ use Rattle.land_core.specs.declared.caller.Caller.{Caller}
 use Rattle.land_core.specs.declared.act.Act.{Act}
 use Rattle.land_core.specs.declared.change.Change.{Change}
 use Rattle.land_core.specs.declared.change.Done.{Done}
-use Rattle.land_acts.specs.declared.refusal.Planned.TheVariants.{New}
+use Rattle.land_mutations.specs.declared.refusal.Planned.TheVariants.{New}
 use Rattle.land_core.specs.declared.register.Register.{Register}
 
 -- an act has the same outcome over a register and over its slice: the same refusal, the same change, the same done

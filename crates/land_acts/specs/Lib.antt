@@ -1,9 +1,7 @@
 -- Definitions of the acts.
 pub mod AreaLaws
-pub mod Areas
 pub mod Burdening
 pub mod Deciding
-pub mod Discharging
 pub mod Enrolment
 pub mod FirstRights
 pub mod Granting
@@ -11,16 +9,10 @@ pub mod Grouping
 pub mod Laws
 pub mod Lifting
 pub mod Lodging
-pub mod Merging
-pub mod Mortgaging
 pub mod MutationLaws
-pub mod Numbering
 pub mod Outcome
-pub mod Planning
 pub mod Registering
 pub mod Regrouping
 pub mod Revoking
 pub mod Sharing
 pub mod Slices
-pub mod Subdividing
-pub mod Transferring

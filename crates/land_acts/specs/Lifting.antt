@@ -9,9 +9,9 @@ use Rattle.land_core.specs.declared.change.Done.{Done}
 use Rattle.land_core.specs.declared.register.Register.{Register}
 use Rattle.land_core.specs.declared.rrr.Class.{Class}
 use Rattle.land_core.specs.declared.rrr.Class.TheVariants.{Right, Restriction, Responsibility, Mortgage}
-use Rattle.land_acts.specs.declared.refusal.Refusal.{Refusal}
-use Rattle.land_acts.specs.declared.refusal.Refusal.TheVariants.{NoSuchRight, ClockOut}
-use Rattle.land_acts.specs.Planning.{told_of}
+use Rattle.land_mutations.specs.declared.refusal.Refusal.{Refusal}
+use Rattle.land_mutations.specs.declared.refusal.Refusal.TheVariants.{NoSuchRight, ClockOut}
+use Rattle.land_mutations.specs.Planning.{told_of}
 
 -- whether an entry is a burden: a restriction or a responsibility
 abbrev pub is_burden : Class → Bool

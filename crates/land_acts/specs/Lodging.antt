@@ -18,9 +18,9 @@ use Rattle.land_core.specs.declared.mutation.MutationState.TheVariants.{Lodged}
 use Rattle.land_core.specs.declared.register.Register.{Register}
 use Rattle.land_core.specs.declared.source.SourceKind.{SourceKind}
 use Rattle.land_core.specs.declared.source.SourceKind.TheVariants.{Administrative, Spatial}
-use Rattle.land_acts.specs.declared.refusal.Refusal.{Refusal}
-use Rattle.land_acts.specs.declared.refusal.Refusal.TheVariants.{TooMany, ReferenceUsed, ClockOut}
-use Rattle.land_acts.specs.Planning.{document_source, lacks_numbers}
+use Rattle.land_mutations.specs.declared.refusal.Refusal.{Refusal}
+use Rattle.land_mutations.specs.declared.refusal.Refusal.TheVariants.{TooMany, ReferenceUsed, ClockOut}
+use Rattle.land_mutations.specs.Planning.{document_source, lacks_numbers}
 
 -- the mutation that a party has lodged under a reference, with its number: there is at most one
 abbrev pub lodged_under : Register → (lodger : ℕ) → (reference : List ℕ) → Option (ℕ × MutationRecord)

@@ -1,5 +1,5 @@
 -- What an act leads to: the least refusal whose condition holds, else a change of the register.
-use Rattle.std.specs.Prelude.{◌≡◌, Bool, List, [], ◌∷◌, Option, Some, None, Result, Ok, Err, ℤ, if◌then◌else◌}
+use Rattle.std.specs.Prelude.{◌≡◌, Bool, List, Option, Some, None, Result, Ok, Err, ℤ}
 use Rattle.land_acts.specs.Burdening.{burden_refusals, burden_change, burden_done}
 use Rattle.land_acts.specs.Deciding.{approve_refusals, approve_change, approve_done, refuse_refusals, refuse_change}
 use Rattle.land_acts.specs.Enrolment.{enrol_refusals, enrol_change, enrol_done}
@@ -7,7 +7,7 @@ use Rattle.land_acts.specs.Granting.{grant_refusals, grant_change, grant_done}
 use Rattle.land_acts.specs.Grouping.{group_refusals, group_change, group_done}
 use Rattle.land_acts.specs.Lifting.{lift_refusals, lift_change, lift_done}
 use Rattle.land_acts.specs.Lodging.{lodge_repeat, lodge_refusals, lodge_change, lodge_done}
-use Rattle.land_acts.specs.Planning.{told_of}
+use Rattle.land_mutations.specs.Planning.{first_that_holds, told_of}
 use Rattle.land_acts.specs.Registering.{register_refusals, register_change, register_done}
 use Rattle.land_acts.specs.Regrouping.{regroup_refusals, regroup_change, regroup_done}
 use Rattle.land_acts.specs.Revoking.{revoke_refusals, revoke_change, revoke_done}
@@ -17,10 +17,10 @@ use Rattle.land_core.specs.declared.act.Act.TheVariants.{Enrol, Group, Regroup, 
 use Rattle.land_core.specs.declared.change.Change.{Change}
 use Rattle.land_core.specs.declared.change.Done.{Done}
 use Rattle.land_core.specs.declared.register.Register.{Register}
-use Rattle.land_acts.specs.declared.refusal.Refusal.{Refusal}
-use Rattle.land_acts.specs.declared.refusal.Refusal.TheVariants.{ClockOut}
-use Rattle.land_acts.specs.declared.refusal.Planned.{Planned}
-use Rattle.land_acts.specs.declared.refusal.Planned.TheVariants.{New, Repeat}
+use Rattle.land_mutations.specs.declared.refusal.Refusal.{Refusal}
+use Rattle.land_mutations.specs.declared.refusal.Refusal.TheVariants.{ClockOut}
+use Rattle.land_mutations.specs.declared.refusal.Planned.{Planned}
+use Rattle.land_mutations.specs.declared.refusal.Planned.TheVariants.{New, Repeat}
 
 -- the refusals of an act, each with whether its condition holds, the least number first
 abbrev pub refusals_of : Register → Caller → Act → Option ℤ → List (Refusal × Bool)
@@ -63,11 +63,6 @@ done_of r caller (Lift it) stamp = lift_done it stamp
 done_of r caller (Lodge it) stamp = lodge_done r stamp
 done_of r caller (Approve it) stamp = approve_done r it stamp
 done_of r caller (Refuse it) stamp = told_of it.mutation stamp
-
--- the first whose condition holds
-abbrev pub first_that_holds : List (Refusal × Bool) → Option Refusal
-first_that_holds [] = None
-first_that_holds (line ∷ lines) = if line.1 then Some line.0 else first_that_holds lines
 
 abbrev pub refused_else : Option Refusal → Result Planned Refusal → Result Planned Refusal
 refused_else None else_planned = else_planned

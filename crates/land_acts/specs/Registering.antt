@@ -11,11 +11,11 @@ use Rattle.land_core.specs.declared.register.Register.{Register}
 use Rattle.land_core.specs.declared.rrr.Class.TheVariants.{Right}
 use Rattle.land_core.specs.declared.rrr.RrrRecord.{RrrRecord}
 use Rattle.land_core.specs.declared.source.SourceKind.TheVariants.{Administrative}
-use Rattle.land_acts.specs.declared.refusal.Refusal.{Refusal}
-use Rattle.land_acts.specs.declared.refusal.Refusal.TheVariants.{NoSuchParty, SharesTooFine, TooMany, SharesNotWhole, ClockOut, SameParty}
+use Rattle.land_mutations.specs.declared.refusal.Refusal.{Refusal}
+use Rattle.land_mutations.specs.declared.refusal.Refusal.TheVariants.{NoSuchParty, SharesTooFine, TooMany, SharesNotWhole, ClockOut, SameParty}
 use Rattle.land_acts.specs.FirstRights.{lists_absent, are_types_too_fine, are_types_whole, has_right_twice}
-use Rattle.land_acts.specs.Numbering.{numbered, numbers_from}
-use Rattle.land_acts.specs.Planning.{document_source, lacks_numbers}
+use Rattle.land_mutations.specs.Numbering.{numbered, numbers_from}
+use Rattle.land_mutations.specs.Planning.{document_source, lacks_numbers}
 
 -- how many objects are new: the source, the unit, the parcels and the rights
 abbrev pub new_count : NewUnit → ℕ

@@ -1,20 +1,19 @@
 //! Burdening a unit.
 ghost use Rattle.std.specs.Prelude.{◌≡◌, ◌≤◌, IfOk};
-ghost use Rattle.land_acts.specs.Burdening.{burden_refusals, burden_change, burden_done, class_of, would_crowd};
-ghost use Rattle.land_acts.specs.Outcome.{first_that_holds};
+ghost use Rattle.land_acts.specs.Burdening.{burden_refusals, burden_change, burden_done, class_of};
+ghost use Rattle.land_mutations.specs.Planning.{would_crowd, first_that_holds};
 
-use crate::plan::{document_source, lacks_numbers};
-use crate::refusal::Refusal;
 use crate::slice::Slice;
 use land_core::act::{Burden, BurdenClass};
 use land_core::change::{Change, Done};
-use land_core::contents::rrr_count;
 use land_core::duplicate::Duplicate;
 use land_core::kind::Kind;
 use land_core::rrr::{Class, RrrRecord};
 use land_core::sequence::Sequence;
 use land_core::source::SourceKind;
 use land_core::text::Text;
+use land_mutations::planning::{document_source, lacks_numbers, would_crowd};
+use land_mutations::refusal::Refusal;
 use std::alloc::{AllocError, Global};
 
 /// The least refusal of a burden whose condition holds.
@@ -32,13 +31,6 @@ pub(crate) fn refusal(slice: &Slice, it: &Burden, stamp: Option<i64>) -> Option<
     } else {
         None
     }
-}
-
-/// Whether a unit would have more than 256 entries with one more.
-pub(crate) fn would_crowd(slice: &Slice, unit: u64) -> bool
-    ensures { result ≡ would_crowd slice.now unit 1 }
-{
-    256 <= rrr_count(slice, unit)
 }
 
 /// The source and the entry, under the next numbers.

@@ -1,7 +1,7 @@
 //! Laws, each stated over the definitions alone.
 ghost use Rattle.land_acts.specs.AreaLaws.{MergersKeepAreas, SubdivisionsKeepAreas};
 ghost use Rattle.land_acts.specs.Laws.{SlicesSuffice, AcceptedKeepsSound, AcceptedNamesKeysOnce, AcceptedTellsStamp, NothingWithoutStamp};
-ghost use Rattle.land_acts.specs.MutationLaws.{DecisionsStay, LodgingsStand, LodgingsStay, ReceiversHaveOneRight, RepeatsAreToldTheFirst, TransfersKeepSums};
+ghost use Rattle.land_acts.specs.MutationLaws.{DecisionsStay, LodgingsStand, LodgingsStay, RepeatsAreToldTheFirst};
 
 /// An act has the same outcome over a register and over its slice.
 pub fn slices_suffice()
@@ -46,16 +46,6 @@ pub fn repeats_are_told_the_first()
 /// What is decided stays as it is.
 pub fn decisions_stay()
     ensures { DecisionsStay }
-{}
-
-/// A transfer that is not refused keeps the sum of the shares of the right's type in the unit.
-pub fn transfers_keep_sums()
-    ensures { TransfersKeepSums }
-{}
-
-/// After a transfer that is not refused, the receiver has one right of the type in the unit.
-pub fn receivers_have_one_right()
-    ensures { ReceiversHaveOneRight }
 {}
 
 /// The parcels of an approved subdivision have together the area of the parcel that ended.

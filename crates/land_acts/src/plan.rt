@@ -1,20 +1,16 @@
 //! The plan of an act.
 ghost use Rattle.std.specs.Prelude.{◌≡◌, ◌≢◌, true, IfOk};
 ghost use Rattle.land_core.specs.Acts.{is_well_formed};
-ghost use Rattle.land_acts.specs.Outcome.{outcome_of, refusals_of, first_that_holds, change_of, done_of, repeated_done, IsUnrefused};
+ghost use Rattle.land_acts.specs.Outcome.{outcome_of, refusals_of, change_of, done_of, repeated_done, IsUnrefused};
+ghost use Rattle.land_mutations.specs.Planning.{first_that_holds};
 ghost use Rattle.land_acts.specs.Slices.{IsOfSound};
-ghost use Rattle.land_acts.specs.Planning.{document_source, lacks_numbers, told_of};
 
-use crate::refusal::{Planned, Refusal};
 use crate::slice::Slice;
 use crate::{burden, decide, enrol, grant, group, lift, lodge, register, regroup, revoke};
 use land_core::act::Act;
 use land_core::caller::Caller;
 use land_core::change::{Change, Done};
-use land_core::duplicate::Duplicate;
-use land_core::sequence::Sequence;
-use land_core::source::{SourceKind, SourceRecord};
-use land_core::text::Text;
+use land_mutations::refusal::{Planned, Refusal};
 use std::alloc::{AllocError, Global};
 
 /// What an act leads to, over a slice of the register: the least refusal whose condition holds, else the change and
@@ -109,39 +105,5 @@ fn planned(
         Act::Lodge(it) => lodge::planned(alloc, slice, caller, it, stamp),
         Act::Approve(it) => decide::approved(alloc, slice, *it, stamp),
         Act::Refuse(it) => decide::refused(alloc, slice, *it, stamp),
-    }
-}
-
-/// Whether there are too few numbers left for so many new objects.
-pub(crate) fn lacks_numbers(slice: &Slice, count: u128) -> bool
-    ensures { result ≡ lacks_numbers slice.now count }
-{
-    1_000_000_001 < u128::from(slice.next).saturating_add(count)
-}
-
-/// The source that a document is, under its number.
-pub(crate) fn document_source(
-    alloc: Global,
-    number: u64,
-    kind: SourceKind,
-    document: &Text,
-) -> Result<Sequence<(u64, SourceRecord)>, AllocError>
-    ensures { IfOk result (λ it. it ≡ document_source number kind document.now) }
-{
-    let record = SourceRecord {
-        kind,
-        title: document.copy(alloc)?,
-    };
-    Sequence::of_one(alloc, (number, record))
-}
-
-/// What is told of an act on an object that makes nothing. It takes no memory.
-pub(crate) fn told_of(alloc: Global, number: u64, stamp: i64) -> Done
-    ensures { result ≡ told_of number stamp }
-{
-    Done {
-        number,
-        made: Sequence::new(alloc),
-        stamp,
     }
 }

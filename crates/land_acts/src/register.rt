@@ -1,22 +1,22 @@
 //! Entering a unit with its first parcels and rights.
 ghost use Rattle.std.specs.Prelude.{◌≡◌, ◌≤◌, ◌+◌, true, length, map as map_list, IfOk};
 ghost use Rattle.land_core.specs.Acts.{is_new_unit};
-ghost use Rattle.land_acts.specs.Numbering.{numbered, numbers_from};
-ghost use Rattle.land_acts.specs.Outcome.{first_that_holds};
+ghost use Rattle.land_mutations.specs.Numbering.{numbered, numbers_from};
+ghost use Rattle.land_mutations.specs.Planning.{first_that_holds};
 ghost use Rattle.land_acts.specs.Registering.{new_count, parcel_of, register_refusals, register_change, register_done, right_of};
 
 use crate::first_rights::{are_types_too_fine, are_types_whole, has_right_twice, lists_absent};
-use crate::plan::{document_source, lacks_numbers};
-use crate::refusal::Refusal;
 use crate::slice::Slice;
 use land_core::act::{NewParcel, NewRight, NewUnit};
 use land_core::change::{Change, Done};
 use land_core::duplicate::Duplicate;
 use land_core::parcel::ParcelRecord;
 use land_core::rrr::{Class, RrrRecord};
-use land_core::sequence::{NumberList, Sequence};
+use land_core::sequence::Sequence;
 use land_core::source::SourceKind;
 use land_core::unit::UnitRecord;
+use land_mutations::planning::{document_source, lacks_numbers, numbers_from};
+use land_mutations::refusal::Refusal;
 use land_shape::Ring;
 use std::alloc::{AllocError, Global};
 
@@ -148,13 +148,4 @@ fn placed_rights(
         number += 1;
     }
     Ok(placed)
-}
-
-/// So many numbers from `first` on.
-pub(crate) fn numbers_from(alloc: Global, first: u64, count: u64) -> Result<NumberList, AllocError>
-    requires { first + count ≤ 1_000_000_001 }
-    ensures { IfOk result (λ it. it ≡ numbers_from first count) }
-{
-    let numbers = (first..first + count).collect::<Vec<u64>>(alloc)?;
-    Ok(Sequence::from_vec(numbers))
 }

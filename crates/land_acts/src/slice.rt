@@ -1,6 +1,5 @@
 //! Slices: the records that planning may look at.
 ghost use Rattle.std.specs.Prelude.{◌≡◌, nat_eq, IfOk};
-ghost use Rattle.land_core.specs.Contents.{names_unit as content_names_unit};
 ghost use Rattle.land_core.specs.Entries.{only, some};
 ghost use Rattle.land_acts.specs.Slices.{content_names_party, slice_of, looks_at_mutation, looks_at_party, looks_at_rrr, mutations_looked_at, names_party, names_rrr, names_unit};
 
@@ -19,10 +18,8 @@ use land_core::roles::Roles;
 use land_core::rrr::RrrRecord;
 use land_core::source::SourceRecord;
 use land_core::unit::UnitRecord;
+pub use land_mutations::planning::Slice;
 use std::alloc::{AllocError, Global};
-
-/// A register with only the records that planning may look at.
-pub type Slice = Register;
 
 /// The slice of a register for an act: the parties that the act names, or the mutation that it decides, and all state
 /// administrators, each with its roles and its members; the units named likewise with their parcels and entries; the entry

@@ -1,0 +1,11 @@
+-- Definitions of what mutations ask for, and of what all plans have in common.
+pub mod Areas
+pub mod Asking
+pub mod Discharging
+pub mod Merging
+pub mod Mortgaging
+pub mod Numbering
+pub mod Planning
+pub mod Subdividing
+pub mod TransferLaws
+pub mod Transferring

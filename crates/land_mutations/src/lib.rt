@@ -1,0 +1,13 @@
+//! What mutations ask for: when it is refused, what it changes and what it makes; and what all plans have in common.
+#![tactic(auto)]
+
+mod areas;
+pub mod asking;
+mod discharge;
+pub mod laws;
+mod merge;
+mod mortgage;
+pub mod planning;
+pub mod refusal;
+mod subdivide;
+pub mod transfer;
