@@ -2,9 +2,9 @@
 use Rattle.std.proofs.Common.{◌≡◌, Bool, true, false, refl, sym, ◌∙◌, subst, inl, inr, Ok, Err}
 use Rattle.std.proofs.lemmas.Bool.{false≢true}
 use Rattle.std.specs.Prelude.{ℤ, Option, Some, None, Result, if◌then◌else◌, int_lt}
-use Rattle.land_acts.specs.declared.refusal.Planned.{Planned}
-use Rattle.land_acts.specs.declared.refusal.Planned.TheVariants.{New, Repeat}
-use Rattle.land_acts.specs.declared.refusal.Refusal.{Refusal}
+use Rattle.land_mutations.specs.declared.refusal.Planned.{Planned}
+use Rattle.land_mutations.specs.declared.refusal.Planned.TheVariants.{New, Repeat}
+use Rattle.land_mutations.specs.declared.refusal.Refusal.{Refusal}
 use Rattle.land_core.specs.declared.ask.Ask.{Ask}
 use Rattle.land_core.specs.declared.ask.Ask.TheVariants as ask
 use Rattle.land_core.specs.declared.ask.Request.{Request}

@@ -11,9 +11,9 @@ use Rattle.land_core.specs.declared.caller.Caller.{Caller}
 use Rattle.land_core.specs.declared.act.Act.{Act}
 use Rattle.land_core.specs.declared.ask.Request.{Request}
 use Rattle.land_rules.specs.declared.verdict.Verdict.TheVariants.{Allowed}
-use Rattle.land_acts.specs.declared.refusal.Refusal.{Refusal}
-use Rattle.land_acts.specs.declared.refusal.Planned.{Planned}
-use Rattle.land_acts.specs.declared.refusal.Planned.TheVariants.{New, Repeat}
+use Rattle.land_mutations.specs.declared.refusal.Refusal.{Refusal}
+use Rattle.land_mutations.specs.declared.refusal.Planned.{Planned}
+use Rattle.land_mutations.specs.declared.refusal.Planned.TheVariants.{New, Repeat}
 use Rattle.land_keep.specs.declared.reply.Reply.{Reply}
 use Rattle.land_keep.specs.Timeline.{Timeline, last_stamp, last_register}
 use Rattle.land_keep.specs.Machine.{Run, State, Element, step, allowed, acted, verdict_at, moment_of, now_of, stamp_of}

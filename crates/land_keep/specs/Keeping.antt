@@ -1,12 +1,12 @@
 -- What a keeper of the timeline may be asked, how its faults go, and what is prepared for a request.
 use Rattle.std.specs.Prelude.{◌≡◌, Bool, true, false, Option, Some, None, Result, Ok, Err, ℤ, ◌<ℤ◌, ◌≤ℤ◌, MatchOption}
 use Rattle.land_acts.specs.Laws.{IsAccepted}
-use Rattle.land_acts.specs.Planning.{number_of}
+use Rattle.land_mutations.specs.Planning.{number_of}
 use Rattle.land_core.specs.declared.ask.Request.{Request}
 use Rattle.land_core.specs.declared.change.Change.{Change}
-use Rattle.land_acts.specs.declared.refusal.Planned.{Planned}
-use Rattle.land_acts.specs.declared.refusal.Planned.TheVariants.{New, Repeat}
-use Rattle.land_acts.specs.declared.refusal.Refusal.{Refusal}
+use Rattle.land_mutations.specs.declared.refusal.Planned.{Planned}
+use Rattle.land_mutations.specs.declared.refusal.Planned.TheVariants.{New, Repeat}
+use Rattle.land_mutations.specs.declared.refusal.Refusal.{Refusal}
 use Rattle.land_keep.specs.Machine.{Next, step, written}
 use Rattle.land_keep.specs.Moments.{last_moment}
 use Rattle.land_keep.specs.Timeline.{Timeline, last_stamp, last_register}

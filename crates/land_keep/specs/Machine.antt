@@ -2,7 +2,7 @@
 use Rattle.std.specs.Prelude.{◌≡◌, ℕ, Bool, true, false, List, [], ◌∷◌, ◌++◌, Option, Some, None, Result, Ok, Err, ℤ, int_lt, unwrap_or, ◌⊎◌, if◌then◌else◌}
 use Rattle.land_core.specs.Changes.{after}
 use Rattle.land_acts.specs.Outcome.{outcome_of}
-use Rattle.land_acts.specs.Planning.{number_of}
+use Rattle.land_mutations.specs.Planning.{number_of}
 use Rattle.land_core.specs.Register.{object_at}
 use Rattle.land_core.specs.declared.ask.Ask.{Ask}
 use Rattle.land_core.specs.declared.ask.Ask.TheVariants as ask
@@ -11,9 +11,9 @@ use Rattle.land_core.specs.declared.caller.Caller.{Caller}
 use Rattle.land_core.specs.declared.change.Change.{Change}
 use Rattle.land_core.specs.declared.kind.Kind.{Kind}
 use Rattle.land_core.specs.declared.object.Object.{Object}
-use Rattle.land_acts.specs.declared.refusal.Planned.{Planned}
-use Rattle.land_acts.specs.declared.refusal.Planned.TheVariants.{New, Repeat}
-use Rattle.land_acts.specs.declared.refusal.Refusal.{Refusal}
+use Rattle.land_mutations.specs.declared.refusal.Planned.{Planned}
+use Rattle.land_mutations.specs.declared.refusal.Planned.TheVariants.{New, Repeat}
+use Rattle.land_mutations.specs.declared.refusal.Refusal.{Refusal}
 use Rattle.land_core.specs.declared.register.Register.{Register}
 use Rattle.land_rules.specs.Rules.{verdict_of, seen_of}
 use Rattle.land_keep.specs.Moments.{now_after, stamp_after}
