@@ -1,5 +1,6 @@
-//! Tests of `land_fraction`, `land_shape`, `land_core` and `land_rules`, and nothing else. A crate that has tests is proved
-//! twice: those four have none of their own, and this one has nothing to prove.
+//! Tests of `land_fraction` and `land_shape`, and of what in `land_core` needs no register: its small types, and the limits of
+//! acts and requests. There is nothing else here. A crate that has tests is proved twice: those three have none of their own,
+//! and this one has nothing to prove.
 //!
 //! The tests hold what no clause says: that the calls succeed up to the limits, worked examples, and what a refused
 //! allocation leaves. Want of memory ends a test with an `Err`, so that it fails unless an allocation was refused.
@@ -7,14 +8,10 @@
 #![tactic(auto)]
 
 #[cfg(test)]
-mod core_records;
+mod core_acts;
 #[cfg(test)]
-mod facts;
+mod core_types;
 #[cfg(test)]
 mod fraction;
-#[cfg(test)]
-mod lodged;
-#[cfg(test)]
-mod rules;
 #[cfg(test)]
 mod shape;

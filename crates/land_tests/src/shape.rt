@@ -9,7 +9,7 @@ use std::test::Fail;
 /// A text, its doubled area and its printed form.
 struct Row(&'static str, u64, &'static str);
 
-const SQUARE: &str = "POLYGON ((0 0, 10 0, 10 10, 0 10, 0 0))";
+pub(super) const SQUARE: &str = "POLYGON ((0 0, 10 0, 10 10, 0 10, 0 0))";
 
 const CORNER: &str = "POLYGON ((0 0, 1 0, 0 1, 0 0))";
 

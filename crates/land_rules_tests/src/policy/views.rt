@@ -160,23 +160,27 @@ fn is_told_of(register: &Register, row: &Sheet) -> bool {
 }
 
 /// How many sheets are told as expected before the first that is not.
-fn sheets_of(register: &Register) -> usize {
-    for (place, row) in SHEETS.iter().enumerate() {
+fn sheets_of(register: &Register, rows: &[Sheet]) -> usize {
+    for (place, row) in rows.iter().enumerate() {
         if !is_told_of(register, row) {
             return place;
         }
     }
-    SHEETS.len()
+    rows.len()
 }
 
-fn told_sheets(alloc: Global) -> Result<usize, Fail> {
+fn told_sheets(alloc: Global, rows: &[Sheet]) -> Result<usize, Fail> {
     let register = farm_and_house(alloc)?;
-    Ok(sheets_of(&register))
+    Ok(sheets_of(&register, rows))
+}
+
+fn assert_sheets(rt: &impl Abort, alloc: Global, rows: &[Sheet]) -> Result<(), Fail> {
+    let told = told_sheets(alloc, rows)?;
+    assert!(rt; told == rows.len(), "row {told}");
+    Ok(())
 }
 
 #[test]
 fn a_sheet_is_judged_as_its_unit(rt: HostRuntime) -> Result<(), Fail> {
-    let told = told_sheets(rt.alloc())?;
-    assert!(&rt; told == SHEETS.len(), "row {told}");
-    Ok(())
+    assert_sheets(&rt, rt.alloc(), SHEETS)
 }

@@ -1,8 +1,8 @@
 //! How many members a group has, and how many parcels and entries a unit: at the limit, and just above it.
 use super::garden::{DEED, GARDEN, SAM};
-use super::{WITH_GARDEN, fault_of};
+use super::{Part, WITH_GARDEN, fault_of};
 use crate::facts::{Fact, Held};
-use land_core::kind::PartyKind::{Group, NaturalPerson};
+use land_core::kind::PartyKind::NaturalPerson;
 use land_core::soundness::Unsound;
 use std::alloc::{AllocError, Global};
 use std::test::Fail;
@@ -42,7 +42,7 @@ fn crowd_of(alloc: Global, crowd: Crowd, count: u64) -> Result<Vec<Fact>, AllocE
 /// The fault of a register with so many of a crowd more.
 fn crowded(
     alloc: Global,
-    base: &[&[Fact]],
+    base: &[Part],
     crowd: Crowd,
     count: u64,
 ) -> Result<Option<Unsound>, Fail> {
@@ -50,10 +50,9 @@ fn crowded(
     fault_of(alloc, base, facts.as_slice())
 }
 
-/// A group of 64 members, which do not stand yet.
-const OF_64: &[&[Fact]] = &[&[Fact::Party(2, Group, "All"), Fact::Crowd(2, 64)]];
+const OF_64: &[Part] = &[Part::Of64];
 
-const OF_65: &[&[Fact]] = &[&[Fact::Party(2, Group, "All"), Fact::Crowd(2, 65)]];
+const OF_65: &[Part] = &[Part::Of65];
 
 #[test]
 fn a_group_has_at_most_64_members(rt: HostRuntime) -> Result<(), Fail> {

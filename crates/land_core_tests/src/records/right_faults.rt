@@ -1,6 +1,6 @@
 //! Each fault of rights and mortgages, and what lies just beside it.
-use super::garden::{ANNA, BEN, DEED, GARDEN, ORCHARD, RECORDS, SAM, WITH_ORCHARD, WITHOUT_RIGHTS};
-use super::{Case, PERSONS, WITH_TWO_UNITS, assert_faults, fault_of};
+use super::garden::{ANNA, BEN, DEED, GARDEN, ORCHARD, SAM};
+use super::{Case, Part, WITH_TWO_UNITS, assert_faults, fault_of};
 use crate::facts::{Fact, Held, Right};
 use land_core::rrr::RightType::{Lease, Ownership, Usufruct};
 use land_core::soundness::Unsound;
@@ -21,14 +21,17 @@ fn rights_of(alloc: Global, rights: &[Right]) -> Result<Vec<Fact>, AllocError> {
     Ok(facts)
 }
 
-const UNCHECKED: Fact = Fact::Unit(GARDEN, "Garden", false);
+const CHECKED_BARE: &[Part] = &[Part::Persons, Part::Garden, Part::WithoutRights];
 
-const CHECKED_BARE: &[&[Fact]] = &[PERSONS, RECORDS, WITHOUT_RIGHTS];
-
-const UNCHECKED_BARE: &[&[Fact]] = &[PERSONS, RECORDS, WITHOUT_RIGHTS, &[UNCHECKED]];
+const UNCHECKED_BARE: &[Part] = &[
+    Part::Persons,
+    Part::Garden,
+    Part::WithoutRights,
+    Part::Unchecked,
+];
 
 /// The fault of the garden with these rights and no others.
-fn held(alloc: Global, base: &[&[Fact]], rights: &[Right]) -> Result<Option<Unsound>, Fail> {
+fn held(alloc: Global, base: &[Part], rights: &[Right]) -> Result<Option<Unsound>, Fail> {
     let facts = rights_of(alloc, rights)?;
     fault_of(alloc, base, facts.as_slice())
 }
@@ -166,7 +169,7 @@ const RANKS: &[Case] = &[
     ),
 ];
 
-const UP_TO_20: &[&[Fact]] = &[PERSONS, RECORDS, WITH_ORCHARD, &[Fact::Next(20)]];
+const UP_TO_20: &[Part] = &[Part::Persons, Part::Garden, Part::Orchard, Part::Next20];
 
 #[test]
 fn mortgages_of_a_unit_have_ranks_of_their_own(rt: HostRuntime) -> Result<(), Fail> {

@@ -10,6 +10,7 @@ use land_core::register::Register;
 use land_core::role::Role;
 use std::alloc::{AllocError, Global};
 use std::fmt::Debug;
+use std::process::Abort;
 use std::test::Fail;
 
 /// Whether a register is the new one.
@@ -146,23 +147,27 @@ const OBJECTS: &[(Kind, u64)] = &[
 ];
 
 /// How many objects are copied alike before the first that is not.
-fn copied_rows(alloc: Global, register: &Register) -> Result<usize, Fail> {
-    for (place, row) in OBJECTS.iter().enumerate() {
+fn copied_rows(alloc: Global, register: &Register, rows: &[(Kind, u64)]) -> Result<usize, Fail> {
+    for (place, row) in rows.iter().enumerate() {
         if !is_object_copied(alloc, register, row.0, row.1)? {
             return Ok(place);
         }
     }
-    Ok(OBJECTS.len())
+    Ok(rows.len())
 }
 
-fn copied(alloc: Global) -> Result<usize, Fail> {
+fn copied(alloc: Global, rows: &[(Kind, u64)]) -> Result<usize, Fail> {
     let register = with_all(alloc)?;
-    copied_rows(alloc, &register)
+    copied_rows(alloc, &register, rows)
+}
+
+fn assert_copied(rt: &impl Abort, alloc: Global, rows: &[(Kind, u64)]) -> Result<(), Fail> {
+    let copied = copied(alloc, rows)?;
+    assert!(rt; copied == rows.len(), "row {copied}");
+    Ok(())
 }
 
 #[test]
 fn a_copied_object_has_all_fields(rt: HostRuntime) -> Result<(), Fail> {
-    let copied = copied(rt.alloc())?;
-    assert!(&rt; copied == OBJECTS.len(), "row {copied}");
-    Ok(())
+    assert_copied(&rt, rt.alloc(), OBJECTS)
 }

@@ -1,7 +1,6 @@
 //! Each fault of parties, their roles and their members, and what lies just beside it.
 use super::{
-    ANNA_A_THIRD, Case, FAMILY, OFFICE_ALONE, PERSONS, REFERENCE, WITH_GROUP, WITH_PERSONS,
-    assert_faults,
+    ANNA_A_THIRD, Case, OFFICE_ALONE, Part, REFERENCE, WITH_GROUP, WITH_PERSONS, assert_faults,
 };
 use crate::facts::{Fact, Share};
 use land_core::kind::PartyKind::NaturalPerson;
@@ -77,7 +76,7 @@ const MEMBERS: &[Case] = &[
     Case(&[Fact::Members(5, WITH_ITSELF)], REFERENCE),
 ];
 
-const WITH_FAMILY: &[&[Fact]] = &[PERSONS, &[FAMILY]];
+const WITH_FAMILY: &[Part] = &[Part::Persons, Part::Family];
 
 #[test]
 fn members_are_single_parties_with_all_shares(rt: HostRuntime) -> Result<(), Fail> {

@@ -1,7 +1,8 @@
 //! Acts whose limits are tried.
-use super::garden::{ANNA, GARDEN};
-use crate::facts::{Right, SQUARE, text};
-use crate::lodged::{Asked, content};
+use super::asked::{Asked, content};
+use super::{ANNA, GARDEN, Right};
+use crate::core_types::text;
+use crate::shape::SQUARE;
 use land_core::act::{Burden, BurdenClass, Lodging, NewParcel, NewRight, NewUnit};
 use land_core::sequence::Sequence;
 use land_fraction::Fraction;

@@ -1,8 +1,10 @@
 //! Who lodges and decides mutations, and who sees them and what they name.
 use super::lists::{Row as Shown, shown_rows};
 use super::standing::{Row, told_of};
-use super::{ABSENT, ALL, ANNA, DEED, FARM, HOUSE, LENA, NORA, NORTH, OFFICE, SAM, SOUTH};
-use crate::facts::{Fact, fault, register_of, text};
+use super::{
+    ABSENT, ANNA, DEED, FARM, HOUSE, LENA, NORA, NORTH, OFFICE, SAM, SOUTH, farm_and_house_with,
+};
+use crate::facts::{Fact, fault, text};
 use crate::lodged::{Asked, Lodged, content};
 use land_core::act::{Act, Decision, Lodging};
 use land_core::ask::Ask;
@@ -14,6 +16,7 @@ use land_core::role::Role::{
 };
 use land_core::soundness::Unsound;
 use std::alloc::Global;
+use std::process::Abort;
 use std::test::Fail;
 
 /// Lodged by the bank North on the farm (21); by Lena on the house (22), and on the farm, where it is approved (23) and
@@ -101,7 +104,7 @@ const SEEN: &[Shown] = &[
 
 /// The register with the farm, the house and their mutations.
 fn with_mutations(alloc: Global) -> Result<Register, Fail> {
-    register_of(alloc, ALL, MUTATIONS)
+    farm_and_house_with(alloc, MUTATIONS)
 }
 
 fn fault_of_all(alloc: Global) -> Result<Option<Unsound>, Fail> {
@@ -120,11 +123,15 @@ fn seen_of_all(alloc: Global, rows: &[Shown]) -> Result<usize, Fail> {
     shown_rows(alloc, &at, rows)
 }
 
+fn assert_seen(rt: &impl Abort, alloc: Global, rows: &[Shown]) -> Result<(), Fail> {
+    let shown = seen_of_all(alloc, rows)?;
+    assert!(rt; shown == rows.len(), "row {shown}");
+    Ok(())
+}
+
 #[test]
 fn lodgers_and_holders_see_mutations(rt: HostRuntime) -> Result<(), Fail> {
-    let shown = seen_of_all(rt.alloc(), SEEN)?;
-    assert!(&rt; shown == SEEN.len(), "row {shown}");
-    Ok(())
+    assert_seen(&rt, rt.alloc(), SEEN)
 }
 
 fn lodging(alloc: Global, it: &Asked) -> Result<Ask, Fail> {

@@ -3,7 +3,7 @@ use super::garden::{
     ANNA, ANNAS, BEN, DEED, GARDEN, HALF, HEDGE, LAWN, LEASE, LETTER, LOAN, LOAN_LODGED, NOBODY,
     PATH, POND, SAM, SHARE,
 };
-use super::{ANNA_A_THIRD, WITH_ALL, WITH_GARDEN};
+use super::{ANNA_A_THIRD, Part, WITH_ALL, WITH_GARDEN};
 use crate::facts::{Fact, Held, SQUARE, Share, register_with};
 use crate::lodged::{Lodged, MOMENT, is_asked};
 use land_core::kind::Kind;
@@ -21,6 +21,7 @@ use land_core::source::{Source, SourceKind};
 use land_core::unit::Unit;
 use land_fraction::Fraction;
 use std::alloc::{AllocError, Global};
+use std::process::Abort;
 use std::test::Fail;
 
 /// What is shown of an object.
@@ -188,9 +189,15 @@ pub(super) fn shown_rows(
 }
 
 /// How many rows a register of these facts shows before the first that it does not.
-fn rows_of(alloc: Global, facts: &[&[Fact]], rows: &[Shown]) -> Result<usize, Fail> {
-    let register = register_with(alloc, facts)?;
+fn rows_of(alloc: Global, base: &[Part], rows: &[Shown]) -> Result<usize, Fail> {
+    let register = register_with(alloc, base)?;
     shown_rows(alloc, &register, rows)
+}
+
+fn assert_shown(rt: &impl Abort, alloc: Global, base: &[Part], rows: &[Shown]) -> Result<(), Fail> {
+    let shown = rows_of(alloc, base, rows)?;
+    assert!(rt; shown == rows.len(), "row {shown}");
+    Ok(())
 }
 
 /// The office, as it begins.
@@ -256,9 +263,7 @@ const OBJECTS: &[Shown] = &[
 
 #[test]
 fn objects_are_shown(rt: HostRuntime) -> Result<(), Fail> {
-    let shown = rows_of(rt.alloc(), WITH_ALL, OBJECTS)?;
-    assert!(&rt; shown == OBJECTS.len(), "row {shown}");
-    Ok(())
+    assert_shown(&rt, rt.alloc(), WITH_ALL, OBJECTS)
 }
 
 const NOTHING: &[Shown] = &[
@@ -284,7 +289,5 @@ const NOTHING: &[Shown] = &[
 
 #[test]
 fn nothing_is_shown_where_no_object_of_the_kind_stands(rt: HostRuntime) -> Result<(), Fail> {
-    let shown = rows_of(rt.alloc(), WITH_GARDEN, NOTHING)?;
-    assert!(&rt; shown == NOTHING.len(), "row {shown}");
-    Ok(())
+    assert_shown(&rt, rt.alloc(), WITH_GARDEN, NOTHING)
 }

@@ -1,8 +1,7 @@
 //! The limits of acts and of requests.
 use super::drafts::{Draft, burden, registration};
-use super::garden::{ANNA, GARDEN, PATH};
-use super::is_good;
-use crate::facts::{Right, text};
+use super::{ANNA, GARDEN, PATH, Right, is_good};
+use crate::core_types::text;
 use Tried::{Burden, Lift, Register};
 use land_core::act::BurdenClass::{Responsibility, Restriction};
 use land_core::act::{Act, BurdenClass, Enrol, NewGroup, Regroup};

@@ -1,5 +1,6 @@
 //! Registers and changes that are put together by hand, record by record.
 use super::lodged::{Lodged, mutation};
+use super::records::{Part, facts_of};
 use land_core::change::{Change, Ended, Put};
 use land_core::kind::{Kind, PartyKind};
 use land_core::member::Members;
@@ -221,29 +222,25 @@ fn tell_all(alloc: Global, register: &mut Register, facts: &[Fact]) -> Result<()
 }
 
 /// The new register, which is told the facts of all parts and then these.
-pub(super) fn register_of(
-    alloc: Global,
-    parts: &[&[Fact]],
-    facts: &[Fact],
-) -> Result<Register, Fail> {
+pub(super) fn register_of(alloc: Global, parts: &[Part], facts: &[Fact]) -> Result<Register, Fail> {
     let mut register = Register::new(alloc)?;
     tell_parts(alloc, &mut register, parts, facts)?;
     Ok(register)
 }
 
 /// The new register, which is told the facts of all parts.
-pub(super) fn register_with(alloc: Global, parts: &[&[Fact]]) -> Result<Register, Fail> {
+pub(super) fn register_with(alloc: Global, parts: &[Part]) -> Result<Register, Fail> {
     register_of(alloc, parts, &[])
 }
 
 fn tell_parts(
     alloc: Global,
     register: &mut Register,
-    parts: &[&[Fact]],
+    parts: &[Part],
     facts: &[Fact],
 ) -> Result<(), Fail> {
     for part in parts {
-        tell_all(alloc, register, part)?;
+        tell_all(alloc, register, facts_of(part))?;
     }
     tell_all(alloc, register, facts)
 }

@@ -1,7 +1,7 @@
 //! Each fault of mutations, and what lies just beside it.
-use super::garden::{ANNA, ANNAS, BEN, DEED, GARDEN, LAWN, LEASE, LOAN, NOBODY, RECORDS, SAM};
-use super::{Case, GROUP, PERSONS, REFERENCE, assert_faults};
-use crate::facts::Fact::{self, Mutation, Next};
+use super::garden::{ANNA, ANNAS, BEN, DEED, GARDEN, LAWN, LEASE, LOAN, NOBODY, SAM};
+use super::{Case, Part, REFERENCE, assert_faults};
+use crate::facts::Fact::{self, Mutation};
 use crate::lodged::Asked::{self, Discharge, Mortgage, Transfer};
 use crate::lodged::Lodged;
 use land_core::mutation::MutationState::{Approved, Lodged as Open, Refused};
@@ -9,7 +9,7 @@ use land_core::soundness::Unsound;
 use std::test::Fail;
 
 /// The garden, and numbers up to 19.
-const UP_TO_19: &[&[Fact]] = &[PERSONS, GROUP, RECORDS, &[Next(20)]];
+const UP_TO_19: &[Part] = &[Part::Persons, Part::Group, Part::Garden, Part::Next20];
 
 /// A quarter of the garden goes from Anna to Sam.
 const QUARTER: Asked = Transfer(GARDEN, ANNAS, SAM, 1, 4);

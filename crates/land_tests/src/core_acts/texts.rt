@@ -1,9 +1,8 @@
 //! How long the texts of acts may be, and what may stand in them.
+use super::asked::Asked;
 use super::drafts::{Draft, burden, lodging, registration};
-use super::garden::{ANNA, GARDEN, LOAN};
-use super::is_good;
-use crate::facts::{Right, text};
-use crate::lodged::Asked;
+use super::{ANNA, GARDEN, LOAN, Right, is_good};
+use crate::core_types::text;
 use land_core::act::BurdenClass::{Responsibility, Restriction};
 use land_core::act::{Act, BurdenClass, Enrol};
 use land_core::kind::PartyKind;
@@ -103,21 +102,30 @@ const NAMES: &[Row] = &[
     Row("\u{80}", 1, true),
 ];
 
+fn assert_names(rt: &impl Abort, alloc: Global, places: &[Place]) -> Result<(), Fail> {
+    for place in places {
+        assert_texts(rt, alloc, place, NAMES)?;
+    }
+    Ok(())
+}
+
 #[test]
 fn names_have_1_to_200_characters(rt: HostRuntime) -> Result<(), Fail> {
-    assert_texts(&rt, rt.alloc(), &Place::PartyName, NAMES)
+    assert_names(&rt, rt.alloc(), &[Place::PartyName])
 }
 
 #[test]
 fn units_and_documents_have_1_to_200_characters(rt: HostRuntime) -> Result<(), Fail> {
-    assert_texts(&rt, rt.alloc(), &Place::UnitName, NAMES)?;
-    assert_texts(&rt, rt.alloc(), &Place::Document, NAMES)
+    assert_names(&rt, rt.alloc(), &[Place::UnitName, Place::Document])
 }
 
 #[test]
 fn burdens_have_words_and_a_document(rt: HostRuntime) -> Result<(), Fail> {
-    assert_texts(&rt, rt.alloc(), &Place::BurdenWords, NAMES)?;
-    assert_texts(&rt, rt.alloc(), &Place::BurdenDocument, NAMES)
+    assert_names(
+        &rt,
+        rt.alloc(),
+        &[Place::BurdenWords, Place::BurdenDocument],
+    )
 }
 
 const LABELS: &[Row] = &[
@@ -131,17 +139,21 @@ const LABELS: &[Row] = &[
     Row("\u{7F}", 1, false),
 ];
 
+fn assert_labels(rt: &impl Abort, alloc: Global, place: &Place) -> Result<(), Fail> {
+    assert_texts(rt, alloc, place, LABELS)
+}
+
 #[test]
 fn labels_have_1_to_40_characters(rt: HostRuntime) -> Result<(), Fail> {
-    assert_texts(&rt, rt.alloc(), &Place::Label, LABELS)
+    assert_labels(&rt, rt.alloc(), &Place::Label)
 }
 
 #[test]
 fn references_have_1_to_40_characters(rt: HostRuntime) -> Result<(), Fail> {
-    assert_texts(&rt, rt.alloc(), &Place::Reference, LABELS)
+    assert_labels(&rt, rt.alloc(), &Place::Reference)
 }
 
 #[test]
 fn lodgings_have_a_document(rt: HostRuntime) -> Result<(), Fail> {
-    assert_texts(&rt, rt.alloc(), &Place::LodgedDocument, NAMES)
+    assert_names(&rt, rt.alloc(), &[Place::LodgedDocument])
 }

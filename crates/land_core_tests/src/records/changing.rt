@@ -4,7 +4,7 @@ use super::garden::{
     POND, SHARE,
 };
 use super::objects::{Look, Shown, shown_rows};
-use super::{OFFICE_ALONE, WITH_GARDEN, WITH_GROUP, WITH_LODGED};
+use super::{OFFICE_ALONE, Part, WITH_GARDEN, WITH_GROUP, WITH_LODGED};
 use crate::facts::{Fact, SQUARE, Share, change_all, fault, fields, register_with};
 use land_core::change::Change;
 use land_core::kind::Kind;
@@ -93,7 +93,7 @@ fn stands(register: &Register, standing: &Standing) -> bool {
 
 /// What a register is told, the change that is made of it, the next number, what stands then, and some of its objects.
 struct Changing {
-    base: &'static [&'static [Fact]],
+    base: &'static [Part],
     facts: &'static [Fact],
     next: u64,
     standing: Standing,

@@ -1,12 +1,16 @@
 //! The small types give back what they were made of.
-use crate::facts::text;
 use land_core::duplicate::Duplicate;
 use land_core::records::Records;
 use land_core::role::Role;
 use land_core::roles::{Grant, Roles};
 use land_core::sequence::Sequence;
+use land_core::text::Text;
 use std::alloc::{AllocError, Global};
 use std::test::Fail;
+
+pub(super) fn text(alloc: Global, text: &str) -> Result<Text, AllocError> {
+    Ok(Text::new(String::from_str(alloc, text)?))
+}
 
 fn is_text_given_back(alloc: Global, given: &str) -> Result<bool, AllocError> {
     let copy = text(alloc, given)?.copy(alloc)?;

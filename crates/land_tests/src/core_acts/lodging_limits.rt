@@ -1,8 +1,7 @@
 //! The limits of what is lodged, and of decisions.
+use super::asked::Asked::{self, Discharge, Mortgage, Transfer};
 use super::drafts::lodging;
-use super::garden::{ANNA, ANNAS, GARDEN, LOAN, SAM};
-use super::is_good;
-use crate::lodged::Asked::{self, Discharge, Mortgage, Transfer};
+use super::{ANNA, ANNAS, GARDEN, LOAN, SAM, is_good};
 use land_core::act::{Act, Decision};
 use std::alloc::Global;
 use std::process::Abort;

@@ -1,8 +1,10 @@
 //! Who lodges subdivisions and mergers, and who sees them and the units that they name.
 use super::lists::{Row as Shown, shown_rows};
 use super::standing::{Row, told_of};
-use super::{ALL, ANNA, DEED, FARM, HOUSE, LENA, NORA, NORTH, OFFICE, SAM};
-use crate::facts::{Fact, SQUARE, fault, register_of, text};
+use super::{
+    ANNA, DEED, FARM, HOUSE, LENA, NORA, NORTH, OFFICE, SAM, farm_and_house, farm_and_house_with,
+};
+use crate::facts::{Fact, SQUARE, fault, text};
 use crate::lodged::MOMENT;
 use land_core::act::{Act, Lodging, NewParcel};
 use land_core::ask::Ask;
@@ -18,6 +20,7 @@ use land_core::sequence::{NumberList, Sequence};
 use land_core::subdivision::{Part, Subdivision};
 use land_shape::read_wkt;
 use std::alloc::{AllocError, Global};
+use std::process::Abort;
 use std::test::Fail;
 
 /// What a surveyor asks for.
@@ -106,23 +109,32 @@ const LODGERS: &[Row] = &[
 ];
 
 /// How many callers are told as expected of an ask over the farm and the house.
-fn told_rows(alloc: Global, ask: &Ask) -> Result<usize, Fail> {
-    let register = register_of(alloc, ALL, &[])?;
-    Ok(told_of(&register, ask, false, LODGERS))
+fn told_rows(alloc: Global, ask: &Ask, rows: &[Row]) -> Result<usize, Fail> {
+    let register = farm_and_house(alloc)?;
+    Ok(told_of(&register, ask, false, rows))
 }
 
-fn told_of_lodging(alloc: Global, it: &Surveyed) -> Result<usize, Fail> {
+fn told_of_lodging(alloc: Global, it: &Surveyed, rows: &[Row]) -> Result<usize, Fail> {
     let ask = lodging(alloc, it)?;
-    told_rows(alloc, &ask)
+    told_rows(alloc, &ask, rows)
+}
+
+fn assert_lodged(
+    rt: &impl Abort,
+    alloc: Global,
+    contents: &[Surveyed],
+    rows: &[Row],
+) -> Result<(), Fail> {
+    for (place, it) in contents.iter().enumerate() {
+        let told = told_of_lodging(alloc, it, rows)?;
+        assert!(rt; told == rows.len(), "content {place}, row {told}");
+    }
+    Ok(())
 }
 
 #[test]
 fn surveyors_lodge_subdivisions_and_mergers(rt: HostRuntime) -> Result<(), Fail> {
-    for (place, it) in LODGED.iter().enumerate() {
-        let told = told_of_lodging(rt.alloc(), it)?;
-        assert!(&rt; told == LODGERS.len(), "content {place}, row {told}");
-    }
-    Ok(())
+    assert_lodged(&rt, rt.alloc(), LODGED, LODGERS)
 }
 
 // ---- who sees
@@ -157,7 +169,7 @@ fn lodge_all(alloc: Global, register: &mut Register) -> Result<(), Fail> {
 
 /// The farm and the house, with what Sam lodged.
 fn farm_and_house_surveyed(alloc: Global) -> Result<Register, Fail> {
-    let mut register = register_of(alloc, ALL, &[Fact::Next(24)])?;
+    let mut register = farm_and_house_with(alloc, &[Fact::Next(24)])?;
     lodge_all(alloc, &mut register)?;
     Ok(register)
 }
@@ -189,16 +201,20 @@ const SEEN: &[Shown] = &[
     Shown(NORA, Notary, Mutation, &[21, 22, 23]),
 ];
 
-fn seen_of_all(alloc: Global) -> Result<usize, Fail> {
+fn seen_of_all(alloc: Global, rows: &[Shown]) -> Result<usize, Fail> {
     let at = farm_and_house_surveyed(alloc)?;
-    shown_rows(alloc, &at, SEEN)
+    shown_rows(alloc, &at, rows)
+}
+
+fn assert_seen(rt: &impl Abort, alloc: Global, rows: &[Shown]) -> Result<(), Fail> {
+    let shown = seen_of_all(alloc, rows)?;
+    assert!(rt; shown == rows.len(), "row {shown}");
+    Ok(())
 }
 
 #[test]
 fn holders_in_other_units_see_mergers(rt: HostRuntime) -> Result<(), Fail> {
-    let shown = seen_of_all(rt.alloc())?;
-    assert!(&rt; shown == SEEN.len(), "row {shown}");
-    Ok(())
+    assert_seen(&rt, rt.alloc(), SEEN)
 }
 
 /// A mutation, and who is told it.

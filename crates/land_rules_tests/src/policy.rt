@@ -6,7 +6,7 @@ mod parcels;
 mod standing;
 mod views;
 
-use super::facts::{Fact, Held, Share, fault, register_with};
+use super::facts::{Fact, Held, Share, fault, register_of};
 use land_core::ask::Ask;
 use land_core::caller::Caller;
 use land_core::kind::PartyKind::{Group, NaturalPerson, NonNaturalPerson};
@@ -116,9 +116,15 @@ fn verdict_on(now: &Register, at: &Register, caller: Caller, ask: Ask, past: boo
     verdict(now, at, caller, &ask, past)
 }
 
+/// A register with the farm and the house, which is then told these facts. It alone names all parts: a function is the dearer
+/// to prove for each row of a constant that it names.
+fn farm_and_house_with(alloc: Global, facts: &[Fact]) -> Result<Register, Fail> {
+    register_of(alloc, ALL, facts)
+}
+
 /// A register with the farm and the house.
 fn farm_and_house(alloc: Global) -> Result<Register, Fail> {
-    register_with(alloc, ALL)
+    farm_and_house_with(alloc, &[])
 }
 
 fn fault_of_all(alloc: Global) -> Result<Option<Unsound>, Fail> {

@@ -131,9 +131,13 @@ fn rows_of_nothing(alloc: Global, rows: &[Row]) -> Result<usize, Fail> {
     shown_rows(alloc, &at, rows)
 }
 
+fn assert_nothing(rt: &impl Abort, alloc: Global, rows: &[Row]) -> Result<(), Fail> {
+    let shown = rows_of_nothing(alloc, rows)?;
+    assert!(rt; shown == rows.len(), "row {shown}");
+    Ok(())
+}
+
 #[test]
 fn before_the_office_began_there_is_nothing(rt: HostRuntime) -> Result<(), Fail> {
-    let shown = rows_of_nothing(rt.alloc(), NOTHING)?;
-    assert!(&rt; shown == NOTHING.len(), "row {shown}");
-    Ok(())
+    assert_nothing(&rt, rt.alloc(), NOTHING)
 }

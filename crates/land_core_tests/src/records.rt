@@ -1,0 +1,117 @@
+//! Registers with their faults, the objects that they show, and changes.
+mod changing;
+mod copies;
+mod crowds;
+mod faults;
+mod garden;
+mod mutation_faults;
+mod objects;
+mod right_faults;
+mod unit_faults;
+
+use self::garden::{GARDEN, LODGED, RECORDS, WITH_ORCHARD, WITHOUT_RIGHTS};
+use super::facts::{Fact, Share, fault, register_of};
+use land_core::kind::PartyKind::{Group, NaturalPerson};
+use land_core::soundness::Unsound;
+use std::alloc::Global;
+use std::process::Abort;
+use std::test::Fail;
+
+/// Anna, Ben and Sam, and 6 as the next number.
+const PERSONS: &[Fact] = &[
+    Fact::Party(2, NaturalPerson, "Anna"),
+    Fact::Party(3, NaturalPerson, "Ben"),
+    Fact::Party(4, NaturalPerson, "Sam"),
+    Fact::Next(6),
+];
+
+/// A party that is a group.
+const FAMILY: Fact = Fact::Party(5, Group, "Anna and Ben");
+
+const ANNA_A_THIRD: &[Share] = &[(2, 1, 3), (3, 2, 3)];
+
+/// The group with its members.
+const GROUP: &[Fact] = &[FAMILY, Fact::Members(5, ANNA_A_THIRD)];
+
+/// Facts that registers begin with. A function is the dearer to prove for each row of a constant that it names, so `facts_of`
+/// alone names these.
+pub(super) enum Part {
+    Persons,
+    Family,
+    Group,
+    Garden,
+    Lodged,
+    WithoutRights,
+    Unchecked,
+    Orchard,
+    Next20,
+    Of64,
+    Of65,
+}
+
+const FAMILY_ALONE: &[Fact] = &[FAMILY];
+
+const NEXT_20: &[Fact] = &[Fact::Next(20)];
+
+/// A group of 64 members, which do not stand yet.
+const OF_64: &[Fact] = &[Fact::Party(2, Group, "All"), Fact::Crowd(2, 64)];
+
+const OF_65: &[Fact] = &[Fact::Party(2, Group, "All"), Fact::Crowd(2, 65)];
+
+/// The shares of the garden are not checked.
+const UNCHECKED: &[Fact] = &[Fact::Unit(GARDEN, "Garden", false)];
+
+pub(super) fn facts_of(part: &Part) -> &'static [Fact] {
+    match part {
+        Part::Persons => PERSONS,
+        Part::Family => FAMILY_ALONE,
+        Part::Group => GROUP,
+        Part::Garden => RECORDS,
+        Part::Lodged => LODGED,
+        Part::WithoutRights => WITHOUT_RIGHTS,
+        Part::Unchecked => UNCHECKED,
+        Part::Orchard => WITH_ORCHARD,
+        Part::Next20 => NEXT_20,
+        Part::Of64 => OF_64,
+        Part::Of65 => OF_65,
+    }
+}
+
+/// What registers begin with, beside the office: nothing, the persons, and so on.
+const OFFICE_ALONE: &[Part] = &[];
+
+const WITH_PERSONS: &[Part] = &[Part::Persons];
+
+const WITH_GROUP: &[Part] = &[Part::Persons, Part::Group];
+
+const WITH_GARDEN: &[Part] = &[Part::Persons, Part::Garden];
+
+const WITH_LODGED: &[Part] = &[Part::Persons, Part::Garden, Part::Lodged];
+
+const WITH_ALL: &[Part] = &[Part::Persons, Part::Group, Part::Garden, Part::Lodged];
+
+const WITH_TWO_UNITS: &[Part] = &[Part::Persons, Part::Garden, Part::Orchard];
+
+/// What a register is told, and the fault that it then has.
+struct Case(&'static [Fact], Option<Unsound>);
+
+const REFERENCE: Option<Unsound> = Some(Unsound::Reference);
+
+/// The fault of a register that is told facts.
+fn fault_of(alloc: Global, base: &[Part], facts: &[Fact]) -> Result<Option<Unsound>, Fail> {
+    let register = register_of(alloc, base, facts)?;
+    fault(alloc, &register)
+}
+
+/// Compares the faults of registers that begin with the same facts.
+fn assert_faults(
+    rt: &impl Abort,
+    alloc: Global,
+    base: &[Part],
+    cases: &[Case],
+) -> Result<(), Fail> {
+    for (place, case) in cases.iter().enumerate() {
+        assert!(rt; fault_of(alloc, base, case.0)? == case.1, "case {place}");
+    }
+    Ok(())
+}
