@@ -1,0 +1,6 @@
+-- Definitions of what targets name.
+pub mod ActWords
+pub mod Laws
+pub mod Routes
+pub mod Table
+pub mod Targets
