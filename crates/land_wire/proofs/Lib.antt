@@ -3,4 +3,5 @@ pub mod DecimalLemmas
 pub mod FieldNames
 pub mod PartyPaths
 pub mod ReplyTexts
+pub mod SameReplies
 pub mod WellFormed

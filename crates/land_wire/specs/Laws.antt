@@ -4,21 +4,15 @@ use Rattle.http_header.specs.FieldValue.{FieldValue, plain_value}
 use Rattle.http_header.specs.HeaderMap.{Entries, get_all}
 use Rattle.http_header.specs.Token.{lowercase}
 use Rattle.land_core.specs.Acts.{is_well_formed_request}
-use Rattle.land_core.specs.declared.kind.PartyKind.{PartyKind}
-use Rattle.land_core.specs.declared.member.Member.{Member}
-use Rattle.land_core.specs.declared.object.Object.TheVariants as shown
-use Rattle.land_core.specs.declared.role.Role.{Role}
-use Rattle.land_fraction.specs.Ratio.{Ratio, IsFraction}
-use Rattle.land_fraction.specs.Text.{text_of}
+use Rattle.land_core.specs.declared.object.Object.{Object}
+use Rattle.land_keep.specs.declared.reply.Reply.{Reply}
 use Rattle.land_keep.specs.declared.reply.Reply.TheVariants as reply
-use Rattle.serde_json.specs.Data.{string}
-use Rattle.serde_json.specs.Written.{compact_text}
+use Rattle.land_texts.specs.Objects.{object_text}
 use Rattle.land_wire.specs.Fields.{field_map, values_named}
 use Rattle.land_wire.specs.Reading.{reading, asks_sheet}
-use Rattle.land_wire.specs.Parties.{party_text, kind_word}
-use Rattle.land_wire.specs.Replies.{reply_text, short_text, numbers_text, done_text}
+use Rattle.land_wire.specs.Replies.{reply_text, short_text, numbers_text, done_text, shown_text}
+use Rattle.land_wire.specs.ReplyLimits.{IsReplyWithin}
 use Rattle.land_wire.specs.Routes.{party, is_part, route_of}
-use Rattle.land_wire.specs.Values.{share_text, quoted_word}
 
 -- each request that is read keeps the limits of its fields
 abbrev pub ReadingsAreWellFormed : Type 0
@@ -64,13 +58,10 @@ DoneTexts =
     (made : List ℕ) (n stamp : ℕ)
     → reply_text (reply.Done (record { number = n; made = made; stamp = pos stamp })) ≡ Some (done_text made n stamp)
 
--- a name is written as JSON writes a string
-abbrev pub PartyTexts : Type 0
-PartyTexts =
-    (n : ℕ) (kind : PartyKind) (name : List ℕ) (members : List Member) (roles : List Role)
-    → reply_text (reply.Object (shown.Party (record { number = n; kind = kind; name = name; members = members; roles = roles })))
-    ≡ Some (party_text (kind_word kind) members (compact_text (string name)) n roles)
+-- an object is written as its text says
+abbrev pub ShownTexts : Type 0
+ShownTexts = (it : Object) → reply_text (reply.Object it) ≡ Some (shown_text (object_text it))
 
--- a share is written as it is printed, between quotation marks
-abbrev pub ShareTexts : Type 0
-ShareTexts = (share : Ratio) → IsFraction share → share_text share ≡ quoted_word (text_of share)
+-- replies within their limits that have one text are one reply
+abbrev pub RepliesAreTold : Type 0
+RepliesAreTold = (a b : Reply) → IsReplyWithin a → IsReplyWithin b → reply_text a ≡ reply_text b → a ≡ b

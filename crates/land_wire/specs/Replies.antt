@@ -5,25 +5,10 @@ use Rattle.serde_json.specs.Data.{Data, number, object, no_members, member}
 use Rattle.serde_json.specs.Find.{of_integer}
 use Rattle.serde_json.specs.Written.{compact_text}
 use Rattle.land_core.specs.declared.change.Done.{Done}
-use Rattle.land_core.specs.declared.object.Object.{Object}
-use Rattle.land_core.specs.declared.object.Object.TheVariants as shown
 use Rattle.land_keep.specs.declared.reply.Reply.{Reply}
 use Rattle.land_keep.specs.declared.reply.Reply.TheVariants as reply
-use Rattle.land_wire.specs.Mutations.{mutation_data}
-use Rattle.land_wire.specs.Parcels.{parcel_data}
-use Rattle.land_wire.specs.Parties.{party_data}
-use Rattle.land_wire.specs.Rrrs.{rrr_data}
-use Rattle.land_wire.specs.Sources.{source_data}
-use Rattle.land_wire.specs.Units.{unit_data}
-use Rattle.land_wire.specs.Values.{number_data, numbers_data, one_member, with_commas}
-
-abbrev pub object_data : Object → Data
-object_data (shown.Party party) = party_data party
-object_data (shown.Unit unit) = unit_data unit
-object_data (shown.Parcel parcel) = parcel_data parcel
-object_data (shown.Rrr entry) = rrr_data entry
-object_data (shown.Source source) = source_data source
-object_data (shown.Mutation mutation) = mutation_data mutation
+use Rattle.land_texts.specs.Objects.{object_data}
+use Rattle.land_texts.specs.Values.{number_data, numbers_data, one_member, with_commas}
 
 abbrev pub done_data : Done → Data
 done_data done =
@@ -73,3 +58,7 @@ abbrev pub done_text : (made : List ℕ) → (n stamp : ℕ) → List ℕ
 done_text made n stamp =
     codes "{\"made\":[" ++ (with_commas (map decimal made) ++ (codes "],\"number\":" ++ (decimal n
     ++ (codes ",\"stamp\":" ++ (decimal stamp ++ codes "}")))))
+
+-- an object under a word; `text` is that of the object
+abbrev pub shown_text : List ℕ → List ℕ
+shown_text text = codes "{\"object\":" ++ (text ++ codes "}")

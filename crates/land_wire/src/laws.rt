@@ -1,5 +1,5 @@
 //! Laws, each stated over the definitions alone.
-ghost use Rattle.land_wire.specs.Laws.{ReadingsAreWellFormed, NoReadingAsksForASheet, NamesAreInAnyCase, PartsNameParties, OnlyPartsNameParties, ShortTexts, NumbersTexts, DoneTexts, PartyTexts, ShareTexts};
+ghost use Rattle.land_wire.specs.Laws.{ReadingsAreWellFormed, NoReadingAsksForASheet, NamesAreInAnyCase, PartsNameParties, OnlyPartsNameParties, ShortTexts, NumbersTexts, DoneTexts, ShownTexts, RepliesAreTold};
 
 /// Each request that is read keeps the limits of its fields.
 pub fn readings_are_well_formed()
@@ -37,12 +37,14 @@ pub fn done_replies_have_plain_texts()
     ensures { DoneTexts }
 {}
 
-/// The texts of parties as they are shown.
-pub fn parties_have_plain_texts()
-    ensures { PartyTexts }
+/// A reply that shows an object tells that object's text.
+pub fn objects_have_plain_texts()
+    ensures { ShownTexts }
 {}
 
-/// A share is written as it is printed, between quotation marks.
-pub fn shares_have_plain_texts()
-    ensures { ShareTexts }
-{}
+/// Two replies within their limits that have one text are one reply.
+pub fn texts_tell_replies()
+    ensures { RepliesAreTold }
+{
+    land_shape::laws::printed_rings();
+}

@@ -1,31 +1,13 @@
 //! The texts of replies, by `serde_json`.
 ghost use Rattle.std.specs.Prelude.{◌≡◌, IfOk, Some, false, string_bytes};
 ghost use Rattle.serde_json.specs.View.{view};
-ghost use Rattle.serde_json.specs.Data.{string};
-ghost use Rattle.land_fraction.specs.Text.{text_of};
-ghost use Rattle.land_wire.specs.Replies.{IsStoreFault, done_data, is_sheet, object_data, reply_data, reply_text};
-ghost use Rattle.land_wire.specs.Values.{numbers_data};
+ghost use Rattle.land_wire.specs.Replies.{IsStoreFault, done_data, is_sheet, reply_data, reply_text};
 ghost use Rattle.land_keep.specs.declared.reply.Reply.TheVariants as reply;
 
-mod merger;
-mod mutation;
-mod parcel;
-mod party;
-mod rrr;
-mod source;
-mod subdivision;
-mod unit;
-
-use crate::text::mutation::mutation_value;
-use crate::text::parcel::parcel_value;
-use crate::text::party::party_value;
-use crate::text::rrr::rrr_value;
-use crate::text::source::source_value;
-use crate::text::unit::unit_value;
 use land_core::change::Done;
-use land_core::object::Object;
-use land_fraction::Fraction;
 use land_keep::reply::Reply;
+use land_texts::object::object_value;
+use land_texts::values::numbers_value;
 use serde_json::{Value, json};
 use std::alloc::{AllocError, Global};
 
@@ -90,19 +72,6 @@ fn reply_value(alloc: Global, reply: &Reply) -> Result<Value, AllocError>
     }
 }
 
-fn object_value(alloc: Global, object: &Object) -> Result<Value, AllocError>
-    ensures { IfOk result (λ value. view value ≡ object_data object.now) }
-{
-    match object {
-        Object::Party(party) => party_value(alloc, party),
-        Object::Unit(unit) => unit_value(alloc, unit),
-        Object::Parcel(parcel) => parcel_value(alloc, parcel),
-        Object::Rrr(entry) => rrr_value(alloc, entry),
-        Object::Source(source) => source_value(alloc, source),
-        Object::Mutation(mutation) => mutation_value(alloc, mutation),
-    }
-}
-
 fn done_value(alloc: Global, done: &Done) -> Result<Value, AllocError>
     ensures { IfOk result (λ value. view value ≡ done_data done.now) }
 {
@@ -110,22 +79,4 @@ fn done_value(alloc: Global, done: &Done) -> Result<Value, AllocError>
     let number = done.number;
     let stamp = done.stamp;
     json!(in alloc; {"made": made, "number": number, "stamp": stamp})
-}
-
-fn numbers_value(alloc: Global, numbers: &[u64]) -> Result<Value, AllocError>
-    ensures { IfOk result (λ value. view value ≡ numbers_data numbers.now) }
-{
-    let mut list = Vec::new(alloc);
-    for number in numbers {
-        list.push(Value::from(*number))?;
-    }
-    Ok(Value::Array(list))
-}
-
-/// A share as it is printed.
-fn share_value(alloc: Global, share: Fraction) -> Result<Value, AllocError>
-    ensures { IfOk result (λ value. view value ≡ string (text_of share)) }
-{
-    let text = format!(in alloc; "{share}")?;
-    Value::try_from_str(alloc, text.as_str())
 }

@@ -1,0 +1,14 @@
+-- Definitions of what objects and contents say.
+pub mod Exact
+pub mod Laws
+pub mod Limits
+pub mod Mergers
+pub mod Mutations
+pub mod Objects
+pub mod Parcels
+pub mod Parties
+pub mod Rrrs
+pub mod Sources
+pub mod Subdivisions
+pub mod Units
+pub mod Values

@@ -1,0 +1,14 @@
+//! Objects, and what mutations ask for, in JSON and as texts.
+#![tactic(auto)]
+
+pub mod laws;
+pub mod merger;
+pub mod mutation;
+pub mod object;
+pub mod parcel;
+pub mod party;
+pub mod rrr;
+pub mod source;
+pub mod subdivision;
+pub mod unit;
+pub mod values;
