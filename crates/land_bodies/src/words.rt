@@ -1,5 +1,5 @@
 //! Words that stand for kinds, roles, types and classes.
-ghost use Rattle.std.specs.Prelude.{◌≡◌};
+ghost use Rattle.std.specs.Prelude.{◌≡◌, bytes_eq};
 ghost use Rattle.serde_json.specs.View.{view};
 ghost use Rattle.land_bodies.specs.Words.{class_in, class_of, kind_in, kind_of, role_in, role_of, type_in, type_of};
 
@@ -37,28 +37,34 @@ fn kind_of(word: &str) -> Result<PartyKind, WireFault>
 pub fn role_in(value: &Value) -> Result<Role, WireFault>
     ensures { result ≡ role_in (view value.now) }
 {
-    role_of(text_at(value, "role")?)
+    role_of(text_at(value, "role")?.as_bytes())
 }
 
-/// A role; any other word is fault 134.
-pub fn role_of(word: &str) -> Result<Role, WireFault>
+/// The role that the bytes are the word of; any other word is fault 134. Letter case counts.
+pub fn role_of(word: &[u8]) -> Result<Role, WireFault>
     ensures { result ≡ role_of word.now }
 {
-    if word == "citizen" {
+    if is_word(word, "citizen") {
         Ok(Role::Citizen)
-    } else if word == "conveyancer" {
+    } else if is_word(word, "conveyancer") {
         Ok(Role::Conveyancer)
-    } else if word == "notary" {
+    } else if is_word(word, "notary") {
         Ok(Role::Notary)
-    } else if word == "bank" {
+    } else if is_word(word, "bank") {
         Ok(Role::Bank)
-    } else if word == "certifiedSurveyor" {
+    } else if is_word(word, "certifiedSurveyor") {
         Ok(Role::CertifiedSurveyor)
-    } else if word == "stateAdministrator" {
+    } else if is_word(word, "stateAdministrator") {
         Ok(Role::StateAdministrator)
     } else {
         Err(WireFault::Role)
     }
+}
+
+fn is_word(bytes: &[u8], word: &str) -> bool
+    ensures { result ≡ bytes_eq bytes.now word.now }
+{
+    bytes == word.as_bytes()
 }
 
 /// The type under the key `type`. 131: it is missing, or no text. 133: it is no type of rights.
