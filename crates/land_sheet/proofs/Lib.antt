@@ -1,0 +1,2 @@
+-- Lemmas of sheets.
+pub mod OneDate

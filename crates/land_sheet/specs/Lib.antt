@@ -1,0 +1,8 @@
+-- Definitions of sheets and extracts.
+pub mod Areas
+pub mod Dates
+pub mod Laws
+pub mod Rows
+pub mod Sheets
+pub mod Widths
+pub mod Words

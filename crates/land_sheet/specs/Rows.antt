@@ -1,0 +1,91 @@
+-- Extracts: the columns of each kind, and the fields of an object in them. A field that an object lacks is empty.
+use Rattle.std.specs.Prelude.{List, [], ◌∷◌, ◌++◌, ℕ, codes, decimal}
+use Rattle.std.specs.Fmt.{signed_decimal}
+use Rattle.csv.specs.Writing.{default_writer, row_text}
+use Rattle.land_core.specs.declared.kind.Kind.{Kind}
+use Rattle.land_core.specs.declared.kind.Kind.TheVariants as kind
+use Rattle.land_core.specs.declared.mutation.Mutation.{Mutation}
+use Rattle.land_core.specs.declared.object.Object.{Object}
+use Rattle.land_core.specs.declared.object.Object.TheVariants as shown
+use Rattle.land_core.specs.declared.parcel.Parcel.{Parcel}
+use Rattle.land_core.specs.declared.party.Party.{Party}
+use Rattle.land_core.specs.declared.rrr.Class.{Class}
+use Rattle.land_core.specs.declared.rrr.Class.TheVariants.{Right, Restriction, Responsibility, Mortgage}
+use Rattle.land_core.specs.declared.rrr.Rrr.{Rrr}
+use Rattle.land_core.specs.declared.source.Source.{Source}
+use Rattle.land_core.specs.declared.unit.Unit.{Unit}
+use Rattle.land_fraction.specs.Text.{text_of}
+use Rattle.land_shape.specs.Outline.{doubled_area}
+use Rattle.land_shape.specs.Place.{Place}
+use Rattle.land_shape.specs.Printed.{printed}
+use Rattle.land_sheet.specs.Areas.{square_metres}
+use Rattle.land_sheet.specs.Words.{act_word, checked_word, class_word, party_word, source_word, state_word}
+
+-- the names of a kind's columns
+abbrev pub columns_of : Kind → List (List ℕ)
+columns_of kind.Party = codes "number" ∷ codes "name" ∷ codes "kind" ∷ []
+columns_of kind.Unit = codes "number" ∷ codes "name" ∷ codes "checked" ∷ []
+columns_of kind.Parcel =
+    codes "number" ∷ codes "unit" ∷ codes "label" ∷ codes "square_metres" ∷ codes "outline" ∷ codes "source" ∷ []
+columns_of kind.Rrr =
+    codes "number" ∷ codes "unit" ∷ codes "party" ∷ codes "name" ∷ codes "class" ∷ codes "share" ∷ codes "amount"
+    ∷ codes "currency" ∷ codes "rank" ∷ codes "words" ∷ codes "source" ∷ []
+columns_of kind.Source = codes "number" ∷ codes "kind" ∷ codes "title" ∷ []
+columns_of kind.Mutation =
+    codes "number" ∷ codes "lodger" ∷ codes "reference" ∷ codes "source" ∷ codes "lodged" ∷ codes "act" ∷ codes "state" ∷ []
+
+unfoldable pub party_fields : Party → List (List ℕ)
+party_fields party = decimal party.number ∷ party.name ∷ party_word party.kind ∷ []
+
+unfoldable pub unit_fields : Unit → List (List ℕ)
+unit_fields unit = decimal unit.number ∷ unit.name ∷ checked_word unit.checked ∷ []
+
+-- the number, the unit and the label of a parcel
+unfoldable pub parcel_start : Parcel → List (List ℕ)
+parcel_start parcel = decimal parcel.number ∷ decimal parcel.unit ∷ parcel.label ∷ []
+
+-- the square metres of an outline, and the outline in well-known text
+unfoldable pub outline_fields : (ring : List Place) → List (List ℕ)
+outline_fields ring = square_metres (doubled_area ring) ∷ printed ring ∷ []
+
+unfoldable pub parcel_fields : Parcel → List (List ℕ)
+parcel_fields parcel = parcel_start parcel ++ (outline_fields parcel.outline ++ (decimal parcel.source ∷ []))
+
+-- the fields before those of its class: of an entry with the name of its party
+unfoldable pub entry_start : Rrr → (name : List ℕ) → List (List ℕ)
+entry_start entry name =
+    decimal entry.number ∷ decimal entry.unit ∷ decimal entry.party ∷ name ∷ class_word entry.class ∷ []
+
+-- share, amount, currency, rank and words, each where the class has it
+abbrev pub class_fields : Class → List (List ℕ)
+class_fields (Right type share) = text_of share ∷ [] ∷ [] ∷ [] ∷ [] ∷ []
+class_fields (Restriction words) = [] ∷ [] ∷ [] ∷ [] ∷ words ∷ []
+class_fields (Responsibility words) = [] ∷ [] ∷ [] ∷ [] ∷ words ∷ []
+class_fields (Mortgage amount currency rank) = [] ∷ decimal amount ∷ currency ∷ decimal rank ∷ [] ∷ []
+
+unfoldable pub rrr_fields : Rrr → (name : List ℕ) → List (List ℕ)
+rrr_fields entry name = entry_start entry name ++ (class_fields entry.class ++ (decimal entry.source ∷ []))
+
+unfoldable pub source_fields : Source → List (List ℕ)
+source_fields source = decimal source.number ∷ source_word source.kind ∷ source.title ∷ []
+
+unfoldable pub mutation_fields : Mutation → List (List ℕ)
+mutation_fields mutation =
+    decimal mutation.number ∷ decimal mutation.lodger ∷ mutation.reference ∷ decimal mutation.source
+    ∷ signed_decimal mutation.lodged ∷ act_word mutation.content ∷ state_word mutation.state ∷ []
+
+-- the fields of an object, an entry with the name of its party
+abbrev pub fields_of : Object → (name : List ℕ) → List (List ℕ)
+fields_of (shown.Party party) name = party_fields party
+fields_of (shown.Unit unit) name = unit_fields unit
+fields_of (shown.Parcel parcel) name = parcel_fields parcel
+fields_of (shown.Rrr entry) name = rrr_fields entry name
+fields_of (shown.Source source) name = source_fields source
+fields_of (shown.Mutation mutation) name = mutation_fields mutation
+
+-- the first row of an extract, and the row of an object, each ended by a line feed
+abbrev pub header_text : Kind → List ℕ
+header_text kind = row_text default_writer (columns_of kind)
+
+abbrev pub object_row : Object → (name : List ℕ) → List ℕ
+object_row it name = row_text default_writer (fields_of it name)

@@ -1,0 +1,9 @@
+//! Title sheets of units, and the rows of extracts, as exact text.
+#![tactic(auto)]
+
+pub mod areas;
+pub mod dates;
+pub mod laws;
+pub mod rows;
+pub mod sheet;
+mod words;

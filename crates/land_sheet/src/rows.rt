@@ -1,0 +1,334 @@
+//! The rows of extracts, as the writer of `csv` writes them with its default settings.
+ghost use Rattle.std.specs.Prelude.{◌≡◌, ◌++◌, ◌∷◌, [], IfOk, OnOk, decimal, map, string_bytes};
+ghost use Rattle.std.specs.Fmt.{signed_decimal};
+ghost use Rattle.csv.specs.Writing.{default_writer, row_text};
+ghost use Rattle.land_fraction.specs.Text.{text_of};
+ghost use Rattle.land_shape.specs.Outline.{doubled_area};
+ghost use Rattle.land_shape.specs.Printed.{printed};
+ghost use Rattle.land_sheet.specs.Areas.{square_metres};
+ghost use Rattle.land_sheet.specs.Rows.{class_fields, columns_of, entry_start, fields_of, header_text, mutation_fields, object_row, outline_fields, parcel_fields, parcel_start, party_fields, rrr_fields, source_fields, unit_fields};
+
+use crate::areas::square_metres;
+use crate::words::{act_word, checked_word, class_word, party_word, source_word, state_word};
+use csv::WriterBuilder;
+use land_core::kind::Kind;
+use land_core::mutation::Mutation;
+use land_core::object::Object;
+use land_core::parcel::Parcel;
+use land_core::party::Party;
+use land_core::rrr::{Class, Rrr};
+use land_core::source::Source;
+use land_core::unit::Unit;
+use land_fraction::Fraction;
+use land_shape::Ring;
+use std::alloc::{AllocError, Global};
+
+/// The first row of an extract: the names of the columns of a kind, ended by a line feed. An error is a want of memory.
+pub fn csv_header(alloc: Global, kind: Kind) -> Result<Vec<u8>, AllocError>
+    ensures { IfOk result (λ row. row.items ≡ header_text kind) }
+{
+    row_bytes(alloc, columns_of(kind))
+}
+
+/// The names of the columns of a kind.
+fn columns_of(kind: Kind) -> &'static [&'static [u8]]
+    ensures { map (λ column. column.now) result.now ≡ columns_of kind }
+{
+    match kind {
+        Kind::Party => &[b"number", b"name", b"kind"],
+        Kind::Unit => &[b"number", b"name", b"checked"],
+        Kind::Parcel => &[
+            b"number",
+            b"unit",
+            b"label",
+            b"square_metres",
+            b"outline",
+            b"source",
+        ],
+        Kind::Rrr => &[
+            b"number",
+            b"unit",
+            b"party",
+            b"name",
+            b"class",
+            b"share",
+            b"amount",
+            b"currency",
+            b"rank",
+            b"words",
+            b"source",
+        ],
+        Kind::Source => &[b"number", b"kind", b"title"],
+        Kind::Mutation => &[
+            b"number",
+            b"lodger",
+            b"reference",
+            b"source",
+            b"lodged",
+            b"act",
+            b"state",
+        ],
+    }
+}
+
+/// The row of an object, ended by a line feed. `name` is what the party of an entry is called; no other object shows it. An
+/// error is a want of memory.
+pub fn csv_row(alloc: Global, object: &Object, name: &str) -> Result<Vec<u8>, AllocError>
+    ensures { IfOk result (λ row. row.items ≡ object_row object.now name.now) }
+{
+    let mut fields = Vec::new(alloc);
+    push_object(&mut fields, alloc, object, name)?;
+    row_of(alloc, fields.as_slice())
+}
+
+/// A row of texts.
+fn row_of(alloc: Global, fields: &[String]) -> Result<Vec<u8>, AllocError>
+    ensures { IfOk result (λ row. row.items ≡ row_text default_writer (map string_bytes fields.now)) }
+{
+    let mut lent: Vec<&[u8]> = Vec::new(alloc);
+    for field in fields {
+        lent.push(field.as_bytes())?;
+    }
+    row_bytes(alloc, lent.as_slice())
+}
+
+/// A row of fields.
+fn row_bytes(alloc: Global, fields: &[&[u8]]) -> Result<Vec<u8>, AllocError>
+    ensures { IfOk result (λ row. row.items ≡ row_text default_writer (map (λ field. field.now) fields.now)) }
+{
+    let mut writer = WriterBuilder::new().from_writer(Vec::new(alloc));
+    if writer.write_fields(fields).is_err() {
+        return Err(AllocError);
+    }
+    match writer.into_inner() {
+        Ok(row) => Ok(row),
+        Err(_) => Err(AllocError),
+    }
+}
+
+/// A text as a field.
+fn push_text(fields: &mut Vec<String>, alloc: Global, text: &str) -> Result<(), AllocError>
+    ensures { OnOk result (map string_bytes fields.new.items ≡ map string_bytes fields.old.items ++ text.now ∷ []) }
+{
+    fields.push(String::from_str(alloc, text)?)?;
+    Ok(())
+}
+
+/// The decimal digits of a number as a field.
+fn push_number(fields: &mut Vec<String>, alloc: Global, number: u64) -> Result<(), AllocError>
+    ensures { OnOk result (map string_bytes fields.new.items ≡ map string_bytes fields.old.items ++ decimal number ∷ []) }
+{
+    fields.push(format!(in alloc; "{number}")?)?;
+    Ok(())
+}
+
+/// The decimal digits of a moment as a field.
+fn push_moment(fields: &mut Vec<String>, alloc: Global, moment: i64) -> Result<(), AllocError>
+    ensures { OnOk result (map string_bytes fields.new.items ≡ map string_bytes fields.old.items ++ signed_decimal moment ∷ []) }
+{
+    fields.push(format!(in alloc; "{moment}")?)?;
+    Ok(())
+}
+
+/// A share as a field.
+fn push_share(fields: &mut Vec<String>, alloc: Global, share: Fraction) -> Result<(), AllocError>
+    ensures { OnOk result (map string_bytes fields.new.items ≡ map string_bytes fields.old.items ++ text_of share ∷ []) }
+{
+    fields.push(format!(in alloc; "{share}")?)?;
+    Ok(())
+}
+
+/// The square metres of an outline as a field.
+fn push_area(fields: &mut Vec<String>, alloc: Global, outline: &Ring) -> Result<(), AllocError>
+    ensures { OnOk result (map string_bytes fields.new.items ≡ map string_bytes fields.old.items ++ square_metres (doubled_area outline.now) ∷ []) }
+{
+    fields.push(square_metres(alloc, u128::from(outline.doubled_area()))?)?;
+    Ok(())
+}
+
+/// An outline in well-known text as a field.
+fn push_outline(fields: &mut Vec<String>, outline: &Ring) -> Result<(), AllocError>
+    ensures { OnOk result (map string_bytes fields.new.items ≡ map string_bytes fields.old.items ++ printed outline.now ∷ []) }
+{
+    fields.push(outline.write_wkt()?)?;
+    Ok(())
+}
+
+/// The fields of an object.
+fn push_object(
+    fields: &mut Vec<String>,
+    alloc: Global,
+    object: &Object,
+    name: &str,
+) -> Result<(), AllocError>
+    ensures { OnOk result (map string_bytes fields.new.items ≡ map string_bytes fields.old.items ++ fields_of object.now name.now) }
+{
+    match object {
+        Object::Party(party) => push_party(fields, alloc, party),
+        Object::Unit(unit) => push_unit(fields, alloc, unit),
+        Object::Parcel(parcel) => push_parcel(fields, alloc, parcel),
+        Object::Rrr(entry) => push_rrr(fields, alloc, entry, name),
+        Object::Source(source) => push_source(fields, alloc, source),
+        Object::Mutation(mutation) => push_mutation(fields, alloc, mutation),
+    }
+}
+
+#[tactic(auto, unfolding(crate::specs::Rows::party_fields))]
+fn push_party(fields: &mut Vec<String>, alloc: Global, party: &Party) -> Result<(), AllocError>
+    ensures { OnOk result (map string_bytes fields.new.items ≡ map string_bytes fields.old.items ++ party_fields party.now) }
+{
+    push_number(fields, alloc, party.number)?;
+    push_text(fields, alloc, party.name.as_str())?;
+    push_text(fields, alloc, party_word(party.kind))
+}
+
+#[tactic(auto, unfolding(crate::specs::Rows::unit_fields))]
+fn push_unit(fields: &mut Vec<String>, alloc: Global, unit: &Unit) -> Result<(), AllocError>
+    ensures { OnOk result (map string_bytes fields.new.items ≡ map string_bytes fields.old.items ++ unit_fields unit.now) }
+{
+    push_number(fields, alloc, unit.number)?;
+    push_text(fields, alloc, unit.name.as_str())?;
+    push_text(fields, alloc, checked_word(unit.checked))
+}
+
+#[tactic(auto, unfolding(crate::specs::Rows::parcel_fields))]
+fn push_parcel(fields: &mut Vec<String>, alloc: Global, parcel: &Parcel) -> Result<(), AllocError>
+    ensures { OnOk result (map string_bytes fields.new.items ≡ map string_bytes fields.old.items ++ parcel_fields parcel.now) }
+{
+    push_parcel_start(fields, alloc, parcel)?;
+    push_extent(fields, alloc, &parcel.outline)?;
+    push_number(fields, alloc, parcel.source)
+}
+
+/// The number, the unit and the label of a parcel.
+#[tactic(auto, unfolding(crate::specs::Rows::parcel_start))]
+fn push_parcel_start(
+    fields: &mut Vec<String>,
+    alloc: Global,
+    parcel: &Parcel,
+) -> Result<(), AllocError>
+    ensures { OnOk result (map string_bytes fields.new.items ≡ map string_bytes fields.old.items ++ parcel_start parcel.now) }
+{
+    push_number(fields, alloc, parcel.number)?;
+    push_number(fields, alloc, parcel.unit)?;
+    push_text(fields, alloc, parcel.label.as_str())
+}
+
+/// The square metres and the text of an outline.
+#[tactic(auto, unfolding(crate::specs::Rows::outline_fields))]
+fn push_extent(fields: &mut Vec<String>, alloc: Global, outline: &Ring) -> Result<(), AllocError>
+    ensures { OnOk result (map string_bytes fields.new.items ≡ map string_bytes fields.old.items ++ outline_fields outline.now) }
+{
+    push_area(fields, alloc, outline)?;
+    push_outline(fields, outline)
+}
+
+#[tactic(auto, unfolding(crate::specs::Rows::rrr_fields))]
+fn push_rrr(
+    fields: &mut Vec<String>,
+    alloc: Global,
+    entry: &Rrr,
+    name: &str,
+) -> Result<(), AllocError>
+    ensures { OnOk result (map string_bytes fields.new.items ≡ map string_bytes fields.old.items ++ rrr_fields entry.now name.now) }
+{
+    push_entry_start(fields, alloc, entry, name)?;
+    push_class(fields, alloc, &entry.class)?;
+    push_number(fields, alloc, entry.source)
+}
+
+/// The fields of an entry before those of its class.
+#[tactic(auto, unfolding(crate::specs::Rows::entry_start))]
+fn push_entry_start(
+    fields: &mut Vec<String>,
+    alloc: Global,
+    entry: &Rrr,
+    name: &str,
+) -> Result<(), AllocError>
+    ensures { OnOk result (map string_bytes fields.new.items ≡ map string_bytes fields.old.items ++ entry_start entry.now name.now) }
+{
+    push_number(fields, alloc, entry.number)?;
+    push_number(fields, alloc, entry.unit)?;
+    push_number(fields, alloc, entry.party)?;
+    push_text(fields, alloc, name)?;
+    push_text(fields, alloc, class_word(&entry.class))
+}
+
+/// The share, the amount, the currency, the rank and the words, each empty where the class lacks it.
+fn push_class(fields: &mut Vec<String>, alloc: Global, class: &Class) -> Result<(), AllocError>
+    ensures { OnOk result (map string_bytes fields.new.items ≡ map string_bytes fields.old.items ++ class_fields class.now) }
+{
+    match class {
+        Class::Right { share, .. } => push_right(fields, alloc, *share),
+        Class::Restriction { words } | Class::Responsibility { words } => {
+            push_burden(fields, alloc, words.as_str())
+        }
+        Class::Mortgage {
+            amount,
+            currency,
+            rank,
+        } => push_mortgage(fields, alloc, *amount, currency.as_str(), *rank),
+    }
+}
+
+fn push_right(fields: &mut Vec<String>, alloc: Global, share: Fraction) -> Result<(), AllocError>
+    ensures { OnOk result (map string_bytes fields.new.items ≡ map string_bytes fields.old.items ++ (text_of share ∷ [] ∷ [] ∷ [] ∷ [] ∷ [])) }
+{
+    push_share(fields, alloc, share)?;
+    push_text(fields, alloc, "")?;
+    push_text(fields, alloc, "")?;
+    push_text(fields, alloc, "")?;
+    push_text(fields, alloc, "")
+}
+
+fn push_burden(fields: &mut Vec<String>, alloc: Global, words: &str) -> Result<(), AllocError>
+    ensures { OnOk result (map string_bytes fields.new.items ≡ map string_bytes fields.old.items ++ ([] ∷ [] ∷ [] ∷ [] ∷ words.now ∷ [])) }
+{
+    push_text(fields, alloc, "")?;
+    push_text(fields, alloc, "")?;
+    push_text(fields, alloc, "")?;
+    push_text(fields, alloc, "")?;
+    push_text(fields, alloc, words)
+}
+
+fn push_mortgage(
+    fields: &mut Vec<String>,
+    alloc: Global,
+    amount: u64,
+    currency: &str,
+    rank: u64,
+) -> Result<(), AllocError>
+    ensures { OnOk result (map string_bytes fields.new.items ≡ map string_bytes fields.old.items ++ ([] ∷ decimal amount ∷ currency.now ∷ decimal rank ∷ [] ∷ [])) }
+{
+    push_text(fields, alloc, "")?;
+    push_number(fields, alloc, amount)?;
+    push_text(fields, alloc, currency)?;
+    push_number(fields, alloc, rank)?;
+    push_text(fields, alloc, "")
+}
+
+#[tactic(auto, unfolding(crate::specs::Rows::source_fields))]
+fn push_source(fields: &mut Vec<String>, alloc: Global, source: &Source) -> Result<(), AllocError>
+    ensures { OnOk result (map string_bytes fields.new.items ≡ map string_bytes fields.old.items ++ source_fields source.now) }
+{
+    push_number(fields, alloc, source.number)?;
+    push_text(fields, alloc, source_word(source.kind))?;
+    push_text(fields, alloc, source.title.as_str())
+}
+
+#[tactic(auto, unfolding(crate::specs::Rows::mutation_fields))]
+fn push_mutation(
+    fields: &mut Vec<String>,
+    alloc: Global,
+    mutation: &Mutation,
+) -> Result<(), AllocError>
+    ensures { OnOk result (map string_bytes fields.new.items ≡ map string_bytes fields.old.items ++ mutation_fields mutation.now) }
+{
+    push_number(fields, alloc, mutation.number)?;
+    push_number(fields, alloc, mutation.lodger)?;
+    push_text(fields, alloc, mutation.reference.as_str())?;
+    push_number(fields, alloc, mutation.source)?;
+    push_moment(fields, alloc, mutation.lodged)?;
+    push_text(fields, alloc, act_word(&mutation.content))?;
+    push_text(fields, alloc, state_word(mutation.state))
+}

@@ -1,0 +1,226 @@
+//! Title sheets, line by line.
+ghost use Rattle.std.specs.Prelude.{◌≡◌, ◌++◌, IfOk, OnOk, string_bytes};
+ghost use Rattle.land_keep.specs.Moments.{IsMoment};
+ghost use Rattle.land_sheet.specs.Dates.{parts_of};
+ghost use Rattle.land_sheet.specs.Sheets.{IsSheet, area_line, checked_line, class_end, date_part, end_line, entry_count_line, entry_line, entry_lines, entry_part, entry_start, head_lines, moment_line, parcel_count_line, parcel_line, parcel_lines, parcel_part, sheet_text, time_part, title_line, unit_line};
+
+use crate::areas::{doubled_areas, square_metres};
+use crate::dates::date_of;
+use crate::words::class_word;
+use jiff_core::civil::Date;
+use land_core::parcel::Parcel;
+use land_core::rrr::Class;
+use land_core::unit::Unit;
+use land_keep::view::{NamedRrr, View};
+use std::alloc::{AllocError, Global};
+
+/// The title sheet of a unit as a caller sees it, each line ended by a line feed. The view's moment is 0 to
+/// 4_102_444_799_999. Areas are exact, whatever the number of parcels. An error is a want of memory.
+pub fn title_sheet(alloc: Global, view: &View) -> Result<String, AllocError>
+    requires { IsMoment view.now.at }
+    ensures { IfOk result (λ text. IsSheet view.now (string_bytes text)) }
+{
+    let moment = view.at.unsigned_abs();
+    let date = date_of(moment);
+    sheet_on(alloc, view, date, moment)
+}
+
+/// The sheet of a view with a date and a moment.
+#[tactic(auto, unfolding(crate::specs::Sheets::sheet_text))]
+fn sheet_on(alloc: Global, view: &View, date: Date, moment: u64) -> Result<String, AllocError>
+    ensures { IfOk result (λ text. string_bytes text ≡ sheet_text view.now (parts_of date) moment) }
+{
+    let mut text = String::new(alloc);
+    push_head(&mut text, &view.unit, date, moment)?;
+    push_parcel_part(&mut text, alloc, view.parcels.as_slice())?;
+    push_entry_part(&mut text, view.rrrs.as_slice())?;
+    push_end(&mut text)?;
+    Ok(text)
+}
+
+/// The lines before the area.
+#[tactic(auto, unfolding(crate::specs::Sheets::head_lines))]
+fn push_head(text: &mut String, unit: &Unit, date: Date, moment: u64) -> Result<(), AllocError>
+    ensures { OnOk result (string_bytes text.new ≡ string_bytes text.old ++ head_lines unit.now (parts_of date) moment) }
+{
+    push_title(text)?;
+    push_unit(text, unit)?;
+    push_moment(text, date, moment)?;
+    push_checked(text, unit.checked)
+}
+
+#[tactic(auto, unfolding(crate::specs::Sheets::title_line))]
+fn push_title(text: &mut String) -> Result<(), AllocError>
+    ensures { OnOk result (string_bytes text.new ≡ string_bytes text.old ++ title_line) }
+{
+    text.push_str("TITLE SHEET\n")
+}
+
+#[tactic(auto, unfolding(crate::specs::Sheets::end_line))]
+fn push_end(text: &mut String) -> Result<(), AllocError>
+    ensures { OnOk result (string_bytes text.new ≡ string_bytes text.old ++ end_line) }
+{
+    text.push_str("END\n")
+}
+
+#[tactic(auto, unfolding(crate::specs::Sheets::unit_line))]
+fn push_unit(text: &mut String, unit: &Unit) -> Result<(), AllocError>
+    ensures { OnOk result (string_bytes text.new ≡ string_bytes text.old ++ unit_line unit.now) }
+{
+    let number = unit.number;
+    let name = unit.name.as_str();
+    write!(text, "Unit {number} {name}\n")
+}
+
+#[tactic(auto, unfolding(crate::specs::Sheets::moment_line))]
+fn push_moment(text: &mut String, date: Date, moment: u64) -> Result<(), AllocError>
+    ensures { OnOk result (string_bytes text.new ≡ string_bytes text.old ++ moment_line (parts_of date) moment) }
+{
+    push_date(text, date)?;
+    push_time(text, moment)
+}
+
+#[tactic(auto, unfolding(crate::specs::Sheets::date_part))]
+fn push_date(text: &mut String, date: Date) -> Result<(), AllocError>
+    ensures { OnOk result (string_bytes text.new ≡ string_bytes text.old ++ date_part (parts_of date)) }
+{
+    let year = date.year.unsigned_abs();
+    let month = date.month;
+    let day = date.day;
+    write!(text, "At {year:04}-{month:02}-{day:02}T")
+}
+
+#[tactic(auto, unfolding(crate::specs::Sheets::time_part))]
+fn push_time(text: &mut String, moment: u64) -> Result<(), AllocError>
+    ensures { OnOk result (string_bytes text.new ≡ string_bytes text.old ++ time_part moment) }
+{
+    let hours = moment / 3_600_000 % 24;
+    let minutes = moment / 60_000 % 60;
+    let seconds = moment / 1000 % 60;
+    let rest = moment % 1000;
+    write!(text, "{hours:02}:{minutes:02}:{seconds:02}.{rest:03}Z\n")
+}
+
+fn push_checked(text: &mut String, checked: bool) -> Result<(), AllocError>
+    ensures { OnOk result (string_bytes text.new ≡ string_bytes text.old ++ checked_line checked) }
+{
+    if checked {
+        text.push_str("Shares checked\n")
+    } else {
+        text.push_str("Shares unchecked\n")
+    }
+}
+
+/// The area and the parcels.
+#[tactic(auto, unfolding(crate::specs::Sheets::parcel_part))]
+fn push_parcel_part(text: &mut String, alloc: Global, parcels: &[Parcel]) -> Result<(), AllocError>
+    ensures { OnOk result (string_bytes text.new ≡ string_bytes text.old ++ parcel_part parcels.now) }
+{
+    push_area(text, alloc, parcels)?;
+    push_parcel_count(text, parcels)?;
+    push_parcels(text, alloc, parcels)
+}
+
+#[tactic(auto, unfolding(crate::specs::Sheets::area_line))]
+fn push_area(text: &mut String, alloc: Global, parcels: &[Parcel]) -> Result<(), AllocError>
+    ensures { OnOk result (string_bytes text.new ≡ string_bytes text.old ++ area_line parcels.now) }
+{
+    let area = square_metres(alloc, doubled_areas(parcels))?;
+    let area = area.as_str();
+    write!(text, "Area {area}\n")
+}
+
+#[tactic(auto, unfolding(crate::specs::Sheets::parcel_count_line))]
+fn push_parcel_count(text: &mut String, parcels: &[Parcel]) -> Result<(), AllocError>
+    ensures { OnOk result (string_bytes text.new ≡ string_bytes text.old ++ parcel_count_line parcels.now) }
+{
+    let count = parcels.len();
+    write!(text, "Parcels {count}\n")
+}
+
+fn push_parcels(text: &mut String, alloc: Global, parcels: &[Parcel]) -> Result<(), AllocError>
+    ensures { OnOk result (string_bytes text.new ≡ string_bytes text.old ++ parcel_lines parcels.now) }
+{
+    for parcel in parcels {
+        push_parcel(text, alloc, parcel)?;
+    }
+    Ok(())
+}
+
+#[tactic(auto, unfolding(crate::specs::Sheets::parcel_line))]
+fn push_parcel(text: &mut String, alloc: Global, parcel: &Parcel) -> Result<(), AllocError>
+    ensures { OnOk result (string_bytes text.new ≡ string_bytes text.old ++ parcel_line parcel.now) }
+{
+    let number = parcel.number;
+    let area = square_metres(alloc, u128::from(parcel.outline.doubled_area()))?;
+    let area = area.as_str();
+    let label = parcel.label.as_str();
+    write!(text, "{number:>10}  {area:>20}  {label}\n")
+}
+
+/// The entries in sight.
+#[tactic(auto, unfolding(crate::specs::Sheets::entry_part))]
+fn push_entry_part(text: &mut String, entries: &[NamedRrr]) -> Result<(), AllocError>
+    ensures { OnOk result (string_bytes text.new ≡ string_bytes text.old ++ entry_part entries.now) }
+{
+    push_entry_count(text, entries)?;
+    push_entries(text, entries)
+}
+
+#[tactic(auto, unfolding(crate::specs::Sheets::entry_count_line))]
+fn push_entry_count(text: &mut String, entries: &[NamedRrr]) -> Result<(), AllocError>
+    ensures { OnOk result (string_bytes text.new ≡ string_bytes text.old ++ entry_count_line entries.now) }
+{
+    let count = entries.len();
+    write!(text, "Entries {count}\n")
+}
+
+fn push_entries(text: &mut String, entries: &[NamedRrr]) -> Result<(), AllocError>
+    ensures { OnOk result (string_bytes text.new ≡ string_bytes text.old ++ entry_lines entries.now) }
+{
+    for entry in entries {
+        push_entry(text, entry)?;
+    }
+    Ok(())
+}
+
+#[tactic(auto, unfolding(crate::specs::Sheets::entry_line))]
+fn push_entry(text: &mut String, entry: &NamedRrr) -> Result<(), AllocError>
+    ensures { OnOk result (string_bytes text.new ≡ string_bytes text.old ++ entry_line entry.now) }
+{
+    push_entry_start(text, entry)?;
+    push_class_end(text, &entry.rrr.class)
+}
+
+/// Its number, its class and its party.
+#[tactic(auto, unfolding(crate::specs::Sheets::entry_start))]
+fn push_entry_start(text: &mut String, entry: &NamedRrr) -> Result<(), AllocError>
+    ensures { OnOk result (string_bytes text.new ≡ string_bytes text.old ++ entry_start entry.now) }
+{
+    let number = entry.rrr.number;
+    let class = class_word(&entry.rrr.class);
+    let party = entry.rrr.party;
+    let name = entry.name.as_str();
+    write!(text, "{number:>10}  {class:<14}  {party:>10} {name}: ")
+}
+
+/// What it says.
+fn push_class_end(text: &mut String, class: &Class) -> Result<(), AllocError>
+    ensures { OnOk result (string_bytes text.new ≡ string_bytes text.old ++ class_end class.now) }
+{
+    match class {
+        Class::Right { share, .. } => write!(text, "{share}\n"),
+        Class::Restriction { words } | Class::Responsibility { words } => {
+            let words = words.as_str();
+            write!(text, "{words}\n")
+        }
+        Class::Mortgage {
+            amount,
+            currency,
+            rank,
+        } => {
+            let currency = currency.as_str();
+            write!(text, "rank {rank} {currency} {amount}\n")
+        }
+    }
+}
