@@ -1,5 +1,6 @@
-//! Tests of what stands under the wire: routes, the bodies of acts, the contents of mutations. There is nothing else here: a crate
-//! that has tests is proved twice, so those three have none of their own, and this one has nothing to prove.
+//! Tests of what stands under the wire: routes, the bodies of acts, the contents of mutations, title sheets and the rows of
+//! extracts. There is nothing else here: a crate that has tests is proved twice, so those crates have none of their own, and this
+//! one has nothing to prove.
 //!
 //! The tests hold what no clause says: that the calls succeed up to the limits, how `serde_json` reads odd texts, and what a refused
 //! allocation leaves. Want of memory ends a test with an `Err`, so that it fails unless an allocation was refused.
@@ -11,6 +12,8 @@ mod bodies;
 #[cfg(test)]
 mod contents;
 #[cfg(test)]
+mod extracts;
+#[cfg(test)]
 mod faults;
 #[cfg(test)]
 mod outlines;
@@ -18,3 +21,5 @@ mod outlines;
 mod reading;
 #[cfg(test)]
 mod routes;
+#[cfg(test)]
+mod sheets;
