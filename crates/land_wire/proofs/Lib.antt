@@ -1,7 +1,6 @@
 -- Lemmas of what requests and replies say.
-pub mod DecimalLemmas
 pub mod FieldNames
-pub mod PartyPaths
+pub mod Readings
 pub mod ReplyTexts
 pub mod SameReplies
 pub mod WellFormed

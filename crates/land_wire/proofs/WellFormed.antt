@@ -1,50 +1,57 @@
--- Each request that is read keeps the limits of its fields, and asks for no title sheet.
-use Rattle.std.proofs.Common.{◌≡◌, ℕ, List, [], ◌∷◌, Bool, true, false, Result, Ok, Err, refl, if◌then◌else◌, codes, bytes_eq, IfOk, Option, Some, None}
+-- Each request that is read keeps the limits of its fields.
+use Rattle.std.proofs.Common.{◌≡◌, ℕ, List, true, Result, Ok, Err, refl, IfOk}
 use Rattle.serde_json.specs.Data.{Data}
 use Rattle.http_header.specs.FieldValue.{FieldValue}
 use Rattle.http_header.specs.HeaderMap.{Entries}
 use Rattle.land_core.specs.Acts.{is_well_formed, is_well_formed_ask, is_well_formed_request}
-use Rattle.land_core.specs.Register.{is_single}
-use Rattle.land_core.specs.Texts.{is_name}
+use Rattle.land_core.specs.declared.act.Act.{Act}
 use Rattle.land_core.specs.declared.act.Act.TheVariants as act
-use Rattle.land_core.specs.declared.act.Enrol.{Enrol}
 use Rattle.land_core.specs.declared.ask.Ask.{Ask}
 use Rattle.land_core.specs.declared.ask.Request.{Request}
-use Rattle.land_core.specs.declared.kind.PartyKind.{PartyKind}
-use Rattle.land_core.specs.declared.kind.PartyKind.TheVariants as kind
-use Rattle.land_wire.specs.Bodies.{object_with, text_at, kind_of, name_of, enrol_of, enrolled_by, value_of, enrol_in}
-use Rattle.land_wire.specs.Decimals.{number_in}
+use Rattle.land_routes.specs.Routes.{Resource, list, view, sheet, act as act_path}
+use Rattle.land_routes.specs.Targets.{path_of, query_of}
+use Rattle.land_routes.specs.declared.act_word.ActWord.{ActWord}
+use Rattle.land_routes.specs.declared.act_word.ActWord.TheVariants as word
+use Rattle.land_bodies.specs.Fields.{value_in}
+use Rattle.land_bodies.specs.Laws.{BodiesAreWellFormed}
+use Rattle.land_bodies.specs.Mutations.{decision_of, lodging_of}
+use Rattle.land_bodies.specs.Parties.{enrol_of, group_of, regroup_of, grant_of}
+use Rattle.land_bodies.specs.Units.{unit_of, burden_of, lift_of}
+use Rattle.land_bodies.specs.WireFaults.{◌>>=◌, Gives}
+use Rattle.land_bodies.specs.declared.content_kind.ContentKind.{ContentKind}
+use Rattle.land_bodies.specs.declared.content_kind.ContentKind.TheVariants as content
+use Rattle.land_bodies.specs.declared.wire_fault.WireFault.{WireFault}
+use Rattle.land_wire.specs.Acts.{act_in, act_of, lodged}
 use Rattle.land_wire.specs.Fields.{caller_in}
-use Rattle.land_wire.specs.Reading.{no_query, ask_of, asks_sheet, reading}
-use Rattle.land_wire.specs.RequestFaults.{◌>>=◌}
-use Rattle.land_wire.specs.Routes.{Resource, parties, party, enrol, path_of, query_of, route_of, allows}
-use Rattle.land_wire.specs.declared.request_fault.RequestFault.{RequestFault}
-use Rattle.land_wire.specs.declared.request_fault.RequestFault.TheVariants as fault
+use Rattle.land_wire.specs.Laws.{ReadingsAreWellFormed}
+use Rattle.land_wire.specs.Numbers.{number_in}
+use Rattle.land_wire.specs.Queries.{no_query, at_in}
+use Rattle.land_wire.specs.Reading.{allowed, ask_of, parts_reading, reading, resource_at}
 
 -- what is read has the property, if it is read
-record Ensures {A : Type 0} (P : A → Type 0) (r : Result A RequestFault) : Type 0 where
+record Ensures {A : Type 0} (P : A → Type 0) (r : Result A WireFault) : Type 0 where
   if_ok : IfOk r P
 
 -- what holds of each value that comes next holds of the whole
-bind : {A B : Type 0} {P : B → Type 0} (r : Result A RequestFault) {next : A → Result B RequestFault}
+bind : {A B : Type 0} {P : B → Type 0} (r : Result A WireFault) {next : A → Result B WireFault}
     → ((a : A) → Ensures P (next a)) → Ensures P (r >>= next)
 bind (Ok a) h = h a
 bind (Err e) h = record { if_ok = tt }
 
 -- the same, by what holds of the value before
-bind_with : {A B : Type 0} {Q : A → Type 0} {P : B → Type 0} (r : Result A RequestFault) {next : A → Result B RequestFault}
+bind_with : {A B : Type 0} {Q : A → Type 0} {P : B → Type 0} (r : Result A WireFault) {next : A → Result B WireFault}
     → Ensures Q r → ((a : A) → Q a → Ensures P (next a)) → Ensures P (r >>= next)
 bind_with (Ok a) q h = h a q.if_ok
 bind_with (Err e) q h = record { if_ok = tt }
 
-abbrev IsName : List ℕ → Type 0
-IsName name = is_name name ≡ true
+-- what is read is wrapped: by a law on what is read
+wrapped : {A B : Type 0} {P : B → Type 0} (wrap : A → B) (r : Result A WireFault)
+    → IfOk r (λ a. P (wrap a)) → Ensures P (r >>= λ a. Ok (wrap a))
+wrapped wrap (Ok a) h = record { if_ok = h }
+wrapped wrap (Err e) h = record { if_ok = tt }
 
-abbrev IsSingle : PartyKind → Type 0
-IsSingle kind = is_single kind ≡ true
-
-abbrev MayBeEnrolled : Enrol → Type 0
-MayBeEnrolled entered = is_well_formed (act.Enrol entered) ≡ true
+abbrev MayBeDone : Act → Type 0
+MayBeDone wanted = is_well_formed wanted ≡ true
 
 abbrev MayBeAsked : Ask → Type 0
 MayBeAsked asked = is_well_formed_ask asked ≡ true
@@ -52,91 +59,49 @@ MayBeAsked asked = is_well_formed_ask asked ≡ true
 abbrev MayBeRead : Request → Type 0
 MayBeRead request = is_well_formed_request request ≡ true
 
-abbrev name_or_fault : List ℕ → Bool → Result (List ℕ) RequestFault
-name_or_fault text b = if b then Ok text else Err fault.Text
+lodged-well_formed : BodiesAreWellFormed → (kind : ContentKind) (value : Data) → Ensures MayBeDone (lodged kind value)
+lodged-well_formed law kind value = wrapped act.Lodge (lodging_of kind value) (law.lodge kind value)
 
-name_by : (text : List ℕ) (b : Bool) → is_name text ≡ b → Ensures IsName (name_or_fault text b)
-name_by text true h = record { if_ok = h }
-name_by text false h = record { if_ok = tt }
+act_of-well_formed : BodiesAreWellFormed → (which : ActWord) (value : Data) → Ensures MayBeDone (act_of which value)
+act_of-well_formed law word.Enrol value = wrapped act.Enrol (enrol_of value) (law.enrol value)
+act_of-well_formed law word.Group value = wrapped act.Group (group_of value) (law.group value)
+act_of-well_formed law word.Regroup value = wrapped act.Regroup (regroup_of value) (law.regroup value)
+act_of-well_formed law word.Grant value = wrapped act.Grant (grant_of value) (law.grant value)
+act_of-well_formed law word.Revoke value = wrapped act.Revoke (grant_of value) (law.revoke value)
+act_of-well_formed law word.Register value = wrapped act.Register (unit_of value) (law.register value)
+act_of-well_formed law word.Burden value = wrapped act.Burden (burden_of value) (law.burden value)
+act_of-well_formed law word.Lift value = wrapped act.Lift (lift_of value) (law.lift value)
+act_of-well_formed law word.Transfer value = lodged-well_formed law content.Transfer value
+act_of-well_formed law word.Subdivision value = lodged-well_formed law content.Subdivision value
+act_of-well_formed law word.Merger value = lodged-well_formed law content.Merger value
+act_of-well_formed law word.Mortgage value = lodged-well_formed law content.Mortgage value
+act_of-well_formed law word.Discharge value = lodged-well_formed law content.Discharge value
+act_of-well_formed law word.Approve value = wrapped act.Approve (decision_of value) (law.approve value)
+act_of-well_formed law word.Refuse value = wrapped act.Refuse (decision_of value) (law.refuse value)
 
-abbrev kind_or_fault : Bool → Bool → Result PartyKind RequestFault
-kind_or_fault a b = if a then Ok kind.NaturalPerson else (if b then Ok kind.NonNaturalPerson else Err fault.Text)
+act_in-well_formed : BodiesAreWellFormed → (which : ActWord) (body : List ℕ) → Ensures MayBeDone (act_in which body)
+act_in-well_formed law which body = bind (value_in body) (act_of-well_formed law which)
 
-kind_by : (a b : Bool) → Ensures IsSingle (kind_or_fault a b)
-kind_by true b = record { if_ok = refl }
-kind_by false true = record { if_ok = refl }
-kind_by false false = record { if_ok = tt }
+ask_of-well_formed : BodiesAreWellFormed → (resource : Resource) (query body : List ℕ) → Ensures MayBeAsked (ask_of resource query body)
+ask_of-well_formed law (list kind) query body = bind (at_in query) (λ at. record { if_ok = refl })
+ask_of-well_formed law (view kind part) query body = bind (number_in part) (λ number. bind (at_in query) (λ at. record { if_ok = refl }))
+ask_of-well_formed law (sheet part) query body = bind (number_in part) (λ unit. bind (at_in query) (λ at. record { if_ok = refl }))
+ask_of-well_formed law (act_path which) query body =
+    bind (no_query query) (λ none. bind_with (act_in which body) (act_in-well_formed law which body) (λ wanted h. record { if_ok = h }))
 
-kind_of-single : (word : List ℕ) → Ensures IsSingle (kind_of word)
-kind_of-single word = kind_by (bytes_eq word (codes "naturalPerson")) (bytes_eq word (codes "nonNaturalPerson"))
-
-name_of-name : (text : List ℕ) → Ensures IsName (name_of text)
-name_of-name text = name_by text (is_name text) refl
-
-both : (k : PartyKind) (n : List ℕ) → IsSingle k → IsName n → Ensures MayBeEnrolled (Ok (record { kind = k; name = n }))
-both k n single name = record { if_ok = rw (single, name) refl }
-
-enrol_of-well_formed : (value : Data) → Ensures MayBeEnrolled (enrol_of value)
-unfolding enrol_of
-enrol_of-well_formed value =
-    bind (object_with (codes "kind" ∷ codes "name" ∷ []) value) (λ whole.
-    bind (text_at (codes "kind") value) (λ word.
-    bind_with (kind_of word) (kind_of-single word) (λ k single.
-    bind (text_at (codes "name") value) (λ text.
-    bind_with (name_of text) (name_of-name text) (λ n name. both k n single name)))))
-
-read_by : (value : Option Data) → Ensures MayBeEnrolled (enrolled_by value)
-read_by None = record { if_ok = tt }
-read_by (Some value) = enrol_of-well_formed value
-
-enrol_in-well_formed : (body : List ℕ) → Ensures MayBeEnrolled (enrol_in body)
-enrol_in-well_formed body = read_by (value_of body)
-
-asked_of-well_formed : (resource : Resource) (query body : List ℕ) → Ensures MayBeAsked (ask_of resource query body)
-asked_of-well_formed parties query body = bind (no_query query) (λ none. record { if_ok = refl })
-asked_of-well_formed (party part) query body = bind (number_in part) (λ number. bind (no_query query) (λ none. record { if_ok = refl }))
-asked_of-well_formed enrol query body = bind (no_query query) (λ none. bind_with (enrol_in body) (enrol_in-well_formed body) (λ entered h. record { if_ok = h }))
-
--- what is asked by a resource, a query and a body
-pub ask_of-well_formed : (resource : Resource) (query body : List ℕ) → IfOk (ask_of resource query body) (λ asked. is_well_formed_ask asked ≡ true)
-ask_of-well_formed resource query body = (asked_of-well_formed resource query body).if_ok
-
-read-well_formed : (method target : List ℕ) (fields : Entries FieldValue) (body : List ℕ) → Ensures MayBeRead (reading method target fields body)
-unfolding reading
-read-well_formed method target fields body =
-    bind (route_of (path_of target)) (λ resource.
-    bind (allows resource method) (λ allowed.
+read-well_formed : BodiesAreWellFormed → (method target : List ℕ) (fields : Entries FieldValue) (body : List ℕ)
+    → Ensures MayBeRead (reading method target fields body)
+unfolding parts_reading
+read-well_formed law method target fields body =
+    bind (resource_at (path_of target)) (λ resource.
+    bind (allowed resource method) (λ permit.
     bind (caller_in fields) (λ caller.
-    bind_with (ask_of resource (query_of target) body) (asked_of-well_formed resource (query_of target) body) (λ asked h. record { if_ok = h }))))
+    bind_with (ask_of resource (query_of target) body) (ask_of-well_formed law resource (query_of target) body) (λ asked h. record { if_ok = h }))))
 
-pub reading-well_formed : (method target : List ℕ) (fields : Entries FieldValue) (body : List ℕ)
-    → IfOk (reading method target fields body) (λ request. is_well_formed_request request ≡ true)
-reading-well_formed method target fields body = (read-well_formed method target fields body).if_ok
+pub reading-well_formed : BodiesAreWellFormed → ReadingsAreWellFormed
+reading-well_formed law method target fields body = (read-well_formed law method target fields body).if_ok
 
--- ---- no title sheet
-
-abbrev NoSheet : Ask → Type 0
-NoSheet asked = asks_sheet asked ≡ false
-
-abbrev NoSheetRead : Request → Type 0
-NoSheetRead request = asks_sheet request.ask ≡ false
-
-asked_of-no_sheet : (resource : Resource) (query body : List ℕ) → Ensures NoSheet (ask_of resource query body)
-asked_of-no_sheet parties query body = bind (no_query query) (λ none. record { if_ok = refl })
-asked_of-no_sheet (party part) query body = bind (number_in part) (λ number. bind (no_query query) (λ none. record { if_ok = refl }))
-asked_of-no_sheet enrol query body = bind (no_query query) (λ none. bind (enrol_in body) (λ entered. record { if_ok = refl }))
-
-pub ask_of-no_sheet : (resource : Resource) (query body : List ℕ) → IfOk (ask_of resource query body) (λ asked. asks_sheet asked ≡ false)
-ask_of-no_sheet resource query body = (asked_of-no_sheet resource query body).if_ok
-
-read-no_sheet : (method target : List ℕ) (fields : Entries FieldValue) (body : List ℕ) → Ensures NoSheetRead (reading method target fields body)
-unfolding reading
-read-no_sheet method target fields body =
-    bind (route_of (path_of target)) (λ resource.
-    bind (allows resource method) (λ allowed.
-    bind (caller_in fields) (λ caller.
-    bind_with (ask_of resource (query_of target) body) (asked_of-no_sheet resource (query_of target) body) (λ asked h. record { if_ok = h }))))
-
-pub reading-no_sheet : (method target : List ℕ) (fields : Entries FieldValue) (body : List ℕ)
-    → IfOk (reading method target fields body) (λ request. asks_sheet request.ask ≡ false)
-reading-no_sheet method target fields body = (read-no_sheet method target fields body).if_ok
+-- what holds of the wanted value holds of a value that is it
+pub of_given : (P : Request → Type 0) (found wanted : Result Request WireFault) → Gives (λ it. it) found wanted → IfOk wanted P → IfOk found P
+of_given P (Ok it) wanted is h = rw is at h
+of_given P (Err fault) wanted is h = tt

@@ -1,5 +1,5 @@
 -- Who asks, by the fields of a head.
-use Rattle.std.specs.Prelude.{ℕ, List, [], ◌∷◌, map, filter, codes, bytes_eq, Result, Ok, Err, if◌then◌else◌}
+use Rattle.std.specs.Prelude.{ℕ, List, [], ◌∷◌, map, filter, codes, Result, Ok, Err}
 use Rattle.std.specs.List.{fold}
 use Rattle.std.specs.Str.{str_eq_ignore_ascii_case}
 use Rattle.http_header.specs.FieldName.{IsFieldName}
@@ -8,11 +8,11 @@ use Rattle.http_header.specs.HeaderMap.{Entries, append, get_all}
 use Rattle.http_header.specs.Token.{lowercase}
 use Rattle.land_core.specs.declared.caller.Caller.{Caller}
 use Rattle.land_core.specs.declared.role.Role.{Role}
-use Rattle.land_core.specs.declared.role.Role.TheVariants as role
-use Rattle.land_wire.specs.RequestFaults.{◌>>=◌}
-use Rattle.land_wire.specs.Decimals.{number_in}
-use Rattle.land_wire.specs.declared.request_fault.RequestFault.{RequestFault}
-use Rattle.land_wire.specs.declared.request_fault.RequestFault.TheVariants as fault
+use Rattle.land_bodies.specs.WireFaults.{◌>>=◌}
+use Rattle.land_bodies.specs.Words.{role_of}
+use Rattle.land_bodies.specs.declared.wire_fault.WireFault.{WireFault}
+use Rattle.land_bodies.specs.declared.wire_fault.WireFault.TheVariants as fault
+use Rattle.land_wire.specs.Numbers.{number_in}
 
 -- a header map takes the name and the value
 abbrev pub IsTaken : (List ℕ × List ℕ) → Type 0
@@ -31,32 +31,21 @@ abbrev pub values_named : List ℕ → List (List ℕ × List ℕ) → List (Lis
 values_named name fields = map (λ f. f.1) (filter (λ f. str_eq_ignore_ascii_case f.0 name) fields)
 
 -- a field has to stand once; absent or more than once it is fault 131, whatever its values
-abbrev pub only_value : List FieldValue → Result (List ℕ) RequestFault
+abbrev pub only_value : List FieldValue → Result (List ℕ) WireFault
 only_value [] = Err fault.Field
 only_value (value ∷ []) = Ok value.bytes
 only_value (first ∷ second ∷ others) = Err fault.Field
 
 -- the field Register-Party: a number, else 132
-abbrev pub party_in : Entries FieldValue → Result ℕ RequestFault
+abbrev pub party_in : Entries FieldValue → Result ℕ WireFault
 party_in fields = only_value (get_all fields (codes "register-party")) >>= number_in
 
--- the words of the roles, letter case counts; any other word is fault 134
-abbrev pub role_of : List ℕ → Result Role RequestFault
-role_of word =
-    if bytes_eq word (codes "citizen") then Ok role.Citizen
-    else (if bytes_eq word (codes "conveyancer") then Ok role.Conveyancer
-    else (if bytes_eq word (codes "notary") then Ok role.Notary
-    else (if bytes_eq word (codes "bank") then Ok role.Bank
-    else (if bytes_eq word (codes "certifiedSurveyor") then Ok role.CertifiedSurveyor
-    else (if bytes_eq word (codes "stateAdministrator") then Ok role.StateAdministrator
-    else Err fault.Role)))))
-
--- the field Register-Role: the word of a role
-abbrev pub role_in : Entries FieldValue → Result Role RequestFault
+-- the field Register-Role: the word of a role, else 134
+abbrev pub role_in : Entries FieldValue → Result Role WireFault
 role_in fields = only_value (get_all fields (codes "register-role")) >>= role_of
 
 -- the party comes first
-abbrev pub caller_in : Entries FieldValue → Result Caller RequestFault
+abbrev pub caller_in : Entries FieldValue → Result Caller WireFault
 caller_in fields = do
   party ← party_in fields
   role ← role_in fields

@@ -1,18 +1,22 @@
 -- Laws of the edge, each over the definitions alone.
-use Rattle.std.specs.Prelude.{◌≡◌, ℕ, pos, true, false, List, ◌++◌, map, codes, Ok, IfOk, Some}
+use Rattle.std.specs.Prelude.{◌≡◌, ℕ, ℤ, pos, Bool, true, false, List, map, codes, bytes_eq, Option, Some, None, IfOk}
 use Rattle.http_header.specs.FieldValue.{FieldValue, plain_value}
 use Rattle.http_header.specs.HeaderMap.{Entries, get_all}
 use Rattle.http_header.specs.Token.{lowercase}
 use Rattle.land_core.specs.Acts.{is_well_formed_request}
+use Rattle.land_core.specs.declared.ask.Ask.{Ask}
+use Rattle.land_core.specs.declared.ask.Ask.TheVariants as ask
 use Rattle.land_core.specs.declared.object.Object.{Object}
+use Rattle.land_keep.specs.Machine.{at_of}
+use Rattle.land_keep.specs.Moments.{IsMoment}
 use Rattle.land_keep.specs.declared.reply.Reply.{Reply}
 use Rattle.land_keep.specs.declared.reply.Reply.TheVariants as reply
 use Rattle.land_texts.specs.Objects.{object_text}
 use Rattle.land_wire.specs.Fields.{field_map, values_named}
-use Rattle.land_wire.specs.Reading.{reading, asks_sheet}
+use Rattle.land_wire.specs.Queries.{at_in}
+use Rattle.land_wire.specs.Reading.{reading}
 use Rattle.land_wire.specs.Replies.{reply_text, short_text, numbers_text, done_text, shown_text}
 use Rattle.land_wire.specs.ReplyLimits.{IsReplyWithin}
-use Rattle.land_wire.specs.Routes.{party, is_part, route_of}
 
 -- each request that is read keeps the limits of its fields
 abbrev pub ReadingsAreWellFormed : Type 0
@@ -20,26 +24,50 @@ ReadingsAreWellFormed =
     (method target : List ℕ) (fields : Entries FieldValue) (body : List ℕ)
     → IfOk (reading method target fields body) (λ request. is_well_formed_request request ≡ true)
 
--- no route asks for a title sheet yet
-abbrev pub NoReadingAsksForASheet : Type 0
-NoReadingAsksForASheet =
+-- the body of a GET is not looked at
+abbrev pub BodiesOfReadsDoNotCount : Type 0
+BodiesOfReadsDoNotCount =
+    (target : List ℕ) (fields : Entries FieldValue) (body other : List ℕ)
+    → reading (codes "GET") target fields body ≡ reading (codes "GET") target fields other
+
+-- something is to be done
+abbrev pub is_done : Ask → Bool
+is_done (ask.View kind number at) = false
+is_done (ask.List kind at) = false
+is_done (ask.Sheet unit at) = false
+is_done (ask.Do wanted) = true
+
+-- a GET that is read asks for no act
+abbrev pub GetsDoNothing : Type 0
+GetsDoNothing =
+    (target : List ℕ) (fields : Entries FieldValue) (body : List ℕ)
+    → IfOk (reading (codes "GET") target fields body) (λ request. is_done request.ask ≡ false)
+
+-- what is read by any other method is a POST, and asks for an act
+abbrev pub OtherMethodsAskForActs : Type 0
+OtherMethodsAskForActs =
+    (method target : List ℕ) (fields : Entries FieldValue) (body : List ℕ) → bytes_eq method (codes "GET") ≡ false
+    → IfOk (reading method target fields body) (λ request. (is_done request.ask ≡ true) × (bytes_eq method (codes "POST") ≡ true))
+
+-- the moment that a query states lies between 0 and the last one
+abbrev pub IsStated : Option ℤ → Type 0
+IsStated None = Unit {0}
+IsStated (Some moment) = IsMoment moment
+
+abbrev pub StatedMomentsAreMoments : Type 0
+StatedMomentsAreMoments = (query : List ℕ) → IfOk (at_in query) IsStated
+
+-- and so does the one that a request asks for, if it states one
+abbrev pub AskedMomentsAreMoments : Type 0
+AskedMomentsAreMoments =
     (method target : List ℕ) (fields : Entries FieldValue) (body : List ℕ)
-    → IfOk (reading method target fields body) (λ request. asks_sheet request.ask ≡ false)
+    → IfOk (reading method target fields body) (λ request. IsStated (at_of request.ask))
 
 -- in the header map of a head's fields a name has the values of the fields with that name in any letter case
 abbrev pub NamesAreInAnyCase : Type 0
 NamesAreInAnyCase =
     (fields : List (List ℕ × List ℕ)) (name : List ℕ)
     → get_all (field_map fields) (lowercase name) ≡ map plain_value (values_named name fields)
-
--- `/parties/` with a part that is not empty and has no `/` is the path of a party
-abbrev pub PartsNameParties : Type 0
-PartsNameParties = (part : List ℕ) → is_part part ≡ true → route_of (codes "/parties/" ++ part) ≡ Ok (party part)
-
--- and no other path is
-abbrev pub OnlyPartsNameParties : Type 0
-OnlyPartsNameParties =
-    (path part : List ℕ) → route_of path ≡ Ok (party part) → (path ≡ codes "/parties/" ++ part) × (is_part part ≡ true)
 
 -- the replies of one number
 abbrev pub ShortTexts : Type 0

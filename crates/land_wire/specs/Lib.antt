@@ -1,10 +1,9 @@
 -- Definitions of what requests and replies say.
-pub mod Bodies
-pub mod Decimals
+pub mod Acts
 pub mod Fields
 pub mod Laws
+pub mod Numbers
+pub mod Queries
 pub mod Reading
 pub mod Replies
 pub mod ReplyLimits
-pub mod RequestFaults
-pub mod Routes

@@ -1,51 +1,55 @@
 -- The reading of a request: a function of method, target, fields and body.
-use Rattle.std.specs.Prelude.{ℕ, Bool, true, false, List, [], ◌∷◌, None, Result, Ok, Err, ⊤}
+use Rattle.std.specs.Prelude.{ℕ, List, Result, Ok, Err, if◌then◌else◌, ⊤}
 use Rattle.http_header.specs.FieldValue.{FieldValue}
 use Rattle.http_header.specs.HeaderMap.{Entries}
-use Rattle.land_core.specs.declared.act.Act.TheVariants as act
 use Rattle.land_core.specs.declared.ask.Ask.{Ask}
 use Rattle.land_core.specs.declared.ask.Ask.TheVariants as ask
 use Rattle.land_core.specs.declared.ask.Request.{Request}
-use Rattle.land_core.specs.declared.kind.Kind.TheVariants as kind
-use Rattle.land_wire.specs.RequestFaults.{◌>>=◌}
-use Rattle.land_wire.specs.Bodies.{enrol_in}
-use Rattle.land_wire.specs.Decimals.{number_in}
+use Rattle.land_routes.specs.Routes.{Resource, list, view, sheet, act, route_of, allows}
+use Rattle.land_routes.specs.Targets.{path_of, query_of}
+use Rattle.land_bodies.specs.WireFaults.{◌>>=◌, or_fault}
+use Rattle.land_bodies.specs.declared.wire_fault.WireFault.{WireFault}
+use Rattle.land_bodies.specs.declared.wire_fault.WireFault.TheVariants as fault
+use Rattle.land_wire.specs.Acts.{act_in}
 use Rattle.land_wire.specs.Fields.{caller_in}
-use Rattle.land_wire.specs.Routes.{Resource, parties, party, enrol, path_of, query_of, route_of, allows}
-use Rattle.land_wire.specs.declared.request_fault.RequestFault.{RequestFault}
-use Rattle.land_wire.specs.declared.request_fault.RequestFault.TheVariants as fault
+use Rattle.land_wire.specs.Numbers.{number_in}
+use Rattle.land_wire.specs.Queries.{no_query, at_in}
 
--- a query that is not empty is fault 131
-abbrev pub no_query : List ℕ → Result ⊤ RequestFault
-no_query [] = Ok tt
-no_query (byte ∷ bytes) = Err fault.Field
+-- what a path names; a path that names nothing is fault 136
+abbrev pub resource_at : (path : List ℕ) → Result Resource WireFault
+resource_at path = or_fault (route_of path) fault.NoRoute
 
--- the path's number, then the query, then the body, which counts for an act alone
-abbrev pub ask_of : Resource → (query body : List ℕ) → Result Ask RequestFault
-ask_of parties query body = do
-  none ← no_query query
-  Ok (ask.List kind.Party None)
-ask_of (party part) query body = do
+-- any other method than the resource's one is fault 137
+abbrev pub allowed : Resource → (method : List ℕ) → Result ⊤ WireFault
+allowed named method = if allows named method then Ok tt else Err fault.Method
+
+-- what is asked for: the path's number, then the query, then the body, which counts for an act alone
+abbrev pub ask_of : Resource → (query body : List ℕ) → Result Ask WireFault
+ask_of (list kind) query body = do
+  at ← at_in query
+  Ok (ask.List kind at)
+ask_of (view kind part) query body = do
   number ← number_in part
+  at ← at_in query
+  Ok (ask.View kind number at)
+ask_of (sheet part) query body = do
+  unit ← number_in part
+  at ← at_in query
+  Ok (ask.Sheet unit at)
+ask_of (act word) query body = do
   none ← no_query query
-  Ok (ask.View kind.Party number None)
-ask_of enrol query body = do
-  none ← no_query query
-  entered ← enrol_in body
-  Ok (ask.Do (act.Enrol entered))
+  wanted ← act_in word body
+  Ok (ask.Do wanted)
 
 -- the request, or the first fault in this order: the route, its method, the caller's fields, what is asked
-unfoldable pub reading : (method target : List ℕ) → Entries FieldValue → (body : List ℕ) → Result Request RequestFault
-reading method target fields body = do
-  resource ← route_of (path_of target)
-  allowed ← allows resource method
+unfoldable pub parts_reading : (method path query : List ℕ) → Entries FieldValue → (body : List ℕ) → Result Request WireFault
+parts_reading method path query fields body = do
+  resource ← resource_at path
+  permit ← allowed resource method
   caller ← caller_in fields
-  asked ← ask_of resource (query_of target) body
+  asked ← ask_of resource query body
   Ok (record { caller = caller; ask = asked })
 
--- a title sheet is asked for
-abbrev pub asks_sheet : Ask → Bool
-asks_sheet (ask.View kind number at) = false
-asks_sheet (ask.List kind at) = false
-asks_sheet (ask.Sheet unit at) = true
-asks_sheet (ask.Do act) = false
+-- the same of a target, which is a path and a query
+abbrev pub reading : (method target : List ℕ) → Entries FieldValue → (body : List ℕ) → Result Request WireFault
+reading method target fields body = parts_reading method (path_of target) (query_of target) fields body

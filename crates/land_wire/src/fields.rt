@@ -5,15 +5,15 @@ ghost use Rattle.http_header.specs.FieldName.{IsFieldName};
 ghost use Rattle.http_header.specs.FieldValue.{IsFieldValue};
 ghost use Rattle.http_header.specs.HeaderMap.{RefusesAppend, get_all};
 ghost use Rattle.http_header.specs.Token.{lowercase};
-ghost use Rattle.land_wire.specs.RequestFaults.{seen_by};
-ghost use Rattle.land_wire.specs.Fields.{caller_in, only_value, party_in, role_in, role_of, with_field};
+ghost use Rattle.land_bodies.specs.WireFaults.{seen_by};
+ghost use Rattle.land_wire.specs.Fields.{caller_in, only_value, party_in, role_in, with_field};
 
-use crate::decimals::read_number;
-use crate::request_fault::RequestFault;
-use crate::words::is_word;
+use crate::numbers::read_number;
 use http_header::{
     HeaderMap, HeaderMapError, HeaderName, HeaderNameError, HeaderValue, HeaderValueError,
 };
+use land_bodies::wire_fault::WireFault;
+use land_bodies::words::role_of;
 use land_core::caller::Caller;
 use land_core::role::Role;
 use std::alloc::Global;
@@ -64,7 +64,7 @@ pub fn append_field(
 /// Who asks, by the fields `Register-Party` and `Register-Role`, whose names are in any letter case: a party's
 /// number, else 132, and the word of a role, else 134. Either field absent or more than once is fault 131. The party
 /// comes first.
-pub fn read_caller(fields: &HeaderMap) -> Result<Caller, RequestFault>
+pub fn read_caller(fields: &HeaderMap) -> Result<Caller, WireFault>
     ensures { result ≡ caller_in fields.now }
 {
     let party = read_party(fields)?;
@@ -73,49 +73,29 @@ pub fn read_caller(fields: &HeaderMap) -> Result<Caller, RequestFault>
 }
 
 /// The number in the field `Register-Party`: else fault 131, where it is absent or stands more than once, or 132.
-pub fn read_party(fields: &HeaderMap) -> Result<u64, RequestFault>
+pub fn read_party(fields: &HeaderMap) -> Result<u64, WireFault>
     ensures { result ≡ party_in fields.now }
 {
     read_number(only_value(fields, "register-party")?)
 }
 
 /// The role in the field `Register-Role`: else fault 131, where it is absent or stands more than once, or 134.
-pub fn read_role(fields: &HeaderMap) -> Result<Role, RequestFault>
+pub fn read_role(fields: &HeaderMap) -> Result<Role, WireFault>
     ensures { result ≡ role_in fields.now }
 {
     role_of(only_value(fields, "register-role")?)
 }
 
-fn only_value<'m>(fields: &'m HeaderMap, name: &str) -> Result<&'m [u8], RequestFault>
+fn only_value<'m>(fields: &'m HeaderMap, name: &str) -> Result<&'m [u8], WireFault>
     ensures { seen_by (λ value. value.now) result ≡ only_value (get_all fields.now (lowercase name.now)) }
 {
     let all = fields.get_all(name);
     let mut values = all.iter();
     let Some(value) = values.next() else {
-        return Err(RequestFault::Field);
+        return Err(WireFault::Field);
     };
     match values.next() {
-        Some(_) => Err(RequestFault::Field),
+        Some(_) => Err(WireFault::Field),
         None => Ok(value.as_bytes()),
-    }
-}
-
-fn role_of(word: &[u8]) -> Result<Role, RequestFault>
-    ensures { result ≡ role_of word.now }
-{
-    if is_word(word, "citizen") {
-        Ok(Role::Citizen)
-    } else if is_word(word, "conveyancer") {
-        Ok(Role::Conveyancer)
-    } else if is_word(word, "notary") {
-        Ok(Role::Notary)
-    } else if is_word(word, "bank") {
-        Ok(Role::Bank)
-    } else if is_word(word, "certifiedSurveyor") {
-        Ok(Role::CertifiedSurveyor)
-    } else if is_word(word, "stateAdministrator") {
-        Ok(Role::StateAdministrator)
-    } else {
-        Err(RequestFault::Role)
     }
 }

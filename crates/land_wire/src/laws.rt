@@ -1,25 +1,33 @@
 //! Laws, each stated over the definitions alone.
-ghost use Rattle.land_wire.specs.Laws.{ReadingsAreWellFormed, NoReadingAsksForASheet, NamesAreInAnyCase, PartsNameParties, OnlyPartsNameParties, ShortTexts, NumbersTexts, DoneTexts, ShownTexts, RepliesAreTold};
+ghost use Rattle.land_wire.specs.Laws.{ReadingsAreWellFormed, BodiesOfReadsDoNotCount, GetsDoNothing, OtherMethodsAskForActs, StatedMomentsAreMoments, AskedMomentsAreMoments, NamesAreInAnyCase, ShortTexts, NumbersTexts, DoneTexts, ShownTexts, RepliesAreTold};
 
 /// Each request that is read keeps the limits of its fields.
 pub fn readings_are_well_formed()
     ensures { ReadingsAreWellFormed }
+{
+    land_bodies::laws::readings_are_well_formed();
+}
+
+/// The body of a GET is not looked at.
+pub fn bodies_of_reads_do_not_count()
+    ensures { BodiesOfReadsDoNotCount }
 {}
 
-/// No request that is read asks for a title sheet, since no route does yet.
-pub fn no_reading_asks_for_a_sheet()
-    ensures { NoReadingAsksForASheet }
+/// A request that is read has the method GET or POST: a GET asks for no act, and a POST for nothing else.
+pub fn posts_are_acts()
+    ensures gets { GetsDoNothing }
+    ensures others { OtherMethodsAskForActs }
+{}
+
+/// The moment that a query states is one that there is, and so is the one that a request asks for.
+pub fn stated_moments_are_moments()
+    ensures queries { StatedMomentsAreMoments }
+    ensures requests { AskedMomentsAreMoments }
 {}
 
 /// A name of a field is found in any letter case.
 pub fn names_are_in_any_case()
     ensures { NamesAreInAnyCase }
-{}
-
-/// `/parties/` with a part that is not empty and has no `/` is the path of a party, and no other path is.
-pub fn parts_name_parties()
-    ensures found { PartsNameParties }
-    ensures only { OnlyPartsNameParties }
 {}
 
 /// The texts of replies of one number.

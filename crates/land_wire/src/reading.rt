@@ -1,83 +1,145 @@
 //! Requests, from the parts of their messages.
-ghost use Rattle.std.specs.Prelude.{◌≡◌, IfOk, true, false};
-ghost use Rattle.land_core.specs.Acts.{is_well_formed_ask, is_well_formed_request};
-ghost use Rattle.land_wire.specs.Reading.{ask_of, asks_sheet, no_query, reading};
-ghost use Rattle.land_wire.specs.RequestFaults.{Gives};
-ghost use Rattle.land_wire.specs.Routes.{resource};
+ghost use Rattle.std.specs.Prelude.{◌≡◌, [], IfOk, true};
+ghost use Rattle.land_core.specs.Acts.{is_well_formed_request};
+ghost use Rattle.land_keep.specs.Machine.{at_of};
+ghost use Rattle.land_routes.specs.Routes.{act, list, resource, sheet, view};
+ghost use Rattle.land_routes.specs.Table.{FindsRoutes};
+ghost use Rattle.land_bodies.specs.WireFaults.{Gives, seen_by};
+ghost use Rattle.land_wire.specs.Laws.{IsStated};
+ghost use Rattle.land_wire.specs.Reading.{allowed, ask_of, parts_reading, reading, resource_at};
 
-use crate::body::read_enrol;
-use crate::decimals::read_number;
+use crate::act::read_act;
 use crate::fields::read_caller;
-use crate::request_fault::RequestFault;
-use crate::route::{Route, check_method, find_route, split_target};
+use crate::laws;
+use crate::numbers::read_number;
+use crate::query::{check_no_query, read_at};
 use http_header::HeaderMap;
-use land_core::act::Act;
+use land_bodies::wire_fault::WireFault;
 use land_core::ask::{Ask, Request};
 use land_core::kind::Kind;
+use land_routes::act_word::ActWord;
+use land_routes::route::{Route, allows, find_route};
+use land_routes::table::{Goal, routes};
+use land_routes::target::split_target;
+use matchit::Router;
 use std::alloc::Global;
 
-/// Reads a request of its method, target, fields and body. The first fault is answered, in this order: 136 no such
-/// route, 137 another method, the fields `Register-Party` (131, 132) and `Register-Role` (131, 134), 132 the number in
-/// the path, 131 a query that is not empty, and the faults of an act's body (130, 131, 133). The body of a GET is not
-/// looked at. 501: there was no memory.
-#[tactic(auto, unfolding(crate::specs::Reading::reading))]
+/// Reads a request as `read_routed` does, by a router that it makes. 501: there was no memory, for the router either.
 pub fn read_request(
     alloc: Global,
     method: &[u8],
-    target: &[u8],
+    target: &str,
     fields: &HeaderMap,
     body: &[u8],
-) -> Result<Request, RequestFault>
-    ensures reads { Gives (λ request. request) result (reading method.now target.now fields.now body.now) }
+) -> Result<Request, WireFault>
+    ensures reads { Gives (λ it. it) result (reading method.now target.now fields.now body.now) }
     ensures well_formed { IfOk result (λ request. is_well_formed_request request ≡ true) }
-    ensures no_sheet { IfOk result (λ request. asks_sheet request.ask ≡ false) }
+    ensures moment { IfOk result (λ request. IsStated (at_of request.ask)) }
 {
+    let router = routes(alloc)?;
+    read_routed(alloc, &router, method, target, fields, body)
+}
+
+/// Reads a request of its method, target, fields and body, by a router that `routes` made. The first fault is answered,
+/// in this order: 136 no such route, 137 another method, the fields `Register-Party` (131, 132) and `Register-Role`
+/// (131, 134), 132 the number in the path, the query (131, 132), and the faults of an act's body: 130 no JSON, then
+/// those of its fields. The body of a GET is not looked at. 501: there was no memory.
+pub fn read_routed(
+    alloc: Global,
+    router: &Router<Goal>,
+    method: &[u8],
+    target: &str,
+    fields: &HeaderMap,
+    body: &[u8],
+) -> Result<Request, WireFault>
+    requires { FindsRoutes router.now }
+    ensures reads { Gives (λ it. it) result (reading method.now target.now fields.now body.now) }
+    ensures well_formed { IfOk result (λ request. is_well_formed_request request ≡ true) }
+    ensures moment { IfOk result (λ request. IsStated (at_of request.ask)) }
+{
+    laws::readings_are_well_formed();
+    laws::stated_moments_are_moments();
     let (path, query) = split_target(target);
-    let route = find_route(path)?;
+    read_parts(alloc, router, method, path, query.as_bytes(), fields, body)
+}
+
+#[tactic(auto, unfolding(crate::specs::Reading::parts_reading))]
+fn read_parts(
+    alloc: Global,
+    router: &Router<Goal>,
+    method: &[u8],
+    path: &str,
+    query: &[u8],
+    fields: &HeaderMap,
+    body: &[u8],
+) -> Result<Request, WireFault>
+    requires { FindsRoutes router.now }
+    ensures { Gives (λ it. it) result (parts_reading method.now path.now query.now fields.now body.now) }
+{
+    let route = route_at(router, path)?;
     check_method(&route, method)?;
     let caller = read_caller(fields)?;
     let ask = read_ask(alloc, &route, query, body)?;
     Ok(Request { caller, ask })
 }
 
-fn read_ask(
-    alloc: Global,
-    route: &Route<'_>,
-    query: &[u8],
-    body: &[u8],
-) -> Result<Ask, RequestFault>
-    ensures { Gives (λ ask. ask) result (ask_of (resource route.now) query.now body.now) }
+fn route_at<'a>(router: &Router<Goal>, path: &'a str) -> Result<Route<'a>, WireFault>
+    requires { FindsRoutes router.now }
+    ensures { seen_by resource result ≡ resource_at path.now }
 {
-    match route {
-        Route::Parties => {
-            check_query(query)?;
-            Ok(Ask::List {
-                kind: Kind::Party,
-                at: None,
-            })
-        }
-        Route::Party(part) => {
-            let number = read_number(part)?;
-            check_query(query)?;
-            Ok(Ask::View {
-                kind: Kind::Party,
-                number,
-                at: None,
-            })
-        }
-        Route::Enrol => {
-            check_query(query)?;
-            Ok(Ask::Do(Act::Enrol(read_enrol(alloc, body)?)))
-        }
+    match find_route(router, path) {
+        Some(route) => Ok(route),
+        None => Err(WireFault::NoRoute),
     }
 }
 
-fn check_query(query: &[u8]) -> Result<(), RequestFault>
-    ensures { result ≡ no_query query.now }
+fn check_method(route: &Route<'_>, method: &[u8]) -> Result<(), WireFault>
+    ensures { result ≡ allowed (resource route.now) method.now }
 {
-    if query.is_empty() {
+    if allows(route, method) {
         Ok(())
     } else {
-        Err(RequestFault::Field)
+        Err(WireFault::Method)
     }
+}
+
+fn read_ask(alloc: Global, route: &Route<'_>, query: &[u8], body: &[u8]) -> Result<Ask, WireFault>
+    ensures { Gives (λ it. it) result (ask_of (resource route.now) query.now body.now) }
+{
+    match route {
+        Route::List(kind) => read_list(*kind, query),
+        Route::View(kind, part) => read_view(*kind, part, query),
+        Route::Sheet(part) => read_sheet(part, query),
+        Route::Act(word) => read_done(alloc, *word, query, body),
+    }
+}
+
+fn read_list(kind: Kind, query: &[u8]) -> Result<Ask, WireFault>
+    ensures { result ≡ ask_of (list kind) query.now [] }
+{
+    let at = read_at(query)?;
+    Ok(Ask::List { kind, at })
+}
+
+fn read_view(kind: Kind, part: &[u8], query: &[u8]) -> Result<Ask, WireFault>
+    ensures { result ≡ ask_of (view kind part.now) query.now [] }
+{
+    let number = read_number(part)?;
+    let at = read_at(query)?;
+    Ok(Ask::View { kind, number, at })
+}
+
+fn read_sheet(part: &[u8], query: &[u8]) -> Result<Ask, WireFault>
+    ensures { result ≡ ask_of (sheet part.now) query.now [] }
+{
+    let unit = read_number(part)?;
+    let at = read_at(query)?;
+    Ok(Ask::Sheet { unit, at })
+}
+
+fn read_done(alloc: Global, word: ActWord, query: &[u8], body: &[u8]) -> Result<Ask, WireFault>
+    ensures { Gives (λ it. it) result (ask_of (act word) query.now body.now) }
+{
+    check_no_query(query)?;
+    Ok(Ask::Do(read_act(alloc, word, body)?))
 }

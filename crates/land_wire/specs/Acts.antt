@@ -1,0 +1,41 @@
+-- Acts, by their words in paths and the JSON of their bodies.
+use Rattle.std.specs.Prelude.{ℕ, List, Result, Ok}
+use Rattle.serde_json.specs.Data.{Data}
+use Rattle.land_core.specs.declared.act.Act.{Act}
+use Rattle.land_core.specs.declared.act.Act.TheVariants as act
+use Rattle.land_routes.specs.declared.act_word.ActWord.{ActWord}
+use Rattle.land_routes.specs.declared.act_word.ActWord.TheVariants as word
+use Rattle.land_bodies.specs.Fields.{value_in}
+use Rattle.land_bodies.specs.Mutations.{decision_of, lodging_of}
+use Rattle.land_bodies.specs.Parties.{enrol_of, group_of, regroup_of, grant_of}
+use Rattle.land_bodies.specs.Units.{unit_of, burden_of, lift_of}
+use Rattle.land_bodies.specs.WireFaults.{◌>>=◌}
+use Rattle.land_bodies.specs.declared.content_kind.ContentKind.{ContentKind}
+use Rattle.land_bodies.specs.declared.content_kind.ContentKind.TheVariants as content
+use Rattle.land_bodies.specs.declared.wire_fault.WireFault.{WireFault}
+
+-- a mutation that is lodged
+abbrev pub lodged : ContentKind → Data → Result Act WireFault
+lodged kind value = lodging_of kind value >>= λ it. Ok (act.Lodge it)
+
+-- what the word of an act asks for: five words lodge a mutation each, and every other has an act of its own
+abbrev pub act_of : ActWord → Data → Result Act WireFault
+act_of word.Enrol value = enrol_of value >>= λ it. Ok (act.Enrol it)
+act_of word.Group value = group_of value >>= λ it. Ok (act.Group it)
+act_of word.Regroup value = regroup_of value >>= λ it. Ok (act.Regroup it)
+act_of word.Grant value = grant_of value >>= λ it. Ok (act.Grant it)
+act_of word.Revoke value = grant_of value >>= λ it. Ok (act.Revoke it)
+act_of word.Register value = unit_of value >>= λ it. Ok (act.Register it)
+act_of word.Burden value = burden_of value >>= λ it. Ok (act.Burden it)
+act_of word.Lift value = lift_of value >>= λ it. Ok (act.Lift it)
+act_of word.Transfer value = lodged content.Transfer value
+act_of word.Subdivision value = lodged content.Subdivision value
+act_of word.Merger value = lodged content.Merger value
+act_of word.Mortgage value = lodged content.Mortgage value
+act_of word.Discharge value = lodged content.Discharge value
+act_of word.Approve value = decision_of value >>= λ it. Ok (act.Approve it)
+act_of word.Refuse value = decision_of value >>= λ it. Ok (act.Refuse it)
+
+-- the body of an act: JSON, else fault 130, and then its fields
+abbrev pub act_in : ActWord → (body : List ℕ) → Result Act WireFault
+act_in which body = value_in body >>= λ value. act_of which value

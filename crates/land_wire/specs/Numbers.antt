@@ -1,0 +1,20 @@
+-- Numbers and moments in decimal, as they stand in heads and targets.
+use Rattle.std.specs.Prelude.{ℕ, ℤ, pos, int_lt, List, Result, Ok, Err, if◌then◌else◌}
+use Rattle.land_core.specs.Numbers.{is_number}
+use Rattle.land_keep.specs.Moments.{last_moment}
+use Rattle.land_bodies.specs.Decimals.{digits_in}
+use Rattle.land_bodies.specs.WireFaults.{◌>>=◌, or_fault}
+use Rattle.land_bodies.specs.declared.wire_fault.WireFault.{WireFault}
+use Rattle.land_bodies.specs.declared.wire_fault.WireFault.TheVariants as fault
+
+-- the value of 1 to 13 decimal digits, leading zeros allowed; any other text is fault 132
+abbrev pub decimal_in : List ℕ → Result ℕ WireFault
+decimal_in text = or_fault (digits_in 13 text) fault.Number
+
+-- the number of an object, 1 to 1_000_000_000; any other value is fault 132
+abbrev pub number_in : List ℕ → Result ℕ WireFault
+number_in text = decimal_in text >>= λ value. if is_number value then Ok value else Err fault.Number
+
+-- a moment, 0 to the last one; a later one is fault 132
+abbrev pub moment_in : List ℕ → Result ℤ WireFault
+moment_in text = decimal_in text >>= λ value. if int_lt last_moment (pos value) then Err fault.Number else Ok (pos value)

@@ -1,0 +1,54 @@
+//! Acts, by their words in paths and the JSON of their bodies.
+ghost use Rattle.std.specs.Prelude.{◌≡◌};
+ghost use Rattle.serde_json.specs.View.{view};
+ghost use Rattle.land_bodies.specs.WireFaults.{Gives};
+ghost use Rattle.land_wire.specs.Acts.{act_in, act_of, lodged};
+
+use land_bodies::content_kind::ContentKind;
+use land_bodies::fields::read_value;
+use land_bodies::lodging::{decision_of, lodging_of};
+use land_bodies::party::{enrol_of, grant_of, group_of, regroup_of};
+use land_bodies::unit::{burden_of, lift_of, unit_of};
+use land_bodies::wire_fault::WireFault;
+use land_core::act::Act;
+use land_routes::act_word::ActWord;
+use serde_json::Value;
+use std::alloc::Global;
+
+/// Reads the body of an act. 130: it is no JSON. Then the first fault of its fields, as `act_of` says.
+pub fn read_act(alloc: Global, word: ActWord, body: &[u8]) -> Result<Act, WireFault>
+    ensures { Gives (λ it. it) result (act_in word body.now) }
+{
+    let value = read_value(alloc, body)?;
+    act_of(alloc, word, &value)
+}
+
+/// The act that a word and the JSON of a body ask for, or the first fault in it: 131 to 134, 101 to 103 of a share and
+/// 110 to 120 of an outline, as the reader of its body says. 501: there was no memory.
+pub fn act_of(alloc: Global, word: ActWord, value: &Value) -> Result<Act, WireFault>
+    ensures { Gives (λ it. it) result (act_of word (view value.now)) }
+{
+    match word {
+        ActWord::Enrol => Ok(Act::Enrol(enrol_of(alloc, value)?)),
+        ActWord::Group => Ok(Act::Group(group_of(alloc, value)?)),
+        ActWord::Regroup => Ok(Act::Regroup(regroup_of(alloc, value)?)),
+        ActWord::Grant => Ok(Act::Grant(grant_of(value)?)),
+        ActWord::Revoke => Ok(Act::Revoke(grant_of(value)?)),
+        ActWord::Register => Ok(Act::Register(unit_of(alloc, value)?)),
+        ActWord::Burden => Ok(Act::Burden(burden_of(alloc, value)?)),
+        ActWord::Lift => Ok(Act::Lift(lift_of(value)?)),
+        ActWord::Transfer => lodged(alloc, ContentKind::Transfer, value),
+        ActWord::Subdivision => lodged(alloc, ContentKind::Subdivision, value),
+        ActWord::Merger => lodged(alloc, ContentKind::Merger, value),
+        ActWord::Mortgage => lodged(alloc, ContentKind::Mortgage, value),
+        ActWord::Discharge => lodged(alloc, ContentKind::Discharge, value),
+        ActWord::Approve => Ok(Act::Approve(decision_of(value)?)),
+        ActWord::Refuse => Ok(Act::Refuse(decision_of(value)?)),
+    }
+}
+
+fn lodged(alloc: Global, kind: ContentKind, value: &Value) -> Result<Act, WireFault>
+    ensures { Gives (λ it. it) result (lodged kind (view value.now)) }
+{
+    Ok(Act::Lodge(lodging_of(alloc, kind, value)?))
+}
