@@ -1,10 +1,12 @@
 -- What was prepared and finished, or failed, is an element of a run of the machine.
-use Rattle.std.proofs.Common.{◌≡◌, Bool, true, false, refl, sym, ◌∙◌, subst, inl, inr, Ok, Err}
-use Rattle.std.proofs.lemmas.Bool.{false≢true}
-use Rattle.std.specs.Prelude.{ℤ, Option, Some, None, Result, if◌then◌else◌, int_lt}
+use Rattle.std.proofs.Common.{◌≡◌, Bool, true, false, refl, ◌∙◌, subst, inl, inr, Ok, Err, arith}
+use Rattle.std.proofs.lemmas.Int.{ints, clamps}
+use Rattle.std.specs.Option.{option_map}
+use Rattle.std.specs.Prelude.{ℤ, ◌≤ℤ◌, Option, Some, None, Result, if◌then◌else◌, int_lt, unwrap_or}
 use Rattle.land_mutations.specs.declared.refusal.Planned.{Planned}
 use Rattle.land_mutations.specs.declared.refusal.Planned.TheVariants.{New, Repeat}
 use Rattle.land_mutations.specs.declared.refusal.Refusal.{Refusal}
+use Rattle.land_core.specs.Register.{unit_at}
 use Rattle.land_core.specs.declared.ask.Ask.{Ask}
 use Rattle.land_core.specs.declared.ask.Ask.TheVariants as ask
 use Rattle.land_core.specs.declared.ask.Request.{Request}
@@ -12,16 +14,18 @@ use Rattle.land_core.specs.declared.caller.Caller.{Caller}
 use Rattle.land_core.specs.declared.object.Object.{Object}
 use Rattle.land_keep.specs.Faults.{number_of}
 use Rattle.land_keep.specs.Keeping.{Closes, IsPrepared, after_writing}
-use Rattle.land_keep.specs.Machine.{Element, Next, allowed, acted, judged, moment_of, now_of, shown, step, verdict_at}
-use Rattle.land_keep.specs.Timeline.{Timeline}
+use Rattle.land_keep.specs.Machine.{Element, Next, allowed, acted, at_of, judged, moment_of, now_of, shown, shown_sheet, step, verdict_at}
+use Rattle.land_keep.specs.Moments.{IsMoment, last_moment, now_after}
+use Rattle.land_keep.specs.Timeline.{Timeline, last_stamp, register_at}
 use Rattle.land_keep.specs.declared.prepared.Prepared.{Prepared}
 use Rattle.land_keep.specs.declared.reply.Reply.TheVariants as reply
 use Rattle.land_keep.specs.declared.store_fault.StoreFault.{StoreFault}
 use Rattle.land_keep.specs.declared.store_fault.StoreFault.TheVariants.{NoMemory, Store, Closed}
+use Rattle.land_keep.specs.declared.view.View.{View}
 use Rattle.land_rules.specs.declared.verdict.Verdict.{Verdict}
 use Rattle.land_rules.specs.declared.verdict.Verdict.TheVariants.{Allowed, Denied}
-use Rattle.land_wire.specs.Reading.{asks_sheet}
-use Rattle.land_wire.specs.Replies.{is_sheet}
+use Rattle.land_wire.specs.Laws.{IsStated}
+use Rattle.land_desk.specs.Responses.{HasMoment}
 
 -- a store that is not closed tells a fault of its own
 fault_of_open : (T : Type 0) (closed : Bool) (tl after : Timeline) (clock : ℤ) (request : Request) (fault : StoreFault)
@@ -54,42 +58,54 @@ finished T true mid closed tl after clock request it done first second leads sam
 finished T false mid closed tl after clock request it done first second leads same =
     inl (leads.reply, same ∙ leads.timeline, subst (λ (b : Bool). Closes {T = T} b closed (Ok done)) first second)
 
--- ---- a title sheet is told to those alone who ask for one
+-- ---- a title sheet shows a moment that there is
 
-shown_no_sheet : (it : Option Object) → is_sheet (shown it) ≡ false
-shown_no_sheet None = refl
-shown_no_sheet (Some it) = refl
+-- a moment that is stated is one, and so is now
+asked-moment : (at : Option ℤ) (now : ℤ) → IsStated at → IsMoment now → IsMoment (unwrap_or at now)
+asked-moment None now stated is = is
+asked-moment (Some t) now stated is = stated
 
-acted_no_sheet : (outcome : Result Planned Refusal) (tl : Timeline) → is_sheet (acted outcome tl).0 ≡ false
-acted_no_sheet (Ok (New change done)) tl = refl
-acted_no_sheet (Ok (Repeat done)) tl = refl
-acted_no_sheet (Err refusal) tl = refl
+now-moment : (clock last : ℤ) → last ≤ℤ last_moment → IsMoment (now_after clock last)
+now-moment clock last late = (omega (arith, ints, clamps), omega (arith, ints, clamps, late))
 
-allowed_no_sheet : (clock : ℤ) (caller : Caller) (a : Ask) (t : ℤ) (tl : Timeline) → asks_sheet a ≡ false
-    → is_sheet (allowed clock caller a t tl).0 ≡ false
-allowed_no_sheet clock caller (ask.View k number at) t tl e = shown_no_sheet _
-allowed_no_sheet clock caller (ask.List k at) t tl e = refl
-allowed_no_sheet clock caller (ask.Sheet unit at) t tl e = absurd (false≢true (sym e))
-allowed_no_sheet clock caller (ask.Do it) t tl e = acted_no_sheet _ tl
+shown-moment : (it : Option Object) → HasMoment (shown it)
+shown-moment None = tt
+shown-moment (Some it) = tt
 
-judged_no_sheet : (verdict : Verdict) (next : Next) (tl : Timeline) → is_sheet next.0 ≡ false → is_sheet (judged verdict next tl).0 ≡ false
-judged_no_sheet Allowed next tl e = e
-judged_no_sheet (Denied rule) next tl e = refl
+sheet-moment : (A : Type 0) (unit : Option A) (sheet : A → View) → ((u : A) → IsMoment (sheet u).at) → HasMoment (shown_sheet (option_map sheet unit))
+sheet-moment A None sheet is = tt
+sheet-moment A (Some u) sheet is = is u
 
-either_no_sheet : (b : Bool) (next other : Next) → is_sheet next.0 ≡ false → is_sheet other.0 ≡ false
-    → is_sheet (if b then next else other).0 ≡ false
-either_no_sheet true next other e f = e
-either_no_sheet false next other e f = f
+acted-moment : (outcome : Result Planned Refusal) (tl : Timeline) → HasMoment (acted outcome tl).0
+acted-moment (Ok (New change done)) tl = tt
+acted-moment (Ok (Repeat done)) tl = tt
+acted-moment (Err refusal) tl = tt
 
--- a step on an ask that is no sheet replies none
-pub step_no_sheet : (clock : ℤ) (request : Request) (tl : Timeline) → asks_sheet request.ask ≡ false
-    → is_sheet (step clock request tl).0 ≡ false
-step_no_sheet clock request tl e =
-    either_no_sheet (int_lt (now_of clock tl) (moment_of request.ask (now_of clock tl))) (reply.Fault 135, tl) _ refl
-    (judged_no_sheet (verdict_at tl request.caller request.ask (now_of clock tl)) _ tl
-    (allowed_no_sheet clock request.caller request.ask (moment_of request.ask (now_of clock tl)) tl e))
+allowed-moment : (clock : ℤ) (caller : Caller) (a : Ask) (t : ℤ) (tl : Timeline) → IsMoment t → HasMoment (allowed clock caller a t tl).0
+allowed-moment clock caller (ask.View k number at) t tl is = shown-moment _
+allowed-moment clock caller (ask.List k at) t tl is = tt
+allowed-moment clock caller (ask.Sheet unit at) t tl is = sheet-moment _ (unit_at (register_at tl t) unit) _ (λ u. is)
+allowed-moment clock caller (ask.Do it) t tl is = acted-moment _ tl
 
--- what is prepared for it is none
-pub prepared_no_sheet : (it : Prepared) (clock : ℤ) (request : Request) (tl : Timeline) → IsPrepared it clock request tl
-    → asks_sheet request.ask ≡ false → is_sheet it.reply ≡ false
-prepared_no_sheet it clock request tl leads e = rw leads.reply (step_no_sheet clock request tl e)
+judged-moment : (verdict : Verdict) (next : Next) (tl : Timeline) → HasMoment next.0 → HasMoment (judged verdict next tl).0
+judged-moment Allowed next tl is = is
+judged-moment (Denied rule) next tl is = tt
+
+either-moment : (b : Bool) (next other : Next) → HasMoment next.0 → HasMoment other.0 → HasMoment (if b then next else other).0
+either-moment true next other is and = is
+either-moment false next other is and = and
+
+-- the machine's step on an ask that states a moment shows one
+pub step-moment : (clock : ℤ) (request : Request) (tl : Timeline) → last_stamp tl ≤ℤ last_moment → IsStated (at_of request.ask)
+    → HasMoment (step clock request tl).0
+step-moment clock request tl late stated =
+    let now = now_of clock tl in
+    let t = moment_of request.ask now in
+    either-moment (int_lt now t) (reply.Fault 135, tl) _ tt
+    (judged-moment (verdict_at tl request.caller request.ask now) _ tl
+    (allowed-moment clock request.caller request.ask t tl (asked-moment (at_of request.ask) now stated (now-moment clock (last_stamp tl) late))))
+
+-- so does what is prepared for it
+pub prepared-moment : (it : Prepared) (clock : ℤ) (request : Request) (tl : Timeline) → IsPrepared it clock request tl
+    → last_stamp tl ≤ℤ last_moment → IsStated (at_of request.ask) → HasMoment it.reply
+prepared-moment it clock request tl leads late stated = rw leads.reply (step-moment clock request tl late stated)

@@ -4,7 +4,9 @@ pub mod FrameLemmas
 pub mod HeaderLemmas
 pub mod ItemLemmas
 pub mod ListingLemmas
+pub mod ResponseLemmas
 pub mod ServingLemmas
 pub mod StoreHeads
 pub mod StreamLemmas
 pub mod TargetLemmas
+pub mod TurnLemmas

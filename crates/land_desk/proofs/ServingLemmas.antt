@@ -1,79 +1,168 @@
--- The first item of a stream, answered.
-use Rattle.std.proofs.Common.{◌≡◌, ℕ, ℤ, ◌+◌, Bool, true, false, List, [], ◌++◌, take, drop, refl, subst, inr, Result, Ok, Err, Option, Some, None, IfSome}
-use Rattle.std.specs.Prelude.{◌⊎◌}
-use Rattle.std.specs.Io.KnownBytes.{Keeps, prepend_known}
-use Rattle.httparse.specs.declared.spans.HeaderSpan.{HeaderSpan}
-use Rattle.httparse.specs.declared.spans.RequestSpans.{RequestSpans}
+-- Items answered one after another.
+use Rattle.std.proofs.Common.{◌≡◌, ℕ, ℤ, ◌+◌, Bool, true, false, List, [], ◌∷◌, ◌++◌, length, map, take, refl, sym, ap, ◌∙◌, subst, arith, append_assoc, append-nil, length-append, inl, inr, Ok, Err, Option, Some, None, IfSome}
+use Rattle.std.specs.Prelude.{◌⊎◌, ◌||◌}
+use Rattle.std.specs.Io.KnownBytes.{Appends, prepend_known}
+use Rattle.std.proofs.KnownBytes.{Appends-trans, Appends-nil}
+use Rattle.std.proofs.lemmas.Bool.{false≢true}
 use Rattle.land_keep.specs.Machine.{State}
-use Rattle.land_keep.specs.declared.reply.Reply.{Reply}
-use Rattle.land_keep.specs.declared.reply.Reply.TheVariants as reply
-use Rattle.land_desk.specs.FrameFaults.{number_of}
-use Rattle.land_wire.specs.Fields.{field_map}
-use Rattle.land_desk.specs.Frame.{fields_of, ends, is_head}
-use Rattle.land_desk.specs.Items.{request, faulty, IsItem, IsFrontOf, IsRequestIn}
-use Rattle.land_wire.specs.Reading.{reading}
-use Rattle.land_desk.specs.Serving.{Told, IsAnswer, Spoken, IsServedOne, answer_bytes, IsWritten}
-use Rattle.land_desk.specs.declared.exchange.Answer.{Answer}
-use Rattle.land_desk.specs.declared.frame_fault.FrameFault.{FrameFault}
-use Rattle.land_desk.specs.declared.item.Front.{Front}
-use Rattle.land_desk.specs.declared.item.Front.TheVariants as front
+use Rattle.land_desk.specs.Items.{Item, request, faulty, AreItems, IsItem, is_last}
+use Rattle.land_desk.specs.Serving.{Exchange, One, Goes, IsServed, IsServing, ServedItems, SoFar, closes, closing, said_all}
+use Rattle.land_desk.specs.Turns.{IfBoth, IsTurn}
 use Rattle.land_desk.specs.declared.serve.DeskFault.{DeskFault}
 use Rattle.land_desk.specs.declared.serve.DeskFault.TheVariants as desk
-use Rattle.land_desk.specs.declared.serve.Served.{Served}
-use Rattle.land_desk.proofs.ItemLemmas.{request_of}
-use Rattle.land_desk.proofs.StreamLemmas.{at_any}
+use Rattle.land_desk.specs.declared.turn.Turn.{Turn}
+use Rattle.land_desk.specs.declared.turn.Turn.TheVariants as turn
+use Rattle.land_desk.proofs.ItemLemmas.{head_some, item_unique}
 
 module _ {C : Type 0} (reads : C → ℤ → C → Type 0) where
-  -- a request at the front of the buffer, with its answer
-  pub spoken : (bytes more : List ℕ) (headers : List HeaderSpan) (spans : RequestSpans) (n : ℕ) (from to : State C) (a : Answer) (r : Reply) (last head : Bool)
-      → (is : IsRequestIn bytes headers spans n) → last ≡ ends is.1.0 → head ≡ is_head is.1.0
-      → Told reads (reading is.1.0.method is.1.0.target (field_map (fields_of is.1.0)) (take n (drop spans.len bytes))) from r to
-      → IsAnswer a r last head
-      → Spoken reads (bytes ++ more) from a (drop (spans.len + n) bytes ++ more) to
-  spoken bytes more headers spans n from to a r last head is ending heading told given =
-      let h = is.1.0 in
-      let answer = subst (λ (b : Bool). IsAnswer a r b (is_head h)) ending (subst (λ (b : Bool). IsAnswer a r last b) heading given) in
-      ((request h (take n (drop spans.len bytes)), r), (request_of bytes more headers spans n is, told), answer.0, answer.1)
+  goes_more : (bytes rest mid : List ℕ) (from now to : State C) (xs : List Exchange) (x : Exchange)
+      → Goes reads bytes from xs rest now → One reads rest now x mid to → closing x ≡ false
+      → Goes reads bytes from (xs ++ x ∷ []) mid to
+  goes_more bytes rest mid from now to [] x so one stays =
+      let here = subst (λ (t : List ℕ). One reads t from x mid to) so.0 (subst (λ (s : State C). One reads rest s x mid to) so.1 one) in
+      (mid, to, here, stays, (refl, refl))
+  goes_more bytes rest mid from now to (y ∷ xs) x so one stays =
+      (so.0, so.1, so.2, so.3, goes_more so.0 rest mid so.1 now to xs x so.4 one stays)
 
-  lift : (start now : Option (List ℕ)) (P : List ℕ → Type 0) → Keeps start now → IfSome now P → IfSome start P
-  lift None now P keeps holds = tt
-  lift (Some bytes) None P keeps holds = absurd keeps
-  lift (Some bytes) (Some same) P keeps holds = subst P keeps holds
+  -- the input ends
+  goes_to_end : (bytes rest : List ℕ) (from now : State C) (xs : List Exchange)
+      → Goes reads bytes from xs rest now → rest ≡ [] → IsServed reads bytes from xs now
+  goes_to_end bytes rest from now [] so none = (sym so.0 ∙ none, so.1)
+  goes_to_end bytes rest from now (x ∷ xs) so none =
+      (so.0, so.1, so.2, (λ e. absurd (false≢true (sym so.3 ∙ e))), (λ e. goes_to_end so.0 rest so.1 now xs so.4 none))
 
-  if_map : (now : Option (List ℕ)) (P Q : List ℕ → Type 0) → ((bytes : List ℕ) → P bytes → Q bytes) → IfSome now P → IfSome now Q
-  if_map None P Q next holds = tt
-  if_map (Some bytes) P Q next holds = next bytes holds
+  -- the connection ends
+  goes_to_last : (bytes rest mid : List ℕ) (from now to : State C) (xs : List Exchange) (x : Exchange)
+      → Goes reads bytes from xs rest now → One reads rest now x mid to → closing x ≡ true
+      → IsServed reads bytes from (xs ++ x ∷ []) to
+  goes_to_last bytes rest mid from now to [] x so one last =
+      let here = subst (λ (t : List ℕ). One reads t from x mid to) so.0 (subst (λ (s : State C). One reads rest s x mid to) so.1 one) in
+      (mid, to, here, (λ e. (refl, refl)), (λ e. absurd (false≢true (sym e ∙ last))))
+  goes_to_last bytes rest mid from now to (y ∷ xs) x so one last =
+      (so.0, so.1, so.2, (λ e. absurd (false≢true (sym so.3 ∙ e))), (λ e. goes_to_last so.0 rest mid so.1 now to xs x so.4 one last))
 
-  -- an answer that was written
-  told : (bytes rest : List ℕ) (from to : State C) (a : Answer) (u v : Option (List ℕ)) (result : Result Served DeskFault)
-      → Spoken reads bytes from a rest to → IsWritten (answer_bytes a.bytes) u v result → IsServedOne reads bytes from to u v result
-  told bytes rest from to a u v (Ok served) it wrote =
-      inr (it.0, answer_bytes a.bytes, rest, it.1, it.2, wrote.0, wrote.1)
-  told bytes rest from to a u v (Err desk.Write) it wrote =
-      (it.0, answer_bytes a.bytes, rest, wrote.0, it.1, it.2, wrote.1)
-  told bytes rest from to a u v (Err desk.Read) it wrote = absurd wrote
-  told bytes rest from to a u v (Err desk.NoMemory) it wrote = absurd wrote
+  said_more : (xs : List Exchange) (x : Exchange) → said_all xs ++ x.said ≡ said_all (xs ++ x ∷ [])
+  said_more [] x = sym (append-nil x.said)
+  said_more (y ∷ xs) x = append_assoc y.said (said_all xs) x.said ∙ ap (λ (t : List ℕ). y.said ++ t) (said_more xs x)
 
-  -- the answer to a fault of framing
-  abbrev Refused : FrameFault → Answer → Type 0
-  Refused f a = (r : Reply) × ((r ≡ reply.Fault (number_of f)) ⊎ (r ≡ reply.Store 501)) × IsAnswer a r true false
+  count_more : (xs : List Exchange) (x : Exchange) (n : ℕ) → length xs ≡ n → length (xs ++ x ∷ []) ≡ n + 1
+  count_more xs x n e = omega (arith, length-append xs (x ∷ []), e)
 
-  refused_one : (bytes : List ℕ) (from : State C) (f : FrameFault) (a : Answer) → IsItem bytes (faulty f) [] → Refused f a
-      → Spoken reads bytes from a [] from
-  refused_one bytes from f a item refusal = ((faulty f, refusal.0), (item, (refusal.1, refl)), refusal.2.0, refusal.2.1)
+  pub begins : (known : Option (List ℕ)) (buffer : List ℕ) (from : State C) (w : Option (List ℕ)) → buffer ≡ []
+      → IfBoth known (prepend_known buffer known) (λ bytes rest. SoFar reads bytes rest from from w w 0)
+  begins None buffer from w none = tt
+  begins (Some bytes) buffer from w none = ([], (ap (λ (t : List ℕ). t ++ bytes) none, refl), Appends-nil w, refl)
 
-  pub fault_told : (start now u v : Option (List ℕ)) (fr : Front) (f : FrameFault) (a : Answer) (from : State C) (result : Result Served DeskFault)
-      → fr ≡ front.Fault f → Keeps start now → IfSome now (λ s. IsFrontOf s fr) → Refused f a → IsWritten (answer_bytes a.bytes) u v result
-      → IfSome start (λ bytes. IsServedOne reads bytes from from u v result)
-  fault_told start now u v fr f a from result is keeps item refusal wrote =
-      lift start now (λ bytes. IsServedOne reads bytes from from u v result) keeps
-      (if_map now (λ s. IsFrontOf s fr) (λ s. IsServedOne reads s from from u v result)
-      (λ s h. told s [] from from a u v result (refused_one s from f a (subst (λ (x : Front). IsFrontOf s x) is h) refusal) wrote) item)
+  pub nothing_done : (known w : Option (List ℕ)) (from : State C)
+      → IfSome known (λ bytes. IsServing reads bytes from from w w (Err desk.NoMemory))
+  nothing_done None w from = tt
+  nothing_done (Some bytes) w from = (bytes, 0, ([], (refl, refl), Appends-nil w, refl))
 
-  pub request_told : (start known u v : Option (List ℕ)) (items rest : List ℕ) (a : Answer) (from to : State C) (result : Result Served DeskFault)
-      → Keeps start (prepend_known items known) → ((more : List ℕ) → Spoken reads (items ++ more) from a (rest ++ more) to)
-      → IsWritten (answer_bytes a.bytes) u v result → IfSome start (λ bytes. IsServedOne reads bytes from to u v result)
-  request_told start known u v items rest a from to result keeps it wrote =
-      lift start (prepend_known items known) (λ bytes. IsServedOne reads bytes from to u v result) keeps
-      (at_any items known (λ bytes. IsServedOne reads bytes from to u v result)
-      (λ more. told (items ++ more) (rest ++ more) from to a u v result (it more) wrote))
+  pub goes_on : (start before after : Option (List ℕ)) (from now to : State C) (w u v : Option (List ℕ)) (n : ℕ) (t : Turn) → t ≡ turn.More
+      → IfBoth start before (λ bytes rest. SoFar reads bytes rest from now w u n)
+      → IfSome before (λ rest. IsTurn reads rest now to after u v (Ok t))
+      → IfBoth start after (λ bytes rest. SoFar reads bytes rest from to w v (n + 1))
+  goes_on None before after from now to w u v n t is so given = tt
+  goes_on (Some bytes) None after from now to w u v n t is so given = absurd so
+  goes_on (Some bytes) (Some rest) after from now to w u v n t is so given =
+      let one = subst (λ (r : Turn). IsTurn reads rest now to after u v (Ok r)) is given in
+      let xs = so.0 in
+      let x = one.0 in
+      subst (λ (o : Option (List ℕ)). IfBoth (Some bytes) o (λ bytes rest. SoFar reads bytes rest from to w v (n + 1))) (sym one.5) (
+        xs ++ x ∷ [],
+        goes_more bytes rest one.1 from now to xs x so.1 one.2 one.3,
+        subst (λ (t : List ℕ). Appends w v t) (said_more xs x) (Appends-trans w u v (said_all xs) x.said so.2 one.4),
+        count_more xs x n so.3,
+      )
+
+  pub serves_end : (start before after : Option (List ℕ)) (from now to : State C) (w u v : Option (List ℕ)) (n : ℕ) (t : Turn) → t ≡ turn.End
+      → IfBoth start before (λ bytes rest. SoFar reads bytes rest from now w u n)
+      → IfSome before (λ rest. IsTurn reads rest now to after u v (Ok t))
+      → IfSome start (λ bytes. IsServing reads bytes from to w v (Ok (record { replies = n })))
+  serves_end None before after from now to w u v n t is so given = tt
+  serves_end (Some bytes) None after from now to w u v n t is so given = absurd so
+  serves_end (Some bytes) (Some rest) after from now to w u v n t is so given =
+      let one = subst (λ (r : Turn). IsTurn reads rest now to after u v (Ok r)) is given in (
+        so.0,
+        subst (λ (s : State C). IsServed reads bytes from so.0 s) (sym one.1) (goes_to_end bytes rest from now so.0 so.1 one.0),
+        subst (λ (t : List ℕ). Appends w v t) (append-nil (said_all so.0)) (Appends-trans w u v (said_all so.0) [] so.2 one.2),
+        sym so.3,
+      )
+
+  pub serves_last : (start before after : Option (List ℕ)) (from now to : State C) (w u v : Option (List ℕ)) (n : ℕ) (t : Turn) → t ≡ turn.Last
+      → IfBoth start before (λ bytes rest. SoFar reads bytes rest from now w u n)
+      → IfSome before (λ rest. IsTurn reads rest now to after u v (Ok t))
+      → IfSome start (λ bytes. IsServing reads bytes from to w v (Ok (record { replies = n + 1 })))
+  serves_last None before after from now to w u v n t is so given = tt
+  serves_last (Some bytes) None after from now to w u v n t is so given = absurd so
+  serves_last (Some bytes) (Some rest) after from now to w u v n t is so given =
+      let one = subst (λ (r : Turn). IsTurn reads rest now to after u v (Ok r)) is given in (
+        so.0 ++ one.0 ∷ [],
+        goes_to_last bytes rest one.1 from now to so.0 one.0 so.1 one.2 one.3,
+        subst (λ (t : List ℕ). Appends w v t) (said_more so.0 one.0) (Appends-trans w u v (said_all so.0) one.0.said so.2 one.4),
+        sym (count_more so.0 one.0 n so.3),
+      )
+
+  same_after : (bytes rest : List ℕ) (from now to : State C) (w u v : Option (List ℕ)) (n : ℕ)
+      → SoFar reads bytes rest from now w u n → to ≡ now → Appends u v [] → SoFar reads bytes rest from to w v n
+  same_after bytes rest from now to w u v n so same none = (
+    so.0,
+    subst (λ (s : State C). Goes reads bytes from so.0 rest s) (sym same) so.1,
+    subst (λ (t : List ℕ). Appends w v t) (append-nil (said_all so.0)) (Appends-trans w u v (said_all so.0) [] so.2 none),
+    so.3,
+  )
+
+  pub serves_fault : (start before after : Option (List ℕ)) (from now to : State C) (w u v : Option (List ℕ)) (n : ℕ) (e : DeskFault)
+      → IfBoth start before (λ bytes rest. SoFar reads bytes rest from now w u n)
+      → IfSome before (λ rest. IsTurn reads rest now to after u v (Err e))
+      → IfSome start (λ bytes. IsServing reads bytes from to w v (Err e))
+  serves_fault None before after from now to w u v n e so one = tt
+  serves_fault (Some bytes) None after from now to w u v n e so one = absurd so
+  serves_fault (Some bytes) (Some rest) after from now to w u v n desk.Write so one = (
+    so.0,
+    one.0,
+    rest,
+    one.1,
+    now,
+    one.2,
+    so.1,
+    one.3,
+    Appends-trans w u v (said_all so.0) (take one.2 one.0.said) so.2 one.4,
+  )
+  serves_fault (Some bytes) (Some rest) after from now to w u v n desk.Read so one =
+      (rest, n, same_after bytes rest from now to w u v n so one.0 one.1)
+  serves_fault (Some bytes) (Some rest) after from now to w u v n desk.NoMemory so one =
+      (rest, n, same_after bytes rest from now to w u v n so one.0 one.1)
+
+  pub serves_out : (start before : Option (List ℕ)) (from now : State C) (w u : Option (List ℕ)) (n : ℕ)
+      → IfBoth start before (λ bytes rest. SoFar reads bytes rest from now w u n)
+      → IfSome start (λ bytes. IsServing reads bytes from now w u (Err desk.Read))
+  serves_out None before from now w u n so = tt
+  serves_out (Some bytes) None from now w u n so = absurd so
+  serves_out (Some bytes) (Some rest) from now w u n so = (rest, n, so)
+
+  -- ---- what is answered is a front of the stream's items
+
+  either : (b : Bool) → (b ≡ true) ⊎ (b ≡ false)
+  either true = inl refl
+  either false = inr refl
+
+  not_last : (b d : Bool) → (b || d) ≡ false → b ≡ false
+  not_last true d e = e
+  not_last false d e = refl
+
+  no_item : (y : Item) (rest : List ℕ) → IsItem [] y rest → ⊥
+  no_item (request h body) rest is = omega (arith, head_some [] h _ is.0)
+  no_item (faulty f) rest is = omega (arith, is.1)
+
+  pub served_items : ServedItems reads
+  served_items bytes from to [] items s a = (items, refl)
+  served_items bytes from to (x ∷ xs) [] s a = absurd (no_item x.item s.0 (subst (λ (t : List ℕ). IsItem t x.item s.0) a s.2.0))
+  served_items bytes from to (x ∷ xs) (y ∷ ys) s a =
+      let same = item_unique bytes x.item y s.0 a.0 s.2.0 a.1 in
+      elim (either (closing x)) as (λ _. (more : List Item) × (y ∷ ys ≡ x.item ∷ (map (λ z. z.item) xs ++ more))) [
+        | inl e ↦ (ys, λ i. sym same.0 i ∷ ap (λ (l : List Exchange). map (λ z. z.item) l ++ ys) (sym (s.3 e).0) i)
+        | inr e ↦ let after = a.3 (ap is_last (sym same.0) ∙ not_last (is_last x.item) (closes x.reply) e) in
+            let tail = served_items s.0 s.1 to xs ys (s.4 e) (subst (λ (t : List ℕ). AreItems t ys) (sym same.1) after) in
+            (tail.0, λ i. sym same.0 i ∷ tail.1 i)
+      ]

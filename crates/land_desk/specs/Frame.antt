@@ -5,7 +5,7 @@ use Rattle.std.specs.Str.{bytes_eq, str_eq_ignore_ascii_case}
 use Rattle.std.specs.Str.Parse.{digits_value}
 use Rattle.httparse.specs.Grammar.{RequestHead, trim_ows}
 use Rattle.httparse.specs.Spans.{name_and_value, span_bytes, IsWithin}
-use Rattle.land_wire.specs.Decimals.{are_digits}
+use Rattle.land_bodies.specs.Decimals.{are_digits}
 use Rattle.land_wire.specs.Fields.{values_named}
 use Rattle.land_desk.specs.declared.frame_fault.FrameFault.{FrameFault}
 use Rattle.land_desk.specs.declared.frame_fault.FrameFault.TheVariants as fault

@@ -6,3 +6,4 @@ pub mod Responses
 pub mod Serving
 pub mod Stream
 pub mod Target
+pub mod Turns

@@ -1,9 +1,13 @@
 -- The bytes of a reply on the wire (RFC 9112, sections 4 and 5).
-use Rattle.std.specs.Prelude.{ℕ, Bool, List, [], ◌++◌, length, codes, decimal, Option, if◌then◌else◌}
-use Rattle.std.specs.Option.{option_map}
+use Rattle.std.specs.Prelude.{◌≡◌, ℕ, Bool, List, [], ◌++◌, length, codes, decimal, Some, ◌⊎◌, if◌then◌else◌}
+use Rattle.land_keep.specs.Moments.{IsMoment}
 use Rattle.land_keep.specs.declared.reply.Reply.{Reply}
 use Rattle.land_keep.specs.declared.reply.Reply.TheVariants as reply
+use Rattle.land_keep.specs.declared.view.View.{View}
+use Rattle.land_sheet.specs.Sheets.{IsSheet}
 use Rattle.land_wire.specs.Replies.{reply_text}
+use Rattle.land_desk.specs.declared.response.Medium.{Medium}
+use Rattle.land_desk.specs.declared.response.Medium.TheVariants.{Json, Sheet}
 use Rattle.land_desk.specs.declared.response.Status.{Status}
 use Rattle.land_desk.specs.declared.response.Status.TheVariants.{Ok, BadRequest, Forbidden, Conflict, Unavailable}
 
@@ -26,16 +30,53 @@ status_of (reply.Fault fault) = BadRequest
 status_of (reply.Refused refusal) = Conflict
 status_of (reply.Store fault) = Unavailable
 
+-- the type of a body (RFC 9110, section 8.3)
+abbrev pub medium_text : Medium → List ℕ
+medium_text Json = codes "application/json"
+medium_text Sheet = codes "text/plain; charset=utf-8"
+
+-- a title sheet is a text of lines, every other reply is JSON
+abbrev pub medium_of : Reply → Medium
+medium_of (reply.Object object) = Json
+medium_of (reply.Numbers numbers) = Json
+medium_of (reply.Sheet view) = Sheet
+medium_of (reply.Done done) = Json
+medium_of (reply.Denied rule) = Json
+medium_of (reply.Fault fault) = Json
+medium_of (reply.Refused refusal) = Json
+medium_of (reply.Store fault) = Json
+
+-- the body of a reply: its JSON, or the sheet of the view that it shows
+abbrev pub IsBody : Reply → List ℕ → Type 0
+IsBody r body = (reply_text r ≡ Some body) ⊎ ((view : View) × (r ≡ reply.Sheet view) × IsSheet view body)
+
 -- the status line, the fields, an empty line and the body. `Connection: close` stands where the connection ends after
 -- the reply. The answer to a HEAD lacks the body, and its length is told.
-unfoldable pub response : Status → (body : List ℕ) → (closing head : Bool) → List ℕ
-response status body closing head =
+unfoldable pub response : Status → Medium → (body : List ℕ) → (closing head : Bool) → List ℕ
+response status medium body closing head =
     codes "HTTP/1.1 " ++ (status_text status ++ (codes "\r\n"
-    ++ (codes "Content-Type: application/json\r\n"
+    ++ (codes "Content-Type: " ++ (medium_text medium ++ (codes "\r\n"
     ++ (codes "Content-Length: " ++ (decimal (length body) ++ (codes "\r\n"
     ++ ((if closing then codes "Connection: close\r\n" else [])
-    ++ (codes "\r\n" ++ (if head then [] else body)))))))))
+    ++ (codes "\r\n" ++ (if head then [] else body)))))))))))
 
--- the bytes of a reply that is JSON
-abbrev pub reply_bytes : Reply → (closing head : Bool) → Option (List ℕ)
-reply_bytes r closing head = option_map (λ text. response (status_of r) text closing head) (reply_text r)
+-- the bytes of a reply
+pub record IsResponse (r : Reply) (closing head : Bool) (bytes : List ℕ) : Type 0 where
+  pub body : List ℕ
+  pub body_is : IsBody r body
+  pub bytes_are : bytes ≡ response (status_of r) (medium_of r) body closing head
+
+-- a sheet shows a moment that there is
+abbrev pub HasMoment : Reply → Type 0
+HasMoment (reply.Object object) = Unit {0}
+HasMoment (reply.Numbers numbers) = Unit {0}
+HasMoment (reply.Sheet view) = IsMoment view.at
+HasMoment (reply.Done done) = Unit {0}
+HasMoment (reply.Denied rule) = Unit {0}
+HasMoment (reply.Fault fault) = Unit {0}
+HasMoment (reply.Refused refusal) = Unit {0}
+HasMoment (reply.Store fault) = Unit {0}
+
+-- a reply has one response and no other
+abbrev pub OneResponse : Type 0
+OneResponse = (r : Reply) (closing head : Bool) (a b : List ℕ) → IsResponse r closing head a → IsResponse r closing head b → a ≡ b

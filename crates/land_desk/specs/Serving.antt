@@ -1,21 +1,19 @@
 -- What is served over a stream: the items of the stream, each with its reply.
-use Rattle.std.specs.Prelude.{◌≡◌, ℕ, ℤ, Bool, false, ◌||◌, nat_eq, List, [], take, Option, Some, Result, Ok, Err, ◌⊎◌}
+use Rattle.std.specs.Prelude.{◌≡◌, ℕ, ℤ, Bool, true, false, ◌||◌, nat_eq, List, [], ◌∷◌, ◌++◌, length, map, take, Option, Result, Ok, Err, ◌⊎◌}
+use Rattle.std.specs.List.{flat_map}
 use Rattle.std.specs.Io.KnownBytes.{Appends}
 use Rattle.land_core.specs.declared.ask.Request.{Request}
 use Rattle.land_keep.specs.Machine.{State, Element}
 use Rattle.land_keep.specs.declared.reply.Reply.{Reply}
 use Rattle.land_keep.specs.declared.reply.Reply.TheVariants as reply
-use Rattle.land_desk.specs.FrameFaults.{number_of}
-use Rattle.land_desk.specs.Frame.{fields_of, is_head}
-use Rattle.land_desk.specs.Items.{Item, request, faulty, IsItem, is_last}
+use Rattle.land_bodies.specs.WireFaults.{fault_number}
+use Rattle.land_bodies.specs.declared.wire_fault.WireFault.{WireFault}
 use Rattle.land_wire.specs.Fields.{field_map}
 use Rattle.land_wire.specs.Reading.{reading}
-use Rattle.land_wire.specs.RequestFaults.{fault_number}
-use Rattle.land_desk.specs.Responses.{reply_bytes}
-use Rattle.land_wire.specs.declared.request_fault.RequestFault.{RequestFault}
-use Rattle.land_desk.specs.declared.exchange.Answer.{Answer}
-use Rattle.land_desk.specs.declared.exchange.AnswerBytes.{AnswerBytes}
-use Rattle.land_desk.specs.declared.exchange.AnswerBytes.TheVariants.{Made, Kept}
+use Rattle.land_desk.specs.FrameFaults.{number_of}
+use Rattle.land_desk.specs.Frame.{fields_of, is_head}
+use Rattle.land_desk.specs.Items.{Item, request, faulty, IsItem, AreItems, is_last}
+use Rattle.land_desk.specs.Responses.{IsResponse}
 use Rattle.land_desk.specs.declared.serve.DeskFault.{DeskFault}
 use Rattle.land_desk.specs.declared.serve.DeskFault.TheVariants as desk
 use Rattle.land_desk.specs.declared.serve.Served.{Served}
@@ -36,26 +34,27 @@ abbrev pub asks_head : Item → Bool
 asks_head (request h body) = is_head h
 asks_head (faulty f) = false
 
--- an item with its reply
-abbrev pub Exchange : Type 0
-Exchange = Item × Reply
+-- an item, its reply, and the bytes that are written for it
+pub record Exchange : Type 0 where
+  pub item : Item
+  pub reply : Reply
+  pub said : List ℕ
 
 -- the connection ends after it
 abbrev pub closing : Exchange → Bool
-closing x = is_last x.0 || closes x.1
+closing x = is_last x.item || closes x.reply
 
--- these bytes are written for it
-abbrev pub IsSaid : Exchange → List ℕ → Type 0
-IsSaid x bytes = reply_bytes x.1 (closing x) (asks_head x.0) ≡ Some bytes
+abbrev pub said_all : List Exchange → List ℕ
+said_all xs = flat_map (λ x. x.said) xs
 
 -- what is told of a request that was read, or of its first fault, and where it leaves the machine
-abbrev pub Heard : {C : Type 0} → (C → ℤ → C → Type 0) → Result Request RequestFault → State C → Reply → State C → Type 0
+abbrev pub Heard : {C : Type 0} → (C → ℤ → C → Type 0) → Result Request WireFault → State C → Reply → State C → Type 0
 Heard reads (Err fault) from r to = (r ≡ reply.Fault (fault_number fault)) × (to ≡ from)
 Heard {C} reads (Ok asked) from r to =
     (clock : ℤ) × reads from.clock clock to.clock × Element from.closed clock asked from.timeline r to.timeline to.closed
 
 -- 501 may be told in place of it, and changes nothing
-abbrev pub Told : {C : Type 0} → (C → ℤ → C → Type 0) → Result Request RequestFault → State C → Reply → State C → Type 0
+abbrev pub Told : {C : Type 0} → (C → ℤ → C → Type 0) → Result Request WireFault → State C → Reply → State C → Type 0
 Told reads q from r to = ((r ≡ reply.Store 501) × (to ≡ from)) ⊎ Heard reads q from r to
 
 -- the reply to an item: to a request that can be read, the machine's; to any other, its fault
@@ -63,43 +62,43 @@ abbrev pub Answers : {C : Type 0} → (C → ℤ → C → Type 0) → State C �
 Answers reads from (request h body) r to = Told reads (reading h.method h.target (field_map (fields_of h)) body) from r to
 Answers reads from (faulty f) r to = ((r ≡ reply.Fault (number_of f)) ⊎ (r ≡ reply.Store 501)) × (to ≡ from)
 
--- the item at the front of the bytes is answered, and rest is left
+-- the item at the front of the bytes is answered, its reply is said, and rest is left
 abbrev pub One : {C : Type 0} → (C → ℤ → C → Type 0) → List ℕ → State C → Exchange → List ℕ → State C → Type 0
-One reads bytes from x rest to = IsItem bytes x.0 rest × Answers reads from x.0 x.1 to
+One reads bytes from x rest to =
+    IsItem bytes x.item rest × Answers reads from x.item x.reply to × IsResponse x.reply (closing x) (asks_head x.item) x.said
 
--- ---- answers in the making
+-- so many items are answered one after another, and none of them ends the connection; rest is left
+abbrev pub Goes : {C : Type 0} → (C → ℤ → C → Type 0) → List ℕ → State C → List Exchange → List ℕ → State C → Type 0
+Goes reads bytes from [] rest to = (rest ≡ bytes) × (to ≡ from)
+Goes {C} reads bytes from (x ∷ xs) rest to =
+    (mid : List ℕ) × (next : State C) × One reads bytes from x mid next × (closing x ≡ false) × Goes reads mid next xs rest to
 
--- the bytes of an answer
-abbrev pub answer_bytes : AnswerBytes → List ℕ
-answer_bytes (Made bytes) = bytes.items
-answer_bytes (Kept bytes) = bytes.now
+-- the items of the bytes are answered, until nothing is left or one ends the connection
+abbrev pub IsServed : {C : Type 0} → (C → ℤ → C → Type 0) → List ℕ → State C → List Exchange → State C → Type 0
+IsServed reads bytes from [] to = (bytes ≡ []) × (to ≡ from)
+IsServed {C} reads bytes from (x ∷ xs) to =
+    (mid : List ℕ) × (next : State C) × One reads bytes from x mid next
+    × (closing x ≡ true → (xs ≡ []) × (to ≡ next)) × (closing x ≡ false → IsServed reads mid next xs to)
 
--- the answer is that of a reply, where the item ends the connection or not, and was a HEAD or not
-abbrev pub IsAnswer : Answer → Reply → (ends is_head : Bool) → Type 0
-IsAnswer a r ends is_head = (reply_bytes r (ends || closes r) is_head ≡ Some (answer_bytes a.bytes)) × (a.last ≡ (ends || closes r))
+-- the replies to some items have been written, and no others; rest is left
+abbrev pub SoFar : {C : Type 0} → (C → ℤ → C → Type 0) → (bytes rest : List ℕ) → (from to : State C) → (old new : Option (List ℕ)) → (replies : ℕ) → Type 0
+SoFar reads bytes rest from to old new replies =
+    (xs : List Exchange) × Goes reads bytes from xs rest to × Appends old new (said_all xs) × (length xs ≡ replies)
 
--- the answer is that of an exchange of the item at the front of the bytes
-abbrev pub Spoken : {C : Type 0} → (C → ℤ → C → Type 0) → List ℕ → State C → Answer → List ℕ → State C → Type 0
-Spoken reads bytes from a rest to =
-    (x : Exchange) × One reads bytes from x rest to × IsSaid x (answer_bytes a.bytes) × (a.last ≡ closing x)
+-- serving bytes: all replies are written, and counted
+abbrev pub IsServing : {C : Type 0} → (C → ℤ → C → Type 0) → List ℕ → State C → State C → (old new : Option (List ℕ)) → Result Served DeskFault → Type 0
+IsServing reads bytes from to old new (Ok served) =
+    (xs : List Exchange) × IsServed reads bytes from xs to × Appends old new (said_all xs) × (served.replies ≡ length xs)
+-- after a failed write a front of the response has gone out behind those before it, and the change stands
+IsServing {C} reads bytes from to old new (Err desk.Write) =
+    (xs : List Exchange) × (x : Exchange) × (rest after : List ℕ) × (now : State C) × (n : ℕ)
+    × Goes reads bytes from xs rest now × One reads rest now x after to × Appends old new (said_all xs ++ take n x.said)
+-- after a failed read, or where there was no memory for the input, the replies to the items before it have gone out
+IsServing reads bytes from to old new (Err desk.Read) = (rest : List ℕ) × (n : ℕ) × SoFar reads bytes rest from to old new n
+IsServing reads bytes from to old new (Err desk.NoMemory) = (rest : List ℕ) × (n : ℕ) × SoFar reads bytes rest from to old new n
 
--- an answer is written whole, or a front of it
-abbrev pub IsWritten : List ℕ → (old new : Option (List ℕ)) → Result Served DeskFault → Type 0
-IsWritten bytes old new (Ok served) = (served.replies ≡ 1) × Appends old new bytes
-IsWritten bytes old new (Err desk.Write) = (n : ℕ) × Appends old new (take n bytes)
-IsWritten bytes old new (Err desk.Read) = ⊥
-IsWritten bytes old new (Err desk.NoMemory) = ⊥
-
--- ---- the first item
-
--- the first item of the bytes is served: nothing where no byte is left, else its exchange
-abbrev pub IsServedOne : {C : Type 0} → (C → ℤ → C → Type 0) → List ℕ → State C → State C → (old new : Option (List ℕ)) → Result Served DeskFault → Type 0
-IsServedOne reads bytes from to old new (Ok served) =
-    ((bytes ≡ []) × (served.replies ≡ 0) × (to ≡ from) × Appends old new [])
-    ⊎ ((x : Exchange) × (said rest : List ℕ) × One reads bytes from x rest to × IsSaid x said × (served.replies ≡ 1) × Appends old new said)
--- after a failed write a prefix of the response has gone out, and the change stands
-IsServedOne reads bytes from to old new (Err desk.Write) =
-    (x : Exchange) × (said rest : List ℕ) × (n : ℕ) × One reads bytes from x rest to × IsSaid x said × Appends old new (take n said)
--- after a failed read, or where the input could not be kept, nothing was written for the item and nothing changed
-IsServedOne reads bytes from to old new (Err desk.Read) = (to ≡ from) × Appends old new []
-IsServedOne reads bytes from to old new (Err desk.NoMemory) = (to ≡ from) × Appends old new []
+-- what is answered are the items of the stream in their order, from the first one on
+abbrev pub ServedItems : {C : Type 0} → (C → ℤ → C → Type 0) → Type 0
+ServedItems {C} reads =
+    (bytes : List ℕ) (from to : State C) (xs : List Exchange) (items : List Item)
+    → IsServed reads bytes from xs to → AreItems bytes items → (more : List Item) × (items ≡ map (λ x. x.item) xs ++ more)

@@ -1,26 +1,28 @@
 //! One request and its answer: the answer's bytes are made before a change is written.
-ghost use Rattle.std.specs.Prelude.{◌≡◌, ◌||◌, ◌⊎◌, true, false, MatchOption, IfOk, Result};
+ghost use Rattle.std.specs.Prelude.{◌≡◌, ◌||◌, ◌⊎◌, ◌≤ℤ◌, true, false, MatchOption, IfOk, Result};
 ghost use Rattle.land_core.specs.Acts.{is_well_formed_request};
 ghost use Rattle.land_core.specs.declared.ask.Request.{Request as AskedRequest};
-ghost use Rattle.land_keep.specs.Machine.{State};
+ghost use Rattle.land_keep.specs.Machine.{State, at_of};
+ghost use Rattle.land_keep.specs.Moments.{last_moment};
+ghost use Rattle.land_keep.specs.Timeline.{last_stamp};
 ghost use Rattle.land_keep.specs.declared.reply.Reply.TheVariants as reply;
 ghost use Rattle.land_desk.specs.FrameFaults.{number_of};
-ghost use Rattle.land_wire.specs.Reading.{asks_sheet};
-ghost use Rattle.land_wire.specs.Replies.{is_sheet};
-ghost use Rattle.land_wire.specs.RequestFaults.{Gives};
+ghost use Rattle.land_bodies.specs.WireFaults.{Gives};
 ghost use Rattle.land_keep.specs.Faults.{number_of as keep_number};
-ghost use Rattle.land_desk.specs.Serving.{closes, Heard, Told, IsAnswer, answer_bytes};
+ghost use Rattle.land_wire.specs.Laws.{IsStated};
+ghost use Rattle.land_desk.specs.Responses.{HasMoment};
+ghost use Rattle.land_desk.specs.Serving.{closes, Heard, Told};
+ghost use Rattle.land_desk.specs.Turns.{IsAnswer, answer_bytes};
 
 use crate::frame_fault::FrameFault;
-use crate::response::{Status, response_bytes, store_response};
+use crate::response::{Medium, Status, body_text, response_bytes, store_response};
+use land_bodies::wire_fault::WireFault;
 use land_core::ask::Request;
 use land_keep::clock::Clock;
 use land_keep::keeper::Keeper;
 use land_keep::machine::{finish, prepare};
 use land_keep::reply::Reply;
 use land_keep::store_fault::StoreFault;
-use land_wire::request_fault::RequestFault;
-use land_wire::text::reply_text;
 use std::alloc::Global;
 
 /// The bytes of an answer.
@@ -59,20 +61,20 @@ pub fn exchange<K: Keeper, C: Clock>(
     alloc: Global,
     keeper: &mut K,
     clock: &mut C,
-    request: Result<Request, RequestFault>,
+    request: Result<Request, WireFault>,
     ends: bool,
     head: bool,
 ) -> Answer
     requires well_formed { IfOk request (λ asked. is_well_formed_request asked ≡ true) }
-    requires no_sheet { IfOk request (λ asked. asks_sheet asked.ask ≡ false) }
-    ensures { (q : Result AskedRequest RequestFault) → Gives (λ asked. asked) request q → (r : Reply)
+    requires moment { IfOk request (λ asked. IsStated (at_of asked.ask)) }
+    ensures { (q : Result AskedRequest WireFault) → Gives (λ asked. asked) request q → (r : Reply)
         × Told C.reads q
         (record { closed = K.closed keeper.old; timeline = K.timeline keeper.old; clock = clock.old }) r
         (record { closed = K.closed keeper.new; timeline = K.timeline keeper.new; clock = clock.new })
         × IsAnswer result r ends head }
 {
     match request {
-        Err(RequestFault::NoMemory) => failed(StoreFault::NoMemory, ends, head),
+        Err(WireFault::NoMemory) => failed(StoreFault::NoMemory, ends, head),
         Err(fault) => answered_or_failed(alloc, &Reply::Fault(fault.number()), ends, head),
         Ok(request) => exchange_request(alloc, keeper, clock, &request, ends, head),
     }
@@ -88,7 +90,7 @@ fn exchange_request<K: Keeper, C: Clock>(
     head: bool,
 ) -> Answer
     requires well_formed { is_well_formed_request request.now ≡ true }
-    requires no_sheet { asks_sheet request.now.ask ≡ false }
+    requires moment { IsStated (at_of request.now.ask) }
     ensures { (r : Reply)
         × Heard C.reads (Ok request.now)
         (record { closed = K.closed keeper.old; timeline = K.timeline keeper.old; clock = clock.old }) r
@@ -96,6 +98,7 @@ fn exchange_request<K: Keeper, C: Clock>(
         × IsAnswer result r ends head }
 {
     let reading = clock.read();
+    last_stamps_are_moments(keeper);
     let prepared = match prepare(alloc, keeper, reading, request) {
         Err(fault) => return failed(fault, ends, head),
         Ok(prepared) => prepared,
@@ -109,6 +112,13 @@ fn exchange_request<K: Keeper, C: Clock>(
     }
 }
 
+/// The stamp of the last change is none after the last moment.
+fn last_stamps_are_moments<K: Keeper>(keeper: &K)
+    ensures { last_stamp (K.timeline keeper.now) ≤ℤ last_moment }
+{
+    keeper.last();
+}
+
 /// Answers an item that is a fault of framing: the connection ends after it.
 pub fn refuse(alloc: Global, fault: FrameFault) -> Answer
     ensures { (r : Reply) × ((r ≡ reply.Fault (number_of fault)) ⊎ (r ≡ reply.Store 501)) × IsAnswer result r true false }
@@ -117,7 +127,7 @@ pub fn refuse(alloc: Global, fault: FrameFault) -> Answer
 }
 
 fn answered_or_failed(alloc: Global, wanted: &Reply, ends: bool, head: bool) -> Answer
-    requires { is_sheet wanted.now ≡ false }
+    requires { HasMoment wanted.now }
     ensures { (r : Reply) × ((r ≡ wanted.now) ⊎ (r ≡ reply.Store 501)) × IsAnswer result r ends head }
 {
     match answered(alloc, wanted, ends, head) {
@@ -128,12 +138,20 @@ fn answered_or_failed(alloc: Global, wanted: &Reply, ends: bool, head: bool) -> 
 
 /// The answer of a reply, or none where there is no room for its bytes.
 fn answered(alloc: Global, reply: &Reply, ends: bool, head: bool) -> Option<Answer>
-    requires { is_sheet reply.now ≡ false }
+    requires { HasMoment reply.now }
     ensures { MatchOption result (Unit {0}) (λ a. IsAnswer a reply.now ends head) }
 {
     let last = ends || closes(reply);
-    let text = reply_text(alloc, reply).ok()?;
-    let bytes = response_bytes(alloc, Status::of(reply), text.as_str(), last, head).ok()?;
+    let text = body_text(alloc, reply).ok()?;
+    let bytes = response_bytes(
+        alloc,
+        Status::of(reply),
+        Medium::of(reply),
+        text.as_str(),
+        last,
+        head,
+    )
+    .ok()?;
     Some(Answer {
         bytes: AnswerBytes::Made(bytes),
         last,

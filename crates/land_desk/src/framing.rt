@@ -7,7 +7,7 @@ ghost use Rattle.land_desk.specs.Frame.{frame, length_of};
 use crate::frame_fault::FrameFault;
 use crate::named::{Occurrence, look_up};
 use httparse::spans::{HeaderSpan, RequestSpans};
-use land_wire::decimals::read_digits;
+use land_bodies::decimals::read_digits;
 
 /// A head has at most so many fields.
 pub const MOST_FIELDS: usize = 64;

@@ -1,5 +1,9 @@
 //! Laws, each stated over the definitions alone.
 ghost use Rattle.land_desk.specs.Items.{OneItem, OneListOfItems};
+ghost use Rattle.land_desk.specs.Responses.{OneResponse};
+ghost use Rattle.land_desk.specs.Serving.{ServedItems};
+
+use land_keep::clock::Clock;
 
 /// A stream has one item at its front and no other.
 pub fn items_are_unique()
@@ -9,4 +13,16 @@ pub fn items_are_unique()
 /// A stream has one list of items and no other.
 pub fn item_lists_are_unique()
     ensures { OneListOfItems }
+{}
+
+/// A reply has one response and no other.
+pub fn responses_are_unique()
+    ensures { OneResponse }
+{
+    land_sheet::laws::sheets_are_unique();
+}
+
+/// What is served are the stream's items in their order, from the first one on.
+pub fn served_items_are_those_of_the_stream<C: Clock>()
+    ensures { ServedItems C.reads }
 {}

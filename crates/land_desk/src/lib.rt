@@ -17,3 +17,4 @@ pub mod response;
 pub mod send;
 pub mod serve;
 pub mod target;
+mod turn;

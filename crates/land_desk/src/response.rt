@@ -1,10 +1,12 @@
 //! The bytes of replies on the wire.
-ghost use Rattle.std.specs.Prelude.{◌≡◌, ℕ, IfOk, Some, true, false};
+ghost use Rattle.std.specs.Prelude.{◌≡◌, ℕ, IfOk, true, false, string_bytes};
 ghost use Rattle.land_wire.specs.Replies.{IsStoreFault};
-ghost use Rattle.land_desk.specs.Responses.{reply_bytes, response, status_of, status_text};
+ghost use Rattle.land_desk.specs.Responses.{HasMoment, IsBody, IsResponse, medium_of, medium_text, response, status_of, status_text};
 ghost use Rattle.land_keep.specs.declared.reply.Reply.TheVariants as reply;
 
 use land_keep::reply::Reply;
+use land_sheet::sheet::title_sheet;
+use land_wire::text::reply_text;
 use std::alloc::{AllocError, Global};
 
 /// The status of a reply (RFC 9110, section 15).
@@ -50,24 +52,68 @@ impl Status {
     }
 }
 
+/// What a body is written in (RFC 9110, section 8.3).
+#[derive(Clone, Copy, Debug, PartialEq, Eq)]
+pub enum Medium {
+    /// JSON.
+    Json,
+    /// A title sheet: plain text in UTF-8.
+    Sheet,
+}
+
+impl Medium {
+    /// The medium of a reply.
+    pub fn of(reply: &Reply) -> Medium
+        ensures { result ≡ medium_of reply.now }
+    {
+        match reply {
+            Reply::Sheet(_) => Medium::Sheet,
+            _ => Medium::Json,
+        }
+    }
+
+    /// Its name.
+    pub fn text(self) -> &'static str
+        ensures { result.now ≡ medium_text self }
+    {
+        match self {
+            Medium::Json => "application/json",
+            Medium::Sheet => "text/plain; charset=utf-8",
+        }
+    }
+}
+
+/// The body of a reply: JSON, or a title sheet. An error is a want of memory.
+pub fn body_text(alloc: Global, reply: &Reply) -> Result<String, AllocError>
+    requires { HasMoment reply.now }
+    ensures { IfOk result (λ text. IsBody reply.now (string_bytes text)) }
+{
+    match reply {
+        Reply::Sheet(view) => title_sheet(alloc, view),
+        _ => reply_text(alloc, reply),
+    }
+}
+
 /// The bytes of a reply on the wire, with `body` as the reply's text: `closing` where the connection ends after it,
 /// `head` where the request was a HEAD, whose answer has no body.
 #[tactic(auto, unfolding(crate::specs::Responses::response))]
 pub fn response_bytes(
     alloc: Global,
     status: Status,
+    medium: Medium,
     body: &str,
     closing: bool,
     head: bool,
 ) -> Result<Vec<u8>, AllocError>
-    ensures { IfOk result (λ bytes. bytes.items ≡ response status body.now closing head) }
+    ensures { IfOk result (λ bytes. bytes.items ≡ response status medium body.now closing head) }
 {
     let status = status.text();
+    let medium = medium.text();
     let length = body.len();
     let connection = if closing { "Connection: close\r\n" } else { "" };
     let shown = if head { "" } else { body };
     let text = format!(in alloc;
-        "HTTP/1.1 {status}\r\nContent-Type: application/json\r\nContent-Length: {length}\r\n{connection}\r\n{shown}"
+        "HTTP/1.1 {status}\r\nContent-Type: {medium}\r\nContent-Length: {length}\r\n{connection}\r\n{shown}"
     )?;
     Ok(text.into_bytes())
 }
@@ -76,7 +122,7 @@ pub fn response_bytes(
 /// where memory is wanting. `closing` and `head` are those of `response_bytes`.
 pub fn store_response(number: u16, closing: bool, head: bool) -> &'static [u8]
     requires { IsStoreFault number }
-    ensures { reply_bytes (reply.Store number) closing head ≡ Some result.now }
+    ensures { IsResponse (reply.Store number) closing head result.now }
 {
     if head {
         store_head(closing).as_bytes()
@@ -89,7 +135,7 @@ pub fn store_response(number: u16, closing: bool, head: bool) -> &'static [u8]
 
 // The answer to a HEAD is the same for the three faults.
 fn store_head(closing: bool) -> &'static str
-    ensures { (fault : ℕ) → IsStoreFault fault → reply_bytes (reply.Store fault) closing true ≡ Some result.now }
+    ensures { (fault : ℕ) → IsStoreFault fault → IsResponse (reply.Store fault) closing true result.now }
 {
     if closing {
         "HTTP/1.1 503 Service Unavailable\r\nContent-Type: application/json\r\nContent-Length: 13\r\nConnection: close\r\n\r\n"
@@ -100,7 +146,7 @@ fn store_head(closing: bool) -> &'static str
 
 fn last_store_response(number: u16) -> &'static str
     requires { IsStoreFault number }
-    ensures { reply_bytes (reply.Store number) true false ≡ Some result.now }
+    ensures { IsResponse (reply.Store number) true false result.now }
 {
     match number {
         501 =>
@@ -114,7 +160,7 @@ fn last_store_response(number: u16) -> &'static str
 
 fn store_response_before_others(number: u16) -> &'static str
     requires { IsStoreFault number }
-    ensures { reply_bytes (reply.Store number) false false ≡ Some result.now }
+    ensures { IsResponse (reply.Store number) false false result.now }
 {
     match number {
         501 =>

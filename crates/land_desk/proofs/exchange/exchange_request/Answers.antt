@@ -6,7 +6,7 @@ use Rattle.land_keep.specs.Keeping.{after_writing}
 use Rattle.land_keep.specs.declared.reply.Reply.{Reply}
 use Rattle.land_keep.specs.declared.reply.Reply.TheVariants as reply
 use Rattle.land_keep.specs.Faults.{number_of}
-use Rattle.land_desk.proofs.ExchangeLemmas.{unsaid, unfinished, finished, prepared_no_sheet}
+use Rattle.land_desk.proofs.ExchangeLemmas.{unsaid, unfinished, finished, prepared-moment}
 use Rattle.land_desk.proofs.exchange.exchange_request.Goals as goal
 
 pub returns-in_default : goal.returns-in_default
@@ -51,4 +51,4 @@ pub answered-requires : goal.answered-requires
 answered-requires g c =
     let fit : FitsSigned w64 c.read-reading.result = search rules in
     let prepared = simp to_z-of_z at c.in-Ok.ensures.prepared in
-    rw c.reply.ensures (prepared_no_sheet c.in-Ok.prepared c.read-reading.result c.args.request.now _ prepared c.requires.no_sheet)
+    rw c.reply.ensures (prepared-moment c.in-Ok.prepared c.read-reading.result c.args.request.now _ prepared c.last_stamps_are_moments.ensures c.requires.moment)

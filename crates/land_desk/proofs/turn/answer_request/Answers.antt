@@ -1,9 +1,9 @@
-use Rattle.land_desk.proofs.ServingLemmas.{spoken}
-use Rattle.land_desk.proofs.serve.answer_request.Goals as goal
+use Rattle.land_desk.proofs.TurnLemmas.{spoken}
+use Rattle.land_desk.proofs.turn.answer_request.Goals as goal
 
 pub returns : goal.returns
 returns g c more =
-    let is = c.requires in
+    let is = c.requires.at_front in
     let h = is.1.0 in
     let told = c.exchange.ensures _ (c.request_at-request.ensures.reads h is.1.1) in
     spoken g.C.Clock.reads c.args.buffer.now more c.args.headers.now c.args.spans c.args.length _ _ c.exchange.result told.0

@@ -1,0 +1,120 @@
+-- One turn: the item at the front of a stream, answered.
+use Rattle.std.proofs.Common.{◌≡◌, ℕ, ℤ, ◌+◌, Bool, true, false, List, [], ◌++◌, take, drop, refl, sym, ◌∙◌, ap, subst, Result, Ok, Err, Option, Some, None, IfSome}
+use Rattle.std.specs.Prelude.{◌⊎◌}
+use Rattle.std.specs.Io.KnownBytes.{Appends, Keeps, prepend_known}
+use Rattle.httparse.specs.declared.spans.HeaderSpan.{HeaderSpan}
+use Rattle.httparse.specs.declared.spans.RequestSpans.{RequestSpans}
+use Rattle.land_keep.specs.Machine.{State}
+use Rattle.land_keep.specs.declared.reply.Reply.{Reply}
+use Rattle.land_keep.specs.declared.reply.Reply.TheVariants as reply
+use Rattle.land_wire.specs.Fields.{field_map}
+use Rattle.land_wire.specs.Reading.{reading}
+use Rattle.land_desk.specs.FrameFaults.{number_of}
+use Rattle.land_desk.specs.Frame.{fields_of, ends, is_head}
+use Rattle.land_desk.specs.Items.{request, faulty, IsItem, IsFrontOf, IsRequestIn}
+use Rattle.land_desk.specs.Serving.{Told}
+use Rattle.land_desk.specs.Turns.{IsAnswer, Spoken, IsTurn, IsWritten, answer_bytes, turn_after}
+use Rattle.land_desk.specs.declared.exchange.Answer.{Answer}
+use Rattle.land_desk.specs.declared.frame_fault.FrameFault.{FrameFault}
+use Rattle.land_desk.specs.declared.item.Front.{Front}
+use Rattle.land_desk.specs.declared.item.Front.TheVariants as front
+use Rattle.land_desk.specs.declared.serve.DeskFault.{DeskFault}
+use Rattle.land_desk.specs.declared.serve.DeskFault.TheVariants as desk
+use Rattle.land_desk.specs.declared.turn.Turn.{Turn}
+use Rattle.land_desk.specs.declared.turn.Turn.TheVariants as turn
+use Rattle.land_desk.proofs.ItemLemmas.{request_of}
+
+module _ {C : Type 0} (reads : C → ℤ → C → Type 0) where
+  -- a request at the front of the buffer, with its answer
+  pub spoken : (bytes more : List ℕ) (headers : List HeaderSpan) (spans : RequestSpans) (n : ℕ) (from to : State C) (a : Answer) (r : Reply) (last head : Bool)
+      → (is : IsRequestIn bytes headers spans n) → last ≡ ends is.1.0 → head ≡ is_head is.1.0
+      → Told reads (reading is.1.0.method is.1.0.target (field_map (fields_of is.1.0)) (take n (drop spans.len bytes))) from r to
+      → IsAnswer a r last head
+      → Spoken reads (bytes ++ more) from a (drop (spans.len + n) bytes ++ more) to
+  spoken bytes more headers spans n from to a r last head is ending heading told given =
+      let h = is.1.0 in
+      let answer = subst (λ (b : Bool). IsAnswer a r b (is_head h)) ending (subst (λ (b : Bool). IsAnswer a r last b) heading given) in (
+        record { item = request h (take n (drop spans.len bytes)); reply = r; said = answer_bytes a.bytes },
+        (request_of bytes more headers spans n is, told, answer.0),
+        refl,
+        sym answer.1,
+      )
+
+  lift : (start now : Option (List ℕ)) (P : List ℕ → Type 0) → Keeps start now → IfSome now P → IfSome start P
+  lift None now P keeps holds = tt
+  lift (Some bytes) None P keeps holds = absurd keeps
+  lift (Some bytes) (Some same) P keeps holds = subst P keeps holds
+
+  if_map : (now : Option (List ℕ)) (P Q : List ℕ → Type 0) → ((bytes : List ℕ) → P bytes → Q bytes) → IfSome now P → IfSome now Q
+  if_map None P Q next holds = tt
+  if_map (Some bytes) P Q next holds = next bytes holds
+
+  -- a front of an answer was written
+  told_cut : (bytes rest : List ℕ) (from to : State C) (a : Answer) (left u v : Option (List ℕ)) (n : ℕ)
+      → Spoken reads bytes from a rest to → Appends u v (take n (answer_bytes a.bytes)) → IsTurn reads bytes from to left u v (Err desk.Write)
+  told_cut bytes rest from to a left u v n it wrote = (it.0, rest, n, it.1, subst (λ (t : List ℕ). Appends u v (take n t)) (sym it.2) wrote)
+
+  told_last : (bytes rest : List ℕ) (from to : State C) (a : Answer) (left u v : Option (List ℕ)) → a.last ≡ true
+      → Spoken reads bytes from a rest to → Appends u v (answer_bytes a.bytes) → IsTurn reads bytes from to left u v (Ok turn.Last)
+  told_last bytes rest from to a left u v last it wrote =
+      (it.0, rest, it.1, it.3 ∙ last, subst (λ (t : List ℕ). Appends u v t) (sym it.2) wrote)
+
+  told_more : (bytes rest : List ℕ) (from to : State C) (a : Answer) (left u v : Option (List ℕ)) → a.last ≡ false → left ≡ Some rest
+      → Spoken reads bytes from a rest to → Appends u v (answer_bytes a.bytes) → IsTurn reads bytes from to left u v (Ok turn.More)
+  told_more bytes rest from to a left u v last is it wrote =
+      (it.0, rest, it.1, it.3 ∙ last, subst (λ (t : List ℕ). Appends u v t) (sym it.2) wrote, is)
+
+  -- an answer was written, and the connection goes on as it says
+  told_well : (bytes rest : List ℕ) (from to : State C) (a : Answer) (left u v : Option (List ℕ)) (last : Bool) → a.last ≡ last → left ≡ Some rest
+      → Spoken reads bytes from a rest to → Appends u v (answer_bytes a.bytes) → IsTurn reads bytes from to left u v (Ok (turn_after last))
+  told_well bytes rest from to a left u v true last is it wrote = told_last bytes rest from to a left u v last it wrote
+  told_well bytes rest from to a left u v false last is it wrote = told_more bytes rest from to a left u v last is it wrote
+
+  told_so : (bytes rest : List ℕ) (from to : State C) (a : Answer) (left u v : Option (List ℕ)) (result : Result Turn DeskFault) → left ≡ Some rest
+      → Spoken reads bytes from a rest to → IsWritten (answer_bytes a.bytes) a.last u v result → IsTurn reads bytes from to left u v result
+  told_so bytes rest from to a left u v (Ok t) is it wrote =
+      subst (λ (t : Turn). IsTurn reads bytes from to left u v (Ok t)) (sym wrote.0) (told_well bytes rest from to a left u v a.last refl is it wrote.1)
+  told_so bytes rest from to a left u v (Err desk.Write) is it wrote = told_cut bytes rest from to a left u v wrote.0 it wrote.1
+  told_so bytes rest from to a left u v (Err desk.Read) is it wrote = absurd wrote
+  told_so bytes rest from to a left u v (Err desk.NoMemory) is it wrote = absurd wrote
+
+  -- where it is the last one, nothing is said of what is left
+  told_at_end : (bytes rest : List ℕ) (from to : State C) (a : Answer) (left u v : Option (List ℕ)) (result : Result Turn DeskFault) → a.last ≡ true
+      → Spoken reads bytes from a rest to → IsWritten (answer_bytes a.bytes) a.last u v result → IsTurn reads bytes from to left u v result
+  told_at_end bytes rest from to a left u v (Ok t) last it wrote =
+      subst (λ (t : Turn). IsTurn reads bytes from to left u v (Ok t)) (sym (wrote.0 ∙ ap turn_after last))
+      (told_last bytes rest from to a left u v last it wrote.1)
+  told_at_end bytes rest from to a left u v (Err desk.Write) last it wrote = told_cut bytes rest from to a left u v wrote.0 it wrote.1
+  told_at_end bytes rest from to a left u v (Err desk.Read) last it wrote = absurd wrote
+  told_at_end bytes rest from to a left u v (Err desk.NoMemory) last it wrote = absurd wrote
+
+  -- the answer to a fault of framing
+  abbrev Refused : FrameFault → Answer → Type 0
+  Refused f a = (r : Reply) × ((r ≡ reply.Fault (number_of f)) ⊎ (r ≡ reply.Store 501)) × IsAnswer a r true false
+
+  refused_one : (bytes : List ℕ) (from : State C) (f : FrameFault) (a : Answer) → IsItem bytes (faulty f) [] → Refused f a
+      → Spoken reads bytes from a [] from
+  refused_one bytes from f a item refusal = (
+    record { item = faulty f; reply = refusal.0; said = answer_bytes a.bytes },
+    (item, (refusal.1, refl), refusal.2.0),
+    refl,
+    sym refusal.2.1,
+  )
+
+  pub fault_told : (start now left u v : Option (List ℕ)) (fr : Front) (f : FrameFault) (a : Answer) (from : State C) (result : Result Turn DeskFault)
+      → fr ≡ front.Fault f → Keeps start now → IfSome now (λ s. IsFrontOf s fr) → Refused f a → IsWritten (answer_bytes a.bytes) a.last u v result
+      → IfSome start (λ bytes. IsTurn reads bytes from from left u v result)
+  fault_told start now left u v fr f a from result is keeps item refusal wrote =
+      lift start now (λ bytes. IsTurn reads bytes from from left u v result) keeps
+      (if_map now (λ s. IsFrontOf s fr) (λ s. IsTurn reads s from from left u v result)
+      (λ s h. told_at_end s [] from from a left u v result refusal.2.1 (refused_one s from f a (subst (λ (x : Front). IsFrontOf s x) is h) refusal) wrote) item)
+
+  pub request_told : (start known u v : Option (List ℕ)) (items rest new : List ℕ) (a : Answer) (from to : State C) (result : Result Turn DeskFault)
+      → Keeps start (prepend_known items known) → ((more : List ℕ) → Spoken reads (items ++ more) from a (rest ++ more) to)
+      → new ≡ rest → IsWritten (answer_bytes a.bytes) a.last u v result
+      → IfSome start (λ bytes. IsTurn reads bytes from to (prepend_known new known) u v result)
+  request_told None known u v items rest new a from to result keeps it is wrote = tt
+  request_told (Some bytes) None u v items rest new a from to result keeps it is wrote = absurd keeps
+  request_told (Some bytes) (Some more) u v items rest new a from to result keeps it is wrote =
+      subst (λ (t : List ℕ). IsTurn reads t from to (Some (new ++ more)) u v result) keeps
+      (told_so (items ++ more) (rest ++ more) from to a (Some (new ++ more)) u v result (ap (λ (t : List ℕ). Some (t ++ more)) is) (it more) wrote)

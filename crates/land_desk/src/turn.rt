@@ -1,0 +1,157 @@
+//! One turn of serving a stream: the item at its front, from its bytes to the bytes of its reply.
+ghost use Rattle.std.specs.Prelude.{◌≡◌, ◌≤◌, ◌+◌, ◌++◌, ℕ, List, length, take, drop, IfSome, IfOk, true};
+ghost use Rattle.std.specs.Io.KnownBytes.{prepend_known};
+ghost use Rattle.httparse.specs.Grammar.{RequestHead};
+ghost use Rattle.httparse.specs.Spans.{IsRequestAt, span_bytes};
+ghost use Rattle.land_core.specs.Acts.{is_well_formed_request};
+ghost use Rattle.land_keep.specs.Machine.{State, at_of};
+ghost use Rattle.land_routes.specs.Table.{FindsRoutes};
+ghost use Rattle.land_bodies.specs.WireFaults.{Gives};
+ghost use Rattle.land_wire.specs.Fields.{field_map};
+ghost use Rattle.land_wire.specs.Laws.{IsStated};
+ghost use Rattle.land_wire.specs.Reading.{reading};
+ghost use Rattle.land_desk.specs.Frame.{fields_of};
+ghost use Rattle.land_desk.specs.Items.{IsRequestIn};
+ghost use Rattle.land_desk.specs.Turns.{IsTurn, IsWritten, Spoken, answer_bytes};
+
+use crate::buffer::drop_front;
+use crate::connection::{ends, is_head};
+use crate::counted_reader::CountedReader;
+use crate::exchange::{Answer, exchange, refuse};
+use crate::frame_fault::ReadFault;
+use crate::header_map::header_map;
+use crate::item::{Front, read_item};
+use crate::send::send;
+use crate::serve::DeskFault;
+use httparse::spans::{HeaderSpan, RequestSpans};
+use land_bodies::wire_fault::WireFault;
+use land_core::ask::Request;
+use land_keep::clock::Clock;
+use land_keep::keeper::Keeper;
+use land_routes::table::Goal;
+use land_wire::reading::read_routed;
+use matchit::Router;
+use std::alloc::Global;
+use std::io::{Read, Write};
+
+/// How a turn ended.
+#[derive(Clone, Copy, Debug, PartialEq, Eq)]
+pub enum Turn {
+    /// No byte was left.
+    End,
+    /// A reply was given after which the connection ends.
+    Last,
+    /// A reply was given, and the connection goes on.
+    More,
+}
+
+/// Serves the item at the front of what the buffer holds and the reader has left. The bytes of a request that was
+/// answered are dropped from the buffer.
+pub(crate) fn take_turn<R: Read, W: Write, K: Keeper, C: Clock>(
+    alloc: Global,
+    router: &Router<Goal>,
+    reader: &mut CountedReader<R>,
+    writer: &mut W,
+    keeper: &mut K,
+    clock: &mut C,
+    buffer: &mut Vec<u8>,
+    headers: &mut [HeaderSpan],
+) -> Result<Turn, DeskFault>
+    requires routed { FindsRoutes router.now }
+    requires room { 2731 ≤ length headers.old }
+    ensures room { length headers.new ≡ length headers.old }
+    ensures turn { IfSome (prepend_known buffer.old.items (R.remaining reader.old.reader)) (λ bytes. IsTurn C.reads bytes
+        (record { closed = K.closed keeper.old; timeline = K.timeline keeper.old; clock = clock.old })
+        (record { closed = K.closed keeper.new; timeline = K.timeline keeper.new; clock = clock.new })
+        (prepend_known buffer.new.items (R.remaining reader.new.reader))
+        (W.contents writer.old) (W.contents writer.new) result) }
+{
+    match read_item(reader, buffer, headers) {
+        Err(ReadFault::Read) => Err(DeskFault::Read),
+        Err(ReadFault::NoMemory) => Err(DeskFault::NoMemory),
+        Ok(Front::End) => Ok(Turn::End),
+        Ok(Front::Fault(fault)) => say(writer, &refuse(alloc, fault)),
+        Ok(Front::Request(spans, length)) => {
+            let answer = answer_request(
+                alloc, router, keeper, clock, buffer, headers, spans, length,
+            );
+            let turn = say(writer, &answer);
+            drop_front(buffer, spans.len + length);
+            turn
+        }
+    }
+}
+
+/// Writes an answer.
+fn say<W: Write>(writer: &mut W, answer: &Answer) -> Result<Turn, DeskFault>
+    ensures { IsWritten (answer_bytes answer.now.bytes) answer.now.last (W.contents writer.old) (W.contents writer.new) result }
+{
+    match send(writer, answer.bytes.as_slice()) {
+        Err(_) => Err(DeskFault::Write),
+        Ok(()) if answer.last => Ok(Turn::Last),
+        Ok(()) => Ok(Turn::More),
+    }
+}
+
+/// Answers the request that stands at the front of the buffer.
+fn answer_request<K: Keeper, C: Clock>(
+    alloc: Global,
+    router: &Router<Goal>,
+    keeper: &mut K,
+    clock: &mut C,
+    buffer: &[u8],
+    headers: &[HeaderSpan],
+    spans: RequestSpans,
+    length: usize,
+) -> Answer
+    requires routed { FindsRoutes router.now }
+    requires at_front { IsRequestIn buffer.now headers.now spans length }
+    ensures { (more : List ℕ) → Spoken C.reads (buffer.now ++ more)
+        (record { closed = K.closed keeper.old; timeline = K.timeline keeper.old; clock = clock.old })
+        result (drop (spans.len + length) buffer.now ++ more)
+        (record { closed = K.closed keeper.new; timeline = K.timeline keeper.new; clock = clock.new }) }
+{
+    let request = request_at(alloc, router, buffer, headers, &spans, length);
+    let last = ends(&spans, buffer, headers);
+    let head = is_head(&spans, buffer, headers);
+    exchange(alloc, keeper, clock, request, last, head)
+}
+
+/// The request that stands at the front of the buffer, or its first fault.
+fn request_at(
+    alloc: Global,
+    router: &Router<Goal>,
+    buffer: &[u8],
+    headers: &[HeaderSpan],
+    spans: &RequestSpans,
+    length: usize,
+) -> Result<Request, WireFault>
+    requires routed { FindsRoutes router.now }
+    requires at_front { IsRequestIn buffer.now headers.now spans.now length }
+    ensures reads { (h : RequestHead) → IsRequestAt buffer.now headers.now spans.now h
+        → Gives (λ asked. asked) result (reading h.method h.target (field_map (fields_of h)) (take length (drop spans.now.len buffer.now))) }
+    ensures well_formed { IfOk result (λ asked. is_well_formed_request asked ≡ true) }
+    ensures moment { IfOk result (λ asked. IsStated (at_of asked.ask)) }
+{
+    let fields = header_map(alloc, buffer, &headers[..spans.headers])?;
+    let method = spans.method.of(buffer);
+    let target = target_at(buffer, headers, spans, length);
+    let body = &buffer[spans.len..spans.len + length];
+    read_routed(alloc, router, method, target, &fields, body)
+}
+
+/// The target of the request that stands at the front of the buffer, which is UTF-8 as every head's is.
+fn target_at<'b>(
+    buffer: &'b [u8],
+    headers: &[HeaderSpan],
+    spans: &RequestSpans,
+    length: usize,
+) -> &'b str
+    requires { IsRequestIn buffer.now headers.now spans.now length }
+    ensures { result.now ≡ span_bytes buffer.now spans.now.path }
+{
+    match str::from_utf8(spans.path.of(buffer)) {
+        Ok(target) => target,
+        Err(_) => unreachable!(),
+    }
+}
