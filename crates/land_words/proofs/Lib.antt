@@ -1,0 +1,5 @@
+-- Lemmas of the words of the command line.
+pub mod FaultlessWords
+pub mod NumberRows
+pub mod PlainWords
+pub mod WalkKeeps

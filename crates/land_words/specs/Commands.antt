@@ -1,0 +1,24 @@
+-- The commands of the program, as `clap` reads them.
+use Rattle.std.specs.Prelude.{◌≡◌, true, false, codes}
+use Rattle.clap.specs.Words.{App, app_of, new_app, with_rule, with_subcommand}
+use Rattle.clap.specs.Simple.{on_top}
+use Rattle.clap.specs.declared.builder.command.Command.{Command}
+use Rattle.clap.specs.declared.builder.command.Command.TheViews.{out-Command}
+use Rattle.land_words.specs.Options.{moment_rule}
+
+-- a program that does nothing by itself: one of its commands is wanted, and none of them is for help
+abbrev pub of_commands : App → App
+of_commands = on_top (λ top. record top { subcommand_required = true; disable_help_subcommand = true })
+
+-- `talk --clock MS`
+abbrev pub talk_app : App
+talk_app = with_rule (new_app (codes "talk")) (moment_rule (codes "clock") true)
+
+-- the program with all its commands
+abbrev pub land_app : App
+land_app = with_subcommand (of_commands (new_app (codes "land"))) talk_app.top
+
+-- a command reads words as this one does, and has no option that commands below it share
+pub record IsCommand (app : App) (command : Command) : Type 0 where
+  pub app_is : app_of command ≡ app
+  pub local : (out-Command command).has_globals ≡ false

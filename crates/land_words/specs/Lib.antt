@@ -1,0 +1,5 @@
+-- Definitions of the words of the command line.
+pub mod Commands
+pub mod Laws
+pub mod Names
+pub mod Options
