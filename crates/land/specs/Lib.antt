@@ -1,4 +1,3 @@
 -- Definitions of the program.
-pub mod Arguments
 pub mod Program
 pub mod ProgramFaults

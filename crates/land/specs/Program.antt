@@ -1,16 +1,18 @@
--- What the program does with the bytes of its input.
-use Rattle.std.specs.Prelude.{◌≡◌, ℕ, ℤ, false, List, [], Option, Some, None, Result, Ok, Err, IsOk}
+-- What the program does with its words and the bytes of its input.
+use Rattle.std.specs.Prelude.{◌≡◌, ◌⊎◌, ℕ, ℤ, false, List, [], take, string_bytes, Option, Result, Ok, Err}
 use Rattle.std.specs.Io.KnownBytes.{Appends}
 use Rattle.land_keep.specs.Machine.{State}
 use Rattle.land_keep.specs.Timeline.{new_timeline}
-use Rattle.land.specs.ProgramFaults.{fault_of}
-use Rattle.land_desk.specs.Serving.{IsServedOne}
-use Rattle.land.specs.declared.arguments.Command.{Command}
-use Rattle.land.specs.declared.arguments.Command.TheVariants.{Talk}
+use Rattle.land_desk.specs.Serving.{IsServing}
 use Rattle.land_desk.specs.declared.serve.DeskFault.{DeskFault}
 use Rattle.land_desk.specs.declared.serve.Served.{Served}
-use Rattle.land.specs.declared.program_fault.ProgramFault.{ProgramFault}
-use Rattle.land.specs.declared.program_fault.ProgramFault.TheVariants.{Words}
+use Rattle.land_words.specs.Names.{IsReading}
+use Rattle.land_words.specs.declared.command.Command.{Command}
+use Rattle.land_words.specs.declared.command.Command.TheVariants.{Talk}
+use Rattle.land_words.specs.declared.words_fault.WordsFault.{WordsFault}
+use Rattle.land_words.specs.declared.words_fault.WordsFault.TheVariants as words
+use Rattle.land.specs.ProgramFaults.{fault_of, line_of, status_of}
+use Rattle.land.specs.declared.program_fault.ProgramFault.TheVariants.{NoMemory}
 use Rattle.land.specs.declared.set_clock.SetClock.{SetClock}
 
 -- a clock that is set reads what it is set to, each time
@@ -21,17 +23,33 @@ reads_as_set old reading new = (reading ≡ old.reading) × (new ≡ old)
 abbrev pub at_start : ℤ → State SetClock
 at_start reading = record { closed = false; timeline = new_timeline; clock = record { reading = reading } }
 
--- the first item of the input is served over a new register, where the clock reads the same each time
+-- the input is served over a new register, where the clock reads the same each time
 abbrev pub IsTalk : (input : List ℕ) → (reading : ℤ) → (old new : Option (List ℕ)) → Result Served DeskFault → Type 0
-IsTalk input reading old new result = (to : State SetClock) × IsServedOne reads_as_set input (at_start reading) to old new result
+IsTalk input reading old new result = (to : State SetClock) × IsServing reads_as_set input (at_start reading) to old new result
 
--- the program ends well where the item was served, and with the fault where it was not
-abbrev pub IsEndOf : {T : Type 0} → Result Served DeskFault → Result T ProgramFault → Type 0
-IsEndOf (Ok served) result = IsOk result
-IsEndOf (Err fault) result = result ≡ Err (fault_of fault)
+-- a text is written, or a front of it where the writer fails
+abbrev pub IsSaid : List ℕ → (old new : Option (List ℕ)) → Type 0
+IsSaid text old new = Appends old new text ⊎ ((n : ℕ) × Appends old new (take n text))
 
--- what is done for a command: other words than are expected write nothing
-abbrev pub IsDone : {T : Type 0} → Option Command → (input : List ℕ) → (old new : Option (List ℕ)) → Result T ProgramFault → Type 0
-IsDone None input old new result = (result ≡ Err Words) × Appends old new []
-IsDone (Some (Talk clock)) input old new result =
-    (served : Result Served DeskFault) × IsTalk input clock old new served × IsEndOf served result
+-- the status after serving is 0, and nothing is told; after a fault it is that of the fault, which is told
+abbrev pub IsEnding : Result Served DeskFault → (old new : Option (List ℕ)) → (status : ℕ) → Type 0
+IsEnding (Ok served) old new status = (status ≡ 0) × Appends old new []
+IsEnding (Err fault) old new status = (status ≡ status_of (fault_of fault)) × IsSaid (line_of (fault_of fault)) old new
+
+-- a command, by what it writes on the output and on that of errors, and its status
+abbrev pub IsRun : Command → (input : List ℕ) → (old new : Option (List ℕ)) → (old_errors new_errors : Option (List ℕ)) → (status : ℕ) → Type 0
+IsRun (Talk clock) input old new old_errors new_errors status =
+    (served : Result Served DeskFault) × IsTalk input clock old new served × IsEnding served old_errors new_errors status
+
+-- what is done for what the words are read as: refused words write nothing but what `clap` says of them, and their status is 2
+abbrev pub IsDone : Result Command WordsFault → (input : List ℕ) → (old new : Option (List ℕ)) → (old_errors new_errors : Option (List ℕ)) → (status : ℕ) → Type 0
+IsDone (Ok command) input old new old_errors new_errors status = IsRun command input old new old_errors new_errors status
+IsDone (Err (words.Refused text)) input old new old_errors new_errors status =
+    (status ≡ 2) × Appends old new [] × IsSaid (string_bytes text) old_errors new_errors
+IsDone (Err words.NoMemory) input old new old_errors new_errors status =
+    (status ≡ status_of NoMemory) × Appends old new [] × IsSaid (line_of NoMemory) old_errors new_errors
+
+-- what is done for the words
+abbrev pub IsObeyed : List (List ℕ) → (input : List ℕ) → (old new : Option (List ℕ)) → (old_errors new_errors : Option (List ℕ)) → (status : ℕ) → Type 0
+IsObeyed said input old new old_errors new_errors status =
+    (outcome : Result Command WordsFault) × IsReading said outcome × IsDone outcome input old new old_errors new_errors status

@@ -18,13 +18,14 @@ abbrev pub IsFaultOfWords : ErrorKind → ProgramFault → Type 0
 IsFaultOfWords kind fault =
     ((kind ≡ OutOfMemory) × (fault ≡ program.NoMemory)) ⊎ ((kind ≢ OutOfMemory) × (fault ≡ program.Words))
 
--- 2 for words that ask for nothing, 1 for a fault
+-- 2 for words that are no text, as for other words, and 1 for a fault
 abbrev pub status_of : ProgramFault → ℕ
 status_of program.Words = 2
 status_of program.Stream = 1
 status_of program.NoMemory = 1
 
-abbrev pub text_of : ProgramFault → List ℕ
-text_of program.Words = codes "expected the words talk --clock MS, with MS from 0 to 4102444799999 in 1 to 13 digits"
-text_of program.Stream = codes "input or output failed"
-text_of program.NoMemory = codes "fault 501"
+-- the line that is told of it
+abbrev pub line_of : ProgramFault → List ℕ
+line_of program.Words = codes "land: a word of the command line is no text\n"
+line_of program.Stream = codes "land: input or output failed\n"
+line_of program.NoMemory = codes "land: fault 501\n"

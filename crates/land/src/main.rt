@@ -2,20 +2,18 @@
 #![tactic(auto)]
 
 ghost use Rattle.std.specs.Prelude.{IfSome, map, string_bytes};
-ghost use Rattle.land.specs.Arguments.{command_of};
-ghost use Rattle.land.specs.Program.{IsTalk, IsDone};
+ghost use Rattle.land.specs.Program.{IsObeyed};
 
-mod arguments;
 mod program_fault;
+mod run;
 mod set_clock;
 #[cfg(test)]
 mod tests;
 
-use crate::arguments::{Command, read_words};
 use crate::program_fault::ProgramFault;
-use crate::set_clock::SetClock;
-use land_desk::serve::{DeskFault, Served, serve_one};
-use land_keep::plain_keeper::PlainKeeper;
+use crate::run::{complain, run_command, say};
+use land_words::read_words;
+use land_words::words_fault::WordsFault;
 use std::alloc::Global;
 use std::env;
 use std::io::{Read, Write};
@@ -23,56 +21,45 @@ use std::process::ExitCode;
 use std::rt::Env;
 
 fn main(rt: HostRuntime) -> ExitCode {
-    match run(&rt, &mut rt.stdin(), &mut rt.stdout()) {
-        Ok(()) => ExitCode::SUCCESS,
-        Err(fault) => {
-            let _ = eprintln!(rt; "land: {fault}");
-            ExitCode::from(fault.status())
-        }
-    }
+    let status = start(&rt, &mut rt.stdin(), &mut rt.stdout(), &mut rt.stderr());
+    ExitCode::from(status)
 }
 
-/// Does what the words of the command line ask for.
-fn run<R: Env + AllocGlobal, I: Read, O: Write>(
+/// Does what the words of the command line ask for, and gives the status.
+fn start<R: Env + AllocGlobal, I: Read, O: Write, E: Write>(
     rt: &R,
     input: &mut I,
     output: &mut O,
-) -> Result<(), ProgramFault> {
-    let words = env::args(rt)?.skip(1).collect::<Vec<_>>(rt.alloc())?;
-    obey(rt.alloc(), &words, input, output)
+    errors: &mut E,
+) -> u8 {
+    match words(rt) {
+        Ok(words) => obey(rt.alloc(), &words, input, output, errors),
+        Err(fault) => complain(errors, fault),
+    }
 }
 
-/// Does what these words ask for.
-fn obey<I: Read, O: Write>(
+/// The words of the command line, of which the first is the program's name.
+fn words<R: Env + AllocGlobal>(rt: &R) -> Result<Vec<String>, ProgramFault> {
+    Ok(env::args(rt)?.collect::<Vec<_>>(rt.alloc())?)
+}
+
+/// Does what these words ask for, and gives the status: 2 where they are refused, which `clap` tells on `errors`.
+fn obey<I: Read, O: Write, E: Write>(
     alloc: Global,
     words: &[String],
     input: &mut I,
     output: &mut O,
-) -> Result<(), ProgramFault>
-    ensures { IfSome (I.remaining input.old) (λ bytes. IsDone (command_of (map string_bytes words.now)) bytes
-        (O.contents output.old) (O.contents output.new) result) }
+    errors: &mut E,
+) -> u8
+    ensures { IfSome (I.remaining input.old) (λ bytes. IsObeyed (map string_bytes words.now) bytes
+        (O.contents output.old) (O.contents output.new) (E.contents errors.old) (E.contents errors.new) result) }
 {
-    match read_words(words) {
-        None => Err(ProgramFault::Words),
-        Some(Command::Talk { clock }) => {
-            talk(alloc, clock, input, output)?;
-            Ok(())
+    match read_words(alloc, words) {
+        Ok(command) => run_command(alloc, command, input, output, errors),
+        Err(WordsFault::Refused(text)) => {
+            say(errors, text.as_str());
+            2
         }
+        Err(WordsFault::NoMemory) => complain(errors, ProgramFault::NoMemory),
     }
-}
-
-/// Answers a request over a new register, with a clock that reads the same each time.
-fn talk<I: Read, O: Write>(
-    alloc: Global,
-    reading: i64,
-    input: &mut I,
-    output: &mut O,
-) -> Result<Served, DeskFault>
-    ensures { IfSome (I.remaining input.old) (λ bytes. IsTalk bytes reading (O.contents output.old) (O.contents output.new) result) }
-{
-    let Ok(mut keeper) = PlainKeeper::new(alloc) else {
-        return Err(DeskFault::NoMemory);
-    };
-    let mut clock = SetClock { reading };
-    serve_one(alloc, input, output, &mut keeper, &mut clock)
 }

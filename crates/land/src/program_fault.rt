@@ -1,17 +1,16 @@
 //! Why the program ends without success.
-ghost use Rattle.std.specs.Prelude.{◌≡◌, Some};
+ghost use Rattle.std.specs.Prelude.{◌≡◌};
 ghost use Rattle.std.specs.IoError.{error_kind};
-ghost use Rattle.land.specs.ProgramFaults.{fault_of, IsFaultOfWords, status_of, text_of};
+ghost use Rattle.land.specs.ProgramFaults.{fault_of, IsFaultOfWords, line_of, status_of};
 
 use land_desk::serve::DeskFault;
 use std::alloc::AllocError;
-use std::fmt::{self, Display, Formatter, Write};
 use std::io;
 
 /// Why the program ends without success.
 #[derive(Clone, Copy, Debug, PartialEq, Eq)]
 pub enum ProgramFault {
-    /// The words of the command line ask for nothing that the program does.
+    /// A word of the command line is no text.
     Words,
     /// A read or a write failed.
     Stream,
@@ -20,7 +19,7 @@ pub enum ProgramFault {
 }
 
 impl ProgramFault {
-    /// The status that the program ends with: 2 for other words than are expected, 1 for a fault.
+    /// The status that the program ends with: 2 for the words, 1 for any other fault.
     pub fn status(self) -> u8
         ensures { result ≡ status_of self }
     {
@@ -30,24 +29,15 @@ impl ProgramFault {
         }
     }
 
-    /// What is said of it on standard error.
-    pub fn text(self) -> &'static str
-        ensures { result.now ≡ text_of self }
+    /// The line that is told of it on standard error.
+    pub fn line(self) -> &'static str
+        ensures { result.now ≡ line_of self }
     {
         match self {
-            ProgramFault::Words =>
-                "expected the words talk --clock MS, with MS from 0 to 4102444799999 in 1 to 13 digits",
-            ProgramFault::Stream => "input or output failed",
-            ProgramFault::NoMemory => "fault 501",
+            ProgramFault::Words => "land: a word of the command line is no text\n",
+            ProgramFault::Stream => "land: input or output failed\n",
+            ProgramFault::NoMemory => "land: fault 501\n",
         }
-    }
-}
-
-impl Display for ProgramFault {
-    ghost output = { λ fault. Some (text_of fault) };
-
-    fn fmt<W: Write>(&self, f: &mut Formatter<W>) -> fmt::Result {
-        f.write_str(self.text())
     }
 }
 

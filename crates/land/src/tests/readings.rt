@@ -21,7 +21,7 @@ fn office_fields(alloc: Global) -> Result<HeaderMap, Fail> {
 }
 
 /// The request that the office puts with this method, target and body.
-fn read(alloc: Global, method: &[u8], target: &[u8], body: &[u8]) -> Result<Request, Fail> {
+fn read(alloc: Global, method: &[u8], target: &str, body: &[u8]) -> Result<Request, Fail> {
     let fields = office_fields(alloc)?;
     let request = read_request(alloc, method, target, &fields, body);
     Ok(request.map_err(|_| "no memory, or no request")?)
@@ -63,21 +63,21 @@ fn is_enrolment_of_anna(request: &Request) -> bool {
 
 #[test]
 fn a_list_is_read(rt: HostRuntime) -> Result<(), Fail> {
-    let request = read(rt.alloc(), b"GET", b"/parties?", b"\xff{")?;
+    let request = read(rt.alloc(), b"GET", "/parties?", b"\xff{")?;
     assert!(rt; is_by_the_office(&request) && is_list(&request));
     Ok(())
 }
 
 #[test]
 fn a_view_is_read(rt: HostRuntime) -> Result<(), Fail> {
-    let request = read(rt.alloc(), b"GET", b"/parties/0000000000009", b"")?;
+    let request = read(rt.alloc(), b"GET", "/parties/0000000000009", b"")?;
     assert!(rt; is_by_the_office(&request) && is_view_of_9(&request));
     Ok(())
 }
 
 #[test]
 fn an_enrolment_is_read(rt: HostRuntime) -> Result<(), Fail> {
-    let request = read(rt.alloc(), b"POST", b"/acts/enrol", ANNA)?;
+    let request = read(rt.alloc(), b"POST", "/acts/enrol", ANNA)?;
     assert!(rt; is_by_the_office(&request) && is_enrolment_of_anna(&request));
     Ok(())
 }
