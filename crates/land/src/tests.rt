@@ -1,15 +1,19 @@
 //! What no clause says, of the program and of the crates that it joins: that the calls succeed, and that the
 //! definitions mean what they should. `.ci/refusals` runs these tests with each allocation refused in turn: a test may
 //! then end for want of memory, and no assertion may fail.
+mod desk_rows;
 mod doubles;
 mod exchanges;
 mod failures;
 mod long_requests;
-mod mutation_texts;
+mod long_streams;
+mod looks;
 mod office;
 mod readings;
 mod replies;
 mod requests;
-mod runs;
+mod scenario;
 mod streams;
+mod talk;
+mod turns;
 mod words;

@@ -11,6 +11,9 @@ use land_sheet::sheet::title_sheet;
 use std::alloc::{AllocError, Global};
 use std::test::Fail;
 
+/// The last moment that there is.
+const LAST_MOMENT: i64 = 4_102_444_799_999;
+
 /// What an entry says.
 #[derive(Clone, Copy)]
 pub enum Says {
@@ -200,7 +203,7 @@ fn parcels(alloc: Global, lands: &[Land], times: usize) -> Result<Sequence<Parce
     Ok(parcels)
 }
 
-fn entry(alloc: Global, entry: &Entry) -> Result<NamedRrr, Fail> {
+fn named_entry(alloc: Global, entry: &Entry) -> Result<NamedRrr, Fail> {
     let class = class(alloc, entry.1)?;
     Ok(NamedRrr {
         rrr: Rrr {
@@ -217,9 +220,17 @@ fn entry(alloc: Global, entry: &Entry) -> Result<NamedRrr, Fail> {
 fn entries(alloc: Global, rows: &[Entry]) -> Result<Sequence<NamedRrr>, Fail> {
     let mut entries = Sequence::new(alloc);
     for row in rows {
-        entries.push(entry(alloc, row)?)?;
+        entries.push(named_entry(alloc, row)?)?;
     }
     Ok(entries)
+}
+
+/// The sheet of a view whose moment is one.
+fn told(alloc: Global, view: &View) -> Result<String, Fail> {
+    if view.at < 0 || LAST_MOMENT < view.at {
+        return Err("no moment")?;
+    }
+    Ok(title_sheet(alloc, view)?)
 }
 
 /// The sheet of a picture at a moment, its parcels so many times.
@@ -237,7 +248,7 @@ fn sheet(alloc: Global, picture: &Picture, at: i64, times: usize) -> Result<Stri
         rrrs,
         at,
     };
-    Ok(title_sheet(alloc, &view)?)
+    told(alloc, &view)
 }
 
 #[test]

@@ -1,4 +1,5 @@
-//! A reader and a writer that a test sets.
+//! A reader, a writer and a clock that a test sets.
+use land_keep::clock::Clock;
 use std::io;
 use std::io::{Read, Write};
 
@@ -48,5 +49,25 @@ impl Write for Sink {
 
     fn flush(&mut self) -> io::Result<()> {
         Ok(())
+    }
+}
+
+/// A clock that reads these moments in turn, and then 1000 each time.
+#[derive(Clone, Copy)]
+pub struct Readings {
+    pub left: &'static [i64],
+}
+
+impl Clock for Readings {
+    ghost reads = { λ _ _ _. Unit {0} };
+
+    fn read(&mut self) -> i64 {
+        match self.left.split_first() {
+            Some((reading, left)) => {
+                self.left = left;
+                *reading
+            }
+            None => 1000,
+        }
     }
 }

@@ -1,29 +1,57 @@
-//! Readers and writers that fail.
+//! Readers and writers that fail at each place of a small stream.
 use crate::tests::doubles::{Pieces, Sink};
-use crate::tests::office::{ANNA_IS_ENROLLED, ENROL_ANNA, Office, is_want_of_memory, open_sink};
+use crate::tests::office::{Office, common, is_want_of_memory, open_sink};
+use crate::tests::talk::Told::{Fault, Shown};
+use crate::tests::talk::{ENROL, OFFICE, Row, Talk};
 use land_desk::send::send;
 use land_desk::serve::{DeskFault, Served};
 use land_keep::keeper::Keeper;
 use std::alloc::Global;
 use std::test::Fail;
 
-/// What is left where the request that enrols Anna was served.
+/// Two parties are enrolled, and between them comes what changes nothing.
+const ROWS: &[Row] = &[
+    Row(
+        "POST /acts/enrol",
+        OFFICE,
+        ENROL,
+        Shown(r#"{"made":[2],"number":2,"stamp":1000}"#),
+    ),
+    Row("GET /", "", b"", Fault(136)),
+    Row(
+        "POST /acts/enrol",
+        OFFICE,
+        ENROL,
+        Shown(r#"{"made":[3],"number":3,"stamp":1001}"#),
+    ),
+];
+
+/// The stamp of the last change once so many rows were answered.
+fn last_after(rows: usize) -> i64 {
+    match rows {
+        0 => 0,
+        1 | 2 => 1000,
+        _ => 1001,
+    }
+}
+
+/// How serving ended, and the stamp of the last change then.
 #[derive(Clone, Copy)]
 struct Left {
     served: Result<Served, DeskFault>,
     last: i64,
 }
 
-/// Serves the request that enrols Anna, which comes in pieces of such a size, of which so many can be read.
-fn enrol_anna(alloc: Global, piece: usize, reads: u64, sink: &mut Sink) -> Result<Left, Fail> {
-    let mut office = Office::new(alloc)?;
+/// Serves the rows, which come in pieces of 7 bytes, of which so many can be read.
+fn serve_rows(alloc: Global, talk: &Talk, reads: u64, sink: &mut Sink) -> Result<Left, Fail> {
+    let mut office = Office::new(alloc, &[])?;
     let reader = Pieces {
-        left: ENROL_ANNA,
-        piece,
+        left: talk.input.as_slice(),
+        piece: 7,
         reads,
     };
     let served = office.serve(alloc, reader, sink);
-    if is_want_of_memory(&served, sink) {
+    if is_want_of_memory(&served, &sink.taken, talk.output.as_bytes()) {
         return Err("no memory")?;
     }
     Ok(Left {
@@ -32,62 +60,86 @@ fn enrol_anna(alloc: Global, piece: usize, reads: u64, sink: &mut Sink) -> Resul
     })
 }
 
-/// Whether a reader that fails after so many bytes leaves nothing written and nothing changed.
-fn is_unread(alloc: Global, reads: u64) -> Result<bool, Fail> {
-    let mut sink = open_sink(alloc)?;
-    let left = enrol_anna(alloc, 1, reads, &mut sink)?;
-    Ok(left.served == Err(DeskFault::Read) && left.last == 0 && sink.taken.is_empty())
+/// How many rows have their input within so many bytes.
+fn rows_within(talk: &Talk, bytes: usize) -> usize {
+    talk.marks.iter().filter(|mark| mark.asked <= bytes).count()
 }
 
-/// Whether the reader is asked no more often than for the request, in pieces of such a size.
-fn is_read_alone(alloc: Global, piece: usize, reads: u64) -> Result<bool, Fail> {
-    let mut sink = open_sink(alloc)?;
-    let left = enrol_anna(alloc, piece, reads, &mut sink)?;
+/// Where the output of so many rows ends.
+fn end_of(talk: &Talk, rows: usize) -> usize {
+    match talk.marks.iter().take(rows).last() {
+        Some(mark) => mark.told,
+        None => 0,
+    }
+}
+
+/// Whether a reader that fails after so many pieces leaves what was read whole answered and done, and nothing else.
+fn is_unread(alloc: Global, talk: &Talk, reads: u64, bytes: usize) -> Result<bool, Fail> {
+    let mut sink = open_sink(alloc, talk.output.len())?;
+    let left = serve_rows(alloc, talk, reads, &mut sink)?;
+    let rows = rows_within(talk, bytes);
+    let answered = end_of(talk, rows);
     Ok(
-        left.served == Ok(Served { replies: 1 })
-            && left.last == 1000
-            && sink.taken.as_slice() == ANNA_IS_ENROLLED,
+        left.served == Err(DeskFault::Read)
+            && left.last == last_after(rows)
+            && sink.taken.len() == answered
+            && common(&sink.taken, talk.output.as_bytes()) == answered,
     )
 }
 
 #[test]
-fn readers_fail(rt: HostRuntime) -> Result<(), Fail> {
-    // Before the request, in its head, at the end of its head, and in its body.
-    for reads in [0, 1, 30, 102, 103, 140] {
-        assert!(rt; is_unread(rt.alloc(), reads)?);
+fn readers_fail_at_each_place(rt: HostRuntime) -> Result<(), Fail> {
+    let mut talk = Talk::new(rt.alloc())?;
+    talk.ask_all("rows", ROWS)?;
+    let mut bytes: usize = 0;
+    for reads in 0..100 {
+        assert!(rt; is_unread(rt.alloc(), &talk, reads, bytes)?, "read {reads}");
+        // One read more, or two, which find the end, are none too few.
+        if bytes == talk.input.len() {
+            return Ok(());
+        }
+        bytes = bytes.saturating_add(7).min(talk.input.len());
     }
-    for (piece, reads) in [(1, 141), (50, 3), (140, 2), (141, 1), (4096, 1)] {
-        assert!(rt; is_read_alone(rt.alloc(), piece, reads)?);
-    }
-    Ok(())
+    Err("the stream does not end")?
 }
 
-/// Whether a writer that takes three bytes so many times has them, and the change stands.
-fn is_unwritten(alloc: Global, writes: usize, fails: bool) -> Result<bool, Fail> {
-    let mut sink = open_sink(alloc)?;
+/// Whether a writer that takes three bytes so many times has them and no others, and what was begun to be told stands;
+/// nothing where it takes everything.
+fn is_unwritten(alloc: Global, talk: &Talk, writes: usize) -> Result<Option<bool>, Fail> {
+    let mut sink = open_sink(alloc, talk.output.len())?;
     sink.writes = writes;
-    sink.fails = fails;
-    let left = enrol_anna(alloc, 1, u64::MAX, &mut sink)?;
+    sink.fails = writes % 2 == 0;
+    let left = serve_rows(alloc, talk, u64::MAX, &mut sink)?;
+    if sink.taken.len() == talk.output.len() {
+        return Ok(None);
+    }
+    let whole = talk
+        .marks
+        .iter()
+        .filter(|mark| mark.told <= sink.taken.len())
+        .count();
     // A reply of 501 that does not go out looks the same to the writer.
-    if left.last == 0 {
+    if left.last < last_after(whole.saturating_add(1)) {
         return Err("nothing was changed, as for want of memory")?;
     }
-    Ok(
+    Ok(Some(
         left.served == Err(DeskFault::Write)
-            && left.last == 1000
-            && sink.taken.len() == writes.saturating_mul(3)
-            && ANNA_IS_ENROLLED.starts_with(sink.taken.as_slice()),
-    )
+            && left.last == last_after(whole.saturating_add(1))
+            && common(&sink.taken, talk.output.as_bytes()) == sink.taken.len(),
+    ))
 }
 
 #[test]
-fn writers_fail(rt: HostRuntime) -> Result<(), Fail> {
-    for writes in [0, 1, 35] {
-        for fails in [false, true] {
-            assert!(rt; is_unwritten(rt.alloc(), writes, fails)?);
+fn writers_fail_at_each_place(rt: HostRuntime) -> Result<(), Fail> {
+    let mut talk = Talk::new(rt.alloc())?;
+    talk.ask_all("rows", ROWS)?;
+    for writes in 0..1000 {
+        match is_unwritten(rt.alloc(), &talk, writes)? {
+            Some(is) => assert!(rt; is, "write {writes}"),
+            None => return Ok(()),
         }
     }
-    Ok(())
+    Err("the stream does not end")?
 }
 
 /// How often a writer takes three bytes of eight, and what comes of it.

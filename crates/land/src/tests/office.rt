@@ -1,71 +1,29 @@
-//! An office that answers streams in tests, and the texts that go in and come out.
-use crate::set_clock::SetClock;
-use crate::tests::doubles::{Pieces, Sink};
-use land_desk::serve::{DeskFault, Served, serve_one};
+//! An office that answers streams in tests.
+use crate::tests::doubles::{Pieces, Readings, Sink};
+use crate::tests::talk::{Talk, Told};
+use land_desk::serve::{DeskFault, Served, serve};
 use land_keep::keeper::Keeper;
 use land_keep::plain_keeper::PlainKeeper;
 use std::alloc::{AllocError, Global};
 use std::test::Fail;
 
-/// The request that enrols Anna.
-pub const ENROL_ANNA: &[u8] =
-    b"POST /acts/enrol HTTP/1.1\r\nRegister-Party: 1\r\nRegister-Role: stateAdministrator\r\nContent-Length: 38\r\n\r\n{\"kind\":\"naturalPerson\",\"name\":\"Anna\"}";
-
-/// The reply to it.
-pub const ANNA_IS_ENROLLED: &[u8] =
-    b"HTTP/1.1 200 OK\r\nContent-Type: application/json\r\nContent-Length: 36\r\n\r\n{\"made\":[2],\"number\":2,\"stamp\":1000}";
-
-/// The body of that request.
-pub const ANNA: &[u8] = b"{\"kind\":\"naturalPerson\",\"name\":\"Anna\"}";
-
-/// The fields that name the office as the caller.
-pub const OFFICE: &str = "Register-Party: 1\r\nRegister-Role: stateAdministrator\r\n";
-
-/// The fields that name Anna as the caller.
-pub const AS_ANNA: &str = "Register-Party: 2\r\nRegister-Role: citizen\r\n";
-
-/// More bytes than a test's reply has.
-const ROOM: usize = 2048;
-
-/// What a caller is told.
-#[derive(Clone, Copy)]
-pub enum Told {
-    /// What was asked for, or what was done.
-    Shown(&'static str),
-    /// The rule that denies.
-    Denied(u16),
-    /// The refusal of an act.
-    Refused(u16),
-    /// What is wrong with the request.
-    Fault(u16),
-}
-
-/// A request, and what is told of it.
-#[derive(Clone, Copy)]
-pub struct Row {
-    pub line: &'static str,
-    pub fields: &'static str,
-    pub body: &'static [u8],
-    pub told: Told,
-}
-
 /// A register in memory, with its clock.
 #[derive(Drop)]
 pub struct Office {
     pub keeper: PlainKeeper,
-    pub clock: SetClock,
+    pub clock: Readings,
 }
 
 impl Office {
-    /// A new register. The clock reads 1000.
-    pub fn new(alloc: Global) -> Result<Office, AllocError> {
+    /// A new register. The clock reads these moments in turn, and then 1000 each time.
+    pub fn new(alloc: Global, clock: &'static [i64]) -> Result<Office, AllocError> {
         Ok(Office {
             keeper: PlainKeeper::new(alloc)?,
-            clock: SetClock { reading: 1000 },
+            clock: Readings { left: clock },
         })
     }
 
-    /// Serves the first item of a stream.
+    /// Serves a stream.
     pub fn serve(
         &mut self,
         alloc: Global,
@@ -73,7 +31,7 @@ impl Office {
         writer: &mut Sink,
     ) -> Result<Served, DeskFault> {
         let mut reader = reader;
-        serve_one(
+        serve(
             alloc,
             &mut reader,
             writer,
@@ -82,117 +40,94 @@ impl Office {
         )
     }
 
-    /// Whether the first item of the input, which comes in pieces, is answered by these bytes. Want of memory ends the
-    /// test, and has to have changed nothing.
+    /// Whether the input, which comes in pieces, is answered by these bytes, which are so many replies. Want of memory
+    /// ends the test.
     pub fn answers(
         &mut self,
         alloc: Global,
         input: &[u8],
         piece: usize,
+        replies: u64,
         answer: &[u8],
     ) -> Result<bool, Fail> {
-        let before = self.keeper.last();
-        let mut sink = open_sink(alloc)?;
+        let mut sink = open_sink(alloc, answer.len())?;
         let reader = Pieces {
             left: input,
             piece,
             reads: u64::MAX,
         };
         let served = self.serve(alloc, reader, &mut sink);
-        if is_want_of_memory(&served, &sink) {
-            return wanting(self.keeper.last() == before);
+        if is_want_of_memory(&served, &sink.taken, answer) {
+            return Err("no memory")?;
         }
-        let replies = if input.is_empty() { 0 } else { 1 };
         Ok(served == Ok(Served { replies }) && sink.taken.as_slice() == answer)
     }
 
-    /// Whether the request of a row is answered as it says, and the connection goes on.
-    pub fn tells(&mut self, alloc: Global, row: &Row) -> Result<bool, Fail> {
-        let input = request(alloc, row.line, row.fields, row.body)?;
-        self.tells_of(alloc, &input, row.told, false)
-    }
-
-    /// Whether the first item of the input is answered so, and the connection ends after it or not.
-    pub fn tells_of(
+    /// The name and the place of the first row that is not answered as it says, if any. The requests come in pieces.
+    pub fn first_wrong(
         &mut self,
         alloc: Global,
-        input: &[u8],
-        told: Told,
-        ends: bool,
-    ) -> Result<bool, Fail> {
-        let answer = response(alloc, told, ends)?;
-        self.answers(alloc, input, 50, answer.as_bytes())
+        talk: &Talk,
+        piece: usize,
+    ) -> Result<Option<(&'static str, usize)>, Fail> {
+        let mut sink = open_sink(alloc, talk.output.len())?;
+        let reader = Pieces {
+            left: talk.input.as_slice(),
+            piece,
+            reads: u64::MAX,
+        };
+        let served = self.serve(alloc, reader, &mut sink);
+        if is_want_of_memory(&served, &sink.taken, talk.output.as_bytes()) {
+            return Err("no memory")?;
+        }
+        Ok(talk.first_wrong(&served, &sink.taken))
     }
 }
 
-/// Whether serving came to an end for want of memory.
-pub fn is_want_of_memory(served: &Result<Served, DeskFault>, sink: &Sink) -> bool {
-    *served == Err(DeskFault::NoMemory) || sink.taken.starts_with(b"HTTP/1.1 503 ")
-}
-
-/// The end of a test for want of memory, or a wrong answer where the register was changed.
-fn wanting(unchanged: bool) -> Result<bool, Fail> {
-    if unchanged {
-        return Err("no memory")?;
+/// How many bytes two texts have in common at their front.
+pub fn common(first: &[u8], second: &[u8]) -> usize {
+    let most = first.len().min(second.len());
+    for place in 0..most {
+        if first[place] != second[place] {
+            return place;
+        }
     }
-    Ok(false)
+    most
 }
 
-/// Whether a new office answers the input by these bytes.
-pub fn is_answered(alloc: Global, input: &[u8], answer: &[u8]) -> Result<bool, Fail> {
-    let mut office = Office::new(alloc)?;
-    office.answers(alloc, input, 50, answer)
+/// Whether serving came to an end for want of memory, or the first reply that is not as it was to be has the status 503.
+pub fn is_want_of_memory(served: &Result<Served, DeskFault>, taken: &[u8], wanted: &[u8]) -> bool {
+    if *served == Err(DeskFault::NoMemory) {
+        return true;
+    }
+    let same = common(taken, wanted);
+    9 <= same && same <= taken.len() && taken[same - 9..].starts_with(b"HTTP/1.1 5")
 }
 
-/// Whether a new office tells this of the input, and ends the connection or not.
+/// Whether a new office answers the input, which comes in pieces, by these bytes, which are so many replies.
+pub fn is_answered(
+    alloc: Global,
+    input: &[u8],
+    piece: usize,
+    replies: u64,
+    answer: &[u8],
+) -> Result<bool, Fail> {
+    let mut office = Office::new(alloc, &[])?;
+    office.answers(alloc, input, piece, replies, answer)
+}
+
+/// Whether a new office tells this of the input, which is one item, and ends the connection or not.
 pub fn is_told(alloc: Global, input: &[u8], told: Told, ends: bool) -> Result<bool, Fail> {
-    let mut office = Office::new(alloc)?;
-    office.tells_of(alloc, input, told, ends)
+    let mut talk = Talk::new(alloc)?;
+    talk.tell(told, ends)?;
+    is_answered(alloc, input, 50, 1, talk.output.as_bytes())
 }
 
-/// A writer that takes all it is given, and has room for it.
-pub fn open_sink(alloc: Global) -> Result<Sink, AllocError> {
+/// A writer that takes all it is given, and has room for a reply more than is wanted.
+pub fn open_sink(alloc: Global, wanted: usize) -> Result<Sink, AllocError> {
     Ok(Sink {
-        taken: Vec::with_capacity(alloc, ROOM)?,
+        taken: Vec::with_capacity(alloc, wanted.saturating_add(2048))?,
         writes: usize::MAX,
         fails: false,
     })
-}
-
-/// A request of HTTP/1.1 with these fields and this body.
-fn request(alloc: Global, line: &str, fields: &str, body: &[u8]) -> Result<Vec<u8>, AllocError> {
-    let length = body.len();
-    let head = format!(in alloc; "{line} HTTP/1.1\r\n{fields}Content-Length: {length}\r\n\r\n")?;
-    let mut bytes = head.into_bytes();
-    bytes.extend_from_slice(body)?;
-    Ok(bytes)
-}
-
-/// The bytes of a reply.
-fn response(alloc: Global, told: Told, ends: bool) -> Result<String, AllocError> {
-    match told {
-        Told::Shown(text) => with_text(alloc, "200 OK", ends, text),
-        Told::Denied(number) => with_number(alloc, "403 Forbidden", ends, "denied", number),
-        Told::Refused(number) => with_number(alloc, "409 Conflict", ends, "refused", number),
-        Told::Fault(number) => with_number(alloc, "400 Bad Request", ends, "fault", number),
-    }
-}
-
-fn with_number(
-    alloc: Global,
-    status: &str,
-    ends: bool,
-    word: &str,
-    number: u16,
-) -> Result<String, AllocError> {
-    let text = format!(in alloc; "{{\"{word}\":{number}}}")?;
-    with_text(alloc, status, ends, text.as_str())
-}
-
-fn with_text(alloc: Global, status: &str, ends: bool, text: &str) -> Result<String, AllocError> {
-    let length = text.len();
-    let close = if ends { "Connection: close\r\n" } else { "" };
-    format!(in alloc;
-        "HTTP/1.1 {status}\r\nContent-Type: application/json\r\nContent-Length: {length}\r\n{close}\r\n{text}"
-    )
 }

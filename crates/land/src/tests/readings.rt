@@ -1,5 +1,5 @@
 //! Requests as they are read, where a reply does not show it.
-use crate::tests::office::ANNA;
+use crate::tests::talk::ENROL;
 use http_header::HeaderMap;
 use land_core::act::Act;
 use land_core::ask::{Ask, Request};
@@ -77,7 +77,7 @@ fn a_view_is_read(rt: HostRuntime) -> Result<(), Fail> {
 
 #[test]
 fn an_enrolment_is_read(rt: HostRuntime) -> Result<(), Fail> {
-    let request = read(rt.alloc(), b"POST", "/acts/enrol", ANNA)?;
+    let request = read(rt.alloc(), b"POST", "/acts/enrol", ENROL)?;
     assert!(rt; is_by_the_office(&request) && is_enrolment_of_anna(&request));
     Ok(())
 }

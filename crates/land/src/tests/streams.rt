@@ -3,7 +3,8 @@ ghost use Rattle.land_desk.specs.Items.{IsRequestIn};
 
 use crate::tests::doubles::Pieces;
 use crate::tests::long_requests::joined;
-use crate::tests::office::{Told, is_told};
+use crate::tests::office::is_told;
+use crate::tests::talk::Told;
 use httparse::spans::{EMPTY_HEADER_SPAN, HeaderSpan, RequestSpans};
 use land_desk::buffer::drop_front;
 use land_desk::connection::{ends, is_head};
