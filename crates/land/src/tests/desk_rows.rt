@@ -1,5 +1,5 @@
 //! Worked rows as bytes: the scenario with what is told beside it, and other turns that the register may take.
-use crate::tests::looks::LOOKS;
+use crate::tests::looks::{FIRST_LOOKS, LAST_LOOKS};
 use crate::tests::office::Office;
 use crate::tests::requests::{BODIES, CALLERS, ROUTES, SHARES_AND_OUTLINES, TARGETS};
 use crate::tests::scenario::STEPS;
@@ -23,6 +23,10 @@ const REQUESTS: &[Story] = &[
     Story("routes", 0, &[], ROUTES),
     Story("targets", 0, &[], TARGETS),
     Story("callers", 0, &[], CALLERS),
+];
+
+/// Bodies of acts over a new register.
+const ACTS: &[Story] = &[
     Story("bodies", 0, &[], BODIES),
     Story("shares and outlines", 0, &[], SHARES_AND_OUTLINES),
 ];
@@ -52,6 +56,11 @@ fn assert_told(rt: &impl Abort, alloc: Global, stories: &[Story]) -> Result<(), 
 #[test]
 fn requests_are_told_their_first_fault(rt: HostRuntime) -> Result<(), Fail> {
     assert_told(&rt, rt.alloc(), REQUESTS)
+}
+
+#[test]
+fn bodies_are_told_their_first_fault(rt: HostRuntime) -> Result<(), Fail> {
+    assert_told(&rt, rt.alloc(), ACTS)
 }
 
 #[test]
@@ -96,8 +105,16 @@ fn wrong_beside(alloc: Global, looks: &[Story]) -> Result<Option<(&'static str, 
 }
 
 #[test]
-fn the_scenario_with_what_is_told_beside_it(rt: HostRuntime) -> Result<(), Fail> {
-    if let Some((name, place)) = wrong_beside(rt.alloc(), LOOKS)? {
+fn the_scenario_with_what_is_told_beside_its_first_steps(rt: HostRuntime) -> Result<(), Fail> {
+    if let Some((name, place)) = wrong_beside(rt.alloc(), FIRST_LOOKS)? {
+        panic!(rt; "{name}: row {place}");
+    }
+    Ok(())
+}
+
+#[test]
+fn the_scenario_with_what_is_told_beside_its_last_steps(rt: HostRuntime) -> Result<(), Fail> {
+    if let Some((name, place)) = wrong_beside(rt.alloc(), LAST_LOOKS)? {
         panic!(rt; "{name}: row {place}");
     }
     Ok(())

@@ -352,8 +352,8 @@ const SHEETS: &[Row] = &[
     Row("HEAD /units/9/sheet", BEN, b"", Unsaid(13)),
 ];
 
-/// All of it, by the number of steps that come before.
-pub const LOOKS: &[Story] = &[
+/// What is told beside the first twelve steps, by the number of steps before it.
+pub const FIRST_LOOKS: &[Story] = &[
     Story("somebody unknown", 0, &[], NOBODY),
     Story("the first citizen", 1, &[], FIRST_CITIZEN),
     Story("shares of a group", 3, &[], THIRDS),
@@ -366,6 +366,10 @@ pub const LOOKS: &[Story] = &[
     Story("sight", 12, &[], SIGHT),
     Story("a stranger's sight", 12, &[], NORAS_SIGHT),
     Story("the past", 12, &[], PAST),
+];
+
+/// The same from the thirteenth step on.
+pub const LAST_LOOKS: &[Story] = &[
     Story("a lodged transfer", 13, &[], LODGED_TRANSFER),
     Story("a transfer", 14, &[], TRANSFERRED),
     Story("a former holder", 16, &[], FORMER_HOLDER),
