@@ -9,6 +9,9 @@ use std::io::Read;
 /// The bytes that one read asks for.
 const PIECE: usize = 1024;
 
+/// The room that the buffer keeps from one item to the next, where what it holds needs no more.
+const ROOM_KEPT: usize = 16_384;
+
 /// Asks the reader once for a piece at the end of the buffer. 0 comes at the end of the input alone. Whatever comes, no
 /// byte of the stream is lost. `Read`: the reader failed, or was asked too often. `NoMemory`: there was no room for the
 /// piece, and the reader was not asked.
@@ -75,7 +78,7 @@ pub fn read_to<R: Read>(
     }
 }
 
-/// Drops the first `n` bytes of the buffer.
+/// Drops the first `n` bytes of the buffer, and gives back the room that a long body took.
 pub fn drop_front(buffer: &mut Vec<u8>, n: usize)
     requires { n ≤ length buffer.old.items }
     ensures { buffer.new.items ≡ drop n buffer.old.items }
@@ -83,4 +86,5 @@ pub fn drop_front(buffer: &mut Vec<u8>, n: usize)
     let left = buffer.len() - n;
     buffer.copy_within(n.., 0);
     buffer.truncate(left);
+    buffer.shrink_to(ROOM_KEPT);
 }
