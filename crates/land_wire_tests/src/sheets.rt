@@ -262,7 +262,11 @@ fn sheets(rt: HostRuntime) -> Result<(), Fail> {
 #[test]
 fn moments_are_told_as_dates_and_times(rt: HostRuntime) -> Result<(), Fail> {
     for row in MOMENTS {
-        assert!(rt; sheet(rt.alloc(), &PICTURES[2], row.0, 0)?.as_str().contains(row.1));
+        assert!(rt;
+            sheet(rt.alloc(), &PICTURES[2], row.0, 0)?
+                .as_str()
+                .contains(row.1)
+        );
     }
     Ok(())
 }
@@ -270,6 +274,10 @@ fn moments_are_told_as_dates_and_times(rt: HostRuntime) -> Result<(), Fail> {
 /// 256 times the greatest area and the least one are more than 64 bits hold, in square millimetres.
 #[test]
 fn areas_do_not_wrap(rt: HostRuntime) -> Result<(), Fail> {
-    assert!(rt; sheet(rt.alloc(), &PICTURES[1], 0, 256)?.as_str().contains("\nArea 128000000000000.0001280\nParcels 512\n"));
+    assert!(rt;
+        sheet(rt.alloc(), &PICTURES[1], 0, 256)?
+            .as_str()
+            .contains("\nArea 128000000000000.0001280\nParcels 512\n")
+    );
     Ok(())
 }
