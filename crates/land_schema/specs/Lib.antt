@@ -1,0 +1,7 @@
+-- Definitions of the tables of the register.
+pub mod Columns
+pub mod Definitions
+pub mod Land
+pub mod Laws
+pub mod Shapes
+pub mod Tables
