@@ -3,5 +3,7 @@ pub mod Columns
 pub mod Definitions
 pub mod Land
 pub mod Laws
+pub mod Making
 pub mod Shapes
+pub mod Steps
 pub mod Tables

@@ -3,6 +3,7 @@
 
 pub mod columns;
 pub mod laws;
+pub mod making;
 pub mod rows;
 pub mod schema;
 pub mod shape;
