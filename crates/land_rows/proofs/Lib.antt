@@ -1,0 +1,24 @@
+-- Lemmas of the rows of the register's tables.
+pub mod Appends
+pub mod Casts
+pub mod Changes
+pub mod EditionRow
+pub mod First
+pub mod Inserts
+pub mod Kept
+pub mod Members
+pub mod MomentRows
+pub mod Mutations
+pub mod Namings
+pub mod Numbers
+pub mod Parcels
+pub mod Parties
+pub mod Puts
+pub mod Rewrites
+pub mod Roles
+pub mod Rrrs
+pub mod Sources
+pub mod Statements
+pub mod Units
+pub mod Updates
+pub mod Versions

@@ -1,0 +1,32 @@
+-- The statement on `moments`.
+use Rattle.std.proofs.Common.{ℕ, List, [], ◌∷◌, Ok, refl}
+use Rattle.land_rows.proofs.Appends.{appends}
+use Rattle.land_rows.proofs.Casts.{cast_null, cast_whole}
+use Rattle.land_rows.proofs.Statements.{IsInsertion, inserts}
+use Rattle.land_rows.specs.Forms.{Appends}
+use Rattle.land_schema.proofs.Indexes.{whatever_indexes}
+use Rattle.land_schema.specs.Land.{IsLand, land_with}
+use Rattle.land_schema.specs.Tables as table
+use Rattle.sqlite.specs.Listing.{understood}
+use Rattle.sqlite.specs.State.{State, Executes}
+use Rattle.sqlite.specs.Term.{Term, lit, col}
+use Rattle.sqlite.specs.declared.types.Value.TheVariants.{Int, Null}
+use Rattle.sqlite_schema.specs.declared.schema.Index.{Index}
+use Rattle.sqlite_tied.specs.Compute.{everything}
+use Rattle.land_rows.specs.Moments.{Moment, moment_row}
+use Rattle.land_rows.specs.Versions.{whole}
+use Rattle.land_rows.specs.declared.tables.moments.TheConstants.{INSERT}
+
+abbrev terms : List Term
+terms = col 0 0 ∷ lit Null ∷ col 0 1 ∷ []
+
+inserts_one : (indexes : List Index) → IsInsertion (land_with indexes) INSERT.now 1 table.moments terms 3
+unfolding understood everything
+inserts_one indexes = record { command = refl; plain = (refl, refl); table = refl; one = λ _. refl; alone = λ _ _. refl }
+
+pub puts_in : (old new : State) (m : Moment) (count : ℕ) → IsLand old.now.schema → Executes INSERT.now (Int m.stamp ∷ whole m.next ∷ []) old new (Ok count) → Appends table.moments moment_row m old.now new.now
+puts_in old new m count land h =
+    let indexes = old.now.schema.indexes in
+    let has = (whatever_indexes old.now.schema).0 land in
+    appends table.moments moment_row m m.stamp (Null ∷ whole m.next ∷ []) refl indexes old.now new.now
+    (inserts (land_with indexes) INSERT.now 1 table.moments terms 3 (inserts_one indexes) old new (Int m.stamp ∷ whole m.next ∷ []) count has h) has (simp (cast_null, cast_whole))

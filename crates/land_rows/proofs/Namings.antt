@@ -1,0 +1,19 @@
+-- The statements on `names`.
+use Rattle.std.proofs.Common.{List, refl}
+use Rattle.land_rows.proofs.Casts.{cast_null, cast_whole}
+use Rattle.land_rows.proofs.Statements.{IsInsertion}
+use Rattle.land_rows.proofs.Versions.{IsBeginning, begin_terms}
+use Rattle.land_rows.specs.Names.{names_cells}
+use Rattle.land_rows.specs.declared.tables.names.TheConstants.{BEGIN}
+use Rattle.land_schema.specs.Land.{land_with}
+use Rattle.land_schema.specs.Tables.{names}
+use Rattle.sqlite.specs.Listing.{understood}
+use Rattle.sqlite_schema.specs.declared.schema.Index.{Index}
+use Rattle.sqlite_tied.specs.Compute.{everything}
+
+inserts_one : (indexes : List Index) → IsInsertion (land_with indexes) BEGIN.now 10 names (begin_terms 2) 5
+unfolding understood everything
+inserts_one indexes = record { command = refl; plain = (refl, refl); table = refl; one = λ _. refl; alone = λ _ _. refl }
+
+pub beginning : IsBeginning names names_cells BEGIN.now 10 2
+beginning = record { insertion = inserts_one; shows = λ c since. refl; exact = λ c since. simp (cast_null, cast_whole) }

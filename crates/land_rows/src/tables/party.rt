@@ -1,0 +1,54 @@
+//! The rows of `party`.
+ghost use Rattle.std.specs.Prelude.{◌≡◌, ◌<◌, ◌^◌};
+ghost use Rattle.land_rows.specs.Forms.{Adds, Turns};
+ghost use Rattle.land_rows.specs.Party.{is_party, parties};
+ghost use Rattle.land_rows.specs.Versions.{begun, closed};
+ghost use Rattle.land_schema.specs.Land.{IsLand};
+ghost use Rattle.land_schema.specs.Steps.{IsStep};
+ghost use Rattle.sqlite.specs.Held.{state};
+ghost use Rattle.sqlite.specs.State.{HasCleanDisk};
+
+use crate::cells::{of_moment, of_number, of_text};
+use sqlite::{Alter, Error, Transaction};
+
+/// The text that begins a version.
+const BEGIN: &str =
+    "INSERT INTO party (number, name, kind, since, until) VALUES (?1, ?2, ?3, ?4, 4102444800000)";
+
+/// The text that closes the version that stands.
+const CLOSE: &str = "UPDATE party SET until = ?2 WHERE number = ?1 AND until = 4102444800000";
+
+/// Begins a version of a party.
+pub fn begin<S: Alter>(
+    tx: &mut Transaction<'_, S>,
+    number: u64,
+    name: &str,
+    kind: &str,
+    since: i64,
+) -> Result<usize, Error>
+    requires small { number < 2 ^ 63 }
+    requires land { HasCleanDisk (state S.Store tx.old.conn.now) → IsLand (state S.Store tx.old.conn.now).now.schema }
+    ensures same_reference { tx.new.conn.ghost_name ≡ tx.old.conn.ghost_name }
+    ensures step { IsStep result (Adds parties (begun (record { number = number; name = name.now; kind = kind.now }) since))
+        (state S.Store tx.old.conn.now) (state S.Store tx.new.conn.now) }
+{
+    tx.execute(
+        BEGIN,
+        &[
+            of_number(number),
+            of_text(name),
+            of_text(kind),
+            of_moment(since),
+        ],
+    )
+}
+
+/// Closes the version of a party that stands.
+pub fn close<S: Alter>(tx: &mut Transaction<'_, S>, number: u64, stamp: i64) -> Result<usize, Error>
+    requires small { number < 2 ^ 63 }
+    requires land { HasCleanDisk (state S.Store tx.old.conn.now) → IsLand (state S.Store tx.old.conn.now).now.schema }
+    ensures same_reference { tx.new.conn.ghost_name ≡ tx.old.conn.ghost_name }
+    ensures step { IsStep result (Turns parties (closed (is_party number) stamp)) (state S.Store tx.old.conn.now) (state S.Store tx.new.conn.now) }
+{
+    tx.execute(CLOSE, &[of_number(number), of_moment(stamp)])
+}
