@@ -1,5 +1,6 @@
 -- Lemmas of the rows of the register's tables.
 pub mod Appends
+pub mod Asks
 pub mod Casts
 pub mod Changes
 pub mod EditionRow

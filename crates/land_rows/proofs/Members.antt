@@ -1,13 +1,15 @@
 -- The statements on `member`.
-use Rattle.std.proofs.Common.{◌&&◌, ℕ, pos, false, List, [], ◌∷◌, refl, ap, ◌∙◌}
+use Rattle.land_rows.proofs.Asks.{Asks, IsListing}
+use Rattle.land_rows.specs.Looks.{columns_from}
+use Rattle.std.proofs.Common.{◌&&◌, ℕ, pos, false, List, [], ◌∷◌, refl, ap, ◌∙◌, codes}
 use Rattle.std.specs.Ordering.{int_eq}
 use Rattle.land_rows.proofs.Casts.{cast_null, cast_whole, same_number}
 use Rattle.land_rows.proofs.Statements.{IsInsertion, IsUpdate}
 use Rattle.land_rows.proofs.Updates.{plainly}
-use Rattle.land_rows.proofs.Versions.{IsBeginning, IsClosing, begin_terms, close_terms}
+use Rattle.land_rows.proofs.Versions.{IsBeginning, IsClosing, begin_terms, close_terms, columns_of}
 use Rattle.land_rows.specs.Member.{is_member_of, member_cells}
 use Rattle.land_rows.specs.Versions.{never, whole}
-use Rattle.land_rows.specs.declared.tables.member.TheConstants.{BEGIN, CLOSE}
+use Rattle.land_rows.specs.declared.tables.member.TheConstants.{ALL, BEGIN, CLOSE}
 use Rattle.land_schema.specs.Land.{land_with}
 use Rattle.land_schema.specs.Tables.{member}
 use Rattle.sqlite.specs.Listing.{understood}
@@ -44,3 +46,10 @@ closing grp = record {
     writes = λ id v. simp (cast_whole);
   };
 }
+
+asks_all : (indexes : List Index) → Asks (land_with indexes) ALL.now (plainly 6 [] (columns_of 1 1 6))
+unfolding understood everything
+asks_all indexes = record { names = codes "grp" ∷ codes "party" ∷ codes "num" ∷ codes "den" ∷ codes "since" ∷ codes "until" ∷ []; command = refl; unlisted = refl; plain = (refl, refl) }
+
+pub listing : IsListing 6 ALL.now (columns_of 1 1 6) (columns_from 1 6)
+listing = record { asks = asks_all; read = λ db. refl; shows = λ r. refl }

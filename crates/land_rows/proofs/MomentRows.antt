@@ -1,5 +1,8 @@
 -- The statement on `moments`.
-use Rattle.std.proofs.Common.{ℕ, List, [], ◌∷◌, Ok, refl}
+use Rattle.land_rows.proofs.Asks.{Asks, IsListing}
+use Rattle.land_rows.proofs.Updates.{plainly}
+use Rattle.sqlite_value.specs.Order.{column}
+use Rattle.std.proofs.Common.{ℕ, List, [], ◌∷◌, Ok, refl, codes}
 use Rattle.land_rows.proofs.Appends.{appends}
 use Rattle.land_rows.proofs.Casts.{cast_null, cast_whole}
 use Rattle.land_rows.proofs.Statements.{IsInsertion, inserts}
@@ -15,7 +18,7 @@ use Rattle.sqlite_schema.specs.declared.schema.Index.{Index}
 use Rattle.sqlite_tied.specs.Compute.{everything}
 use Rattle.land_rows.specs.Moments.{Moment, moment_row}
 use Rattle.land_rows.specs.Versions.{whole}
-use Rattle.land_rows.specs.declared.tables.moments.TheConstants.{INSERT}
+use Rattle.land_rows.specs.declared.tables.moments.TheConstants.{ALL, INSERT}
 
 abbrev terms : List Term
 terms = col 0 0 ∷ lit Null ∷ col 0 1 ∷ []
@@ -30,3 +33,10 @@ puts_in old new m count land h =
     let has = (whatever_indexes old.now.schema).0 land in
     appends table.moments moment_row m m.stamp (Null ∷ whole m.next ∷ []) refl indexes old.now new.now
     (inserts (land_with indexes) INSERT.now 1 table.moments terms 3 (inserts_one indexes) old new (Int m.stamp ∷ whole m.next ∷ []) count has h) has (simp (cast_null, cast_whole))
+
+asks_all : (indexes : List Index) → Asks (land_with indexes) ALL.now (plainly 1 [] (col 1 0 ∷ col 1 2 ∷ []))
+unfolding understood everything
+asks_all indexes = record { names = codes "stamp" ∷ codes "next" ∷ []; command = refl; unlisted = refl; plain = (refl, refl) }
+
+pub listing : IsListing 1 ALL.now (col 1 0 ∷ col 1 2 ∷ []) (λ r. column r 0 ∷ column r 2 ∷ [])
+listing = record { asks = asks_all; read = λ db. refl; shows = λ r. refl }

@@ -1,10 +1,13 @@
 -- The statements on `names`.
-use Rattle.std.proofs.Common.{List, refl}
+use Rattle.land_rows.proofs.Asks.{Asks, IsListing}
+use Rattle.land_rows.specs.Looks.{columns_from}
+use Rattle.land_rows.proofs.Updates.{plainly}
+use Rattle.std.proofs.Common.{List, refl, codes, [], ◌∷◌}
 use Rattle.land_rows.proofs.Casts.{cast_null, cast_whole}
 use Rattle.land_rows.proofs.Statements.{IsInsertion}
-use Rattle.land_rows.proofs.Versions.{IsBeginning, begin_terms}
+use Rattle.land_rows.proofs.Versions.{IsBeginning, begin_terms, columns_of}
 use Rattle.land_rows.specs.Names.{names_cells}
-use Rattle.land_rows.specs.declared.tables.names.TheConstants.{BEGIN}
+use Rattle.land_rows.specs.declared.tables.names.TheConstants.{ALL, BEGIN}
 use Rattle.land_schema.specs.Land.{land_with}
 use Rattle.land_schema.specs.Tables.{names}
 use Rattle.sqlite.specs.Listing.{understood}
@@ -17,3 +20,10 @@ inserts_one indexes = record { command = refl; plain = (refl, refl); table = ref
 
 pub beginning : IsBeginning names names_cells BEGIN.now 10 2
 beginning = record { insertion = inserts_one; shows = λ c since. refl; exact = λ c since. simp (cast_null, cast_whole) }
+
+asks_all : (indexes : List Index) → Asks (land_with indexes) ALL.now (plainly 18 [] (columns_of 1 1 4))
+unfolding understood everything
+asks_all indexes = record { names = codes "mutation" ∷ codes "unit" ∷ codes "since" ∷ codes "until" ∷ []; command = refl; unlisted = refl; plain = (refl, refl) }
+
+pub listing : IsListing 18 ALL.now (columns_of 1 1 4) (columns_from 1 4)
+listing = record { asks = asks_all; read = λ db. refl; shows = λ r. refl }

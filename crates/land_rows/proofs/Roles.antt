@@ -1,13 +1,15 @@
 -- The statements on `role`.
-use Rattle.std.proofs.Common.{◌≡◌, ◌&&◌, ℕ, pos, Bool, true, false, List, [], ◌∷◌, refl, ap₂, ◌∙◌}
+use Rattle.land_rows.proofs.Asks.{Asks, IsListing}
+use Rattle.land_rows.specs.Looks.{columns_from}
+use Rattle.std.proofs.Common.{◌≡◌, ◌&&◌, ℕ, pos, Bool, true, false, List, [], ◌∷◌, refl, ap₂, ◌∙◌, codes}
 use Rattle.std.specs.Ordering.{int_eq}
 use Rattle.land_rows.proofs.Casts.{cast_null, cast_whole, same_number, same_text}
 use Rattle.land_rows.proofs.Statements.{IsInsertion, IsUpdate}
 use Rattle.land_rows.proofs.Updates.{plainly}
-use Rattle.land_rows.proofs.Versions.{IsBeginning, IsClosing, begin_terms, close_terms}
+use Rattle.land_rows.proofs.Versions.{IsBeginning, IsClosing, begin_terms, close_terms, columns_of}
 use Rattle.land_rows.specs.Role.{is_grant, role_cells}
 use Rattle.land_rows.specs.Versions.{never, whole}
-use Rattle.land_rows.specs.declared.tables.role.TheConstants.{BEGIN, CLOSE}
+use Rattle.land_rows.specs.declared.tables.role.TheConstants.{ALL, BEGIN, CLOSE}
 use Rattle.land_schema.specs.Land.{land_with}
 use Rattle.land_schema.specs.Tables as table
 use Rattle.sqlite.specs.Listing.{understood}
@@ -54,3 +56,10 @@ closing party word = record {
     writes = λ id v. simp (cast_whole);
   };
 }
+
+asks_all : (indexes : List Index) → Asks (land_with indexes) ALL.now (plainly 4 [] (columns_of 1 1 4))
+unfolding understood everything
+asks_all indexes = record { names = codes "party" ∷ codes "role" ∷ codes "since" ∷ codes "until" ∷ []; command = refl; unlisted = refl; plain = (refl, refl) }
+
+pub listing : IsListing 4 ALL.now (columns_of 1 1 4) (columns_from 1 4)
+listing = record { asks = asks_all; read = λ db. refl; shows = λ r. refl }

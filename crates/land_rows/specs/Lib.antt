@@ -1,6 +1,7 @@
 -- Definitions of the rows of the register's tables.
 pub mod Edition
 pub mod Forms
+pub mod Looks
 pub mod Member
 pub mod Moments
 pub mod Mutation

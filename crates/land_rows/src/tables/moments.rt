@@ -1,6 +1,7 @@
 //! The rows of `moments`.
-ghost use Rattle.std.specs.Prelude.{◌≡◌, ◌<◌, ◌^◌};
+ghost use Rattle.std.specs.Prelude.{◌≡◌, ◌<◌, ◌^◌, false};
 ghost use Rattle.land_rows.specs.Forms.{Appends};
+ghost use Rattle.land_rows.specs.Looks.{IsLook, AreAllNumbered};
 ghost use Rattle.land_rows.specs.Moments.{moment_row};
 ghost use Rattle.land_schema.specs.Land.{IsLand};
 ghost use Rattle.land_schema.specs.Steps.{IsStep};
@@ -9,10 +10,13 @@ ghost use Rattle.sqlite.specs.Held.{state};
 ghost use Rattle.sqlite.specs.State.{HasCleanDisk};
 
 use crate::cells::{of_moment, of_number};
-use sqlite::{Alter, Error, Transaction};
+use sqlite::{Alter, Connection, Error, Row, Transaction};
 
 /// The text that puts a moment in.
 const INSERT: &str = "INSERT INTO moments (stamp, next) VALUES (?1, ?2)";
+
+/// The text that lists all rows.
+const ALL: &str = "SELECT stamp, next FROM moments";
 
 /// Puts a moment in, with the next number from then on.
 pub fn insert<S: Alter>(tx: &mut Transaction<'_, S>, stamp: i64, next: u64) -> Result<usize, Error>
@@ -23,4 +27,14 @@ pub fn insert<S: Alter>(tx: &mut Transaction<'_, S>, stamp: i64, next: u64) -> R
         (state S.Store tx.old.conn.now) (state S.Store tx.new.conn.now) }
 {
     tx.execute(INSERT, &[of_moment(stamp), of_number(next)])
+}
+
+/// All rows, as they are, in whatever order.
+pub fn all<S: Alter>(conn: &mut Connection<S>) -> Result<Vec<Row>, Error>
+    requires { HasCleanDisk (state S.Store conn.old) → IsLand (state S.Store conn.old).now.schema }
+    ensures look { IsLook result (λ rows. AreAllNumbered table.moments (state S.Store conn.old).now.trees rows.items)
+        (state S.Store conn.old) (state S.Store conn.new) }
+    ensures mode { conn.old.in_transaction ≡ false → conn.new.in_transaction ≡ false }
+{
+    conn.query_all(ALL, &[])
 }

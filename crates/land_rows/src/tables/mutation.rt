@@ -1,15 +1,17 @@
 //! The rows of `mutation`.
-ghost use Rattle.std.specs.Prelude.{◌≡◌, ◌<◌, ◌^◌};
+ghost use Rattle.std.specs.Prelude.{◌≡◌, ◌<◌, ◌^◌, false};
 ghost use Rattle.land_rows.specs.Forms.{Adds, Turns};
+ghost use Rattle.land_rows.specs.Looks.{IsLook, AreAll};
 ghost use Rattle.land_rows.specs.Mutation.{FitsMutation, is_mutation, mutation_of, mutations};
 ghost use Rattle.land_rows.specs.Versions.{begun, closed};
 ghost use Rattle.land_schema.specs.Land.{IsLand};
 ghost use Rattle.land_schema.specs.Steps.{IsStep};
+ghost use Rattle.land_schema.specs.Tables as table;
 ghost use Rattle.sqlite.specs.Held.{state};
 ghost use Rattle.sqlite.specs.State.{HasCleanDisk};
 
 use crate::cells::{of_moment, of_number, of_text};
-use sqlite::{Alter, Error, Transaction};
+use sqlite::{Alter, Connection, Error, Row, Transaction};
 
 /// The text that begins a version.
 const BEGIN: &str = "INSERT INTO mutation \
@@ -18,6 +20,11 @@ const BEGIN: &str = "INSERT INTO mutation \
 
 /// The text that closes what stands.
 const CLOSE: &str = "UPDATE mutation SET until = ?2 WHERE number = ?1 AND until = 4102444800000";
+
+/// The text that lists all versions.
+const ALL: &str = "SELECT \
+    number, lodger, reference, source, lodged, act, content, state, since, until \
+    FROM mutation";
 
 /// What the cells of a mutation's row hold.
 #[derive(Clone, Copy, Debug)]
@@ -77,4 +84,14 @@ pub fn close<S: Alter>(tx: &mut Transaction<'_, S>, number: u64, stamp: i64) -> 
         (state S.Store tx.old.conn.now) (state S.Store tx.new.conn.now) }
 {
     tx.execute(CLOSE, &[of_number(number), of_moment(stamp)])
+}
+
+/// All versions, each as the cells of its row with its lifespan, in whatever order.
+pub fn all<S: Alter>(conn: &mut Connection<S>) -> Result<Vec<Row>, Error>
+    requires { HasCleanDisk (state S.Store conn.old) → IsLand (state S.Store conn.old).now.schema }
+    ensures look { IsLook result (λ rows. AreAll table.mutation 8 (state S.Store conn.old).now.trees rows.items)
+        (state S.Store conn.old) (state S.Store conn.new) }
+    ensures mode { conn.old.in_transaction ≡ false → conn.new.in_transaction ≡ false }
+{
+    conn.query_all(ALL, &[])
 }

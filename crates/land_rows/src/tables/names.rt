@@ -1,19 +1,24 @@
 //! The rows of `names`. They stand as long as their mutation, whatever is decided on it, so nothing closes them.
-ghost use Rattle.std.specs.Prelude.{◌≡◌, ◌<◌, ◌^◌};
+ghost use Rattle.std.specs.Prelude.{◌≡◌, ◌<◌, ◌^◌, false};
 ghost use Rattle.land_rows.specs.Forms.{Adds};
+ghost use Rattle.land_rows.specs.Looks.{IsLook, AreAll};
 ghost use Rattle.land_rows.specs.Names.{namings};
 ghost use Rattle.land_rows.specs.Versions.{begun};
 ghost use Rattle.land_schema.specs.Land.{IsLand};
 ghost use Rattle.land_schema.specs.Steps.{IsStep};
+ghost use Rattle.land_schema.specs.Tables as table;
 ghost use Rattle.sqlite.specs.Held.{state};
 ghost use Rattle.sqlite.specs.State.{HasCleanDisk};
 
 use crate::cells::{of_moment, of_number};
-use sqlite::{Alter, Error, Transaction};
+use sqlite::{Alter, Connection, Error, Row, Transaction};
 
 /// The text that begins a version.
 const BEGIN: &str =
     "INSERT INTO names (mutation, unit, since, until) VALUES (?1, ?2, ?3, 4102444800000)";
+
+/// The text that lists all versions.
+const ALL: &str = "SELECT mutation, unit, since, until FROM names";
 
 /// Begins a version of this: a mutation names a unit.
 pub fn begin<S: Alter>(
@@ -33,4 +38,14 @@ pub fn begin<S: Alter>(
         BEGIN,
         &[of_number(mutation), of_number(unit), of_moment(since)],
     )
+}
+
+/// All versions, each as the cells of its row with its lifespan, in whatever order.
+pub fn all<S: Alter>(conn: &mut Connection<S>) -> Result<Vec<Row>, Error>
+    requires { HasCleanDisk (state S.Store conn.old) → IsLand (state S.Store conn.old).now.schema }
+    ensures look { IsLook result (λ rows. AreAll table.names 2 (state S.Store conn.old).now.trees rows.items)
+        (state S.Store conn.old) (state S.Store conn.new) }
+    ensures mode { conn.old.in_transaction ≡ false → conn.new.in_transaction ≡ false }
+{
+    conn.query_all(ALL, &[])
 }
