@@ -20,7 +20,10 @@ pub fn new_register(alloc: Global) -> Result<Connection<MemStore>, Error> {
 const FIRST: &[(Table, &str)] = &[
     (Table::Edition, "1|1|\n"),
     (Table::Moments, "0|2|\n"),
-    (Table::Party, "1|Land Office|nonNaturalPerson|0|4102444800000|\n"),
+    (
+        Table::Party,
+        "1|Land Office|nonNaturalPerson|0|4102444800000|\n",
+    ),
     (Table::Role, "1|stateAdministrator|0|4102444800000|\n"),
     (Table::Member, ""),
     (Table::Unit, ""),

@@ -123,7 +123,15 @@ fn write_unit<S: Alter>(tx: &mut Transaction<'_, S>, write: Write) -> Result<usi
         }
         Write::EndUnit(number, stamp) => unit::close(tx, u64::from(number), stamp),
         Write::Parcel(number, since) => {
-            parcel::begin(tx, u64::from(number), 9, "P1", "POLYGON ((0 0, 1 0, 0 1, 0 0))", 8, since)
+            parcel::begin(
+                tx,
+                u64::from(number),
+                9,
+                "P1",
+                "POLYGON ((0 0, 1 0, 0 1, 0 0))",
+                8,
+                since,
+            )
         }
         Write::EndParcel(number, stamp) => parcel::close(tx, u64::from(number), stamp),
         Write::Right(since) => rrr::begin(tx, RIGHT, since),
