@@ -31,7 +31,7 @@ pub fn begin<S: Alter>(
     kind: &str,
     since: i64,
 ) -> Result<usize, Error>
-    requires small { number < 2 ^ 63 }
+    requires number_fits { number < 2 ^ 63 }
     requires land { HasCleanDisk (state S.Store tx.old.conn.now) → IsLand (state S.Store tx.old.conn.now).now.schema }
     ensures same_reference { tx.new.conn.ghost_name ≡ tx.old.conn.ghost_name }
     ensures step { IsStep result (Adds parties (begun (record { number = number; name = name.now; kind = kind.now }) since))
@@ -50,7 +50,7 @@ pub fn begin<S: Alter>(
 
 /// Closes the version of a party that stands.
 pub fn close<S: Alter>(tx: &mut Transaction<'_, S>, number: u64, stamp: i64) -> Result<usize, Error>
-    requires small { number < 2 ^ 63 }
+    requires number_fits { number < 2 ^ 63 }
     requires land { HasCleanDisk (state S.Store tx.old.conn.now) → IsLand (state S.Store tx.old.conn.now).now.schema }
     ensures same_reference { tx.new.conn.ghost_name ≡ tx.old.conn.ghost_name }
     ensures step { IsStep result (Turns parties (closed (is_party number) stamp)) (state S.Store tx.old.conn.now) (state S.Store tx.new.conn.now) }
