@@ -25,7 +25,7 @@ fn put_first_rows<S: Alter>(tx: &mut Transaction<'_, S>) -> Result<(), Error>
 }
 
 /// Makes a new register in a store that has nothing: its tables, its indexes and its first rows, in one transaction, whose last call of
-/// the store is the commit. After a failure the store is as it was, and a crash at any moment leaves it so or with all of it.
+/// the store is the commit. A store that is open after a failure is as it was, and a crash at any moment leaves it so or with all of it.
 pub fn make_register<S: Alter>(conn: &mut Connection<S>) -> Result<(), Error>
     requires alone { conn.old.in_transaction ≡ false }
     requires empty { HasCleanDisk (state S.Store conn.old) → (state S.Store conn.old).now.schema ≡ no_schema }
