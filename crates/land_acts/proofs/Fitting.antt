@@ -1,11 +1,13 @@
--- What an approval makes has its numbers and its rank within their bounds, where it is not refused.
-use Rattle.std.proofs.Common.{◌≡◌, ℕ, ◌+◌, ◌≤◌, true, false, ◌||◌, ◌&&◌, not, Option, Some, None, [], refl, sym, ap, ◌∙◌, subst, arith}
+-- What an approval makes has its numbers and its rank within their bounds, where it is not refused and there is room: as
+-- there is in a sound register.
+use Rattle.std.proofs.Common.{◌≡◌, ℕ, ◌+◌, ◌<◌, ◌≤◌, true, false, ◌||◌, ◌&&◌, not, Option, Some, None, [], refl, sym, ap, ◌∙◌, subst, arith}
 use Rattle.std.specs.Prelude.{ℤ, is_none, nat_lt}
 use Rattle.std.specs.Option.{option_map_or}
 use Rattle.std.specs.FinMap as map
-use Rattle.std.proofs.lemmas.Bool.{ltb-false}
+use Rattle.std.proofs.lemmas.Bool.{lt-ltb, ltb-false, ltb-true}
 use Rattle.land_core.specs.Changes.{after}
 use Rattle.land_core.specs.Units.{rrr_count}
+use Rattle.land_core.specs.declared.act.Act.{Act}
 use Rattle.land_core.specs.declared.act.Act.TheVariants as act
 use Rattle.land_core.specs.declared.act.Decision.{Decision}
 use Rattle.land_core.specs.declared.caller.Caller.{Caller}
@@ -14,12 +16,12 @@ use Rattle.land_core.specs.declared.content.Content.TheVariants as content
 use Rattle.land_core.specs.declared.mutation.MutationRecord.{MutationRecord}
 use Rattle.land_core.specs.declared.register.Register.{Register}
 use Rattle.land_core.specs.declared.soundness.Unsound.TheVariants.{Reference}
-use Rattle.land_core.proofs.Booleans.{or_false}
+use Rattle.land_core.proofs.Booleans.{both_of, or_false}
 use Rattle.land_core.proofs.SoundRegisters.{refers}
-use Rattle.land_mutations.specs.Asking.{Fits, content_refusals}
-use Rattle.land_acts.specs.Deciding.{is_lodged}
-use Rattle.land_mutations.specs.Mortgaging.{next_rank}
-use Rattle.land_acts.specs.Outcome.{IsUnrefused}
+use Rattle.land_mutations.specs.Asking.{Fits, content_refusals, has_room}
+use Rattle.land_acts.specs.Deciding.{approve_has_room, approve_refusals, is_lodged}
+use Rattle.land_mutations.specs.Mortgaging.{greatest, next_rank, ranks_in}
+use Rattle.land_acts.specs.Outcome.{IsUnrefused, has_room_for}
 use Rattle.land_mutations.specs.Planning.{first_that_holds, lacks_numbers}
 use Rattle.land_acts.specs.Slices.{IsOfSound, looks_at_rrr}
 use Rattle.land_mutations.specs.Subdividing.{subdivision_count}
@@ -35,6 +37,54 @@ use Rattle.land_mutations.proofs.SubdividedAreas.{unrefused_subdivision}
 one_left : (s : Register) → lacks_numbers s 1 ≡ false → s.next ≤ 1000000000
 one_left s h = let most : s.next + 1 ≤ 1000000001 = ltb-false 1000000001 (s.next + 1) h in omega (arith, most)
 
+-- an approval that nothing refuses refuses nothing of its content
+content_unrefused : (s : Register) (it : Decision) (stamp : Option ℤ) (m : MutationRecord) → map.get s.mutations it.mutation ≡ Some m
+    → first_that_holds (approve_refusals s it stamp) ≡ None → first_that_holds (content_refusals s m.content stamp) ≡ None
+content_unrefused s it stamp m is none =
+    let lines = (first_none NotLodged (not (is_lodged s it.mutation)) (option_map_or (λ m. content_refusals s m.content stamp) (map.get s.mutations it.mutation) []) none).rest in
+    sym (ap (λ o. first_that_holds (option_map_or (λ m. content_refusals s m.content stamp) o [])) is) ∙ lines
+
+next_bound : (s : Register) → nat_lt s.next 1000000002 ≡ true → s.next ≤ 1000000001
+next_bound s room = let under = ltb-true s.next 1000000002 room in omega (arith, under)
+
+room_next : (s : Register) (c : Content) → has_room s c ≡ true → s.next ≤ 1000000001
+room_next s (content.Transfer it) room = next_bound s room
+room_next s (content.Subdivision it) room = next_bound s room
+room_next s (content.Merger it) room = next_bound s room
+room_next s (content.Mortgage it) room = next_bound s (both_of (nat_lt s.next 1000000002) (nat_lt (greatest (ranks_in s it.unit)) 1000000000) room).0
+room_next s (content.Discharge it) room = next_bound s room
+
+-- ---- what fits where there is room
+
+counted : (s : Register) (o to : Option Held) → s.next ≤ 1000000001 → o ≡ to → (is_none to ≡ true → lacks_numbers s 1 ≡ false) → number_after s to ≤ 1000000001
+counted s o None most e h = let few = one_left s (h refl) in omega (arith, few)
+counted s o (Some to) most e h = most
+
+content_fits : (s : Register) (stamp : Option ℤ) (c : Content) → has_room s c ≡ true → first_that_holds (content_refusals s c stamp) ≡ None → Fits s c
+content_fits s stamp (content.Transfer it) room none = λ from held.
+    let move = unrefused_move s it stamp none in
+    let same : move.from ≡ from = one_right (sym move.held ∙ held) in
+    let many : are_too_many s it from ≡ false = subst (λ (h : Held). are_too_many s it h ≡ false) same move.not_many in
+    counted s (grows_at s it from) (grows_at s it from) (room_next s (content.Transfer it) room) refl (λ new. (or_false (lacks_numbers s 1) (nat_lt 256 (rrr_count (after (move_change s 0 it from) s) it.unit)) (sym (ap (λ b. b && (lacks_numbers s 1 || nat_lt 256 (rrr_count (after (move_change s 0 it from) s) it.unit))) new) ∙ many)).0)
+  where
+    one_right : {a b : Held} → Some a ≡ Some b → a ≡ b
+    one_right e = cc
+content_fits s stamp (content.Subdivision it) room none = ltb-false 1000000001 (s.next + subdivision_count s it) (unrefused_subdivision s it stamp none).room
+content_fits s stamp (content.Merger it) room none = merger_fits s it stamp none
+content_fits s stamp (content.Mortgage it) room none =
+    let mortgage = unrefused_mortgage s it stamp none in
+    let rank : greatest (ranks_in s it.unit) < 1000000000 = ltb-true (greatest (ranks_in s it.unit)) 1000000000 (both_of (nat_lt s.next 1000000002) (nat_lt (greatest (ranks_in s it.unit)) 1000000000) room).1 in
+    (one_left s mortgage.room, omega (arith, rank))
+content_fits s stamp (content.Discharge it) room none = tt
+
+pub contents_fit : (s : Register) (caller : Caller) (it : Decision) → approve_has_room s it ≡ true → IsUnrefused s caller (act.Approve it)
+    → (m : MutationRecord) → map.get s.mutations it.mutation ≡ Some m → Fits s m.content
+contents_fit s caller it room unrefused m is =
+    let here : has_room s m.content ≡ true = sym (ap (λ o. option_map_or (λ m. has_room s m.content) o true) is) ∙ room in
+    content_fits s unrefused.stamp m.content here (content_unrefused s it unrefused.stamp m is unrefused.none_holds)
+
+-- ---- a sound register has room
+
 module _ (s : Register) (caller : Caller) (it : Decision) (slice : IsOfSound s caller (act.Approve it)) where
   next_same : s.next ≡ slice.register.next
   next_same = ap (λ (r : Register). r.next) slice.is
@@ -49,27 +99,34 @@ module _ (s : Register) (caller : Caller) (it : Decision) (slice : IsOfSound s c
       let same = next_same in
       omega (arith, rank, few, same)
 
-  counted : (o to : Option Held) → o ≡ to → (is_none to ≡ true → lacks_numbers s 1 ≡ false) → number_after s to ≤ 1000000001
-  counted o None e h = let few = one_left s (h refl) in omega (arith, few)
-  counted o (Some to) e h = most
+  next_room : nat_lt s.next 1000000002 ≡ true
+  next_room = let fits = most in lt-ltb s.next 1000000002 (omega (arith, fits))
 
-  content_fits : (stamp : Option ℤ) (c : Content) → first_that_holds (content_refusals s c stamp) ≡ None → Fits s c
-  content_fits stamp (content.Transfer it) none = λ from held.
-      let move = unrefused_move s it stamp none in
-      let same : move.from ≡ from = one_right (sym move.held ∙ held) in
-      let many : are_too_many s it from ≡ false = subst (λ (h : Held). are_too_many s it h ≡ false) same move.not_many in
-      counted (grows_at s it from) (grows_at s it from) refl (λ new. (or_false (lacks_numbers s 1) (nat_lt 256 (rrr_count (after (move_change s 0 it from) s) it.unit)) (sym (ap (λ b. b && (lacks_numbers s 1 || nat_lt 256 (rrr_count (after (move_change s 0 it from) s) it.unit))) new) ∙ many)).0)
-    where
-      one_right : {a b : Held} → Some a ≡ Some b → a ≡ b
-      one_right e = cc
-  content_fits stamp (content.Subdivision it) none = ltb-false 1000000001 (s.next + subdivision_count s it) (unrefused_subdivision s it stamp none).room
-  content_fits stamp (content.Merger it) none = merger_fits s it stamp none
-  content_fits stamp (content.Mortgage it) none =
-      let mortgage = unrefused_mortgage s it stamp none in
-      (one_left s mortgage.room, rank_fits it.unit mortgage.room)
-  content_fits stamp (content.Discharge it) none = tt
+  content_room : (stamp : Option ℤ) (c : Content) → first_that_holds (content_refusals s c stamp) ≡ None → has_room s c ≡ true
+  content_room stamp (content.Transfer it) none = next_room
+  content_room stamp (content.Subdivision it) none = next_room
+  content_room stamp (content.Merger it) none = next_room
+  content_room stamp (content.Mortgage it) none =
+      let rank = rank_fits it.unit (unrefused_mortgage s it stamp none).room in
+      let fits : nat_lt (greatest (ranks_in s it.unit)) 1000000000 ≡ true = lt-ltb (greatest (ranks_in s it.unit)) 1000000000 (omega (arith, rank)) in
+      rw (next_room, fits) refl
+  content_room stamp (content.Discharge it) none = next_room
 
-  pub contents_fit : IsUnrefused s caller (act.Approve it) → (m : MutationRecord) → map.get s.mutations it.mutation ≡ Some m → Fits s m.content
-  contents_fit unrefused m is =
-      let lines = (first_none NotLodged (not (is_lodged s it.mutation)) (option_map_or (λ m. content_refusals s m.content unrefused.stamp) (map.get s.mutations it.mutation) []) unrefused.none_holds).rest in
-      content_fits unrefused.stamp m.content (sym (ap (λ o. first_that_holds (option_map_or (λ m. content_refusals s m.content unrefused.stamp) o [])) is) ∙ lines)
+  approval_room : (o : Option MutationRecord) → map.get s.mutations it.mutation ≡ o → IsUnrefused s caller (act.Approve it)
+      → option_map_or (λ m. has_room s m.content) o true ≡ true
+  approval_room None is unrefused = refl
+  approval_room (Some m) is unrefused = content_room unrefused.stamp m.content (content_unrefused s it unrefused.stamp m is unrefused.none_holds)
+
+-- so an act over a slice of a sound register always has room
+pub sound_has_room : (s : Register) (caller : Caller) (a : Act) → IsOfSound s caller a → IsUnrefused s caller a → has_room_for s a ≡ true
+sound_has_room s caller (act.Enrol it) sound unrefused = refl
+sound_has_room s caller (act.Group it) sound unrefused = refl
+sound_has_room s caller (act.Regroup it) sound unrefused = refl
+sound_has_room s caller (act.Grant it) sound unrefused = refl
+sound_has_room s caller (act.Revoke it) sound unrefused = refl
+sound_has_room s caller (act.Register it) sound unrefused = refl
+sound_has_room s caller (act.Burden it) sound unrefused = refl
+sound_has_room s caller (act.Lift it) sound unrefused = refl
+sound_has_room s caller (act.Lodge it) sound unrefused = refl
+sound_has_room s caller (act.Approve it) sound unrefused = approval_room s caller it sound (map.get s.mutations it.mutation) refl unrefused
+sound_has_room s caller (act.Refuse it) sound unrefused = refl

@@ -1,5 +1,5 @@
 -- Deciding: a mutation is approved, and what it asks for is done, or it is refused.
-use Rattle.std.specs.Prelude.{ℕ, ℤ, Bool, false, not, List, [], ◌∷◌, Option, is_none}
+use Rattle.std.specs.Prelude.{ℕ, ℤ, Bool, true, false, not, List, [], ◌∷◌, Option, is_none}
 use Rattle.std.specs.Option.{option_map_or}
 use Rattle.std.specs.FinMap as map
 use Rattle.land_core.specs.Changes.{no_change}
@@ -11,7 +11,7 @@ use Rattle.land_core.specs.declared.mutation.MutationRecord.{MutationRecord}
 use Rattle.land_core.specs.declared.mutation.MutationState.{MutationState}
 use Rattle.land_core.specs.declared.mutation.MutationState.TheVariants.{Approved, Refused}
 use Rattle.land_core.specs.declared.register.Register.{Register}
-use Rattle.land_mutations.specs.Asking.{content_change, content_made, content_refusals}
+use Rattle.land_mutations.specs.Asking.{content_change, content_made, content_refusals, has_room}
 use Rattle.land_mutations.specs.declared.refusal.Refusal.{Refusal}
 use Rattle.land_mutations.specs.declared.refusal.Refusal.TheVariants.{NotLodged, ClockOut}
 
@@ -47,3 +47,7 @@ refuse_change r it = option_map_or (λ m. with_state Refused it.mutation m (no_c
 -- the act is about the mutation
 abbrev pub approve_done : Register → Decision → ℤ → Done
 approve_done r it stamp = record { number = it.mutation; made = option_map_or (λ m. content_made r m.content) (map.get r.mutations it.mutation) []; stamp = stamp }
+
+-- the numbers that a register holds leave room for what an approval makes
+abbrev pub approve_has_room : Register → Decision → Bool
+approve_has_room r it = option_map_or (λ m. has_room r m.content) (map.get r.mutations it.mutation) true

@@ -1,7 +1,7 @@
 -- What an act leads to: the least refusal whose condition holds, else a change of the register.
-use Rattle.std.specs.Prelude.{◌≡◌, Bool, List, Option, Some, None, Result, Ok, Err, ℤ}
+use Rattle.std.specs.Prelude.{◌≡◌, Bool, true, List, Option, Some, None, Result, Ok, Err, ℤ}
 use Rattle.land_acts.specs.Burdening.{burden_refusals, burden_change, burden_done}
-use Rattle.land_acts.specs.Deciding.{approve_refusals, approve_change, approve_done, refuse_refusals, refuse_change}
+use Rattle.land_acts.specs.Deciding.{approve_refusals, approve_change, approve_done, approve_has_room, refuse_refusals, refuse_change}
 use Rattle.land_acts.specs.Enrolment.{enrol_refusals, enrol_change, enrol_done}
 use Rattle.land_acts.specs.Granting.{grant_refusals, grant_change, grant_done}
 use Rattle.land_acts.specs.Grouping.{group_refusals, group_change, group_done}
@@ -102,3 +102,18 @@ outcome_of r caller a stamp =
 pub record IsUnrefused (r : Register) (caller : Caller) (a : Act) : Type 0 where
   pub stamp : Option ℤ
   pub none_holds : first_that_holds (refusals_of r caller a stamp) ≡ None
+
+-- the numbers that a register holds leave room for what an act makes that nothing refuses. Only a mortgage's rank and a
+-- transfer's right are not bounded by refusals: they are in a sound register
+abbrev pub has_room_for : Register → Act → Bool
+has_room_for r (Enrol it) = true
+has_room_for r (Group it) = true
+has_room_for r (Regroup it) = true
+has_room_for r (Grant it) = true
+has_room_for r (Revoke it) = true
+has_room_for r (RegisterUnit it) = true
+has_room_for r (Burden it) = true
+has_room_for r (Lift it) = true
+has_room_for r (Lodge it) = true
+has_room_for r (Approve it) = approve_has_room r it
+has_room_for r (Refuse it) = true

@@ -2,7 +2,7 @@
 ghost use Rattle.std.specs.Prelude.{◌≡◌, ◌∷◌, [], Some, IfOk};
 ghost use Rattle.std.specs.FinMap as map;
 ghost use Rattle.land_mutations.specs.Asking.{Fits};
-ghost use Rattle.land_acts.specs.Deciding.{approve_change, approve_done, approve_refusals, decided, is_lodged, refuse_change, refuse_refusals};
+ghost use Rattle.land_acts.specs.Deciding.{approve_change, approve_done, approve_has_room, approve_refusals, decided, is_lodged, refuse_change, refuse_refusals};
 ghost use Rattle.land_mutations.specs.Planning.{first_that_holds, told_of};
 
 use crate::slice::Slice;
@@ -53,6 +53,16 @@ fn is_lodged(slice: &Slice, number: u64) -> bool
     match slice.mutations.get(number) {
         Some(mutation) => mutation.is_undecided(),
         None => false,
+    }
+}
+
+/// Whether the numbers that a register holds leave room for what the mutation asks for.
+pub(crate) fn approve_has_room(slice: &Slice, it: Decision) -> bool
+    ensures { result ≡ approve_has_room slice.now it }
+{
+    match slice.mutations.get(it.mutation) {
+        Some(mutation) => asking::has_room(slice, &mutation.content),
+        None => true,
     }
 }
 

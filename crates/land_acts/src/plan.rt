@@ -1,7 +1,7 @@
 //! The plan of an act.
 ghost use Rattle.std.specs.Prelude.{◌≡◌, ◌≢◌, true, IfOk};
 ghost use Rattle.land_core.specs.Acts.{is_well_formed};
-ghost use Rattle.land_acts.specs.Outcome.{outcome_of, refusals_of, change_of, done_of, repeated_done, IsUnrefused};
+ghost use Rattle.land_acts.specs.Outcome.{outcome_of, refusals_of, change_of, done_of, has_room_for, repeated_done, IsUnrefused};
 ghost use Rattle.land_mutations.specs.Planning.{first_that_holds};
 ghost use Rattle.land_acts.specs.Slices.{IsOfSound};
 
@@ -13,8 +13,10 @@ use land_core::change::{Change, Done};
 use land_mutations::refusal::{Planned, Refusal};
 use std::alloc::{AllocError, Global};
 
-/// What an act leads to, over a slice of the register: the least refusal whose condition holds, else the change and
-/// what the caller is told. A lodging that was made before is told again what was told then. `stamp` is the moment of the change, in milliseconds since 1970 UTC.
+/// What an act leads to, over a slice of a sound register: the least refusal whose condition holds, else the change and
+/// what the caller is told. A lodging that was made before is told again what was told then. `stamp` is the moment of the
+/// change, in milliseconds since 1970 UTC. Over any other records, such as those of a file that somebody else wrote, it
+/// answers too, and no number runs over: where one is past its bound, the act is refused as too many (210).
 pub fn plan(
     alloc: Global,
     slice: &Slice,
@@ -22,9 +24,8 @@ pub fn plan(
     act: &Act,
     stamp: Option<i64>,
 ) -> Result<Planned, Refusal>
-    requires formed { is_well_formed act.now ≡ true }
-    requires sound { IsOfSound slice.now caller act.now }
-    ensures { result ≢ Err Refusal.NoMemory → result ≡ outcome_of slice.now caller act.now stamp }
+    requires { is_well_formed act.now ≡ true }
+    ensures { IsOfSound slice.now caller act.now → result ≢ Err Refusal.NoMemory → result ≡ outcome_of slice.now caller act.now stamp }
 {
     if let Some(done) = repeated(alloc, slice, caller, act)? {
         return Ok(Planned::Repeat(done));
@@ -35,6 +36,9 @@ pub fn plan(
     let Some(stamp) = stamp else {
         return Err(Refusal::ClockOut);
     };
+    if !has_room(slice, act) {
+        return Err(Refusal::TooMany);
+    }
     let (change, done) = planned(alloc, slice, caller, act, stamp)?;
     Ok(Planned::New(change, done))
 }
@@ -80,6 +84,16 @@ fn first_refusal(
     }
 }
 
+/// Whether the numbers that the register holds leave room for what an act makes.
+fn has_room(slice: &Slice, act: &Act) -> bool
+    ensures { result ≡ has_room_for slice.now act.now }
+{
+    match act {
+        Act::Approve(it) => decide::approve_has_room(slice, *it),
+        _ => true,
+    }
+}
+
 /// What an act that is not refused changes, and what the caller is told.
 fn planned(
     alloc: Global,
@@ -89,7 +103,7 @@ fn planned(
     stamp: i64,
 ) -> Result<(Change, Done), AllocError>
     requires formed { is_well_formed act.now ≡ true }
-    requires sound { IsOfSound slice.now caller act.now }
+    requires room { has_room_for slice.now act.now ≡ true }
     requires unrefused { IsUnrefused slice.now caller act.now }
     ensures { IfOk result (λ it. (it.0 ≡ change_of slice.now caller act.now stamp) × (it.1 ≡ done_of slice.now caller act.now stamp)) }
 {

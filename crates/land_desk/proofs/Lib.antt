@@ -2,6 +2,7 @@
 pub mod ExchangeLemmas
 pub mod FrameLemmas
 pub mod HeaderLemmas
+pub mod Honesty
 pub mod ItemLemmas
 pub mod ListingLemmas
 pub mod ResponseLemmas

@@ -3,6 +3,7 @@ use Rattle.std.specs.Prelude.{◌≡◌, ℕ, ℤ, Bool, true, false, ◌||◌, 
 use Rattle.std.specs.List.{flat_map}
 use Rattle.std.specs.Io.KnownBytes.{Appends}
 use Rattle.land_core.specs.declared.ask.Request.{Request}
+use Rattle.land_keep.specs.Keeping.{TellsOf}
 use Rattle.land_keep.specs.Machine.{State, Element}
 use Rattle.land_keep.specs.declared.reply.Reply.{Reply}
 use Rattle.land_keep.specs.declared.reply.Reply.TheVariants as reply
@@ -47,58 +48,82 @@ closing x = is_last x.item || closes x.reply
 abbrev pub said_all : List Exchange → List ℕ
 said_all xs = flat_map (λ x. x.said) xs
 
--- what is told of a request that was read, or of its first fault, and where it leaves the machine
-abbrev pub Heard : {C : Type 0} → (C → ℤ → C → Type 0) → Result Request WireFault → State C → Reply → State C → Type 0
-Heard reads (Err fault) from r to = (r ≡ reply.Fault (fault_number fault)) × (to ≡ from)
-Heard {C} reads (Ok asked) from r to =
+-- ---- what is told of a request
+
+-- a request is answered by an element of a run of the machine, with one reading of the clock
+abbrev pub Hears : {C : Type 0} → (C → ℤ → C → Type 0) → State C → Request → Reply → State C → Type 0
+Hears reads from asked r to =
     (clock : ℤ) × reads from.clock clock to.clock × Element from.closed clock asked from.timeline r to.timeline to.closed
 
+-- so it is where the store is honest; what the reply tells of the store holds in any case, and the clock is read once
+abbrev pub HearsIf : {C : Type 0} → (honest : Type 0) → (C → ℤ → C → Type 0) → State C → Request → Reply → State C → Type 0
+HearsIf honest reads from asked r to =
+    (clock : ℤ) × reads from.clock clock to.clock × TellsOf from.closed r to.closed
+    × (honest → Element from.closed clock asked from.timeline r to.timeline to.closed)
+
+-- from each state at which a keeper stood, a way leads to one at which it stands
+abbrev pub Brings : {C : Type 0} → (stood stands : State C → Type 0) → (way : State C → State C → Type 0) → Type 0
+Brings {C} stood stands way = (from : State C) → stood from → (to : State C) × way from to × stands to
+
+-- what is told of a request that was read, or of its first fault, and where it leaves the machine
+abbrev pub Heard : {C : Type 0} → (State C → Request → Reply → State C → Type 0) → Result Request WireFault → State C → Reply → State C → Type 0
+Heard hears (Err fault) from r to = (r ≡ reply.Fault (fault_number fault)) × (to ≡ from)
+Heard hears (Ok asked) from r to = hears from asked r to
+
 -- 501 may be told in place of it, and changes nothing
-abbrev pub Told : {C : Type 0} → (C → ℤ → C → Type 0) → Result Request WireFault → State C → Reply → State C → Type 0
-Told reads q from r to = ((r ≡ reply.Store 501) × (to ≡ from)) ⊎ Heard reads q from r to
+abbrev pub Told : {C : Type 0} → (State C → Request → Reply → State C → Type 0) → Result Request WireFault → State C → Reply → State C → Type 0
+Told hears q from r to = ((r ≡ reply.Store 501) × (to ≡ from)) ⊎ Heard hears q from r to
 
 -- the reply to an item: to a request that can be read, the machine's; to any other, its fault
-abbrev pub Answers : {C : Type 0} → (C → ℤ → C → Type 0) → State C → Item → Reply → State C → Type 0
-Answers reads from (request h body) r to = Told reads (reading h.method h.target (field_map (fields_of h)) body) from r to
-Answers reads from (faulty f) r to = ((r ≡ reply.Fault (number_of f)) ⊎ (r ≡ reply.Store 501)) × (to ≡ from)
+abbrev pub Answers : {C : Type 0} → (State C → Request → Reply → State C → Type 0) → State C → Item → Reply → State C → Type 0
+Answers hears from (request h body) r to = Told hears (reading h.method h.target (field_map (fields_of h)) body) from r to
+Answers hears from (faulty f) r to = ((r ≡ reply.Fault (number_of f)) ⊎ (r ≡ reply.Store 501)) × (to ≡ from)
 
 -- the item at the front of the bytes is answered, its reply is said, and rest is left
-abbrev pub One : {C : Type 0} → (C → ℤ → C → Type 0) → List ℕ → State C → Exchange → List ℕ → State C → Type 0
-One reads bytes from x rest to =
-    IsItem bytes x.item rest × Answers reads from x.item x.reply to × IsResponse x.reply (closing x) (asks_head x.item) x.said
+abbrev pub One : {C : Type 0} → (State C → Request → Reply → State C → Type 0) → List ℕ → State C → Exchange → List ℕ → State C → Type 0
+One hears bytes from x rest to =
+    IsItem bytes x.item rest × Answers hears from x.item x.reply to × IsResponse x.reply (closing x) (asks_head x.item) x.said
 
 -- so many items are answered one after another, and none of them ends the connection; rest is left
-abbrev pub Goes : {C : Type 0} → (C → ℤ → C → Type 0) → List ℕ → State C → List Exchange → List ℕ → State C → Type 0
-Goes reads bytes from [] rest to = (rest ≡ bytes) × (to ≡ from)
-Goes {C} reads bytes from (x ∷ xs) rest to =
-    (mid : List ℕ) × (next : State C) × One reads bytes from x mid next × (closing x ≡ false) × Goes reads mid next xs rest to
+abbrev pub Goes : {C : Type 0} → (State C → Request → Reply → State C → Type 0) → List ℕ → State C → List Exchange → List ℕ → State C → Type 0
+Goes hears bytes from [] rest to = (rest ≡ bytes) × (to ≡ from)
+Goes {C} hears bytes from (x ∷ xs) rest to =
+    (mid : List ℕ) × (next : State C) × One hears bytes from x mid next × (closing x ≡ false) × Goes hears mid next xs rest to
 
 -- the items of the bytes are answered, until nothing is left or one ends the connection
-abbrev pub IsServed : {C : Type 0} → (C → ℤ → C → Type 0) → List ℕ → State C → List Exchange → State C → Type 0
-IsServed reads bytes from [] to = (bytes ≡ []) × (to ≡ from)
-IsServed {C} reads bytes from (x ∷ xs) to =
-    (mid : List ℕ) × (next : State C) × One reads bytes from x mid next
-    × (closing x ≡ true → (xs ≡ []) × (to ≡ next)) × (closing x ≡ false → IsServed reads mid next xs to)
+abbrev pub IsServed : {C : Type 0} → (State C → Request → Reply → State C → Type 0) → List ℕ → State C → List Exchange → State C → Type 0
+IsServed hears bytes from [] to = (bytes ≡ []) × (to ≡ from)
+IsServed {C} hears bytes from (x ∷ xs) to =
+    (mid : List ℕ) × (next : State C) × One hears bytes from x mid next
+    × (closing x ≡ true → (xs ≡ []) × (to ≡ next)) × (closing x ≡ false → IsServed hears mid next xs to)
 
 -- the replies to some items have been written, and no others; rest is left
-abbrev pub SoFar : {C : Type 0} → (C → ℤ → C → Type 0) → (bytes rest : List ℕ) → (from to : State C) → (old new : Option (List ℕ)) → (replies : ℕ) → Type 0
-SoFar reads bytes rest from to old new replies =
-    (xs : List Exchange) × Goes reads bytes from xs rest to × Appends old new (said_all xs) × (length xs ≡ replies)
+abbrev pub SoFar : {C : Type 0} → (State C → Request → Reply → State C → Type 0) → (bytes rest : List ℕ) → (from to : State C) → (old new : Option (List ℕ)) → (replies : ℕ) → Type 0
+SoFar hears bytes rest from to old new replies =
+    (xs : List Exchange) × Goes hears bytes from xs rest to × Appends old new (said_all xs) × (length xs ≡ replies)
 
 -- serving bytes: all replies are written, and counted
-abbrev pub IsServing : {C : Type 0} → (C → ℤ → C → Type 0) → List ℕ → State C → State C → (old new : Option (List ℕ)) → Result Served DeskFault → Type 0
-IsServing reads bytes from to old new (Ok served) =
-    (xs : List Exchange) × IsServed reads bytes from xs to × Appends old new (said_all xs) × (served.replies ≡ length xs)
+abbrev pub Serves : {C : Type 0} → (State C → Request → Reply → State C → Type 0) → List ℕ → State C → State C → (old new : Option (List ℕ)) → Result Served DeskFault → Type 0
+Serves hears bytes from to old new (Ok served) =
+    (xs : List Exchange) × IsServed hears bytes from xs to × Appends old new (said_all xs) × (served.replies ≡ length xs)
 -- after a failed write a front of the response has gone out behind those before it, and the change stands
-IsServing {C} reads bytes from to old new (Err desk.Write) =
+Serves {C} hears bytes from to old new (Err desk.Write) =
     (xs : List Exchange) × (x : Exchange) × (rest after : List ℕ) × (now : State C) × (n : ℕ)
-    × Goes reads bytes from xs rest now × One reads rest now x after to × Appends old new (said_all xs ++ take n x.said)
+    × Goes hears bytes from xs rest now × One hears rest now x after to × Appends old new (said_all xs ++ take n x.said)
 -- after a failed read, or where there was no memory for the input, the replies to the items before it have gone out
-IsServing reads bytes from to old new (Err desk.Read) = (rest : List ℕ) × (n : ℕ) × SoFar reads bytes rest from to old new n
-IsServing reads bytes from to old new (Err desk.NoMemory) = (rest : List ℕ) × (n : ℕ) × SoFar reads bytes rest from to old new n
+Serves hears bytes from to old new (Err desk.Read) = (rest : List ℕ) × (n : ℕ) × SoFar hears bytes rest from to old new n
+Serves hears bytes from to old new (Err desk.NoMemory) = (rest : List ℕ) × (n : ℕ) × SoFar hears bytes rest from to old new n
+
+-- serving bytes to some state at which a keeper stands
+abbrev pub ServesTo : {C : Type 0} → (State C → Request → Reply → State C → Type 0) → List ℕ → State C → (stands : State C → Type 0) → (old new : Option (List ℕ)) → Result Served DeskFault → Type 0
+ServesTo {C} hears bytes from stands old new result = (to : State C) × Serves hears bytes from to old new result × stands to
+
+-- serving bytes by a run of the machine
+abbrev pub IsServing : {C : Type 0} → (C → ℤ → C → Type 0) → List ℕ → State C → State C → (old new : Option (List ℕ)) → Result Served DeskFault → Type 0
+IsServing reads bytes from to old new result = Serves (Hears reads) bytes from to old new result
 
 -- what is answered are the items of the stream in their order, from the first one on
-abbrev pub ServedItems : {C : Type 0} → (C → ℤ → C → Type 0) → Type 0
-ServedItems {C} reads =
+abbrev pub ServedItems : {C : Type 0} → (State C → Request → Reply → State C → Type 0) → Type 0
+ServedItems {C} hears =
     (bytes : List ℕ) (from to : State C) (xs : List Exchange) (items : List Item)
-    → IsServed reads bytes from xs to → AreItems bytes items → (more : List Item) × (items ≡ map (λ x. x.item) xs ++ more)
+    → IsServed hears bytes from xs to → AreItems bytes items → (more : List Item) × (items ≡ map (λ x. x.item) xs ++ more)

@@ -1,6 +1,7 @@
 -- Answers in the making, and one turn of serving.
-use Rattle.std.specs.Prelude.{◌≡◌, ℕ, ℤ, Bool, true, false, ◌||◌, List, [], take, Option, Some, None, Result, Ok, Err}
+use Rattle.std.specs.Prelude.{◌≡◌, ℕ, Bool, true, false, ◌||◌, List, [], take, Option, Some, None, Result, Ok, Err}
 use Rattle.std.specs.Io.KnownBytes.{Appends}
+use Rattle.land_core.specs.declared.ask.Request.{Request}
 use Rattle.land_keep.specs.Machine.{State}
 use Rattle.land_keep.specs.declared.reply.Reply.{Reply}
 use Rattle.land_desk.specs.Responses.{IsResponse}
@@ -23,9 +24,9 @@ abbrev pub IsAnswer : Answer → Reply → (ends is_head : Bool) → Type 0
 IsAnswer a r ends is_head = IsResponse r (ends || closes r) is_head (answer_bytes a.bytes) × (a.last ≡ (ends || closes r))
 
 -- the answer is that of an exchange of the item at the front of the bytes
-abbrev pub Spoken : {C : Type 0} → (C → ℤ → C → Type 0) → List ℕ → State C → Answer → List ℕ → State C → Type 0
-Spoken reads bytes from a rest to =
-    (x : Exchange) × One reads bytes from x rest to × (x.said ≡ answer_bytes a.bytes) × (closing x ≡ a.last)
+abbrev pub Spoken : {C : Type 0} → (State C → Request → Reply → State C → Type 0) → List ℕ → State C → Answer → List ℕ → State C → Type 0
+Spoken hears bytes from a rest to =
+    (x : Exchange) × One hears bytes from x rest to × (x.said ≡ answer_bytes a.bytes) × (closing x ≡ a.last)
 
 -- how the connection goes on after an answer
 abbrev pub turn_after : (last : Bool) → Turn
@@ -40,17 +41,17 @@ IsWritten bytes last old new (Err desk.Read) = ⊥
 IsWritten bytes last old new (Err desk.NoMemory) = ⊥
 
 -- one turn over the bytes of a stream: `left` is what is left of it, where its bytes are known
-abbrev pub IsTurn : {C : Type 0} → (C → ℤ → C → Type 0) → List ℕ → State C → State C → (left : Option (List ℕ))
+abbrev pub IsTurn : {C : Type 0} → (State C → Request → Reply → State C → Type 0) → List ℕ → State C → State C → (left : Option (List ℕ))
     → (old new : Option (List ℕ)) → Result Turn DeskFault → Type 0
-IsTurn reads bytes from to left old new (Ok turn.End) = (bytes ≡ []) × (to ≡ from) × Appends old new []
-IsTurn reads bytes from to left old new (Ok turn.Last) =
-    (x : Exchange) × (rest : List ℕ) × One reads bytes from x rest to × (closing x ≡ true) × Appends old new x.said
-IsTurn reads bytes from to left old new (Ok turn.More) =
-    (x : Exchange) × (rest : List ℕ) × One reads bytes from x rest to × (closing x ≡ false) × Appends old new x.said × (left ≡ Some rest)
-IsTurn reads bytes from to left old new (Err desk.Write) =
-    (x : Exchange) × (rest : List ℕ) × (n : ℕ) × One reads bytes from x rest to × Appends old new (take n x.said)
-IsTurn reads bytes from to left old new (Err desk.Read) = (to ≡ from) × Appends old new []
-IsTurn reads bytes from to left old new (Err desk.NoMemory) = (to ≡ from) × Appends old new []
+IsTurn hears bytes from to left old new (Ok turn.End) = (bytes ≡ []) × (to ≡ from) × Appends old new []
+IsTurn hears bytes from to left old new (Ok turn.Last) =
+    (x : Exchange) × (rest : List ℕ) × One hears bytes from x rest to × (closing x ≡ true) × Appends old new x.said
+IsTurn hears bytes from to left old new (Ok turn.More) =
+    (x : Exchange) × (rest : List ℕ) × One hears bytes from x rest to × (closing x ≡ false) × Appends old new x.said × (left ≡ Some rest)
+IsTurn hears bytes from to left old new (Err desk.Write) =
+    (x : Exchange) × (rest : List ℕ) × (n : ℕ) × One hears bytes from x rest to × Appends old new (take n x.said)
+IsTurn hears bytes from to left old new (Err desk.Read) = (to ≡ from) × Appends old new []
+IsTurn hears bytes from to left old new (Err desk.NoMemory) = (to ≡ from) × Appends old new []
 
 -- of the bytes of a stream and of what is left of them, where they are known
 abbrev pub IfBoth : (bytes rest : Option (List ℕ)) → (List ℕ → List ℕ → Type 0) → Type 0

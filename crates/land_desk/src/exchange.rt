@@ -1,17 +1,16 @@
 //! One request and its answer: the answer's bytes are made before a change is written.
-ghost use Rattle.std.specs.Prelude.{◌≡◌, ◌||◌, ◌⊎◌, ◌≤ℤ◌, true, false, MatchOption, IfOk, Result};
+ghost use Rattle.std.specs.Prelude.{◌≡◌, ◌||◌, ◌⊎◌, true, false, MatchOption, IfOk, Result};
 ghost use Rattle.land_core.specs.Acts.{is_well_formed_request};
 ghost use Rattle.land_core.specs.declared.ask.Request.{Request as AskedRequest};
-ghost use Rattle.land_keep.specs.Machine.{State, at_of};
-ghost use Rattle.land_keep.specs.Moments.{last_moment};
-ghost use Rattle.land_keep.specs.Timeline.{last_stamp};
+ghost use Rattle.land_keep.specs.Keeping.{IsAt};
+ghost use Rattle.land_keep.specs.Machine.{at_of};
 ghost use Rattle.land_keep.specs.declared.reply.Reply.TheVariants as reply;
 ghost use Rattle.land_desk.specs.FrameFaults.{number_of};
 ghost use Rattle.land_bodies.specs.WireFaults.{Gives};
 ghost use Rattle.land_keep.specs.Faults.{number_of as keep_number};
 ghost use Rattle.land_wire.specs.Laws.{IsStated};
 ghost use Rattle.land_desk.specs.Responses.{HasMoment};
-ghost use Rattle.land_desk.specs.Serving.{closes, Heard, Told};
+ghost use Rattle.land_desk.specs.Serving.{Brings, closes, Heard, HearsIf, Told};
 ghost use Rattle.land_desk.specs.Turns.{IsAnswer, answer_bytes};
 
 use crate::frame_fault::FrameFault;
@@ -67,11 +66,11 @@ pub fn exchange<K: Keeper, C: Clock>(
 ) -> Answer
     requires well_formed { IfOk request (λ asked. is_well_formed_request asked ≡ true) }
     requires moment { IfOk request (λ asked. IsStated (at_of asked.ask)) }
-    ensures { (q : Result AskedRequest WireFault) → Gives (λ asked. asked) request q → (r : Reply)
-        × Told C.reads q
-        (record { closed = K.closed keeper.old; timeline = K.timeline keeper.old; clock = clock.old }) r
-        (record { closed = K.closed keeper.new; timeline = K.timeline keeper.new; clock = clock.new })
-        × IsAnswer result r ends head }
+    ensures told { (q : Result AskedRequest WireFault) → Gives (λ asked. asked) request q → Brings
+        (IsAt (K.honest keeper.old) (K.closed keeper.old) (K.timeline keeper.old) clock.old)
+        (IsAt (K.honest keeper.new) (K.closed keeper.new) (K.timeline keeper.new) clock.new)
+        (λ from to. (r : Reply) × Told (HearsIf (K.honest keeper.new) C.reads) q from r to × IsAnswer result r ends head) }
+    ensures was { K.honest keeper.new → K.honest keeper.old }
 {
     match request {
         Err(WireFault::NoMemory) => failed(StoreFault::NoMemory, ends, head),
@@ -91,14 +90,13 @@ fn exchange_request<K: Keeper, C: Clock>(
 ) -> Answer
     requires well_formed { is_well_formed_request request.now ≡ true }
     requires moment { IsStated (at_of request.now.ask) }
-    ensures { (r : Reply)
-        × Heard C.reads (Ok request.now)
-        (record { closed = K.closed keeper.old; timeline = K.timeline keeper.old; clock = clock.old }) r
-        (record { closed = K.closed keeper.new; timeline = K.timeline keeper.new; clock = clock.new })
-        × IsAnswer result r ends head }
+    ensures heard { Brings
+        (IsAt (K.honest keeper.old) (K.closed keeper.old) (K.timeline keeper.old) clock.old)
+        (IsAt (K.honest keeper.new) (K.closed keeper.new) (K.timeline keeper.new) clock.new)
+        (λ from to. (r : Reply) × Heard (HearsIf (K.honest keeper.new) C.reads) (Ok request.now) from r to × IsAnswer result r ends head) }
+    ensures was { K.honest keeper.new → K.honest keeper.old }
 {
     let reading = clock.read();
-    last_stamps_are_moments(keeper);
     let prepared = match prepare(alloc, keeper, reading, request) {
         Err(fault) => return failed(fault, ends, head),
         Ok(prepared) => prepared,
@@ -110,13 +108,6 @@ fn exchange_request<K: Keeper, C: Clock>(
         Err(fault) => failed(fault, ends, head),
         Ok(_) => answer,
     }
-}
-
-/// The stamp of the last change is none after the last moment.
-fn last_stamps_are_moments<K: Keeper>(keeper: &K)
-    ensures { last_stamp (K.timeline keeper.now) ≤ℤ last_moment }
-{
-    keeper.last();
 }
 
 /// Answers an item that is a fault of framing: the connection ends after it.

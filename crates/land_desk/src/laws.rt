@@ -1,7 +1,7 @@
 //! Laws, each stated over the definitions alone.
 ghost use Rattle.land_desk.specs.Items.{OneItem, OneListOfItems};
 ghost use Rattle.land_desk.specs.Responses.{OneResponse};
-ghost use Rattle.land_desk.specs.Serving.{ServedItems};
+ghost use Rattle.land_desk.specs.Serving.{Hears, ServedItems};
 
 use land_keep::clock::Clock;
 
@@ -24,5 +24,5 @@ pub fn responses_are_unique()
 
 /// What is served are the stream's items in their order, from the first one on.
 pub fn served_items_are_those_of_the_stream<C: Clock>()
-    ensures { ServedItems C.reads }
+    ensures { ServedItems (Hears C.reads) }
 {}

@@ -1,8 +1,8 @@
 //! Serving a stream: its items one after another, from their bytes to the bytes of their replies.
 ghost use Rattle.std.specs.Prelude.{◌≤◌, length, IfSome};
-ghost use Rattle.land_keep.specs.Machine.{State};
+ghost use Rattle.land_keep.specs.Keeping.{IsAt};
 ghost use Rattle.land_routes.specs.Table.{FindsRoutes};
-ghost use Rattle.land_desk.specs.Serving.{IsServing};
+ghost use Rattle.land_desk.specs.Serving.{HearsIf, ServesTo};
 
 use crate::counted_reader::CountedReader;
 use crate::head::FIELD_ROOM;
@@ -42,10 +42,11 @@ pub fn serve<R: Read, W: Write, K: Keeper, C: Clock>(
     keeper: &mut K,
     clock: &mut C,
 ) -> Result<Served, DeskFault>
-    ensures { IfSome (R.remaining reader.old) (λ bytes. IsServing C.reads bytes
+    ensures served { IfSome (R.remaining reader.old) (λ bytes. ServesTo (HearsIf (K.honest keeper.new) C.reads) bytes
         (record { closed = K.closed keeper.old; timeline = K.timeline keeper.old; clock = clock.old })
-        (record { closed = K.closed keeper.new; timeline = K.timeline keeper.new; clock = clock.new })
+        (IsAt (K.honest keeper.new) (K.closed keeper.new) (K.timeline keeper.new) clock.new)
         (W.contents writer.old) (W.contents writer.new) result) }
+    ensures was { K.honest keeper.new → K.honest keeper.old }
 {
     let Ok(router) = routes(alloc) else {
         return Err(DeskFault::NoMemory);
@@ -78,10 +79,11 @@ fn serve_items<R: Read, W: Write, K: Keeper, C: Clock>(
     requires routed { FindsRoutes router.now }
     requires asked { reader.old.left ≤ 10000000 }
     requires room { 2731 ≤ length headers.old }
-    ensures { IfSome (R.remaining reader.old.reader) (λ bytes. IsServing C.reads bytes
+    ensures served { IfSome (R.remaining reader.old.reader) (λ bytes. ServesTo (HearsIf (K.honest keeper.new) C.reads) bytes
         (record { closed = K.closed keeper.old; timeline = K.timeline keeper.old; clock = clock.old })
-        (record { closed = K.closed keeper.new; timeline = K.timeline keeper.new; clock = clock.new })
+        (IsAt (K.honest keeper.new) (K.closed keeper.new) (K.timeline keeper.new) clock.new)
         (W.contents writer.old) (W.contents writer.new) result) }
+    ensures was { K.honest keeper.new → K.honest keeper.old }
 {
     let mut buffer = Vec::new(alloc);
     for replies in 0..u64::MAX {

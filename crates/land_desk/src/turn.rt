@@ -4,7 +4,8 @@ ghost use Rattle.std.specs.Io.KnownBytes.{prepend_known};
 ghost use Rattle.httparse.specs.Grammar.{RequestHead};
 ghost use Rattle.httparse.specs.Spans.{IsRequestAt, span_bytes};
 ghost use Rattle.land_core.specs.Acts.{is_well_formed_request};
-ghost use Rattle.land_keep.specs.Machine.{State, at_of};
+ghost use Rattle.land_keep.specs.Keeping.{IsAt};
+ghost use Rattle.land_keep.specs.Machine.{at_of};
 ghost use Rattle.land_routes.specs.Table.{FindsRoutes};
 ghost use Rattle.land_bodies.specs.WireFaults.{Gives};
 ghost use Rattle.land_wire.specs.Fields.{field_map};
@@ -12,6 +13,7 @@ ghost use Rattle.land_wire.specs.Laws.{IsStated};
 ghost use Rattle.land_wire.specs.Reading.{reading};
 ghost use Rattle.land_desk.specs.Frame.{fields_of};
 ghost use Rattle.land_desk.specs.Items.{IsRequestIn};
+ghost use Rattle.land_desk.specs.Serving.{Brings, HearsIf};
 ghost use Rattle.land_desk.specs.Turns.{IsTurn, IsWritten, Spoken, answer_bytes};
 
 use crate::buffer::drop_front;
@@ -60,11 +62,13 @@ pub(crate) fn take_turn<R: Read, W: Write, K: Keeper, C: Clock>(
     requires routed { FindsRoutes router.now }
     requires room { 2731 ≤ length headers.old }
     ensures room { length headers.new ≡ length headers.old }
-    ensures turn { IfSome (prepend_known buffer.old.items (R.remaining reader.old.reader)) (λ bytes. IsTurn C.reads bytes
-        (record { closed = K.closed keeper.old; timeline = K.timeline keeper.old; clock = clock.old })
-        (record { closed = K.closed keeper.new; timeline = K.timeline keeper.new; clock = clock.new })
+    ensures turn { IfSome (prepend_known buffer.old.items (R.remaining reader.old.reader)) (λ bytes. Brings
+        (IsAt (K.honest keeper.old) (K.closed keeper.old) (K.timeline keeper.old) clock.old)
+        (IsAt (K.honest keeper.new) (K.closed keeper.new) (K.timeline keeper.new) clock.new)
+        (λ from to. IsTurn (HearsIf (K.honest keeper.new) C.reads) bytes from to
         (prepend_known buffer.new.items (R.remaining reader.new.reader))
-        (W.contents writer.old) (W.contents writer.new) result) }
+        (W.contents writer.old) (W.contents writer.new) result)) }
+    ensures was { K.honest keeper.new → K.honest keeper.old }
 {
     match read_item(reader, buffer, headers) {
         Err(ReadFault::Read) => Err(DeskFault::Read),
@@ -106,10 +110,11 @@ fn answer_request<K: Keeper, C: Clock>(
 ) -> Answer
     requires routed { FindsRoutes router.now }
     requires at_front { IsRequestIn buffer.now headers.now spans length }
-    ensures { (more : List ℕ) → Spoken C.reads (buffer.now ++ more)
-        (record { closed = K.closed keeper.old; timeline = K.timeline keeper.old; clock = clock.old })
-        result (drop (spans.len + length) buffer.now ++ more)
-        (record { closed = K.closed keeper.new; timeline = K.timeline keeper.new; clock = clock.new }) }
+    ensures spoken { (more : List ℕ) → Brings
+        (IsAt (K.honest keeper.old) (K.closed keeper.old) (K.timeline keeper.old) clock.old)
+        (IsAt (K.honest keeper.new) (K.closed keeper.new) (K.timeline keeper.new) clock.new)
+        (λ from to. Spoken (HearsIf (K.honest keeper.new) C.reads) (buffer.now ++ more) from result (drop (spans.len + length) buffer.now ++ more) to) }
+    ensures was { K.honest keeper.new → K.honest keeper.old }
 {
     let request = request_at(alloc, router, buffer, headers, &spans, length);
     let last = ends(&spans, buffer, headers);

@@ -1,20 +1,23 @@
 -- What a keeper of the timeline may be asked, how its faults go, and what is prepared for a request.
-use Rattle.std.specs.Prelude.{◌≡◌, Bool, true, false, Option, Some, None, Result, Ok, Err, ℤ, ◌<ℤ◌, ◌≤ℤ◌, MatchOption}
+use Rattle.std.specs.Prelude.{◌≡◌, Bool, true, false, List, Option, Some, None, Result, Ok, Err, ℤ, ◌<ℤ◌, ◌≤ℤ◌, MatchOption}
 use Rattle.land_acts.specs.Laws.{IsAccepted}
 use Rattle.land_mutations.specs.Planning.{number_of}
+use Rattle.land_core.specs.declared.ask.Ask.{Ask}
 use Rattle.land_core.specs.declared.ask.Request.{Request}
 use Rattle.land_core.specs.declared.change.Change.{Change}
 use Rattle.land_mutations.specs.declared.refusal.Planned.{Planned}
 use Rattle.land_mutations.specs.declared.refusal.Planned.TheVariants.{New, Repeat}
 use Rattle.land_mutations.specs.declared.refusal.Refusal.{Refusal}
-use Rattle.land_keep.specs.Machine.{Next, step, written}
-use Rattle.land_keep.specs.Moments.{last_moment}
+use Rattle.land_keep.specs.Machine.{Element, Next, Run, State, at_of, step, written}
+use Rattle.land_keep.specs.Moments.{IsMoment, last_moment}
 use Rattle.land_keep.specs.Timeline.{Timeline, last_stamp, last_register}
 use Rattle.land_keep.specs.declared.prepared.Prepared.{Prepared}
 use Rattle.land_keep.specs.declared.prepared.Writing.{Writing}
+use Rattle.land_keep.specs.declared.reply.Reply.{Reply}
 use Rattle.land_keep.specs.declared.reply.Reply.TheVariants as reply
 use Rattle.land_keep.specs.declared.store_fault.StoreFault.{StoreFault}
 use Rattle.land_keep.specs.declared.store_fault.StoreFault.TheVariants.{NoMemory, Store, Closed}
+use Rattle.land_keep.specs.declared.view.View.{View}
 
 -- a failed store call closes a keeper, want of memory does not, and a closed keeper says that it is closed and nothing else
 abbrev pub Closes : {T : Type 0} → (before after : Bool) → Result T StoreFault → Type 0
@@ -24,6 +27,10 @@ Closes false after (Ok x) = after ≡ false
 Closes false after (Err NoMemory) = after ≡ false
 Closes false after (Err Store) = after ≡ true
 Closes false after (Err Closed) = ⊥
+
+-- a keeper shows its timeline: its store is honest and not closed
+abbrev pub IsLive : (honest : Type 0) → (closed : Bool) → Type 0
+IsLive honest closed = honest × (closed ≡ false)
 
 -- a change may be written: its stamp is a moment after the last one, and an act makes it of the last register
 pub record CanWrite (tl : Timeline) (change : Change) (stamp : ℤ) : Type 0 where
@@ -56,3 +63,47 @@ abbrev pub preparation : Result Planned Refusal → Prepared
 preparation (Ok (New change done)) = record { reply = reply.Done done; writing = Some (record { change = change; stamp = done.stamp }) }
 preparation (Ok (Repeat done)) = record { reply = reply.Done done; writing = None }
 preparation (Err refusal) = record { reply = reply.Refused (number_of refusal); writing = None }
+
+-- ---- the moment of a sheet
+
+-- what is said of a sheet, where one is shown
+abbrev pub OnSheet : Reply → (View → Type 0) → Type 0
+OnSheet (reply.Object it) P = Unit {0}
+OnSheet (reply.Numbers it) P = Unit {0}
+OnSheet (reply.Sheet view) P = P view
+OnSheet (reply.Done it) P = Unit {0}
+OnSheet (reply.Denied rule) P = Unit {0}
+OnSheet (reply.Fault number) P = Unit {0}
+OnSheet (reply.Refused number) P = Unit {0}
+OnSheet (reply.Store number) P = Unit {0}
+
+-- a sheet that is shown names this moment
+abbrev pub ShowsAt : ℤ → Reply → Type 0
+ShowsAt t r = OnSheet r (λ view. view.at ≡ t)
+
+-- a sheet that is shown names the moment that the ask names, else one that there is
+abbrev pub ShowsAsked : Ask → Reply → Type 0
+ShowsAsked a r = OnSheet r (λ view. MatchOption (at_of a) (IsMoment view.at) (λ named. view.at ≡ named))
+
+-- ---- answers and runs
+
+-- what a reply tells of the store: a closed one says so and stays closed, and an open one is closed by 502 alone
+abbrev pub TellsOf : (closed : Bool) → Reply → (closed_after : Bool) → Type 0
+TellsOf true r closed_after = (r ≡ reply.Store 503) × (closed_after ≡ true)
+TellsOf false r closed_after = closed_after ≡ true → r ≡ reply.Store 502
+
+-- a request is answered by an element that leads to a timeline, which the keeper shows unless it is closed
+abbrev pub IsAnswered : (closed : Bool) → ℤ → Request → Timeline → Reply → (shown : Timeline) → (closed_after : Bool) → Type 0
+IsAnswered closed clock request tl r shown closed_after =
+    (new : Timeline) × Element closed clock request tl r new closed_after × (closed_after ≡ false → shown ≡ new)
+
+-- a keeper with its clock stands at a state of the machine: it shows the state's timeline while it is honest and open
+abbrev pub IsAt : {C : Type 0} → (honest : Type 0) → (closed : Bool) → (shown : Timeline) → (clock : C) → State C → Type 0
+IsAt honest closed shown clock state =
+    (state.closed ≡ closed) × (state.clock ≡ clock) × (IsLive honest closed → shown ≡ state.timeline)
+
+-- replies are a run of the machine from a state to one at which the keeper stands
+abbrev pub RunsTo : {C : Type 0} → (C → ℤ → C → Type 0) → State C → List Request → List Reply
+    → (honest : Type 0) → (closed : Bool) → (shown : Timeline) → (clock : C) → Type 0
+RunsTo {C} reads from requests replies honest closed shown clock =
+    (to : State C) × Run reads from requests replies to × IsAt honest closed shown clock to

@@ -1,8 +1,8 @@
 //! Keepers of the register through time.
-ghost use Rattle.std.specs.Prelude.{◌≡◌, ◌≤ℤ◌, Bool, IfOk, OnOk, OnErr};
+ghost use Rattle.std.specs.Prelude.{◌≡◌, ◌≤ℤ◌, Bool, IfOk, IfSome, OnOk, OnErr};
 ghost use Rattle.land_core.specs.Register.{object_at};
 ghost use Rattle.land_acts.specs.Slices.{slice_of};
-ghost use Rattle.land_keep.specs.Keeping.{Closes, CanWrite};
+ghost use Rattle.land_keep.specs.Keeping.{Closes, CanWrite, IsLive};
 ghost use Rattle.land_keep.specs.Machine.{verdict_at, moment_of, written};
 ghost use Rattle.land_rules.specs.Rules.{seen_of};
 ghost use Rattle.land_keep.specs.Sheets.{view_at};
@@ -22,8 +22,9 @@ use land_core::sequence::NumberList;
 use land_rules::verdict::Verdict;
 use std::alloc::Global;
 
-/// A keeper of the register through time, which contracts see as a sound timeline and whether its store is closed.
-/// A call that fails changes nothing: 501 leaves the keeper open, 502 closes it, and a closed keeper answers 503.
+/// A keeper of the register through time, which contracts see as a sound timeline, whether its store is closed, and whether
+/// its store is honest. A call that fails changes nothing: 501 leaves the keeper open, 502 closes it, and a closed keeper
+/// answers 503. What a keeper says holds while it is honest, and what it shows while it is also open.
 pub trait Keeper {
     /// The registers so far, with their stamps.
     ghost timeline: { Self → Timeline };
@@ -31,11 +32,14 @@ pub trait Keeper {
     /// Whether a store call has failed.
     ghost closed: { Self → Bool };
 
+    /// Whether the store has given back what was written to it, so far. What a keeper says holds as long as it has.
+    ghost honest: { Self → Type 0 };
+
     /// The stamp of the last accepted change, 0 in a new register.
     fn last(&self) -> i64
-        ensures last { result ≡ last_stamp (timeline self.now) }
+        ensures last { IsLive (honest self.now) (closed self.now) → result ≡ last_stamp (timeline self.now) }
         ensures moment { result ≤ℤ last_moment }
-        ensures sound { IsSoundTimeline (timeline self.now) };
+        ensures sound { IsLive (honest self.now) (closed self.now) → IsSoundTimeline (timeline self.now) };
 
     /// Whether the keeper is closed.
     fn is_closed(&self) -> bool
@@ -49,10 +53,11 @@ pub trait Keeper {
         ask: &Ask,
         now: i64,
     ) -> Result<Verdict, StoreFault>
-        requires last { last_stamp (timeline self.old) ≤ℤ now }
+        requires last { IsLive (honest self.old) (closed self.old) → last_stamp (timeline self.old) ≤ℤ now }
         requires asked { moment_of ask.now now ≤ℤ now }
-        ensures value { IfOk result (λ it. it ≡ verdict_at (timeline self.old) caller ask.now now) }
-        ensures same { timeline self.new ≡ timeline self.old }
+        ensures value { honest self.new → IfOk result (λ it. it ≡ verdict_at (timeline self.old) caller ask.now now) }
+        ensures same { IsLive (honest self.new) (closed self.new) → timeline self.new ≡ timeline self.old }
+        ensures was { honest self.new → honest self.old }
         ensures closes { Closes (closed self.old) (closed self.new) result };
 
     /// The numbers of a kind that the caller sees at a moment, ascending.
@@ -63,8 +68,9 @@ pub trait Keeper {
         kind: Kind,
         at: i64,
     ) -> Result<NumberList, StoreFault>
-        ensures value { IfOk result (λ it. it ≡ seen_of (register_at (timeline self.old) at) caller kind) }
-        ensures same { timeline self.new ≡ timeline self.old }
+        ensures value { honest self.new → IfOk result (λ it. it ≡ seen_of (register_at (timeline self.old) at) caller kind) }
+        ensures same { IsLive (honest self.new) (closed self.new) → timeline self.new ≡ timeline self.old }
+        ensures was { honest self.new → honest self.old }
         ensures closes { Closes (closed self.old) (closed self.new) result };
 
     /// The object that stands at a moment, or `None`.
@@ -75,11 +81,12 @@ pub trait Keeper {
         number: u64,
         at: i64,
     ) -> Result<Option<Object>, StoreFault>
-        ensures value { IfOk result (λ it. it ≡ object_at (register_at (timeline self.old) at) kind number) }
-        ensures same { timeline self.new ≡ timeline self.old }
+        ensures value { honest self.new → IfOk result (λ it. it ≡ object_at (register_at (timeline self.old) at) kind number) }
+        ensures same { IsLive (honest self.new) (closed self.new) → timeline self.new ≡ timeline self.old }
+        ensures was { honest self.new → honest self.old }
         ensures closes { Closes (closed self.old) (closed self.new) result };
 
-    /// The unit that stands at a moment, as a caller sees it, or `None`.
+    /// The unit that stands at a moment, as a caller sees it, or `None`. A view names the moment that it was asked for.
     fn view(
         &mut self,
         alloc: Global,
@@ -87,20 +94,24 @@ pub trait Keeper {
         unit: u64,
         at: i64,
     ) -> Result<Option<View>, StoreFault>
-        ensures value { IfOk result (λ it. it ≡ view_at (register_at (timeline self.old) at) caller unit at) }
-        ensures same { timeline self.new ≡ timeline self.old }
+        ensures value { honest self.new → IfOk result (λ it. it ≡ view_at (register_at (timeline self.old) at) caller unit at) }
+        ensures moment { IfOk result (λ it. IfSome it (λ view. view.at ≡ at)) }
+        ensures same { IsLive (honest self.new) (closed self.new) → timeline self.new ≡ timeline self.old }
+        ensures was { honest self.new → honest self.old }
         ensures closes { Closes (closed self.old) (closed self.new) result };
 
     /// The records of the last register that planning may look at.
     fn slice(&mut self, alloc: Global, caller: Caller, act: &Act) -> Result<Slice, StoreFault>
-        ensures value { IfOk result (λ it. it ≡ slice_of (last_register (timeline self.old)) caller act.now) }
-        ensures same { timeline self.new ≡ timeline self.old }
+        ensures value { honest self.new → IfOk result (λ it. it ≡ slice_of (last_register (timeline self.old)) caller act.now) }
+        ensures same { IsLive (honest self.new) (closed self.new) → timeline self.new ≡ timeline self.old }
+        ensures was { honest self.new → honest self.old }
         ensures closes { Closes (closed self.old) (closed self.new) result };
 
     /// Writes a change that an act makes of the last register, with its stamp.
     fn write(&mut self, alloc: Global, change: &Change, stamp: i64) -> Result<(), StoreFault>
-        requires { CanWrite (timeline self.old) change.now stamp }
-        ensures ok { OnOk result (timeline self.new ≡ written (timeline self.old) change.now stamp) }
-        ensures err { OnErr result (timeline self.new ≡ timeline self.old) }
+        requires { IsLive (honest self.old) (closed self.old) → CanWrite (timeline self.old) change.now stamp }
+        ensures ok { IsLive (honest self.new) (closed self.new) → OnOk result (timeline self.new ≡ written (timeline self.old) change.now stamp) }
+        ensures err { IsLive (honest self.new) (closed self.new) → OnErr result (timeline self.new ≡ timeline self.old) }
+        ensures was { honest self.new → honest self.old }
         ensures closes { Closes (closed self.old) (closed self.new) result };
 }

@@ -1,5 +1,5 @@
 //! The plain keeper: the list of whole registers, in memory.
-ghost use Rattle.std.specs.Prelude.{◌≡◌, ◌∷◌, ◌++◌, [], false, unwrap_or, IfOk, OnOk, OnErr};
+ghost use Rattle.std.specs.Prelude.{◌≡◌, ◌∷◌, ◌++◌, [], false, ⊤, unwrap_or, IfOk, OnOk, OnErr};
 ghost use Rattle.std.specs.Option.{option_copied, option_map};
 ghost use Rattle.land_core.specs.Register.{nothing};
 ghost use Rattle.land_keep.specs.Timeline.{IsSoundTimeline, new_timeline, version_at, last_version, register_at, last_register};
@@ -114,6 +114,8 @@ impl Keeper for PlainKeeper {
     ghost timeline = { λ a. a };
 
     ghost closed = { λ _. false };
+
+    ghost honest = { λ _. ⊤ };
 
     fn last(&self) -> i64 {
         match self.last_version() {

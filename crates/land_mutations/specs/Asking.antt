@@ -1,5 +1,5 @@
 -- What a mutation asks for, by its content: when that is refused, what it changes, and what it makes.
-use Rattle.std.specs.Prelude.{ℕ, ◌+◌, ◌≡◌, ◌≤◌, ℤ, Bool, List, [], ◌∷◌, Option, Some, None}
+use Rattle.std.specs.Prelude.{ℕ, ◌+◌, ◌≡◌, ◌≤◌, ℤ, Bool, ◌&&◌, List, [], ◌∷◌, Option, Some, None, nat_lt}
 use Rattle.land_core.specs.Changes.{no_change}
 use Rattle.land_core.specs.declared.change.Change.{Change}
 use Rattle.land_core.specs.declared.content.Content.{Content}
@@ -10,7 +10,7 @@ use Rattle.land_mutations.specs.declared.refusal.Refusal.{Refusal}
 use Rattle.land_mutations.specs.declared.transfer.Held.{Held}
 use Rattle.land_mutations.specs.Discharging.{discharge_refusals, discharge_change}
 use Rattle.land_mutations.specs.Merging.{merger_refusals, merger_change}
-use Rattle.land_mutations.specs.Mortgaging.{mortgage_refusals, mortgage_change, next_rank}
+use Rattle.land_mutations.specs.Mortgaging.{greatest, mortgage_refusals, mortgage_change, next_rank, ranks_in}
 use Rattle.land_mutations.specs.Subdividing.{subdivision_refusals, subdivision_change, subdivision_count, subdivision_made}
 use Rattle.land_mutations.specs.Transferring.{transfer_refusals, move_change, grows_at, held_at, new_rights, number_after}
 
@@ -55,3 +55,11 @@ Fits r (content.Subdivision it) = r.next + subdivision_count r it ≤ 1000000001
 Fits r (content.Merger it) = r.next ≤ 1000000000
 Fits r (content.Mortgage it) = (r.next ≤ 1000000000) × (next_rank r it.unit ≤ 1000000000)
 Fits r (content.Discharge it) = Unit
+
+-- the numbers that a register holds leave room for what a content makes: those of a sound register always do
+abbrev pub has_room : Register → Content → Bool
+has_room r (content.Transfer it) = nat_lt r.next 1000000002
+has_room r (content.Subdivision it) = nat_lt r.next 1000000002
+has_room r (content.Merger it) = nat_lt r.next 1000000002
+has_room r (content.Mortgage it) = nat_lt r.next 1000000002 && nat_lt (greatest (ranks_in r it.unit)) 1000000000
+has_room r (content.Discharge it) = nat_lt r.next 1000000002

@@ -1,6 +1,6 @@
 //! What a mutation asks for, by its content: when that is refused, what it changes, and what it makes.
 ghost use Rattle.std.specs.Prelude.{◌≡◌, IfOk};
-ghost use Rattle.land_mutations.specs.Asking.{Fits, content_change, content_made, content_refusals};
+ghost use Rattle.land_mutations.specs.Asking.{Fits, content_change, content_made, content_refusals, has_room};
 ghost use Rattle.land_mutations.specs.Planning.{first_that_holds};
 
 use crate::planning::{Slice, numbers_from};
@@ -68,4 +68,16 @@ pub fn made(alloc: Global, slice: &Slice, content: &Content) -> Result<NumberLis
         Content::Merger(_) | Content::Mortgage(_) => Sequence::of_one(alloc, slice.next),
         Content::Discharge(_) => Ok(Sequence::new(alloc)),
     }
+}
+
+/// Whether the numbers that a register holds leave room for what a content makes. Those of a sound register always do;
+/// those that somebody wrote into a file may not.
+pub fn has_room(slice: &Slice, content: &Content) -> bool
+    ensures { result ≡ has_room slice.now content.now }
+{
+    slice.next <= 1_000_000_001
+        && match content {
+            Content::Mortgage(it) => mortgage::greatest_rank(slice, it.unit) < 1_000_000_000,
+            _ => true,
+        }
 }

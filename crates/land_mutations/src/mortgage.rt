@@ -61,7 +61,7 @@ pub(crate) fn change(
 }
 
 /// The greatest rank of the mortgages on a unit, 0 where there is none.
-fn greatest_rank(slice: &Slice, unit: u64) -> u64
+pub(crate) fn greatest_rank(slice: &Slice, unit: u64) -> u64
     ensures { result ≡ greatest (ranks_in slice.now unit) }
 {
     let mut greatest = 0;

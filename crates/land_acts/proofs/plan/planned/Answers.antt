@@ -1,12 +1,11 @@
-use Rattle.std.proofs.Common.{subst}
+use Rattle.std.proofs.Common.{◌≡◌, true, subst}
 use Rattle.land_core.specs.declared.act.Act.{Act}
-use Rattle.land_acts.specs.Outcome.{IsUnrefused}
-use Rattle.land_acts.specs.Slices.{IsOfSound}
+use Rattle.land_acts.specs.Outcome.{IsUnrefused, has_room_for}
 use Rattle.land_acts.proofs.Fitting.{contents_fit}
 use Rattle.land_acts.proofs.plan.planned.Goals as goal
 
 pub approved-requires : goal.approved-requires
 approved-requires c =
     contents_fit c.args.slice.now c.args.caller c.in-Approve.it
-    (subst (λ (a : Act). IsOfSound c.args.slice.now c.args.caller a) c.in-Approve.is c.requires.sound)
+    (subst (λ (a : Act). has_room_for c.args.slice.now a ≡ true) c.in-Approve.is c.requires.room)
     (subst (λ (a : Act). IsUnrefused c.args.slice.now c.args.caller a) c.in-Approve.is c.requires.unrefused)

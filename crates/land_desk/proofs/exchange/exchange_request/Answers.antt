@@ -1,54 +1,83 @@
-use Rattle.std.proofs.Common.{rules, ◌∙◌, ap}
+use Rattle.std.proofs.Common.{◌≡◌, ◌∙◌, Bool, Err, ap, rules, subst, sym}
 use Rattle.std.specs.Prelude.{FitsSigned}
 use Rattle.std.specs.Int.{w64}
 use Rattle.std.proofs.lemmas.Int.{to_z-of_z}
-use Rattle.land_keep.specs.Keeping.{after_writing}
+use Rattle.land_keep.proofs.Steps.{fault_element, fault_tells, opens, was_open}
+use Rattle.land_keep.specs.Keeping.{Closes, after_writing}
+use Rattle.land_keep.specs.declared.prepared.Prepared.{Prepared}
 use Rattle.land_keep.specs.declared.reply.Reply.{Reply}
 use Rattle.land_keep.specs.declared.reply.Reply.TheVariants as reply
+use Rattle.land_keep.specs.declared.store_fault.StoreFault.TheVariants.{NoMemory}
 use Rattle.land_keep.specs.Faults.{number_of}
-use Rattle.land_desk.proofs.ExchangeLemmas.{unsaid, unfinished, finished, prepared-moment}
+use Rattle.land_desk.proofs.ExchangeLemmas.{shown_has_moment, stays, steps}
 use Rattle.land_desk.proofs.exchange.exchange_request.Goals as goal
 
-pub returns-in_default : goal.returns-in_default
-returns-in_default g c = (
-  reply.Store 501,
-  (
-    c.read-reading.result,
-    c.read-reading.ensures,
-    unsaid _ _ _ _ _ c.read-reading.result c.args.request.now c.in-Ok.prepared c.in-Ok.ensures.closes c.in-Ok.ensures.same,
-  ),
-  c.failed-in_default.ensures,
-)
+pub returns-in-Err-clause-heard : goal.returns-in-Err-clause-heard
+returns-in-Err-clause-heard g c from at =
+    let before = g.K.Keeper.closed c.args.keeper.now in
+    let closed = g.K.Keeper.closed c.prepare.new.keeper in
+    let closes = c.in-Err.ensures.closes in
+    let it = stays g.C.Clock.reads (g.K.Keeper.honest c.args.keeper.now) (g.K.Keeper.honest c.prepare.new.keeper) before closed
+    (g.K.Keeper.timeline c.args.keeper.now) (g.K.Keeper.timeline c.prepare.new.keeper) c.args.clock.now c.read-reading.new.self
+    c.read-reading.result c.args.request.now c.read-reading.ensures (reply.Store (number_of c.in-Err.fault))
+    (λ tl. fault_element Prepared before closed c.read-reading.result c.args.request.now tl c.in-Err.fault closes)
+    (fault_tells Prepared before closed c.in-Err.fault closes)
+    c.in-Err.ensures.was (was_open Prepared before closed c.in-Err.fault closes) (λ trust is_open. c.in-Err.ensures.same (trust, is_open))
+    from at in
+    (it.0, (reply.Store (number_of c.in-Err.fault), it.1, c.failed.ensures), it.2)
 
-pub returns-in-Err-finish : goal.returns-in-Err-finish
-returns-in-Err-finish g c = (
-  reply.Store (number_of c.in-Err-finish.fault),
-  (
-    c.read-reading.result,
-    c.read-reading.ensures,
-    unfinished _ Reply _ _ _ _ _ c.read-reading.result c.args.request.now c.in-Ok.prepared c.in-Err-finish.fault c.in-Ok.ensures.closes
-        c.in-Err-finish.ensures.closes (c.in-Err-finish.ensures.err ∙ c.in-Ok.ensures.same),
-  ),
-  c.failed-in-Err-finish.ensures,
-)
+pub returns-in_default-clause-heard : goal.returns-in_default-clause-heard
+returns-in_default-clause-heard g c from at =
+    let before = g.K.Keeper.closed c.args.keeper.now in
+    let closed = g.K.Keeper.closed c.prepare.new.keeper in
+    let opened = opens before closed c.in-Ok.prepared c.in-Ok.ensures.closes in
+    let unsaid : Closes {T = Prepared} before closed (Err NoMemory) = subst (λ (b : Bool). Closes {T = Prepared} b closed (Err NoMemory)) (sym opened.0) opened.1 in
+    let it = stays g.C.Clock.reads (g.K.Keeper.honest c.args.keeper.now) (g.K.Keeper.honest c.prepare.new.keeper) before closed
+    (g.K.Keeper.timeline c.args.keeper.now) (g.K.Keeper.timeline c.prepare.new.keeper) c.args.clock.now c.read-reading.new.self
+    c.read-reading.result c.args.request.now c.read-reading.ensures (reply.Store 501)
+    (λ tl. fault_element Prepared before closed c.read-reading.result c.args.request.now tl NoMemory unsaid)
+    (fault_tells Prepared before closed NoMemory unsaid)
+    c.in-Ok.ensures.was (λ is_open. opened.0) (λ trust is_open. c.in-Ok.ensures.same (trust, is_open))
+    from at in
+    (it.0, (reply.Store 501, it.1, c.failed-in_default.ensures), it.2)
 
-pub returns-in-Ok-finish : goal.returns-in-Ok-finish
-returns-in-Ok-finish g c =
+pub returns-in-Err-finish-clause-heard : goal.returns-in-Err-finish-clause-heard
+returns-in-Err-finish-clause-heard g c from at =
+    let before = g.K.Keeper.closed c.args.keeper.now in
+    let mid = g.K.Keeper.closed c.prepare.new.keeper in
+    let closed = g.K.Keeper.closed c.finish.new.keeper in
+    let opened = opens before mid c.in-Ok.prepared c.in-Ok.ensures.closes in
+    let fault = c.in-Err-finish.fault in
+    let closes : Closes {T = Reply} before closed (Err fault) =
+    subst (λ (b : Bool). Closes {T = Reply} b closed (Err fault)) (opened.1 ∙ sym opened.0) c.in-Err-finish.ensures.closes in
+    let it = stays g.C.Clock.reads (g.K.Keeper.honest c.args.keeper.now) (g.K.Keeper.honest c.finish.new.keeper) before closed
+    (g.K.Keeper.timeline c.args.keeper.now) (g.K.Keeper.timeline c.finish.new.keeper) c.args.clock.now c.read-reading.new.self
+    c.read-reading.result c.args.request.now c.read-reading.ensures (reply.Store (number_of fault))
+    (λ tl. fault_element Reply before closed c.read-reading.result c.args.request.now tl fault closes)
+    (fault_tells Reply before closed fault closes)
+    (λ trust. c.in-Ok.ensures.was (c.in-Err-finish.ensures.was trust)) (λ is_open. opened.0)
+    (λ trust is_open. c.in-Err-finish.ensures.err (trust, is_open) ∙ c.in-Ok.ensures.same (c.in-Err-finish.ensures.was trust, opened.1))
+    from at in
+    (it.0, (reply.Store (number_of fault), it.1, c.failed-in-Err-finish.ensures), it.2)
+
+pub returns-in-Ok-finish-clause-heard : goal.returns-in-Ok-finish-clause-heard
+returns-in-Ok-finish-clause-heard g c from at =
+    let before = g.K.Keeper.closed c.args.keeper.now in
+    let mid = g.K.Keeper.closed c.prepare.new.keeper in
+    let closed = g.K.Keeper.closed c.finish.new.keeper in
+    let opened = opens before mid c.in-Ok.prepared c.in-Ok.ensures.closes in
+    let is_open = opens mid closed _ c.in-Ok-finish.ensures.closes in
     let fit : FitsSigned w64 c.read-reading.result = search rules in
-    let prepared = simp to_z-of_z at c.in-Ok.ensures.prepared in (
-      c.in-Ok.prepared.reply,
-      (
-        c.read-reading.result,
-        c.read-reading.ensures,
-        finished Reply _ _ _ _ _ c.read-reading.result c.args.request.now c.in-Ok.prepared _ c.in-Ok.ensures.closes
-            c.in-Ok-finish.ensures.closes prepared
-            (c.in-Ok-finish.ensures.ok ∙ ap (after_writing c.in-Ok.prepared.writing) c.in-Ok.ensures.same),
-      ),
-      rw c.reply.ensures at c.in-Some.ensures,
-    )
+    let it = steps g.C.Clock.reads (g.K.Keeper.honest c.args.keeper.now) (g.K.Keeper.honest c.finish.new.keeper) before closed
+    (g.K.Keeper.timeline c.args.keeper.now) (g.K.Keeper.timeline c.finish.new.keeper) c.args.clock.now c.read-reading.new.self
+    c.read-reading.result c.args.request.now c.read-reading.ensures c.in-Ok.prepared opened.0 is_open.1
+    (λ trust. c.in-Ok.ensures.was (c.in-Ok-finish.ensures.was trust))
+    (λ trust. simp to_z-of_z at (c.in-Ok.ensures.prepared (c.in-Ok-finish.ensures.was trust)))
+    (λ trust. c.in-Ok-finish.ensures.ok (trust, is_open.1)
+    ∙ ap (after_writing c.in-Ok.prepared.writing) (c.in-Ok.ensures.same (c.in-Ok-finish.ensures.was trust, opened.1)))
+    from at in
+    (it.0, (c.in-Ok.prepared.reply, it.1, rw c.reply.ensures at c.in-Some.ensures), it.2)
 
 pub answered-requires : goal.answered-requires
 answered-requires g c =
-    let fit : FitsSigned w64 c.read-reading.result = search rules in
-    let prepared = simp to_z-of_z at c.in-Ok.ensures.prepared in
-    rw c.reply.ensures (prepared-moment c.in-Ok.prepared c.read-reading.result c.args.request.now _ prepared c.last_stamps_are_moments.ensures c.requires.moment)
+    rw c.reply.ensures (shown_has_moment c.args.request.now c.in-Ok.prepared.reply c.requires.moment c.in-Ok.ensures.moment)

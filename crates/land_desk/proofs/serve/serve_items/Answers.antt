@@ -1,62 +1,108 @@
-use Rattle.std.proofs.Common.{arith}
+use Rattle.std.proofs.Common.{◌+◌, Ok, Err, arith, refl}
 use Rattle.std.specs.Io.KnownBytes.{prepend_known}
-use Rattle.land_desk.proofs.ServingLemmas.{begins, serves_out, goes_on, serves_end, serves_last, serves_fault}
+use Rattle.land_keep.specs.Keeping.{IsAt}
+use Rattle.land_keep.specs.Machine.{State}
+use Rattle.land_desk.specs.Serving.{HearsIf}
+use Rattle.land_desk.specs.Turns.{IsTurn}
+use Rattle.land_desk.proofs.Honesty.{comes_to, comes_to_end_of_asking, heard_later, keeps_on, starts}
+use Rattle.land_desk.proofs.ServingLemmas.{serves_end, serves_last, serves_fault}
 use Rattle.land_desk.proofs.serve.serve_items.Goals as goal
 
-pub returns-in-Ok-End : goal.returns-in-Ok-End
-returns-in-Ok-End g c = serves_end g.C.Clock.reads (g.R.Read.remaining c.args.reader.now.reader)
-    (prepend_known c.loop-replies.buffer.items (g.R.Read.remaining c.loop-replies.reader.reader))
-    (prepend_known c.take_turn.new.buffer.items (g.R.Read.remaining c.take_turn.new.reader.reader))
-    (record { closed = g.K.Keeper.closed c.args.keeper.now; timeline = g.K.Keeper.timeline c.args.keeper.now; clock = c.args.clock.now })
-    (record { closed = g.K.Keeper.closed c.loop-replies.keeper; timeline = g.K.Keeper.timeline c.loop-replies.keeper; clock = c.loop-replies.clock })
-    (record { closed = g.K.Keeper.closed c.take_turn.new.keeper; timeline = g.K.Keeper.timeline c.take_turn.new.keeper; clock = c.take_turn.new.clock })
-    (g.W.Write.contents c.args.writer.now) (g.W.Write.contents c.loop-replies.writer) (g.W.Write.contents c.take_turn.new.writer)
-    c.loop-replies.replies _ c.in-Ok-End.field-0-is c.loop-replies.invariant.1 c.in-Ok-End.ensures.turn
+pub returns-in-Ok-End-clause-served : goal.returns-in-Ok-End-clause-served
+returns-in-Ok-End-clause-served g c =
+    let hears = HearsIf (g.K.Keeper.honest c.loop-replies.keeper) g.C.Clock.reads in
+    let later = HearsIf (g.K.Keeper.honest c.take_turn.new.keeper) g.C.Clock.reads in
+    let weaken = heard_later g.C.Clock.reads (g.K.Keeper.honest c.loop-replies.keeper) (g.K.Keeper.honest c.take_turn.new.keeper) c.in-Ok-End.ensures.was in
+    let from : State g.row.C.Denot = record { closed = g.K.Keeper.closed c.args.keeper.now; timeline = g.K.Keeper.timeline c.args.keeper.now; clock = c.args.clock.now } in
+    let start = g.R.Read.remaining c.args.reader.now.reader in
+    let before = prepend_known c.loop-replies.buffer.items (g.R.Read.remaining c.loop-replies.reader.reader) in
+    let after = prepend_known c.take_turn.new.buffer.items (g.R.Read.remaining c.take_turn.new.reader.reader) in
+    let w = g.W.Write.contents c.args.writer.now in
+    let u = g.W.Write.contents c.loop-replies.writer in
+    let v = g.W.Write.contents c.take_turn.new.writer in
+    comes_to hears later weaken
+    (λ s. IsAt (g.K.Keeper.honest c.loop-replies.keeper) (g.K.Keeper.closed c.loop-replies.keeper) (g.K.Keeper.timeline c.loop-replies.keeper) c.loop-replies.clock s)
+    (λ s. IsAt (g.K.Keeper.honest c.take_turn.new.keeper) (g.K.Keeper.closed c.take_turn.new.keeper) (g.K.Keeper.timeline c.take_turn.new.keeper) c.take_turn.new.clock s)
+    from start before w u v c.loop-replies.replies (Ok (record { replies = c.loop-replies.replies }))
+    (λ rest now to. IsTurn later rest now to after u v (Ok c.in-Ok-End.field-0))
+    (λ now to so turn. serves_end later start before after from now to w u v c.loop-replies.replies _ c.in-Ok-End.field-0-is so turn)
+    c.loop-replies.invariant.1 c.in-Ok-End.ensures.turn
 
-pub returns-in-Ok-Last : goal.returns-in-Ok-Last
-returns-in-Ok-Last g c = serves_last g.C.Clock.reads (g.R.Read.remaining c.args.reader.now.reader)
-    (prepend_known c.loop-replies.buffer.items (g.R.Read.remaining c.loop-replies.reader.reader))
-    (prepend_known c.take_turn.new.buffer.items (g.R.Read.remaining c.take_turn.new.reader.reader))
-    (record { closed = g.K.Keeper.closed c.args.keeper.now; timeline = g.K.Keeper.timeline c.args.keeper.now; clock = c.args.clock.now })
-    (record { closed = g.K.Keeper.closed c.loop-replies.keeper; timeline = g.K.Keeper.timeline c.loop-replies.keeper; clock = c.loop-replies.clock })
-    (record { closed = g.K.Keeper.closed c.take_turn.new.keeper; timeline = g.K.Keeper.timeline c.take_turn.new.keeper; clock = c.take_turn.new.clock })
-    (g.W.Write.contents c.args.writer.now) (g.W.Write.contents c.loop-replies.writer) (g.W.Write.contents c.take_turn.new.writer)
-    c.loop-replies.replies _ c.in-Ok-Last.field-0-is c.loop-replies.invariant.1 c.in-Ok-Last.ensures.turn
+pub returns-in-Ok-Last-clause-served : goal.returns-in-Ok-Last-clause-served
+returns-in-Ok-Last-clause-served g c =
+    let hears = HearsIf (g.K.Keeper.honest c.loop-replies.keeper) g.C.Clock.reads in
+    let later = HearsIf (g.K.Keeper.honest c.take_turn.new.keeper) g.C.Clock.reads in
+    let weaken = heard_later g.C.Clock.reads (g.K.Keeper.honest c.loop-replies.keeper) (g.K.Keeper.honest c.take_turn.new.keeper) c.in-Ok-Last.ensures.was in
+    let from : State g.row.C.Denot = record { closed = g.K.Keeper.closed c.args.keeper.now; timeline = g.K.Keeper.timeline c.args.keeper.now; clock = c.args.clock.now } in
+    let start = g.R.Read.remaining c.args.reader.now.reader in
+    let before = prepend_known c.loop-replies.buffer.items (g.R.Read.remaining c.loop-replies.reader.reader) in
+    let after = prepend_known c.take_turn.new.buffer.items (g.R.Read.remaining c.take_turn.new.reader.reader) in
+    let w = g.W.Write.contents c.args.writer.now in
+    let u = g.W.Write.contents c.loop-replies.writer in
+    let v = g.W.Write.contents c.take_turn.new.writer in
+    comes_to hears later weaken
+    (λ s. IsAt (g.K.Keeper.honest c.loop-replies.keeper) (g.K.Keeper.closed c.loop-replies.keeper) (g.K.Keeper.timeline c.loop-replies.keeper) c.loop-replies.clock s)
+    (λ s. IsAt (g.K.Keeper.honest c.take_turn.new.keeper) (g.K.Keeper.closed c.take_turn.new.keeper) (g.K.Keeper.timeline c.take_turn.new.keeper) c.take_turn.new.clock s)
+    from start before w u v c.loop-replies.replies (Ok (record { replies = c.loop-replies.replies + 1 }))
+    (λ rest now to. IsTurn later rest now to after u v (Ok c.in-Ok-Last.field-0))
+    (λ now to so turn. serves_last later start before after from now to w u v c.loop-replies.replies _ c.in-Ok-Last.field-0-is so turn)
+    c.loop-replies.invariant.1 c.in-Ok-Last.ensures.turn
 
-pub returns-in-Err : goal.returns-in-Err
-returns-in-Err g c = serves_fault g.C.Clock.reads (g.R.Read.remaining c.args.reader.now.reader)
-    (prepend_known c.loop-replies.buffer.items (g.R.Read.remaining c.loop-replies.reader.reader))
-    (prepend_known c.take_turn.new.buffer.items (g.R.Read.remaining c.take_turn.new.reader.reader))
-    (record { closed = g.K.Keeper.closed c.args.keeper.now; timeline = g.K.Keeper.timeline c.args.keeper.now; clock = c.args.clock.now })
-    (record { closed = g.K.Keeper.closed c.loop-replies.keeper; timeline = g.K.Keeper.timeline c.loop-replies.keeper; clock = c.loop-replies.clock })
-    (record { closed = g.K.Keeper.closed c.take_turn.new.keeper; timeline = g.K.Keeper.timeline c.take_turn.new.keeper; clock = c.take_turn.new.clock })
-    (g.W.Write.contents c.args.writer.now) (g.W.Write.contents c.loop-replies.writer) (g.W.Write.contents c.take_turn.new.writer)
-    c.loop-replies.replies c.in-Err.fault c.loop-replies.invariant.1 c.in-Err.ensures.turn
+pub returns-in-Err-clause-served : goal.returns-in-Err-clause-served
+returns-in-Err-clause-served g c =
+    let hears = HearsIf (g.K.Keeper.honest c.loop-replies.keeper) g.C.Clock.reads in
+    let later = HearsIf (g.K.Keeper.honest c.take_turn.new.keeper) g.C.Clock.reads in
+    let weaken = heard_later g.C.Clock.reads (g.K.Keeper.honest c.loop-replies.keeper) (g.K.Keeper.honest c.take_turn.new.keeper) c.in-Err.ensures.was in
+    let from : State g.row.C.Denot = record { closed = g.K.Keeper.closed c.args.keeper.now; timeline = g.K.Keeper.timeline c.args.keeper.now; clock = c.args.clock.now } in
+    let start = g.R.Read.remaining c.args.reader.now.reader in
+    let before = prepend_known c.loop-replies.buffer.items (g.R.Read.remaining c.loop-replies.reader.reader) in
+    let after = prepend_known c.take_turn.new.buffer.items (g.R.Read.remaining c.take_turn.new.reader.reader) in
+    let w = g.W.Write.contents c.args.writer.now in
+    let u = g.W.Write.contents c.loop-replies.writer in
+    let v = g.W.Write.contents c.take_turn.new.writer in
+    comes_to hears later weaken
+    (λ s. IsAt (g.K.Keeper.honest c.loop-replies.keeper) (g.K.Keeper.closed c.loop-replies.keeper) (g.K.Keeper.timeline c.loop-replies.keeper) c.loop-replies.clock s)
+    (λ s. IsAt (g.K.Keeper.honest c.take_turn.new.keeper) (g.K.Keeper.closed c.take_turn.new.keeper) (g.K.Keeper.timeline c.take_turn.new.keeper) c.take_turn.new.clock s)
+    from start before w u v c.loop-replies.replies (Err c.in-Err.fault)
+    (λ rest now to. IsTurn later rest now to after u v (Err c.in-Err.fault))
+    (λ now to so turn. serves_fault later start before after from now to w u v c.loop-replies.replies c.in-Err.fault so turn)
+    c.loop-replies.invariant.1 c.in-Err.ensures.turn
 
 pub loop-replies-preserved : goal.loop-replies-preserved
-loop-replies-preserved g c = (
-  omega (arith, c.loop-replies.invariant.0, c.in-Ok-More.ensures.room),
-  goes_on g.C.Clock.reads (g.R.Read.remaining c.args.reader.now.reader)
-      (prepend_known c.loop-replies.buffer.items (g.R.Read.remaining c.loop-replies.reader.reader))
-      (prepend_known c.take_turn.new.buffer.items (g.R.Read.remaining c.take_turn.new.reader.reader))
-      (record { closed = g.K.Keeper.closed c.args.keeper.now; timeline = g.K.Keeper.timeline c.args.keeper.now; clock = c.args.clock.now })
-      (record { closed = g.K.Keeper.closed c.loop-replies.keeper; timeline = g.K.Keeper.timeline c.loop-replies.keeper; clock = c.loop-replies.clock })
-      (record { closed = g.K.Keeper.closed c.take_turn.new.keeper; timeline = g.K.Keeper.timeline c.take_turn.new.keeper; clock = c.take_turn.new.clock })
-      (g.W.Write.contents c.args.writer.now) (g.W.Write.contents c.loop-replies.writer) (g.W.Write.contents c.take_turn.new.writer)
-      c.loop-replies.replies _ c.in-Ok-More.field-0-is c.loop-replies.invariant.1 c.in-Ok-More.ensures.turn,
-)
+loop-replies-preserved g c =
+    let hears = HearsIf (g.K.Keeper.honest c.loop-replies.keeper) g.C.Clock.reads in
+    let later = HearsIf (g.K.Keeper.honest c.take_turn.new.keeper) g.C.Clock.reads in
+    let weaken = heard_later g.C.Clock.reads (g.K.Keeper.honest c.loop-replies.keeper) (g.K.Keeper.honest c.take_turn.new.keeper) c.in-Ok-More.ensures.was in
+    let from : State g.row.C.Denot = record { closed = g.K.Keeper.closed c.args.keeper.now; timeline = g.K.Keeper.timeline c.args.keeper.now; clock = c.args.clock.now } in
+    let start = g.R.Read.remaining c.args.reader.now.reader in
+    let before = prepend_known c.loop-replies.buffer.items (g.R.Read.remaining c.loop-replies.reader.reader) in
+    let after = prepend_known c.take_turn.new.buffer.items (g.R.Read.remaining c.take_turn.new.reader.reader) in
+    let w = g.W.Write.contents c.args.writer.now in
+    let u = g.W.Write.contents c.loop-replies.writer in
+    let v = g.W.Write.contents c.take_turn.new.writer in (
+      omega (arith, c.loop-replies.invariant.0, c.in-Ok-More.ensures.room),
+      keeps_on hears later weaken
+          (λ s. IsAt (g.K.Keeper.honest c.loop-replies.keeper) (g.K.Keeper.closed c.loop-replies.keeper) (g.K.Keeper.timeline c.loop-replies.keeper) c.loop-replies.clock s)
+          (λ s. IsAt (g.K.Keeper.honest c.take_turn.new.keeper) (g.K.Keeper.closed c.take_turn.new.keeper) (g.K.Keeper.timeline c.take_turn.new.keeper) c.take_turn.new.clock s)
+          from start before after w u v c.loop-replies.replies c.in-Ok-More.field-0 c.in-Ok-More.field-0-is
+          c.loop-replies.invariant.1 c.in-Ok-More.ensures.turn,
+      (λ trust. c.loop-replies.invariant.2 (c.in-Ok-More.ensures.was trust)),
+    )
 
 pub loop-replies-init : goal.loop-replies-init
-loop-replies-init g c = (
-  c.requires.room,
-  begins g.C.Clock.reads (g.R.Read.remaining c.args.reader.now.reader) c.new-buffer.result.items
-      (record { closed = g.K.Keeper.closed c.args.keeper.now; timeline = g.K.Keeper.timeline c.args.keeper.now; clock = c.args.clock.now })
-      (g.W.Write.contents c.args.writer.now) c.new-buffer.ensures.items,
-)
+loop-replies-init g c =
+    let from : State g.row.C.Denot = record { closed = g.K.Keeper.closed c.args.keeper.now; timeline = g.K.Keeper.timeline c.args.keeper.now; clock = c.args.clock.now } in (
+      c.requires.room,
+      starts (HearsIf (g.K.Keeper.honest c.args.keeper.now) g.C.Clock.reads)
+          (λ s. IsAt (g.K.Keeper.honest c.args.keeper.now) (g.K.Keeper.closed c.args.keeper.now) (g.K.Keeper.timeline c.args.keeper.now) c.args.clock.now s) from
+          (g.R.Read.remaining c.args.reader.now.reader) c.new-buffer.result.items (g.W.Write.contents c.args.writer.now) (refl, refl, λ live. refl) c.new-buffer.ensures.items,
+      (λ trust. trust),
+    )
 
-pub returns : goal.returns
-returns g c = serves_out g.C.Clock.reads (g.R.Read.remaining c.args.reader.now.reader)
-    (prepend_known c.loop-replies.buffer.items (g.R.Read.remaining c.loop-replies.reader.reader))
+pub returns-clause-served : goal.returns-clause-served
+returns-clause-served g c = comes_to_end_of_asking (HearsIf (g.K.Keeper.honest c.loop-replies.keeper) g.C.Clock.reads)
+    (λ s. IsAt (g.K.Keeper.honest c.loop-replies.keeper) (g.K.Keeper.closed c.loop-replies.keeper) (g.K.Keeper.timeline c.loop-replies.keeper) c.loop-replies.clock s)
     (record { closed = g.K.Keeper.closed c.args.keeper.now; timeline = g.K.Keeper.timeline c.args.keeper.now; clock = c.args.clock.now })
-    (record { closed = g.K.Keeper.closed c.loop-replies.keeper; timeline = g.K.Keeper.timeline c.loop-replies.keeper; clock = c.loop-replies.clock })
+    (g.R.Read.remaining c.args.reader.now.reader)
+    (prepend_known c.loop-replies.buffer.items (g.R.Read.remaining c.loop-replies.reader.reader))
     (g.W.Write.contents c.args.writer.now) (g.W.Write.contents c.loop-replies.writer) c.loop-replies.replies c.loop-replies.invariant.1

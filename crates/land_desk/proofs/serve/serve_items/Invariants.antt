@@ -1,13 +1,18 @@
 use Rattle.std.proofs.Common.{◌≤◌, length}
 use Rattle.std.specs.Io.KnownBytes.{prepend_known}
-use Rattle.land_desk.specs.Serving.{SoFar}
+use Rattle.land_keep.specs.Keeping.{IsAt}
+use Rattle.land_keep.specs.Machine.{State}
+use Rattle.land_desk.specs.Serving.{HearsIf, SoFar}
 use Rattle.land_desk.specs.Turns.{IfBoth}
 use Rattle.land_desk.proofs.serve.serve_items.Given as goal
 
+-- there is room for the fields of a head; so far the items were answered up to a state at which the keeper stands
 abbrev pub invariant-loop-replies : goal.invariant-loop-replies
 invariant-loop-replies g l =
-    (2731 ≤ length l.headers) × IfBoth (g.R.Read.remaining l.initial.reader.reader) (prepend_known l.buffer.items (g.R.Read.remaining l.reader.reader)) (λ bytes rest.
-    SoFar g.C.Clock.reads bytes rest
+    (2731 ≤ length l.headers)
+    × IfBoth (g.R.Read.remaining l.initial.reader.reader) (prepend_known l.buffer.items (g.R.Read.remaining l.reader.reader)) (λ bytes rest.
+    (now : State g.row.C.Denot) × SoFar (HearsIf (g.K.Keeper.honest l.keeper) g.C.Clock.reads) bytes rest
     (record { closed = g.K.Keeper.closed l.initial.keeper; timeline = g.K.Keeper.timeline l.initial.keeper; clock = l.initial.clock })
-    (record { closed = g.K.Keeper.closed l.keeper; timeline = g.K.Keeper.timeline l.keeper; clock = l.clock })
-    (g.W.Write.contents l.initial.writer) (g.W.Write.contents l.writer) l.replies)
+    now (g.W.Write.contents l.initial.writer) (g.W.Write.contents l.writer) l.replies
+    × IsAt (g.K.Keeper.honest l.keeper) (g.K.Keeper.closed l.keeper) (g.K.Keeper.timeline l.keeper) l.clock now)
+    × (g.K.Keeper.honest l.keeper → g.K.Keeper.honest l.initial.keeper)

@@ -1,0 +1,45 @@
+use Rattle.std.proofs.Common.{◌≢◌, Result, ap, inl, inr, refl, rules, subst, sym}
+use Rattle.land_core.specs.declared.ask.Request.{Request}
+use Rattle.land_keep.specs.declared.reply.Reply.TheVariants as reply
+use Rattle.land_bodies.specs.WireFaults.{Gives}
+use Rattle.land_bodies.specs.declared.wire_fault.WireFault.{WireFault}
+use Rattle.land_bodies.specs.declared.wire_fault.WireFault.TheVariants.{NoMemory}
+use Rattle.land_desk.specs.Serving.{HearsIf, Told}
+use Rattle.land_desk.proofs.ExchangeLemmas.{fault_is_told}
+use Rattle.land_desk.proofs.exchange.exchange.Goals as goal
+
+pub returns-in-Err-NoMemory-clause-told : goal.returns-in-Err-NoMemory-clause-told
+returns-in-Err-NoMemory-clause-told g c q gives from at = (from, (reply.Store 501, inl (refl, refl), c.failed.ensures), at)
+
+pub returns-in-Err : goal.returns-in-Err
+returns-in-Err g c =
+    let it = c.answered_or_failed.ensures in
+    let other : c.in-Err.fault ≢ NoMemory = search rules in
+    record {
+      told = λ q gives from at. (
+        from,
+        (
+          it.0,
+          fault_is_told (HearsIf (g.K.Keeper.honest c.args.keeper.now) g.C.Clock.reads) q c.in-Err.fault _ it.0 from
+              ((subst (λ (r : Result Request WireFault). Gives (λ (asked : Request). asked) r q) c.in-Err.is gives) other)
+              (ap (λ n. reply.Fault n) c.number.ensures) it.1,
+          it.2,
+        ),
+        at,
+      );
+      was = λ trust. trust;
+    }
+
+pub returns-in-Ok-clause-told : goal.returns-in-Ok-clause-told
+returns-in-Ok-clause-told g c q gives from at =
+    let it = c.exchange_request.ensures.heard from at in
+    let hears = HearsIf (g.K.Keeper.honest c.exchange_request.new.keeper) g.C.Clock.reads in
+    let q_is = subst (λ (r : Result Request WireFault). Gives (λ (asked : Request). asked) r q) c.in-Ok.is gives in (
+      it.0,
+      (
+        it.1.0,
+        subst (λ (x : Result Request WireFault). Told hears x from it.1.0 it.0) (sym q_is) (inr it.1.1),
+        it.1.2,
+      ),
+      it.2,
+    )
