@@ -128,7 +128,8 @@ fn currency_at(alloc: Global, value: &Value) -> Result<Text, WireFault>
     currency_of(alloc, text_at(value, "currency")?)
 }
 
-fn currency_of(alloc: Global, text: &str) -> Result<Text, WireFault>
+/// A currency, three letters from A to Z (ISO 4217), else fault 133. 501: there was no memory.
+pub fn currency_of(alloc: Global, text: &str) -> Result<Text, WireFault>
     ensures { Gives (λ text. text) result (limited is_currency text.now) }
 {
     if is_currency(text) {

@@ -162,7 +162,8 @@ pub fn reference_at(alloc: Global, value: &Value, key: &str) -> Result<Text, Wir
     label_at(alloc, value, key)
 }
 
-fn label_of(alloc: Global, text: &str) -> Result<Text, WireFault>
+/// A text of 1 to 40 characters, else fault 133. 501: there was no memory.
+pub fn label_of(alloc: Global, text: &str) -> Result<Text, WireFault>
     ensures { Gives (λ text. text) result (limited is_label text.now) }
 {
     if is_label(text) {

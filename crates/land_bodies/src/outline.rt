@@ -20,7 +20,8 @@ pub fn outline_in(alloc: Global, value: &Value) -> Result<Ring, WireFault>
     outline_of(alloc, text_at(value, "outline")?)
 }
 
-fn outline_of(alloc: Global, text: &str) -> Result<Ring, WireFault>
+/// The ring that a text stands for, in millimetres, else one of faults 110 to 120. 501: there was no memory.
+pub fn outline_of(alloc: Global, text: &str) -> Result<Ring, WireFault>
     ensures { Gives (λ ring. ring) result (outline_of text.now) }
 {
     laws::outlines_have_their_answers();

@@ -20,7 +20,7 @@ pub fn kind_in(value: &Value) -> Result<PartyKind, WireFault>
 }
 
 /// The kind of a single party; any other word is fault 133.
-fn kind_of(word: &str) -> Result<PartyKind, WireFault>
+pub fn kind_of(word: &str) -> Result<PartyKind, WireFault>
     ensures { result ≡ kind_of word.now }
 {
     if word == "naturalPerson" {
@@ -76,7 +76,7 @@ pub fn type_in(value: &Value) -> Result<RightType, WireFault>
 }
 
 /// The type of a right; any other word is fault 133.
-fn type_of(word: &str) -> Result<RightType, WireFault>
+pub fn type_of(word: &str) -> Result<RightType, WireFault>
     ensures { result ≡ type_of word.now }
 {
     if word == "ownership" {

@@ -1,0 +1,50 @@
+-- The lifespans that the versions of a history may have.
+use Rattle.std.specs.Prelude.{ℕ, ℤ, pos, Bool, ◌&&◌, ◌||◌, ◌==◌, int_lt, List}
+use Rattle.std.specs.List.{list_all, list_any}
+use Rattle.std.specs.Ordering.{eq_by_cmp, int_eq}
+use Rattle.land_core.specs.Entries.{are_distinct}
+use Rattle.land_core.specs.Grants.{grant_cmp}
+use Rattle.land_core.specs.declared.roles.Grant.{Grant}
+use Rattle.land_history.specs.declared.group_member.GroupMember.{GroupMember}
+use Rattle.land_history.specs.declared.history.History.{History}
+use Rattle.land_history.specs.declared.moment.Moment.{Moment}
+use Rattle.land_history.specs.declared.naming.Naming.{Naming}
+use Rattle.land_history.specs.declared.version.Version.{Version}
+
+-- ---- keys
+
+abbrev pub is_same_number : {V : Type 0} → ℕ × V → ℕ × V → Bool
+is_same_number a b = a.0 == b.0
+
+abbrev pub is_same_grant : Grant → Grant → Bool
+is_same_grant a b = eq_by_cmp grant_cmp a b
+
+abbrev pub is_same_member : GroupMember → GroupMember → Bool
+is_same_member a b = (a.group == b.group) && (a.member.party == b.member.party)
+
+abbrev pub is_same_naming : Naming → Naming → Bool
+is_same_naming a b = (a.mutation == b.mutation) && (a.unit == b.unit)
+
+-- ---- lifespans
+
+-- the register was changed at the moment
+abbrev pub is_stamp : List Moment → ℤ → Bool
+is_stamp moments t = list_any (λ m. int_eq m.stamp t) moments
+
+-- a lifespan begins at a stamp, and ends after that, at a stamp or not at all
+abbrev pub is_interval : {X : Type 0} → List Moment → Version X → Bool
+is_interval moments v = int_lt v.since v.until && is_stamp moments v.since && (int_eq v.until (pos 4102444800000) || is_stamp moments v.until)
+
+-- two lifespans of one key have a moment in common
+abbrev pub overlap : {X : Type 0} → (X → X → Bool) → Version X → Version X → Bool
+overlap same_key v w = same_key v.what w.what && int_lt v.since w.until && int_lt w.since v.until
+
+abbrev pub are_intervals : {X : Type 0} → (X → X → Bool) → List Moment → List (Version X) → Bool
+are_intervals same_key moments versions = list_all (is_interval moments) versions && are_distinct (overlap same_key) versions
+
+-- the same of all versions
+abbrev pub has_intervals : List Moment → History → Bool
+has_intervals moments h =
+    are_intervals is_same_number moments h.parties && are_intervals is_same_grant moments h.roles && are_intervals is_same_member moments h.members
+    && are_intervals is_same_number moments h.units && are_intervals is_same_number moments h.parcels && are_intervals is_same_number moments h.rrrs
+    && are_intervals is_same_number moments h.sources && are_intervals is_same_number moments h.mutations && are_intervals is_same_naming moments h.namings

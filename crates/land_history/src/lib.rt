@@ -1,0 +1,14 @@
+//! The register through time as versions of its records, each with its lifespan, and what of them stands at a moment.
+#![tactic(auto)]
+
+pub mod group_member;
+pub mod groups;
+pub mod history;
+pub mod intervals;
+pub mod keyed;
+pub mod moment;
+pub mod naming;
+pub mod part;
+pub mod register;
+pub mod roles;
+pub mod version;
