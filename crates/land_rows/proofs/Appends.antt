@@ -1,9 +1,10 @@
 -- What the INSERT of one row adds to a table whose rows lie under the number in their first column.
 use Rattle.std.proofs.Common.{◌≡◌, ℤ, List, [], ◌∷◌, map, true, sym, ap, subst, ◌∙◌, IsPermutation}
-use Rattle.std.proofs.lemmas.List.Sorted.{IsPermutation-sym, IsPermutation-trans, IsPermutation-cons}
+use Rattle.std.proofs.lemmas.List.Sorted.{IsPermutation-sym, IsPermutation-trans, IsPermutation-cons, IsPermutation-map}
 use Rattle.land_rows.proofs.Puts.{puts_are}
 use Rattle.land_rows.proofs.Statements.{IsEdited, bare}
 use Rattle.land_rows.specs.Forms.{Lists, Appends}
+use Rattle.land_rows.specs.Looks.{numbered_cells}
 use Rattle.land_schema.specs.Land.{land_with}
 use Rattle.sqlite.specs.Cast.{cast_row}
 use Rattle.sqlite.specs.Edit.{edit_of}
@@ -15,7 +16,7 @@ use Rattle.sqlite_schema.specs.declared.schema.Index.{Index}
 use Rattle.sqlite_schema.specs.declared.schema.Table.{Table}
 use Rattle.sqlite_value.specs.Order.{Row}
 
-module _ {X : Type 0} (table : Table) (row : X → Row) (x : X) (id : ℤ) (cells : Row) (row_is : row x ≡ Int id ∷ cells) (indexes : List Index) (old new : Database)
+module _ {X : Type 0} (table : Table) (row : X → Row) (x : X) (id : ℤ) (cells : Row) (row_is : numbered_cells (Int id ∷ cells) ≡ row x) (indexes : List Index) (old new : Database)
     (is : IsEdited (land_with indexes) (edit_of old.trees (bare table) [] Chosen 0 ((Int id ∷ cells) ∷ [])) old new)
     (has : old.schema ≡ land_with indexes) (exact : cast_row (bare table) (Int id ∷ cells) ≡ Int id ∷ cells) where
   abbrev rows : List Row
@@ -29,9 +30,11 @@ module _ {X : Type 0} (table : Table) (row : X → Row) (x : X) (id : ℤ) (cell
       (puts_are ((Int id ∷ cells) ∷ []) rows (subst (λ news. are_fresh rows news ≡ true) edit_is is.fresh))
 
   lists : (xs : List X) → Lists table row old.trees xs → Lists table row new.trees (x ∷ xs)
-  lists xs held = subst (λ r. IsPermutation (new.trees table.tree) (r ∷ map row xs)) (sym row_is)
-      (IsPermutation-trans (new.trees table.tree) ((Int id ∷ cells) ∷ rows) ((Int id ∷ cells) ∷ map row xs) (IsPermutation-sym ((Int id ∷ cells) ∷ rows) (new.trees table.tree) moved)
-      (IsPermutation-cons (Int id ∷ cells) rows (map row xs) held))
+  lists xs held =
+      let shown : IsPermutation (row x ∷ map numbered_cells rows) (map numbered_cells (new.trees table.tree)) =
+      subst (λ r. IsPermutation (r ∷ map numbered_cells rows) (map numbered_cells (new.trees table.tree))) row_is (IsPermutation-map numbered_cells ((Int id ∷ cells) ∷ rows) (new.trees table.tree) moved) in
+      IsPermutation-trans (map numbered_cells (new.trees table.tree)) (row x ∷ map numbered_cells rows) (row x ∷ map row xs)
+      (IsPermutation-sym (row x ∷ map numbered_cells rows) (map numbered_cells (new.trees table.tree)) shown) (IsPermutation-cons (row x) (map numbered_cells rows) (map row xs) held)
 
   pub appends : Appends table row x old new
   appends = record { schema = is.schema_is ∙ sym has; listed = lists; kept = is.others }

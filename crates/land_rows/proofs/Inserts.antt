@@ -1,10 +1,11 @@
 -- What the INSERT of one row adds to what a table holds.
-use Rattle.std.proofs.Common.{◌≡◌, List, [], ◌∷◌, map, drop, Bool, true, false, not, ◌&&◌, refl, sym, ap, subst, ◌∙◌, IsPermutation}
+use Rattle.std.proofs.Common.{◌≡◌, List, [], ◌∷◌, map, ℤ, Bool, true, false, not, ◌&&◌, refl, sym, ap, subst, ◌∙◌, IsPermutation}
 use Rattle.std.proofs.lemmas.List.Sorted.{IsPermutation-sym, IsPermutation-trans, IsPermutation-cons, IsPermutation-map}
 use Rattle.land_rows.proofs.Numbers.{numbered_anyhow, numbered_more}
 use Rattle.land_rows.proofs.Puts.{puts_are}
 use Rattle.land_rows.proofs.Statements.{IsEdited, bare}
 use Rattle.land_rows.specs.Forms.{Form, Holds, Adds}
+use Rattle.land_rows.specs.Looks.{columns_from}
 use Rattle.land_schema.specs.Land.{land_with}
 use Rattle.sqlite.specs.Cast.{cast_row}
 use Rattle.sqlite.specs.Edit.{edit_of}
@@ -20,11 +21,14 @@ was_free : (b : Bool) → (not b && true) ≡ true → b ≡ false
 was_free true h = absurd (let e = h in cc)
 was_free false h = refl
 
-module _ {X : Type 0} (form : Form X) (x : X) (indexes : List Index) (old new : Database)
+module _ {X : Type 0} (form : Form X) (x : X) (fills : (id : ℤ) (x : X) → columns_from 1 form.width (Int id ∷ form.cells x) ≡ form.cells x) (indexes : List Index) (old new : Database)
     (is : IsEdited (land_with indexes) (edit_of old.trees (bare form.table) [] Chosen 0 ((Null ∷ form.cells x) ∷ [])) old new)
     (has : old.schema ≡ land_with indexes) (exact : cast_row (bare form.table) (Null ∷ form.cells x) ≡ Null ∷ form.cells x) where
   abbrev rows : List Row
   rows = old.trees form.table.tree
+
+  abbrev cells_in : Row → Row
+  cells_in r = columns_from 1 form.width r
 
   abbrev made : Row
   made = Int (next_rowid rows) ∷ form.cells x
@@ -43,9 +47,10 @@ module _ {X : Type 0} (form : Form X) (x : X) (indexes : List Index) (old new : 
 
   holds : (xs : List X) → Holds form old.trees xs → Holds form new.trees (x ∷ xs)
   holds xs held = record {
-    rows = IsPermutation-trans (map (drop 1) (new.trees form.table.tree)) (form.cells x ∷ map (drop 1) rows) (form.cells x ∷ map form.cells xs)
-        (IsPermutation-sym (form.cells x ∷ map (drop 1) rows) (map (drop 1) (new.trees form.table.tree)) (IsPermutation-map (drop 1) (made ∷ rows) (new.trees form.table.tree) moved))
-        (IsPermutation-cons (form.cells x) (map (drop 1) rows) (map form.cells xs) held.rows);
+    rows = IsPermutation-trans (map cells_in (new.trees form.table.tree)) (form.cells x ∷ map cells_in rows) (form.cells x ∷ map form.cells xs)
+        (IsPermutation-sym (form.cells x ∷ map cells_in rows) (map cells_in (new.trees form.table.tree))
+        (subst (λ c. IsPermutation (c ∷ map cells_in rows) (map cells_in (new.trees form.table.tree))) (fills (next_rowid rows) x) (IsPermutation-map cells_in (made ∷ rows) (new.trees form.table.tree) moved)))
+        (IsPermutation-cons (form.cells x) (map cells_in rows) (map form.cells xs) held.rows);
     numbered = numbered_anyhow (made ∷ rows) (new.trees form.table.tree) moved (numbered_more (next_rowid rows) (form.cells x) rows (was_free (is_taken rows made) fresh) held.numbered);
   }
 

@@ -7,6 +7,7 @@ pub mod EditionRow
 pub mod First
 pub mod Inserts
 pub mod Kept
+pub mod Looking
 pub mod Members
 pub mod MomentRows
 pub mod Mutations

@@ -19,7 +19,7 @@ unfolding understood everything
 inserts_one indexes = record { command = refl; plain = (refl, refl); table = refl; one = λ _. refl; alone = λ _ _. refl }
 
 pub beginning : IsBeginning names names_cells BEGIN.now 10 2
-beginning = record { insertion = inserts_one; shows = λ c since. refl; exact = λ c since. simp (cast_null, cast_whole) }
+beginning = record { insertion = inserts_one; fills = λ id v. refl; shows = λ c since. refl; exact = λ c since. simp (cast_null, cast_whole) }
 
 asks_all : (indexes : List Index) → Asks (land_with indexes) ALL.now (plainly 18 [] (columns_of 1 1 4))
 unfolding understood everything

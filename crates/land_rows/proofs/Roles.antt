@@ -27,7 +27,7 @@ unfolding understood everything
 inserts_one indexes = record { command = refl; plain = (refl, refl); table = refl; one = λ _. refl; alone = λ _ _. refl }
 
 pub beginning : IsBeginning table.role role_cells BEGIN.now 3 2
-beginning = record { insertion = inserts_one; shows = λ c since. refl; exact = λ c since. simp (cast_null, cast_whole) }
+beginning = record { insertion = inserts_one; fills = λ id v. refl; shows = λ c since. refl; exact = λ c since. simp (cast_null, cast_whole) }
 
 abbrev pub where_it_stands : List Term
 where_it_stands = op2 (Compare Eq Binary) (col 1 1) (col 0 0) ∷ op2 (Compare Eq Binary) (col 1 2) (col 0 1) ∷ op2 (Compare Eq Binary) (col 1 4) (lit (Int never)) ∷ []
@@ -44,11 +44,14 @@ all_three {b = b} {d = d} e p q = ap₂ (λ x y. x && (y && e)) p q ∙ grouped 
     grouped true y z = refl
     grouped false y z = refl
 
-pub closing : (party : ℕ) (word : List ℕ) → IsClosing table.role role_cells CLOSE.now 3 where_it_stands (close_terms 2 2) (whole party ∷ Text word ∷ []) (is_grant party word)
+pub closing : (party : ℕ) (word : List ℕ) → IsClosing table.role 2 role_cells CLOSE.now 3 where_it_stands (close_terms 2 2) (whole party ∷ Text word ∷ []) (is_grant party word)
 closing party word = record {
   update = updates_it;
   turning = λ stamp. record {
     read = λ db. refl;
+    fills = λ id v. refl;
+    tests_alike = λ r. refl;
+    shows_alike = λ r. refl;
     tests = λ id v.
         then_term (at_ints false Eq (pos v.what.party) (pos party)) (then_term (at_texts false Eq v.what.role word) (last_term (at_ints false Eq v.until never)))
         ∙ all_three (int_eq v.until never) (same_number v.what.party party) (same_text v.what.role word);

@@ -27,7 +27,7 @@ unfolding understood everything
 inserts_one indexes = record { command = refl; plain = (refl, refl); table = refl; one = λ _. refl; alone = λ _ _. refl }
 
 pub beginning : IsBeginning unit unit_cells BEGIN.now 5 3
-beginning = record { insertion = inserts_one; shows = λ c since. refl; exact = λ c since. simp (cast_null, cast_whole) }
+beginning = record { insertion = inserts_one; fills = λ id v. refl; shows = λ c since. refl; exact = λ c since. simp (cast_null, cast_whole) }
 
 abbrev pub where_it_stands : List Term
 where_it_stands = op2 (Compare Eq Binary) (col 1 1) (col 0 0) ∷ op2 (Compare Eq Binary) (col 1 5) (lit (Int never)) ∷ []
@@ -36,11 +36,14 @@ updates_it : (indexes : List Index) → IsUpdate (land_with indexes) CLOSE.now 5
 unfolding understood everything
 updates_it indexes = record { command = refl; plain = (refl, refl); table = refl; alone = λ _ _ _. refl }
 
-pub closing : (number : ℕ) → IsClosing unit unit_cells CLOSE.now 5 where_it_stands (close_terms 3 1) (whole number ∷ []) (is_unit number)
+pub closing : (number : ℕ) → IsClosing unit 3 unit_cells CLOSE.now 5 where_it_stands (close_terms 3 1) (whole number ∷ []) (is_unit number)
 closing number = record {
   update = updates_it;
   turning = λ stamp. record {
     read = λ db. refl;
+    fills = λ id v. refl;
+    tests_alike = λ r. refl;
+    shows_alike = λ r. refl;
     tests = λ id v. then_term (at_ints false Eq (pos v.what.number) (pos number)) (last_term (at_ints false Eq v.until never)) ∙ ap (λ b. b && int_eq v.until never) (same_number v.what.number number);
     id_shown = λ r. refl;
     writes = λ id v. simp (cast_whole);

@@ -8,6 +8,7 @@ use Rattle.land_rows.proofs.Puts.{puts_are}
 use Rattle.land_rows.proofs.Rewrites.{among_is, filter_by, turned_are, without_is}
 use Rattle.land_rows.proofs.Statements.{IsUpdated, bare}
 use Rattle.land_rows.specs.Forms.{Form, Holds, Turns, AreNumbered}
+use Rattle.land_rows.specs.Looks.{columns_from}
 use Rattle.land_schema.specs.Land.{land_with}
 use Rattle.sqlite.specs.Cast.{cast_row}
 use Rattle.sqlite.specs.Edit.{edit_of}
@@ -70,9 +71,13 @@ has_is : (ids : List ℤ) (r : Row) → is_int (rowid r) ≡ true → list_any (
 has_is [] r whole = refl
 has_is (id ∷ ids) r whole = ap₂ ◌||◌ (ap is_eq (ap (λ v. value_cmp v (Int id)) (int_is (rowid r) whole) ∙ value_cmp-Int (id_in (rowid r)) id)) (has_is ids r whole)
 
--- how a statement turns the things of a table: it finds those that pass, and writes each anew under its rowid
+-- How a statement turns the things of a table: it finds those that pass, and writes each anew under its rowid. Of a row it looks at its rowid and at the
+-- columns that count, and at nothing else.
 pub record IsTurning {X : Type 0} (form : Form X) (filter project : List Term) (params : Row) (passing : X → Bool) (turn : X → X) : Type 0 where
   pub read : (db : Trees) → overlay db [] form.table.tree ≡ db form.table.tree
+  pub fills : (id : ℤ) (x : X) → columns_from 1 form.width (Int id ∷ form.cells x) ≡ form.cells x
+  pub tests_alike : (r : Row) → passes filter params r ≡ passes filter params (rowid r ∷ columns_from 1 form.width r)
+  pub shows_alike : (r : Row) → eval_all project (params ∷ r ∷ []) ≡ eval_all project (params ∷ (rowid r ∷ columns_from 1 form.width r) ∷ [])
   pub tests : (id : ℤ) (x : X) → passes filter params (Int id ∷ form.cells x) ≡ passing x
   pub id_shown : (r : Row) → rowid (eval_all project (params ∷ r ∷ [])) ≡ rowid r
   pub writes : (id : ℤ) (x : X) → cast_row (bare form.table) (drop 1 (eval_all project (params ∷ (Int id ∷ form.cells x) ∷ []))) ≡ Int id ∷ form.cells (turn x)
@@ -82,7 +87,11 @@ abbrev pub turned : {X : Type 0} → (X → Bool) → (X → X) → X → X
 turned passing turn x = cond (passing x) (turn x) x
 
 module _ {X : Type 0} (form : Form X) (filter project : List Term) (params : Row) (passing : X → Bool) (turn : X → X) (is : IsTurning form filter project params passing turn) (l : List Row) (xs : List X)
-    (rows_are : IsPermutation (map (drop 1) l) (map form.cells xs)) (n : AreNumbered l) where
+    (rows_are : IsPermutation (map (columns_from 1 form.width) l) (map form.cells xs)) (n : AreNumbered l) where
+  -- the columns of a row that count
+  abbrev cells_in : Row → Row
+  cells_in r = columns_from 1 form.width r
+
   -- what is written for a row
   abbrev written : Row → Row
   written r = cast_row (bare form.table) (drop 1 (eval_all project (params ∷ r ∷ [])))
@@ -92,57 +101,69 @@ module _ {X : Type 0} (form : Form X) (filter project : List Term) (params : Row
 
   -- what that is for the cells of a row
   abbrev cell_step : Row → Row
-  cell_step c = drop 1 (step (Int (pos 0) ∷ c))
+  cell_step c = cells_in (step (Int (pos 0) ∷ c))
 
   -- each row is one of a thing, under its rowid
   abbrev IsOne : Row → Type 0
-  IsOne r = (x : X) × (r ≡ Int (id_in (rowid r)) ∷ form.cells x)
+  IsOne r = (x : X) × (rowid r ≡ Int (id_in (rowid r))) × (cells_in r ≡ form.cells x)
 
   all_cells : (ys : List X) → AllByRecursion (λ c. (x : X) × (c ≡ form.cells x)) (map form.cells ys)
   all_cells [] = tt
   all_cells (y ∷ ys) = ((y, refl), all_cells ys)
 
-  one_of : (r : Row) → is_int (rowid r) ≡ true → (x : X) × (drop 1 r ≡ form.cells x) → IsOne r
-  one_of [] whole one = absurd (let e = whole in cc)
-  one_of (v ∷ cs) whole one = (one.0, ap₂ (λ a b. a ∷ b) (int_is v whole) one.1)
-
-  ones_of : (rs : List Row) → AllByRecursion (λ r. is_int (rowid r) ≡ true) rs → AllByRecursion (λ c. (x : X) × (c ≡ form.cells x)) (map (drop 1) rs) → AllByRecursion IsOne rs
+  ones_of : (rs : List Row) → AllByRecursion (λ r. is_int (rowid r) ≡ true) rs → AllByRecursion (λ c. (x : X) × (c ≡ form.cells x)) (map cells_in rs) → AllByRecursion IsOne rs
   ones_of [] whole all = tt
-  ones_of (r ∷ rs) whole all = (one_of r whole.0 all.0, ones_of rs whole.1 all.1)
+  ones_of (r ∷ rs) whole all = ((all.0.0, int_is (rowid r) whole.0, all.0.1), ones_of rs whole.1 all.1)
 
   ones : AllByRecursion IsOne l
   ones = ones_of l (all_from_test (λ r. is_int (rowid r)) l n.whole)
-      (all-permutation (λ c. (x : X) × (c ≡ form.cells x)) (map form.cells xs) (map (drop 1) l) (IsPermutation-sym (map (drop 1) l) (map form.cells xs) rows_are) (all_cells xs))
+      (all-permutation (λ c. (x : X) × (c ≡ form.cells x)) (map form.cells xs) (map cells_in l) (IsPermutation-sym (map cells_in l) (map form.cells xs) rows_are) (all_cells xs))
 
-  step_one : (id : ℤ) (x : X) → step (Int id ∷ form.cells x) ≡ Int id ∷ form.cells (turned passing turn x)
-  step_one id x = ap₂ (λ b w. cond b w (Int id ∷ form.cells x)) (is.tests id x) (is.writes id x) ∙ chosen (passing x)
+  -- what is seen of a row that is one of a thing
+  seen : (r : Row) (one : IsOne r) → rowid r ∷ cells_in r ≡ Int (id_in (rowid r)) ∷ form.cells one.0
+  seen r one = ap₂ (λ a b. a ∷ b) one.1 one.2
+
+  passes_if : (r : Row) (one : IsOne r) → passes filter params r ≡ passing one.0
+  passes_if r one = is.tests_alike r ∙ ap (passes filter params) (seen r one) ∙ is.tests (id_in (rowid r)) one.0
+
+  written_is : (r : Row) (one : IsOne r) → written r ≡ Int (id_in (rowid r)) ∷ form.cells (turn one.0)
+  written_is r one = ap (λ s. cast_row (bare form.table) (drop 1 s)) (is.shows_alike r ∙ ap (λ s. eval_all project (params ∷ s ∷ [])) (seen r one)) ∙ is.writes (id_in (rowid r)) one.0
+
+  -- a row that is one of a thing is turned with it
+  step_cells : (r : Row) (one : IsOne r) → cells_in (step r) ≡ form.cells (turned passing turn one.0)
+  step_cells r one = ap₂ (λ b w. cells_in (cond b w r)) (passes_if r one) (written_is r one) ∙ chosen (passing one.0)
     where
-      chosen : (b : Bool) → cond b (Int id ∷ form.cells (turn x)) (Int id ∷ form.cells x) ≡ Int id ∷ form.cells (cond b (turn x) x)
-      chosen true = refl
+      chosen : (b : Bool) → cells_in (cond b (Int (id_in (rowid r)) ∷ form.cells (turn one.0)) r) ≡ form.cells (cond b (turn one.0) one.0)
+      chosen true = is.fills (id_in (rowid r)) (turn one.0)
+      chosen false = one.2
+
+  -- and keeps its rowid
+  step_id : (r : Row) (one : IsOne r) → rowid r ≡ rowid (step r)
+  step_id r one = chosen (passes filter params r)
+    where
+      chosen : (b : Bool) → rowid r ≡ rowid (cond b (written r) r)
+      chosen true = one.1 ∙ sym (ap rowid (written_is r one))
       chosen false = refl
 
-  stepped : (rs : List Row) → AllByRecursion IsOne rs → map (drop 1) (map step rs) ≡ map cell_step (map (drop 1) rs)
+  cells_step : (c : Row) (x : X) → c ≡ form.cells x → cell_step c ≡ form.cells (turned passing turn x)
+  cells_step c x is_x = step_cells (Int (pos 0) ∷ c) (x, refl, ap (λ d. cells_in (Int (pos 0) ∷ d)) is_x ∙ is.fills (pos 0) x)
+
+  stepped : (rs : List Row) → AllByRecursion IsOne rs → map cells_in (map step rs) ≡ map cell_step (map cells_in rs)
   stepped [] all = refl
-  stepped (r ∷ rs) all =
-      let x = all.0.0 in
-      let here : drop 1 (step r) ≡ cell_step (drop 1 r) =
-      ap (λ s. drop 1 (step s)) all.0.1 ∙ ap (drop 1) (step_one (id_in (rowid r)) x) ∙ sym (ap (λ s. cell_step (drop 1 s)) all.0.1 ∙ ap (drop 1) (step_one (pos 0) x)) in
-      ap₂ (λ a b. a ∷ b) here (stepped rs all.1)
+  stepped (r ∷ rs) all = ap₂ (λ a b. a ∷ b) (step_cells r all.0 ∙ sym (cells_step (cells_in r) all.0.0 all.0.2)) (stepped rs all.1)
 
   same_ids : (rs : List Row) → AllByRecursion IsOne rs → map rowid rs ≡ map rowid (map step rs)
   same_ids [] all = refl
-  same_ids (r ∷ rs) all =
-      let here : rowid r ≡ rowid (step r) = ap rowid all.0.1 ∙ sym (ap (λ s. rowid (step s)) all.0.1 ∙ ap rowid (step_one (id_in (rowid r)) all.0.0)) in
-      ap₂ (λ a b. a ∷ b) here (same_ids rs all.1)
+  same_ids (r ∷ rs) all = ap₂ (λ a b. a ∷ b) (step_id r all.0) (same_ids rs all.1)
 
   cells_stepped : (ys : List X) → map cell_step (map form.cells ys) ≡ map form.cells (map (turned passing turn) ys)
   cells_stepped [] = refl
-  cells_stepped (y ∷ ys) = ap₂ (λ a b. a ∷ b) (ap (drop 1) (step_one (pos 0) y)) (cells_stepped ys)
+  cells_stepped (y ∷ ys) = ap₂ (λ a b. a ∷ b) (cells_step (form.cells y) y refl) (cells_stepped ys)
 
   -- the rows, each turned if it passes, are those of the things, each turned if it passes
-  turned_rows : IsPermutation (map (drop 1) (map step l)) (map form.cells (map (turned passing turn) xs))
+  turned_rows : IsPermutation (map cells_in (map step l)) (map form.cells (map (turned passing turn) xs))
   turned_rows = subst (λ a. IsPermutation a (map form.cells (map (turned passing turn) xs))) (sym (stepped l ones))
-      (subst (IsPermutation (map cell_step (map (drop 1) l))) (cells_stepped xs) (IsPermutation-map cell_step (map (drop 1) l) (map form.cells xs) rows_are))
+      (subst (IsPermutation (map cell_step (map cells_in l))) (cells_stepped xs) (IsPermutation-map cell_step (map cells_in l) (map form.cells xs) rows_are))
 
   turned_numbered : AreNumbered (map step l)
   turned_numbered = numbered_same l (map step l) (same_ids l ones) n
@@ -189,8 +210,8 @@ module _ {X : Type 0} (form : Form X) (filter project : List Term) (params : Row
     holds_turned new new_is =
         let moved : IsPermutation (map step l) (new form.table.tree) = subst (IsPermutation (map step l)) (sym new_is) updated_rows in
         record {
-          rows = IsPermutation-trans (map (drop 1) (new form.table.tree)) (map (drop 1) (map step l)) (map form.cells (map (turned passing turn) xs))
-              (IsPermutation-sym (map (drop 1) (map step l)) (map (drop 1) (new form.table.tree)) (IsPermutation-map (drop 1) (map step l) (new form.table.tree) moved)) turned_rows;
+          rows = IsPermutation-trans (map cells_in (new form.table.tree)) (map cells_in (map step l)) (map form.cells (map (turned passing turn) xs))
+              (IsPermutation-sym (map cells_in (map step l)) (map cells_in (new form.table.tree)) (IsPermutation-map cells_in (map step l) (new form.table.tree) moved)) turned_rows;
           numbered = numbered_anyhow (map step l) (new form.table.tree) moved turned_numbered;
         }
 

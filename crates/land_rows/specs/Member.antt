@@ -16,7 +16,7 @@ abbrev pub member_cells : MemberRow → Row
 member_cells r = whole r.grp ∷ whole r.party ∷ whole r.num ∷ whole r.den ∷ []
 
 abbrev pub members : Form (Version MemberRow)
-members = versions_in member member_cells
+members = versions_in member 4 member_cells
 
 -- whether it is a member of that group
 abbrev pub is_member_of : ℕ → MemberRow → Bool

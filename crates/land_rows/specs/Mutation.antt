@@ -23,7 +23,7 @@ abbrev pub mutation_cells : MutationRow → Row
 mutation_cells r = whole r.number ∷ whole r.lodger ∷ Text r.reference ∷ whole r.source ∷ Int r.lodged ∷ Text r.act ∷ Text r.content ∷ Text r.state ∷ []
 
 abbrev pub mutations : Form (Version MutationRow)
-mutations = versions_in mutation mutation_cells
+mutations = versions_in mutation 8 mutation_cells
 
 -- whether it is that mutation
 abbrev pub is_mutation : ℕ → MutationRow → Bool

@@ -14,4 +14,4 @@ abbrev pub names_cells : NamesRow → Row
 names_cells r = whole r.mutation ∷ whole r.unit ∷ []
 
 abbrev pub namings : Form (Version NamesRow)
-namings = versions_in names names_cells
+namings = versions_in names 2 names_cells

@@ -18,7 +18,7 @@ abbrev pub parcel_cells : ParcelRow → Row
 parcel_cells r = whole r.number ∷ whole r.unit ∷ Text r.label ∷ Text r.outline ∷ whole r.source ∷ []
 
 abbrev pub parcels : Form (Version ParcelRow)
-parcels = versions_in parcel parcel_cells
+parcels = versions_in parcel 5 parcel_cells
 
 -- whether it is that parcel
 abbrev pub is_parcel : ℕ → ParcelRow → Bool

@@ -16,7 +16,7 @@ abbrev pub party_cells : PartyRow → Row
 party_cells p = whole p.number ∷ Text p.name ∷ Text p.kind ∷ []
 
 abbrev pub parties : Form (Version PartyRow)
-parties = versions_in party party_cells
+parties = versions_in party 3 party_cells
 
 -- whether it is that party
 abbrev pub is_party : ℕ → PartyRow → Bool

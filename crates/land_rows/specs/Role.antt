@@ -15,7 +15,7 @@ abbrev pub role_cells : RoleRow → Row
 role_cells r = whole r.party ∷ Text r.role ∷ []
 
 abbrev pub roles : Form (Version RoleRow)
-roles = versions_in role role_cells
+roles = versions_in role 2 role_cells
 
 -- whether it is that role of that party
 abbrev pub is_grant : ℕ → List ℕ → RoleRow → Bool

@@ -29,7 +29,7 @@ rrr_cells r = whole r.number ∷ whole r.unit ∷ whole r.party ∷ Text r.class
     ∷ or_null whole r.place ∷ or_null Text r.words ∷ whole r.source ∷ []
 
 abbrev pub rrrs : Form (Version RrrRow)
-rrrs = versions_in rrr rrr_cells
+rrrs = versions_in rrr 11 rrr_cells
 
 -- whether it is that entry
 abbrev pub is_rrr : ℕ → RrrRow → Bool

@@ -16,7 +16,7 @@ abbrev pub source_cells : SourceRow → Row
 source_cells r = whole r.number ∷ Text r.kind ∷ Text r.title ∷ []
 
 abbrev pub sources : Form (Version SourceRow)
-sources = versions_in source source_cells
+sources = versions_in source 3 source_cells
 
 -- whether it is that source
 abbrev pub is_source : ℕ → SourceRow → Bool

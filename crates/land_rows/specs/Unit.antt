@@ -16,7 +16,7 @@ abbrev pub unit_cells : UnitRow → Row
 unit_cells r = whole r.number ∷ Text r.name ∷ flag r.checked ∷ []
 
 abbrev pub units : Form (Version UnitRow)
-units = versions_in unit unit_cells
+units = versions_in unit 3 unit_cells
 
 -- whether it is that unit
 abbrev pub is_unit : ℕ → UnitRow → Bool

@@ -1,5 +1,5 @@
 -- Versions of records: what holds from one moment on and before another (LADM: VersionedObject).
-use Rattle.std.specs.Prelude.{ℕ, ℤ, pos, Bool, ◌&&◌, [], ◌∷◌, ◌++◌, if◌then◌else◌}
+use Rattle.std.specs.Prelude.{ℕ, suc, ℤ, pos, Bool, ◌&&◌, [], ◌∷◌, ◌++◌, if◌then◌else◌}
 use Rattle.std.specs.Ordering.{int_eq}
 use Rattle.land_rows.specs.Forms.{Form}
 use Rattle.sqlite_schema.specs.declared.schema.Table.{Table}
@@ -33,6 +33,6 @@ whole n = Int (pos n)
 abbrev pub flag : Bool → Value
 flag b = Int (if b then pos 1 else pos 0)
 
--- how versions are laid in the rows of a versioned table: the cells of what they are of, then the two ends of the lifespan
-abbrev pub versions_in : {C : Type 0} → Table → (C → Row) → Form (Version C)
-versions_in table cells = record { table = table; cells = λ v. cells v.what ++ Int v.since ∷ Int v.until ∷ [] }
+-- how versions are laid in the rows of a versioned table: some number of cells of what they are of, then the two ends of the lifespan
+abbrev pub versions_in : {C : Type 0} → Table → (count : ℕ) → (C → Row) → Form (Version C)
+versions_in table count cells = record { table = table; width = suc (suc count); cells = λ v. cells v.what ++ Int v.since ∷ Int v.until ∷ [] }

@@ -3,4 +3,5 @@
 
 pub mod cells;
 pub mod creation;
+pub mod openness;
 pub mod tables;

@@ -9,4 +9,4 @@ use Rattle.land_rows.proofs.tables.edition.all.Goals as goal
 
 pub returns-clause-look : goal.returns-clause-look
 returns-clause-look g c =
-    looks 0 ALL.now (col 1 0 ∷ col 1 2 ∷ []) (λ r. column r 0 ∷ column r 2 ∷ []) listing (state g.S.Store c.args.conn.now) (state g.S.Store c.query_all.new.self) (λ rows. rows.items) c.query_all.result c.requires c.query_all.ensures.ok c.query_all.ensures.survives
+    looks 0 ALL.now (col 1 0 ∷ col 1 2 ∷ []) (λ r. column r 0 ∷ column r 2 ∷ []) listing (state g.S.Store c.args.conn.now) (state g.S.Store c.query_all.new.self) (λ rows. rows.items) c.query_all.result c.requires c.query_all.ensures.ok c.query_all.ensures.err c.query_all.ensures.survives

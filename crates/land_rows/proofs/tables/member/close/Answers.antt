@@ -15,5 +15,5 @@ returns-clause-step g c =
     let e = c.execute.ensures in
     let stamp : to_z w64 (of_z w64 c.args.stamp) ≡ c.args.stamp = search rules in
     statement_steps g.S.Store c.args.tx.now.conn.now c.execute.new.self.conn.now _ _ _ (Turns members (closed (is_member_of c.args.grp) c.args.stamp)) c.execute.result e.ended e.runs e.survives
-    (λ clean count ran. closes member member_cells CLOSE.now 4 where_it_stands (close_terms 4 1) (whole c.args.grp ∷ []) (is_member_of c.args.grp) (closing c.args.grp) (state g.S.Store c.args.tx.now.conn.now) (state g.S.Store c.execute.new.self.conn.now) c.args.stamp count
+    (λ clean count ran. closes member 4 member_cells CLOSE.now 4 where_it_stands (close_terms 4 1) (whole c.args.grp ∷ []) (is_member_of c.args.grp) (closing c.args.grp) (state g.S.Store c.args.tx.now.conn.now) (state g.S.Store c.execute.new.self.conn.now) c.args.stamp count
     (c.requires.land clean) (rw (c.of_number.ensures, c.of_moment.ensures, stamp) at ran.0))

@@ -16,5 +16,5 @@ returns-clause-step g c =
     let stamp : to_z w64 (of_z w64 c.args.stamp) ≡ c.args.stamp = search rules in
     let number = c.args.number in
     statement_steps g.S.Store c.args.tx.now.conn.now c.execute.new.self.conn.now _ _ _ (Turns parties (closed (is_party number) c.args.stamp)) c.execute.result e.ended e.runs e.survives
-    (λ clean count ran. closes party party_cells CLOSE.now 2 where_it_stands (close_terms 3 1) (whole number ∷ []) (is_party number) (closing number) (state g.S.Store c.args.tx.now.conn.now) (state g.S.Store c.execute.new.self.conn.now) c.args.stamp count
+    (λ clean count ran. closes party 3 party_cells CLOSE.now 2 where_it_stands (close_terms 3 1) (whole number ∷ []) (is_party number) (closing number) (state g.S.Store c.args.tx.now.conn.now) (state g.S.Store c.execute.new.self.conn.now) c.args.stamp count
     (c.requires.land clean) (rw (c.of_number.ensures, c.of_moment.ensures, stamp) at ran.0))
