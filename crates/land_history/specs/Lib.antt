@@ -1,5 +1,11 @@
+-- Definitions of what stands at a moment, and of what a change makes of it.
 -- Definitions of what stands at a moment.
+pub mod Changed
 pub mod Groups
 pub mod History
 pub mod Intervals
+pub mod Lawful
+pub mod Laws
+pub mod Moments
+pub mod Open
 pub mod Standing

@@ -1,0 +1,111 @@
+-- Tests of what stands, and of what mutations name.
+use Rattle.std.proofs.Common.{◌≡◌, ℕ, Bool, true, false, cond, not, ◌||◌, ◌&&◌, List, [], ◌∷◌, flat_map, filter, map as map_list, refl, sym, ap, ◌∙◌, arith}
+use Rattle.std.proofs.lemmas.Bool.Decides.{nat_tests}
+use Rattle.std.proofs.lemmas.List.Folds.{list_all-append, list_all-map, list_any-append}
+use Rattle.std.specs.FinMap as map
+use Rattle.std.specs.FinMap.{FinMap}
+use Rattle.std.specs.List.{list_all, list_any}
+use Rattle.std.specs.Ordering.{nat_cmp}
+use Rattle.std.specs.Prelude.{ℤ, nat_eq}
+use Rattle.land_core.specs.Contents.{names_unit}
+use Rattle.land_core.specs.declared.content.Content.{Content}
+use Rattle.land_core.specs.declared.content.Content.TheVariants as content
+use Rattle.land_core.specs.declared.mutation.MutationRecord.{MutationRecord}
+use Rattle.land_history.specs.History.{named_units, namings_of}
+use Rattle.land_history.specs.Intervals.{is_same_naming}
+use Rattle.land_history.specs.Lawful.{are_listed, are_same_namings, is_among, is_listed, is_told}
+use Rattle.land_history.specs.Standing.{standing, stands}
+use Rattle.land_history.specs.declared.naming.Naming.{Naming}
+use Rattle.land_history.specs.declared.version.Version.{Version}
+
+-- a test of what some or all of the versions that stand are of
+pub any_standing : {X : Type 0} (t : ℤ) (p : X → Bool) (vs : List (Version X)) → list_any (λ v. stands t v && p v.what) vs ≡ list_any p (standing t vs)
+any_standing t p [] = refl
+any_standing {X} t p (v ∷ vs) = go (stands t v) (any_standing t p vs)
+  where
+    go : (b : Bool) → list_any (λ v. stands t v && p v.what) vs ≡ list_any p (standing t vs)
+        → ((b && p v.what) || list_any (λ (v : Version X). stands t v && p v.what) vs) ≡ list_any p (map_list (λ (v : Version X). v.what) (cond b (v ∷ filter (stands t) vs) (filter (stands t) vs)))
+    go true rest = ap (λ k. p v.what || k) rest
+    go false rest = rest
+
+pub all_standing : {X : Type 0} (t : ℤ) (p : X → Bool) (vs : List (Version X)) → list_all (λ v. not (stands t v) || p v.what) vs ≡ list_all p (standing t vs)
+all_standing t p [] = refl
+all_standing {X} t p (v ∷ vs) = go (stands t v) (all_standing t p vs)
+  where
+    go : (b : Bool) → list_all (λ v. not (stands t v) || p v.what) vs ≡ list_all p (standing t vs)
+        → ((not b || p v.what) && list_all (λ (v : Version X). not (stands t v) || p v.what) vs) ≡ list_all p (map_list (λ (v : Version X). v.what) (cond b (v ∷ filter (stands t) vs) (filter (stands t) vs)))
+    go true rest = ap (λ k. p v.what && k) rest
+    go false rest = rest
+
+-- the namings of one mutation
+abbrev pub naming_of : ℕ → ℕ → Naming
+naming_of mutation unit = record { mutation = mutation; unit = unit }
+
+abbrev named_by : ℕ × MutationRecord → List Naming
+named_by m = map_list (naming_of m.0) (named_units m.1.content)
+
+turned : (a b : ℕ) → nat_eq a b ≡ nat_eq b a
+turned a b = grind (arith, nat_tests)
+
+or_nothing : (a b : Bool) → (a && b) ≡ ((a && b) || false)
+or_nothing a b = grind arith
+
+listed : (n : Naming) (k : ℕ) (units : List ℕ) → (nat_eq n.mutation k && list_any (λ u. nat_eq u n.unit) units) ≡ list_any (is_same_naming n) (map_list (naming_of k) units)
+listed n k [] = nothing (nat_eq n.mutation k)
+  where
+    nothing : (a : Bool) → (a && false) ≡ false
+    nothing true = refl
+    nothing false = refl
+listed n k (u ∷ us) =
+    share (nat_eq n.mutation k) (nat_eq u n.unit) (list_any (λ u. nat_eq u n.unit) us) ∙ ap (λ b. (nat_eq n.mutation k && b) || (nat_eq n.mutation k && list_any (λ u. nat_eq u n.unit) us)) (turned u n.unit)
+    ∙ ap (λ b. (nat_eq n.mutation k && nat_eq n.unit u) || b) (listed n k us)
+  where
+    share : (a b c : Bool) → (a && (b || c)) ≡ ((a && b) || (a && c))
+    share true b c = refl
+    share false b c = refl
+
+or_false : (b : Bool) → b ≡ (b || false)
+or_false true = refl
+or_false false = refl
+
+in_content : (unit : ℕ) (c : Content) → names_unit unit c ≡ list_any (λ u. nat_eq u unit) (named_units c)
+in_content unit (content.Transfer it) = or_false (nat_eq it.unit unit)
+in_content unit (content.Subdivision it) = or_false (nat_eq it.unit unit)
+in_content unit (content.Merger it) = refl
+in_content unit (content.Mortgage it) = or_false (nat_eq it.unit unit)
+in_content unit (content.Discharge it) = or_false (nat_eq it.unit unit)
+
+-- some mutation names a naming
+pub any_named : (n : Naming) (es : List (ℕ × MutationRecord)) → list_any (λ e. nat_eq n.mutation e.0 && names_unit n.unit e.1.content) es ≡ list_any (is_same_naming n) (flat_map named_by es)
+any_named n [] = refl
+any_named n (e ∷ es) =
+    ap (λ b. (nat_eq n.mutation e.0 && b) || list_any (λ (e : ℕ × MutationRecord). nat_eq n.mutation e.0 && names_unit n.unit e.1.content) es) (in_content n.unit e.1.content)
+    ∙ ap (λ b. b || list_any (λ (e : ℕ × MutationRecord). nat_eq n.mutation e.0 && names_unit n.unit e.1.content) es) (listed n e.0 (named_units e.1.content))
+    ∙ ap (λ b. list_any (is_same_naming n) (named_by e) || b) (any_named n es) ∙ sym (list_any-append (is_same_naming n) (named_by e) (flat_map named_by es))
+
+-- a test of all namings of mutations
+pub all_named : (p : Naming → Bool) (es : List (ℕ × MutationRecord)) → list_all (λ e. list_all (λ u. p (naming_of e.0 u)) (named_units e.1.content)) es ≡ list_all p (flat_map named_by es)
+all_named p [] = refl
+all_named p (e ∷ es) =
+    ap (λ b. b && list_all (λ (e : ℕ × MutationRecord). list_all (λ u. p (naming_of e.0 u)) (named_units e.1.content)) es) (sym (list_all-map p (naming_of e.0) (named_units e.1.content)))
+    ∙ ap (λ b. list_all p (named_by e) && b) (all_named p es) ∙ sym (list_all-append p (named_by e) (flat_map named_by es))
+
+-- tests that agree
+all_alike : {X : Type 0} (p q : X → Bool) → ((x : X) → p x ≡ q x) → (xs : List X) → list_all p xs ≡ list_all q xs
+all_alike p q same [] = refl
+all_alike p q same (x ∷ xs) = ap (λ b. b && list_all p xs) (same x) ∙ ap (λ b. q x && b) (all_alike p q same xs)
+
+-- what stands is told by the mutations, and what they tell stands
+module _ (t : ℤ) (versions : List (Version Naming)) (mutations : FinMap nat_cmp MutationRecord) where
+  told_all : list_all (λ v. not (stands t v) || is_told mutations v.what) versions ≡ list_all (is_among (namings_of mutations)) (standing t versions)
+  told_all = all_standing t (is_told mutations) versions ∙ all_alike (is_told mutations) (is_among (namings_of mutations)) (λ n. any_named n (map.entries mutations)) (standing t versions)
+
+  listed_all : list_all (λ e. are_listed t versions e.0 e.1.content) (map.entries mutations) ≡ list_all (is_among (standing t versions)) (namings_of mutations)
+  listed_all = all_named (is_listed t versions) (map.entries mutations) ∙ all_alike (is_listed t versions) (is_among (standing t versions)) (λ n. any_standing t (is_same_naming n) versions) (namings_of mutations)
+
+  pub both_told : (one other : Bool) → one ≡ list_all (λ v. not (stands t v) || is_told mutations v.what) versions
+      → other ≡ list_all (λ e. are_listed t versions e.0 e.1.content) (map.entries mutations) → (one && other) ≡ are_same_namings (standing t versions) (namings_of mutations)
+  both_told one other a b = ap (λ k. k && other) (a ∙ told_all) ∙ ap (λ k. list_all (is_among (namings_of mutations)) (standing t versions) && k) (b ∙ listed_all)
+
+  pub none_told : (one : Bool) → one ≡ false → one ≡ list_all (λ v. not (stands t v) || is_told mutations v.what) versions → one ≡ are_same_namings (standing t versions) (namings_of mutations)
+  none_told one is a = is ∙ sym (ap (λ k. k && list_all (is_among (standing t versions)) (namings_of mutations)) (sym (a ∙ told_all) ∙ is))

@@ -1,0 +1,4 @@
+-- Definitions of the timeline that versions stand for.
+pub mod Laws
+pub mod Timelines
+pub mod Writing

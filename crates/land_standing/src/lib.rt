@@ -1,0 +1,5 @@
+//! Which timeline the versions of a history stand for.
+#![tactic(auto)]
+
+pub mod laws;
+pub mod writing_laws;
