@@ -149,7 +149,7 @@ parts_depth : (parts : List Part) → items_depth (items_of (map part_data parts
 parts_depth [] = omega arith
 parts_depth (part ∷ parts) = omega (arith, part_depth part, parts_depth parts)
 
-exact : (it : Content) → is_well_formed_content it ≡ true → is_exact (content_data it) ≡ true
+pub exact : (it : Content) → is_well_formed_content it ≡ true → is_exact (content_data it) ≡ true
 exact (content.Transfer it) e = let h = transferred it e in rw (fits it.unit h.unit, fits it.right h.right, fits it.receiver h.receiver) refl
 exact (content.Subdivision it) e = let h = divided it e in rw (fits it.unit h.unit, fits it.parcel h.parcel, parts_exact it.rest) refl
 exact (content.Merger it) e = let h = merged it e in rw (fits it.unit h.unit, numbers_exact it.others h.others, numbers_exact it.parcels h.parcels) refl
@@ -187,7 +187,7 @@ answered printing one ring h (Ok other) right = ap Ok (printing.alone ring other
 answered printing one ring h (Err f) right = absurd (one.not_both (printed ring) ring f (printing.stands ring h) right)
 
 module _ (shares : SameFractionLaw) (printing : PrintedLaw) (one : OneAnswerLaw) (answers : OutlinesHaveTheirAnswers) where
-  outline_is_read : (ring : List Place) → IsOutline ring → outline_of (printed ring) ≡ Ok ring
+  pub outline_is_read : (ring : List Place) → IsOutline ring → outline_of (printed ring) ≡ Ok ring
   unfolding outline_of
   outline_is_read ring h = answered printing one ring h (answer_of (printed ring)) (answers (printed ring))
 

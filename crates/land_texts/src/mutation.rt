@@ -88,7 +88,8 @@ pub fn act_word(content: &Content) -> &'static str
     }
 }
 
-fn state_word(state: MutationState) -> &'static str
+/// The word for how far a mutation has come.
+pub fn state_word(state: MutationState) -> &'static str
     ensures { result.now ≡ state_word state }
 {
     match state {

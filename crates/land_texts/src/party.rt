@@ -51,7 +51,8 @@ fn roles_value(alloc: Global, roles: &[Role]) -> Result<Value, AllocError>
     Ok(Value::Array(list))
 }
 
-fn kind_word(kind: PartyKind) -> &'static str
+/// The word for what a party is.
+pub fn kind_word(kind: PartyKind) -> &'static str
     ensures { result.now ≡ kind_word kind }
 {
     match kind {
@@ -61,7 +62,8 @@ fn kind_word(kind: PartyKind) -> &'static str
     }
 }
 
-fn role_word(role: Role) -> &'static str
+/// The word for a role.
+pub fn role_word(role: Role) -> &'static str
     ensures { result.now ≡ role_word role }
 {
     match role {

@@ -71,7 +71,8 @@ fn mortgage_value(
     json!(in alloc; {"amount": amount, "class": "mortgage", "currency": currency, "number": number, "party": party, "rank": rank, "source": source, "unit": unit})
 }
 
-fn right_word(right_type: RightType) -> &'static str
+/// The word for the type of a right.
+pub fn right_word(right_type: RightType) -> &'static str
     ensures { result.now ≡ right_word right_type }
 {
     match right_type {

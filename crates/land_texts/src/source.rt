@@ -17,7 +17,8 @@ pub(crate) fn source_value(alloc: Global, source: &Source) -> Result<Value, Allo
     json!(in alloc; {"kind": kind, "number": number, "title": title})
 }
 
-fn source_word(kind: SourceKind) -> &'static str
+/// The word for what a source is.
+pub fn source_word(kind: SourceKind) -> &'static str
     ensures { result.now ≡ source_word kind }
 {
     match kind {
