@@ -1,0 +1,2 @@
+-- Lemmas of what is recorded.
+pub mod Loops

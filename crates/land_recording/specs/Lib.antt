@@ -1,0 +1,2 @@
+-- Definitions of what a change of the register makes of its tables.
+pub mod Recording

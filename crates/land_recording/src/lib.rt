@@ -1,0 +1,14 @@
+//! A change of the register is written in its tables, statement by statement.
+#![tactic(auto)]
+
+pub mod all;
+pub mod member;
+pub mod mutation;
+pub mod naming;
+pub mod parcel;
+pub mod party;
+pub mod recorded;
+pub mod role;
+pub mod rrr;
+pub mod source;
+pub mod unit;
