@@ -1,0 +1,73 @@
+-- The rows of a new register stand for its timeline.
+use Rattle.std.proofs.Common.{◌≡◌, ℕ, true, IsTrue, List, [], flat_map, map as map_list, pos, refl, sym, ap, ◌∙◌, arith}
+use Rattle.std.specs.FinMap as map
+use Rattle.std.specs.Ordering.{nat_cmp}
+use Rattle.land_core.specs.declared.mutation.MutationRecord.{MutationRecord}
+use Rattle.land_history.proofs.Orders.{no_more}
+use Rattle.land_history.specs.History.{named_units, namings_of}
+use Rattle.land_history.specs.Standing.{standing}
+use Rattle.std.proofs.lemmas.List.Elements.{All-cons, All-nil}
+use Rattle.land_core.proofs.NewRegister.{new_is_sound}
+use Rattle.land_core.specs.Register.{new_register}
+use Rattle.land_history.specs.History.{register_at}
+use Rattle.land_history.specs.Lawful.{IsLawful, IsLawfulAt, are_same_namings}
+use Rattle.land_history.specs.declared.moment.Moment.{Moment}
+use Rattle.land_keep.specs.Moments.{IsMoment}
+use Rattle.land_keep.specs.Timeline.{IsSoundTimeline, new_timeline}
+use Rattle.land_rows.specs.Rows.{HoldsRows, IsNew, new_rows}
+use Rattle.land_standing.specs.Laws.{LawfulVersionsStand, OrderDoesNotMatter, VersionsStandForOne}
+use Rattle.land_standing.specs.Timelines.{StandsFor}
+use Rattle.land_tables.proofs.Tellings.{tells}
+use Rattle.land_tables.specs.Office.{IsNewOffice}
+use Rattle.land_tables.specs.Standing.{HoldsTimeline, timeline_in}
+use Rattle.land_writes.specs.Laws.{NewRegistersAreHeld}
+use Rattle.land_writes.specs.NewHistory.{new_history, new_moments}
+use Rattle.sqlite.specs.State.{State}
+use Rattle.sqlite_schema.specs.declared.schema.Schema.{Schema}
+use Rattle.sqlite_trees.specs.Tree.{Trees}
+
+abbrev first : Moment
+first = record { stamp = pos 0; next = 2 }
+
+register_is : register_at (pos 0) new_history 2 ≡ new_register
+register_is = refl
+
+no_mutations : map.entries (map.empty {X = MutationRecord} {R = nat_cmp}) ≡ []
+no_mutations = no_more _ (sym (map.len-entries map.empty) ∙ map.len-empty nat_cmp MutationRecord)
+
+none_named : are_same_namings (standing (pos 0) new_history.namings) (namings_of (register_at (pos 0) new_history 2).mutations) ≡ true
+none_named = ap (λ (entries : List (ℕ × MutationRecord)). are_same_namings [] (flat_map (λ m. map_list (λ unit. record { mutation = m.0; unit = unit }) (named_units m.1.content)) entries)) no_mutations
+
+lawful : IsLawful new_moments new_history
+lawful = record {
+  moments = refl;
+  each = All-cons (IsLawfulAt new_history) first [] (record { sound = new_is_sound; named = none_named }) (All-nil (IsLawfulAt new_history));
+}
+
+stands : LawfulVersionsStand → StandsFor new_moments new_history new_timeline × IsSoundTimeline new_timeline
+stands law = law new_moments new_history (All-cons (λ m. IsMoment m.stamp) first [] (omega arith, omega arith) (All-nil (λ m. IsMoment m.stamp))) refl lawful
+
+pub new_is_sound_too : LawfulVersionsStand → IsSoundTimeline new_timeline
+new_is_sound_too law = (stands law).1
+
+pub new_holds : LawfulVersionsStand → NewRegistersAreHeld → (db : Trees) → HoldsRows db new_rows → HoldsTimeline db new_timeline
+new_holds law held db rows = record { listed = new_moments; history = new_history; holds = (held db rows).history; stands = (stands law).0 }
+
+-- tables that were just made hold the new timeline
+module _ (law : LawfulVersionsStand) (held : NewRegistersAreHeld) (one : VersionsStandForOne) (order : OrderDoesNotMatter) (s : State) (new : IsNew s.now) where
+  tells_new : timeline_in s.now.trees ≡ new_timeline
+  tells_new = tells one order s.now.trees new_timeline (new_holds law held s.now.trees new.rows) (new_is_sound_too law)
+
+  pub new_office : s.committed ≡ s.now → IsTrue s.is_open → IsNewOffice s
+  new_office committed is_open = record {
+    office = record {
+      is_open = is_open;
+      committed = committed;
+      land = record { tables = ap (λ (t : Schema). t.tables) new.schema; views = ap (λ (t : Schema). t.views) new.schema };
+      holds = rw tells_new (new_holds law held s.now.trees new.rows);
+      sound = rw tells_new (new_is_sound_too law);
+      last = rw tells_new refl;
+      next = rw tells_new refl;
+    };
+    timeline = tells_new;
+  }

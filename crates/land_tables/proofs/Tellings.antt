@@ -1,0 +1,101 @@
+-- What the rows of a table say is one list, in whatever order.
+use Rattle.std.proofs.Common.{◌≡◌, List, [], ◌∷◌, map, Ok, Err, Result, refl, sym, ap, subst, IsPermutation}
+use Rattle.std.proofs.lemmas.List.Sorted.{IsPermutation-map, IsPermutation-refl, IsPermutation-sym, IsPermutation-trans, length_permutation}
+use Rattle.land_bodies.specs.declared.wire_fault.WireFault.{WireFault}
+use Rattle.land_history.proofs.Orders.{no_more}
+use Rattle.land_history.specs.declared.history.History.{History}
+use Rattle.land_history.specs.declared.moment.Moment.{Moment}
+use Rattle.land_keep.specs.Timeline.{IsSoundTimeline, Timeline}
+use Rattle.land_standing.specs.Laws.{IsReordered, OrderDoesNotMatter, VersionsStandForOne}
+use Rattle.land_standing.specs.Timelines.{StandsFor}
+use Rattle.land_tables.proofs.Readings.{some_each, says_read}
+use Rattle.land_tables.specs.Reading.{Listing, Says, SaysHistory, members, moments, mutations, namings, parcels, parties, roles, rrrs, sources, units}
+use Rattle.land_tables.specs.Standing.{HoldsTimeline, history_in, or_nothing, timeline_in, told_by}
+use Rattle.land_writes.specs.History.{HoldsHistory}
+use Rattle.sqlite_trees.specs.Tree.{Trees}
+
+value_or : {X : Type 0} → X → Result X WireFault → X
+value_or x (Ok y) = y
+value_or x (Err fault) = x
+
+values : {X : Type 0} (x : X) (ys : List X) → map (value_or x) (map (λ y. Ok y) ys) ≡ ys
+unfolding value_or
+values x [] = refl
+values x (y ∷ ys) = ap (λ l. y ∷ l) (values x ys)
+
+-- lists whose values are in some order the same
+pub same_values : {X : Type 0} (xs ys : List X) → IsPermutation {X = Result X WireFault} (map (λ x. Ok x) xs) (map (λ y. Ok y) ys) → IsPermutation xs ys
+same_values {X = X} [] ys h = subst (IsPermutation []) (sym (nothing ys (no_more (map (λ y. Ok y) ys) (length_permutation [] (map (λ y. Ok y) ys) h)))) (IsPermutation-refl [])
+  where
+    nothing : (zs : List X) → ◌≡◌ {A = List (Result X WireFault)} (map (λ y. Ok y) zs) [] → zs ≡ []
+    nothing [] e = refl
+    nothing (z ∷ zs) e = absurd (let f = e in cc)
+same_values (x ∷ xs) ys h =
+    subst (λ l. IsPermutation l ys) (values x (x ∷ xs)) (subst (IsPermutation (map (value_or x) (map (λ z. Ok z) (x ∷ xs)))) (values x ys) (IsPermutation-map (value_or x) (map (λ z. Ok z) (x ∷ xs)) (map (λ y. Ok y) ys) h))
+
+-- two lists that a table says are one, in whatever order
+pub says_same : {X : Type 0} (listing : Listing X) (db : Trees) (xs ys : List X) → Says listing db xs → Says listing db ys → IsPermutation xs ys
+says_same listing db xs ys one other =
+    let rows = map (λ r. listing.said (listing.shown r)) (db listing.table.tree) in
+    same_values xs ys (IsPermutation-trans (map (λ x. Ok x) xs) rows (map (λ y. Ok y) ys) (IsPermutation-sym rows (map (λ x. Ok x) xs) one) other)
+
+-- what a table says, if it says anything, is what it tells
+pub told_is : {X : Type 0} (listing : Listing X) (db : Trees) (xs : List X) → Says listing db xs → IsPermutation xs (told_by listing db)
+told_is listing db xs says =
+    let rows = map listing.shown (db listing.table.tree) in
+    let found = some_each listing db rows (IsPermutation-refl rows) xs says in
+    let tells : told_by listing db ≡ found.0 = ap or_nothing found.1 in
+    subst (IsPermutation xs) (sym tells) (says_same listing db xs found.0 says (says_read listing db rows (IsPermutation-refl rows) found.0 found.1))
+
+-- histories that the tables say are one, in whatever order
+pub says_reordered : (db : Trees) (one other : History) → SaysHistory db one → SaysHistory db other → IsReordered one other
+says_reordered db one other a b = record {
+  parties = says_same parties db one.parties other.parties a.parties b.parties;
+  roles = says_same roles db one.roles other.roles a.roles b.roles;
+  members = says_same members db one.members other.members a.members b.members;
+  units = says_same units db one.units other.units a.units b.units;
+  parcels = says_same parcels db one.parcels other.parcels a.parcels b.parcels;
+  rrrs = says_same rrrs db one.rrrs other.rrrs a.rrrs b.rrrs;
+  sources = says_same sources db one.sources other.sources a.sources b.sources;
+  mutations = says_same mutations db one.mutations other.mutations a.mutations b.mutations;
+  namings = says_same namings db one.namings other.namings a.namings b.namings;
+}
+
+told_reordered : (db : Trees) (h : History) → SaysHistory db h → IsReordered h (history_in db)
+told_reordered db h a = record {
+  parties = told_is parties db h.parties a.parties;
+  roles = told_is roles db h.roles a.roles;
+  members = told_is members db h.members a.members;
+  units = told_is units db h.units a.units;
+  parcels = told_is parcels db h.parcels a.parcels;
+  rrrs = told_is rrrs db h.rrrs a.rrrs;
+  sources = told_is sources db h.sources a.sources;
+  mutations = told_is mutations db h.mutations a.mutations;
+  namings = told_is namings db h.namings a.namings;
+}
+
+-- tables that hold a history say it
+pub held_is_said : (db : Trees) (listed : List Moment) (h : History) → HoldsHistory db listed h → SaysHistory db h
+held_is_said db listed h held = record {
+  parties = held.the_parties.said;
+  roles = held.the_roles.said;
+  members = held.the_members.said;
+  units = held.the_units.said;
+  parcels = held.the_parcels.said;
+  rrrs = held.the_rrrs.said;
+  sources = held.the_sources.said;
+  mutations = held.the_mutations.said;
+  namings = held.the_namings.said;
+}
+
+module _ (one : VersionsStandForOne) (order : OrderDoesNotMatter) (db : Trees) (tl : Timeline) (holds : HoldsTimeline db tl) where
+  -- tables that stand for a sound timeline tell it
+  pub tells : IsSoundTimeline tl → timeline_in db ≡ tl
+  tells sound = one (told_by moments db) (history_in db) tl
+      (order holds.listed (told_by moments db) holds.history (history_in db) tl holds.stands (told_is moments db holds.listed holds.holds.the_moments)
+      (told_reordered db holds.history (held_is_said db holds.listed holds.history holds.holds))) sound
+
+  -- whatever is read of tables that stand for a timeline stands for it
+  pub read_stands : (listed : List Moment) (h : History) → Says moments db listed → SaysHistory db h → StandsFor listed h tl
+  read_stands listed h the_moments the_history = order holds.listed listed holds.history h tl holds.stands (says_same moments db holds.listed listed holds.holds.the_moments the_moments)
+      (says_reordered db holds.history h (held_is_said db holds.listed holds.history holds.holds) the_history)

@@ -1,0 +1,22 @@
+use Rattle.land_keep.specs.Timeline.{new_timeline}
+use Rattle.land_rows.specs.Rows.{HoldsRows, new_rows}
+use Rattle.land_tables.proofs.News.{new_holds, new_office}
+use Rattle.land_tables.specs.Standing.{HoldsTimeline}
+use Rattle.sqlite.proofs.StateLemmas.{survives_weaker}
+use Rattle.sqlite.specs.Held.{state}
+use Rattle.land_tables.proofs.creating.begin_register.Goals as goal
+
+pub returns-in-Ok-clause-made : goal.returns-in-Ok-clause-made
+returns-in-Ok-clause-made g c clean =
+    let e = c.in-Ok.ensures in
+    new_office c.lawful_versions_stand.ensures c.new_registers_are_held.ensures c.versions_stand_for_one.ensures c.order_does_not_matter.ensures (state g.S.Store c.make_register.new.conn) (e.made clean) (e.committed clean) (e.open clean)
+
+pub returns-in-Ok-clause-crash : goal.returns-in-Ok-clause-crash
+returns-in-Ok-clause-crash g c =
+    survives_weaker (state g.S.Store c.args.conn.now) (state g.S.Store c.make_register.new.conn) (λ db. HoldsRows db new_rows) (λ db. HoldsTimeline db new_timeline)
+    (λ _ db rows. new_holds c.lawful_versions_stand.ensures c.new_registers_are_held.ensures db rows) c.in-Ok.ensures.crash
+
+pub returns-in-Err-clause-crash : goal.returns-in-Err-clause-crash
+returns-in-Err-clause-crash g c =
+    survives_weaker (state g.S.Store c.args.conn.now) (state g.S.Store c.make_register.new.conn) (λ db. HoldsRows db new_rows) (λ db. HoldsTimeline db new_timeline)
+    (λ _ db rows. new_holds c.lawful_versions_stand.ensures c.new_registers_are_held.ensures db rows) c.in-Err.ensures.crash

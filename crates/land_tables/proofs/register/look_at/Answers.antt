@@ -1,0 +1,16 @@
+use Rattle.std.proofs.Common.{of_z, rules, to_z, w64, ◌≡◌, subst}
+use Rattle.land_history.specs.History.{register_at}
+use Rattle.land_history.specs.Moments.{next_at}
+use Rattle.land_rows.proofs.Looking.{look_then}
+use Rattle.land_tables.specs.Reading.{SaysHistory}
+use Rattle.sqlite.specs.Held.{state}
+use Rattle.land_tables.proofs.register.look_at.Goals as goal
+
+pub returns-clause-look : goal.returns-clause-look
+returns-clause-look g c =
+    let h = c.in_ok-history.history in
+    let t : to_z w64 (of_z w64 c.args.at) ≡ c.args.at = search rules in
+    let next : c.next_at-next.result ≡ next_at c.in_ok-moments.moments c.args.at = search rules in
+    let value : c.in_ok-register_at.field-0 ≡ register_at c.args.at h (next_at c.in_ok-moments.moments c.args.at) = search rules in
+    look_then (state g.S.Store c.args.conn.now) (state g.S.Store c.moments.new.conn) (state g.S.Store c.history.new.conn) c.in_ok-moments.ensures.look c.in_ok-history.ensures.look
+    (λ _ same the_moments the_history. (c.in_ok-moments.moments, h, the_moments, subst (λ db. SaysHistory db.trees h) same the_history, value))

@@ -1,0 +1,36 @@
+//! A new register is made.
+ghost use Rattle.std.specs.Prelude.{◌≡◌, ◌≢◌, false, IsTrue, OnErr, OnOk};
+ghost use Rattle.land_keep.specs.Timeline.{new_timeline};
+ghost use Rattle.land_keep.specs.declared.store_fault.StoreFault.TheVariants as store;
+ghost use Rattle.land_schema.specs.Land.{no_schema};
+ghost use Rattle.land_tables.specs.Office.{IsNewOffice};
+ghost use Rattle.land_tables.specs.Standing.{HoldsTimeline};
+ghost use Rattle.sqlite.specs.Held.{state};
+ghost use Rattle.sqlite.specs.State.{HasCleanDisk, Survives};
+
+use crate::fault::store_fault;
+use land_keep::store_fault::StoreFault;
+use land_rows::creation::make_register;
+use land_standing::laws::{lawful_versions_stand, order_does_not_matter, versions_stand_for_one};
+use land_writes::laws::new_registers_are_held;
+use sqlite::{Alter, Connection};
+
+/// Makes the tables with a new register, in one transaction. A store that is open after a failure is as it was.
+pub(crate) fn begin_register<S: Alter>(conn: &mut Connection<S>) -> Result<(), StoreFault>
+    requires alone { conn.old.in_transaction ≡ false }
+    requires empty { HasCleanDisk (state S.Store conn.old) → (state S.Store conn.old).now.schema ≡ no_schema }
+    ensures made { HasCleanDisk (state S.Store conn.new) → OnOk result (IsNewOffice (state S.Store conn.new)) }
+    ensures neither { HasCleanDisk (state S.Store conn.new) → IsTrue (state S.Store conn.new).is_open
+        → OnErr result ((state S.Store conn.new).now ≡ (state S.Store conn.old).committed) }
+    ensures crash { Survives (state S.Store conn.old) (state S.Store conn.new) (λ db. HoldsTimeline db new_timeline) }
+    ensures ended { conn.new.in_transaction ≡ false }
+{
+    versions_stand_for_one();
+    order_does_not_matter();
+    lawful_versions_stand();
+    new_registers_are_held();
+    match make_register(conn) {
+        Ok(()) => Ok(()),
+        Err(error) => Err(store_fault(error)),
+    }
+}
