@@ -2,11 +2,17 @@
 #![tactic(auto)]
 
 pub mod all;
+pub mod change;
+mod estates;
+mod kinds;
+mod lists;
 pub mod member;
 pub mod mutation;
 pub mod naming;
+mod papers;
 pub mod parcel;
 pub mod party;
+mod people;
 pub mod recorded;
 pub mod role;
 pub mod rrr;
