@@ -5,7 +5,7 @@ pub mod clock;
 pub mod keeper;
 pub mod laws;
 pub mod machine;
-mod moments;
+pub mod moments;
 pub mod plain_keeper;
 pub mod prepared;
 pub mod reply;

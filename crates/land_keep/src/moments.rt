@@ -6,7 +6,7 @@ ghost use Rattle.land_keep.specs.Moments.{last_moment, now_after, stamp_after};
 use land_core::ask::Ask;
 
 /// The last moment that there is: the end of the year 2099 in UTC.
-const LAST_MOMENT: i64 = 4_102_444_799_999;
+pub const LAST_MOMENT: i64 = 4_102_444_799_999;
 
 /// Now, for a read, by the clock and the last stamp.
 pub(crate) fn now_at(clock: i64, last: i64) -> i64
@@ -28,7 +28,7 @@ pub(crate) fn stamp_at(clock: i64, last: i64) -> Option<i64>
 }
 
 /// The moment that an ask names.
-pub(crate) fn named_moment(ask: &Ask) -> Option<i64>
+pub fn named_moment(ask: &Ask) -> Option<i64>
     ensures { result ≡ at_of ask.now }
 {
     match ask {

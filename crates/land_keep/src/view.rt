@@ -38,7 +38,7 @@ pub struct View {
 }
 
 /// The unit that stands in a register, as a caller sees it, or `None`.
-pub(crate) fn view_of(
+pub fn view_of(
     alloc: Global,
     register: &Register,
     caller: Caller,

@@ -3,7 +3,9 @@
 pub mod Adopting
 pub mod Between
 pub mod Distinct
+pub mod IntervalOrders
 pub mod Latest
+pub mod Lawfulness
 pub mod Made
 pub mod MadeGroups
 pub mod Members

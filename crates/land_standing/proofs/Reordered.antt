@@ -31,7 +31,7 @@ all_permuted {X} p = along_permutation (λ xs ys. list_all p ys ≡ list_all p x
     (λ x y xs. and_turned (p y) (p x) (list_all p xs))
     (λ xs ys zs g h. h ∙ g)
 
-nine : {a b c d e f g h i j k l m n o p q r : Bool} → a ≡ j → b ≡ k → c ≡ l → d ≡ m → e ≡ n → f ≡ o → g ≡ p → h ≡ q → i ≡ r
+pub nine : {a b c d e f g h i j k l m n o p q r : Bool} → a ≡ j → b ≡ k → c ≡ l → d ≡ m → e ≡ n → f ≡ o → g ≡ p → h ≡ q → i ≡ r
     → (a && b && c && d && e && f && g && h && i) ≡ (j && k && l && m && n && o && p && q && r)
 nine a b c d e f g h i = cc
 
