@@ -1,0 +1,6 @@
+//! All rows of all tables, read as the moments and versions that they say.
+#![tactic(auto)]
+
+pub mod fault;
+pub mod history;
+pub mod reading;

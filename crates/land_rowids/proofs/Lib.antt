@@ -1,0 +1,3 @@
+-- Lemmas of rowids.
+pub mod Keyed
+pub mod Texts

@@ -1,0 +1,2 @@
+-- Definitions of tables whose rows lie under rowids of their own.
+pub mod Rowids
