@@ -61,11 +61,13 @@ module _ (law : LawfulVersionsStand) (held : NewRegistersAreHeld) (one : Version
   pub new_office : s.committed ≡ s.now → IsTrue s.is_open → IsNewOffice s
   new_office committed is_open = record {
     office = record {
-      is_open = is_open;
-      committed = committed;
-      land = record { tables = ap (λ (t : Schema). t.tables) new.schema; views = ap (λ (t : Schema). t.views) new.schema };
-      holds = rw tells_new (new_holds law held s.now.trees new.rows);
-      sound = rw tells_new (new_is_sound_too law);
+      register = record {
+        is_open = is_open;
+        committed = committed;
+        land = record { tables = ap (λ (t : Schema). t.tables) new.schema; views = ap (λ (t : Schema). t.views) new.schema };
+        holds = rw tells_new (new_holds law held s.now.trees new.rows);
+        sound = rw tells_new (new_is_sound_too law);
+      };
       last = rw tells_new refl;
       next = rw tells_new refl;
     };

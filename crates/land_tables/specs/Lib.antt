@@ -1,7 +1,7 @@
 -- Definitions of the register's timeline in tables.
+pub mod Adopting
 pub mod Calls
 pub mod Faults
-pub mod Groups
+pub mod Findings
 pub mod Office
-pub mod Reading
 pub mod Standing

@@ -3,12 +3,13 @@ use Rattle.std.specs.Prelude.{◌≡◌, ◌⊎◌, ◌≤ℤ◌, ℕ, ℤ, pos,
 use Rattle.std.specs.Coded.{Coded, code_by, coded×, coded_ℕ, coded_ℤ, coded_bool}
 use Rattle.land_keep.specs.Keeping.{IsLive}
 use Rattle.land_keep.specs.Moments.{last_moment}
-use Rattle.land_keep.specs.Timeline.{IsSoundTimeline, last_register, last_stamp, new_timeline}
+use Rattle.land_keep.specs.Timeline.{IsSoundTimeline, Timeline, last_register, last_stamp, new_timeline}
 use Rattle.land_schema.specs.Land.{IsLand}
 use Rattle.land_tables.specs.Standing.{HoldsTimeline, timeline_in}
 use Rattle.sqlite.specs.Held.{Held, held_code, state}
 use Rattle.sqlite.specs.State.{HasCleanDisk, State}
 use Rattle.sqlite.specs.Store.{Ghosts}
+use Rattle.sqlite_trees.specs.Tree.{Trees}
 
 -- a connection over tables, the last stamp, the next number after it, and whether a call of the store has failed
 pub record Office (S : Type 0) : Type 0 where
@@ -23,20 +24,32 @@ office_code {S} store =
     (λ o. (o.conn, (o.last, (o.next, o.is_closed)))) (λ p. record { conn = p.0; last = p.1.0; next = p.1.1.0; is_closed = p.1.1.1 }) (λ _. refl)
 
 -- an open store has the tables of a register and holds a sound timeline, all of it committed
-pub record IsOffice (s : State) (stamp : ℤ) (number : ℕ) : Type 0 where
+pub record HoldsRegister (s : State) : Type 0 where
   pub is_open : IsTrue s.is_open
   pub committed : s.committed ≡ s.now
   pub land : IsLand s.now.schema
   pub holds : HoldsTimeline s.now.trees (timeline_in s.now.trees)
   pub sound : IsSoundTimeline (timeline_in s.now.trees)
+
+-- these are its last stamp and the next number after it
+pub record IsOffice (s : State) (stamp : ℤ) (number : ℕ) : Type 0 where
+  pub register : HoldsRegister s
   pub last : stamp ≡ last_stamp (timeline_in s.now.trees)
   pub next : number ≡ (last_register (timeline_in s.now.trees)).next
+
+-- the timeline that tables hold
+abbrev pub held : {S : Type 0} → Ghosts S → Office S → Timeline
+held g o = timeline_in (state g o.conn).now.trees
+
+-- the store has given back what was written to it, so far
+abbrev pub IsHonest : {S : Type 0} → Ghosts S → Office S → Type 0
+IsHonest g o = HasCleanDisk (state g o.conn)
 
 -- what is true of tables between calls: no transaction is begun, and while nothing has failed and the store is honest they hold a timeline
 pub record IsWhole {S : Type 0} (g : Ghosts S) (o : Office S) : Type 0 where
   pub alone : o.conn.in_transaction ≡ false
   pub moment : o.last ≤ℤ last_moment
-  pub office : IsLive (HasCleanDisk (state g o.conn)) o.is_closed → IsOffice (state g o.conn) o.last o.next
+  pub office : IsLive (IsHonest g o) o.is_closed → IsOffice (state g o.conn) o.last o.next
 
 -- a new register was made: the tables hold the new timeline
 pub record IsNewOffice (s : State) : Type 0 where
@@ -45,9 +58,14 @@ pub record IsNewOffice (s : State) : Type 0 where
 
 -- tables that were just made are open and hold the new timeline
 pub record IsCreated {S : Type 0} (g : Ghosts S) (o : Office S) : Type 0 where
-  pub timeline : HasCleanDisk (state g o.conn) → timeline_in (state g o.conn).now.trees ≡ new_timeline
+  pub timeline : IsHonest g o → held g o ≡ new_timeline
   pub is_open : o.is_closed ≡ false
 
 -- a store that is open after a fault has what it had, or what was committed last
 abbrev pub IsKept : (old new : State) → Type 0
 IsKept old new = HasCleanDisk new → IsTrue new.is_open → (new.now ≡ old.now) ⊎ (new.now ≡ old.committed)
+
+-- what is answered of the rows of tables that hold a register
+pub record IsAnswer {T : Type 0} (answers : Trees → T → Type 0) (s : State) (it : T) : Type 0 where
+  pub register : HoldsRegister s
+  pub answer : answers s.now.trees it

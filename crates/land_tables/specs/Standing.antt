@@ -1,6 +1,5 @@
 -- The timeline that tables stand for.
-use Rattle.std.specs.Prelude.{◌≡◌, ℤ, List, [], map, Result, Ok, Err}
-use Rattle.land_bodies.specs.declared.wire_fault.WireFault.{WireFault}
+use Rattle.std.specs.Prelude.{◌≡◌, ℤ, List}
 use Rattle.land_core.specs.declared.register.Register.{Register}
 use Rattle.land_history.specs.History.{register_at}
 use Rattle.land_history.specs.Moments.{next_at}
@@ -8,32 +7,10 @@ use Rattle.land_history.specs.declared.history.History.{History}
 use Rattle.land_history.specs.declared.moment.Moment.{Moment}
 use Rattle.land_keep.specs.Timeline.{Timeline}
 use Rattle.land_standing.specs.Timelines.{StandsFor, timeline_of}
-use Rattle.land_tables.specs.Reading.{Listing, Says, SaysHistory, members, moments, mutations, namings, parcels, parties, roles, rrrs, sources, units}
-use Rattle.land_versions.specs.Readings.{each_of}
+use Rattle.land_listing.specs.Reading.{Says, SaysHistory, moments}
+use Rattle.land_listing.specs.Told.{history_in, told_by}
 use Rattle.land_writes.specs.History.{HoldsHistory}
 use Rattle.sqlite_trees.specs.Tree.{Trees}
-
--- what all rows of a table say, where each of them can be read
-abbrev pub or_nothing : {X : Type 0} → Result (List X) WireFault → List X
-or_nothing (Ok xs) = xs
-or_nothing (Err fault) = []
-
-abbrev pub told_by : {X : Type 0} → Listing X → Trees → List X
-told_by listing db = or_nothing (each_of listing.said (map listing.shown (db listing.table.tree)))
-
--- the history that tables hold
-abbrev pub history_in : Trees → History
-history_in db = record {
-  parties = told_by parties db;
-  roles = told_by roles db;
-  members = told_by members db;
-  units = told_by units db;
-  parcels = told_by parcels db;
-  rrrs = told_by rrrs db;
-  sources = told_by sources db;
-  mutations = told_by mutations db;
-  namings = told_by namings db;
-}
 
 -- the timeline that tables stand for, if they stand for one
 abbrev pub timeline_in : Trees → Timeline

@@ -1,10 +1,9 @@
 //! Faults of stores that are taken for a register's.
 ghost use Rattle.std.specs.Prelude.{◌≡◌, ◌≢◌};
 ghost use Rattle.land_keep.specs.declared.store_fault.StoreFault.TheVariants as store;
-ghost use Rattle.land_tables.specs.Faults.{of_error, of_wire};
 
-use land_bodies::wire_fault::WireFault;
 use land_keep::store_fault::StoreFault;
+use land_listing::fault::ReadFault;
 use sqlite::{Error, ErrorCode};
 use std::alloc::AllocError;
 
@@ -53,30 +52,17 @@ impl From<AllocError> for AdoptFault {
     }
 }
 
-/// A failed call of the store: want of memory, or another cause.
-impl From<Error> for AdoptFault {
-    ghost use Rattle.land_tables.specs.Faults.{of_error};
+/// Why rows were not read, as the caller is told it.
+impl From<ReadFault> for AdoptFault {
+    ghost use Rattle.land_tables.specs.Faults.{of_read};
 
-    ghost from_gives = { λ error fault. fault ≡ of_error error };
+    ghost from_gives = { λ error fault. fault ≡ of_read error };
 
-    fn from(error: Error) -> AdoptFault {
+    fn from(error: ReadFault) -> AdoptFault {
         match error {
-            Error::SqliteFailure(ErrorCode::OutOfMemory) => AdoptFault::NoMemory,
-            _ => AdoptFault::Store,
-        }
-    }
-}
-
-/// A value that cannot be read: want of memory, or a value that is none of its field.
-impl From<WireFault> for AdoptFault {
-    ghost use Rattle.land_tables.specs.Faults.{of_wire};
-
-    ghost from_gives = { λ error fault. fault ≡ of_wire error };
-
-    fn from(error: WireFault) -> AdoptFault {
-        match error {
-            WireFault::NoMemory => AdoptFault::NoMemory,
-            _ => AdoptFault::NotOurs,
+            ReadFault::Unreadable => AdoptFault::NotOurs,
+            ReadFault::NoMemory => AdoptFault::NoMemory,
+            ReadFault::Store => AdoptFault::Store,
         }
     }
 }

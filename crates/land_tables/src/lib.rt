@@ -1,9 +1,13 @@
 //! The register's timeline in versioned tables of `sqlite`.
 #![tactic(auto)]
 
+mod adopting;
 mod creating;
 pub mod fault;
-mod history;
-mod reading;
+mod finding;
+mod judging;
+pub mod question;
 mod register;
+pub mod table_keeper;
 pub mod tables;
+mod writing;

@@ -1,21 +1,26 @@
 //! The register at a moment, read from whole tables.
-ghost use Rattle.std.specs.Prelude.{◌≡◌, ◌≢◌, false};
+ghost use Rattle.std.specs.Prelude.{◌≡◌, ◌≢◌, false, Err};
 ghost use Rattle.land_rows.specs.Looks.{IsLook};
 ghost use Rattle.land_schema.specs.Land.{IsLand};
 ghost use Rattle.land_tables.specs.Calls.{IsSafeRead};
-ghost use Rattle.land_tables.specs.Standing.{ReadsAt};
+ghost use Rattle.land_keep.specs.Timeline.{register_at};
 ghost use Rattle.land_keep.specs.declared.store_fault.StoreFault.TheVariants as store;
+ghost use Rattle.land_tables.specs.Office.{HoldsRegister};
+ghost use Rattle.land_tables.specs.Standing.{ReadsAt, timeline_in};
 ghost use Rattle.sqlite.specs.Held.{state};
 ghost use Rattle.sqlite.specs.State.{HasCleanDisk, IsUnchanged, Survives};
 
-use crate::fault::AdoptFault;
-use crate::history::history;
-use crate::reading::moments;
+use crate::question::Question;
 use land_core::register::Register;
 use land_history::moments::next_at;
-use land_history::register::register_at;
+use land_history::register;
+use land_keep::moments::LAST_MOMENT;
 use land_keep::store_fault::StoreFault;
+use land_listing::fault::ReadFault;
+use land_listing::history::history;
+use land_listing::reading::moments;
 use land_rows::openness::is_open;
+use land_standing::laws::{order_does_not_matter, reading_is_the_register, versions_stand_for_one};
 use sqlite::{Alter, Connection};
 use std::alloc::Global;
 
@@ -24,7 +29,7 @@ fn look_at<S: Alter>(
     alloc: Global,
     conn: &mut Connection<S>,
     at: i64,
-) -> Result<Register, AdoptFault>
+) -> Result<Register, ReadFault>
     requires { HasCleanDisk (state S.Store conn.old) → IsLand (state S.Store conn.old).now.schema }
     ensures look { IsLook result (ReadsAt (state S.Store conn.old).now.trees at) (state S.Store conn.old) (state S.Store conn.new) }
     ensures mode { conn.old.in_transaction ≡ false → conn.new.in_transaction ≡ false }
@@ -32,31 +37,49 @@ fn look_at<S: Alter>(
     let moments = moments(alloc, conn)?;
     let history = history(alloc, conn)?;
     let next = next_at(moments.as_slice(), at);
-    Ok(register_at(alloc, &history, at, next)?)
+    Ok(register::register_at(alloc, &history, at, next)?)
 }
 
 /// What a failed look is told as: 501 where memory was wanting and the store is still open, else 502.
-pub(crate) fn told<S: Alter>(conn: &mut Connection<S>, fault: AdoptFault) -> StoreFault
+pub(crate) fn told<S: Alter>(conn: &mut Connection<S>, fault: ReadFault) -> StoreFault
     ensures open { result ≢ store.Closed }
     ensures same { HasCleanDisk (state S.Store conn.new) → result ≢ store.Store → IsUnchanged (state S.Store conn.old) (state S.Store conn.new) }
     ensures survives { Survives (state S.Store conn.old) (state S.Store conn.new) (λ _. ⊥) }
     ensures mode { conn.old.in_transaction ≡ false → conn.new.in_transaction ≡ false }
 {
-    if is_open(conn) && fault == AdoptFault::NoMemory {
+    if is_open(conn) && fault == ReadFault::NoMemory {
         StoreFault::NoMemory
     } else {
         StoreFault::Store
     }
 }
 
-/// The register that stands at a moment. A store that it leaves without a fault 502 is open, and as it was.
-pub(crate) fn read_at<S: Alter>(
+/// The answer to a question. A store that it leaves without a fault 502 is open, and as it was.
+pub(crate) fn ask_store<S: Alter, T, Q: Question<T>>(
+    alloc: Global,
+    conn: &mut Connection<S>,
+    question: &Q,
+) -> Result<T, StoreFault>
+    requires { HasCleanDisk (state S.Store conn.old) → HoldsRegister (state S.Store conn.old) }
+    ensures open { result ≢ Err store.Closed }
+    ensures safe { IsSafeRead result (λ it. Q.answers question.now (state S.Store conn.old).now.trees it) (state S.Store conn.old) (state S.Store conn.new) }
+    ensures mode { conn.old.in_transaction ≡ false → conn.new.in_transaction ≡ false }
+{
+    match question.ask(alloc, conn) {
+        Ok(answer) => Ok(answer),
+        Err(fault) => Err(told(conn, fault)),
+    }
+}
+
+/// The rows of all tables that stand at a moment, as a register. A store that it leaves without a fault 502 is open, and as it was.
+fn read_at<S: Alter>(
     alloc: Global,
     conn: &mut Connection<S>,
     at: i64,
 ) -> Result<Register, StoreFault>
     requires land { HasCleanDisk (state S.Store conn.old) → IsLand (state S.Store conn.old).now.schema }
     requires committed { HasCleanDisk (state S.Store conn.old) → (state S.Store conn.old).committed ≡ (state S.Store conn.old).now }
+    ensures open { result ≢ Err store.Closed }
     ensures safe { IsSafeRead result (ReadsAt (state S.Store conn.old).now.trees at) (state S.Store conn.old) (state S.Store conn.new) }
     ensures mode { conn.old.in_transaction ≡ false → conn.new.in_transaction ≡ false }
 {
@@ -64,4 +87,25 @@ pub(crate) fn read_at<S: Alter>(
         Ok(register) => Ok(register),
         Err(fault) => Err(told(conn, fault)),
     }
+}
+
+/// The timeline's register at a moment: nothing before the first, and after the last what stands at it. A store that it leaves without a
+/// fault 502 is open, and as it was.
+pub(crate) fn register_in<S: Alter>(
+    alloc: Global,
+    conn: &mut Connection<S>,
+    at: i64,
+) -> Result<Register, StoreFault>
+    requires { HasCleanDisk (state S.Store conn.old) → HoldsRegister (state S.Store conn.old) }
+    ensures open { result ≢ Err store.Closed }
+    ensures safe { IsSafeRead result (λ it. it ≡ register_at (timeline_in (state S.Store conn.old).now.trees) at) (state S.Store conn.old) (state S.Store conn.new) }
+    ensures mode { conn.old.in_transaction ≡ false → conn.new.in_transaction ≡ false }
+{
+    versions_stand_for_one();
+    order_does_not_matter();
+    reading_is_the_register();
+    if at < 0 {
+        return Ok(Register::nothing(alloc));
+    }
+    read_at(alloc, conn, at.min(LAST_MOMENT))
 }

@@ -1,14 +1,31 @@
 //! Tables that hold the register's timeline.
-ghost use Rattle.std.specs.Prelude.{◌≡◌, IfErr, IfOk};
-ghost use Rattle.land_keep.specs.Timeline.{new_timeline};
+ghost use Rattle.std.specs.Prelude.{◌≡◌, ◌≢◌, ◌≤ℤ◌, false, IfErr, IfOk, OnErr, OnOk};
+ghost use Rattle.land_keep.specs.Keeping.{CanWrite, Closes, IsLive};
+ghost use Rattle.land_keep.specs.Machine.{written};
+ghost use Rattle.land_keep.specs.Moments.{last_moment};
+ghost use Rattle.land_keep.specs.Timeline.{IsSoundTimeline, last_register, last_stamp, new_timeline, register_at};
+ghost use Rattle.land_tables.specs.Adopting.{HoldsNone, IsAdopted, IsRefused};
+ghost use Rattle.land_tables.specs.Calls.{IsSame};
 ghost use Rattle.land_tables.specs.Standing.{HoldsTimeline};
+ghost use Rattle.land_tables.specs.declared.fault.AdoptFault.TheVariants as why;
 ghost use Rattle.sqlite.specs.Held.{state};
-ghost use Rattle.sqlite.specs.State.{Survives};
+ghost use Rattle.sqlite.specs.State.{HasCleanDisk, Survives};
 
+use crate::adopting::adopt_store;
 use crate::creating::begin_register;
+use crate::fault::AdoptFault;
+use crate::question::Question;
+use crate::register::{ask_store, register_in};
+use crate::writing::record;
+use land_core::change::Change;
+use land_core::register::Register;
+use land_keep::laws::writing_keeps_soundness;
 use land_keep::store_fault::StoreFault;
 use land_schema::schema::is_empty;
+use land_standing::laws::{order_does_not_matter, versions_stand_for_one};
+use land_standing::writing_laws::writes_stand;
 use sqlite::{Alter, Connection};
+use std::alloc::Global;
 use std::marker::Model;
 
 /// A connection over tables that hold the register's timeline, whatever its store. Contracts see what it shows, the last stamp, the next
@@ -44,7 +61,7 @@ impl<S: Alter + Drop> Drop for Tables<S> {
 }
 
 impl<S: Alter> Tables<S> {
-    ghost use Rattle.land_tables.specs.Office.{IsCreated, IsKept};
+    ghost use Rattle.land_tables.specs.Office.{IsAnswer, IsCreated, IsHonest, IsKept, held};
 
     /// Makes the tables of a new register in a store that has none, in one transaction. 502: the store has tables, or a transaction is
     /// begun, or a call failed. 501: there was no memory. A store that is open after a fault is as it was.
@@ -69,16 +86,51 @@ impl<S: Alter> Tables<S> {
         }
     }
 
+    /// Takes a store for a register's, which it holds, and leaves it as it was. The first of these that holds is answered. 502: a transaction
+    /// is begun, or a call failed. 520: a table or a column is missing, a value cannot be read as its field, or there is not one edition.
+    /// 523: the tables were made by another version of their shapes. 521: two lifespans of one key overlap, an end is not after its
+    /// beginning, or a beginning or an end is no stamp. 522: the register at some stamp is not sound, there is no stamp, or the next number
+    /// falls. 501: there was no memory, in whichever of these. But for a fault 502 the store is open.
+    pub fn adopt(
+        alloc: Global,
+        conn: Connection<S>,
+    ) -> Result<Tables<S>, (Connection<S>, AdoptFault)>
+        ensures adopted { IfOk result (IsAdopted S.Store conn) }
+        ensures refused { IfErr result (λ e. HasCleanDisk (state S.Store e.0) → IsRefused e.1 (state S.Store conn).now) }
+        ensures none { IfErr result (λ e. HasCleanDisk (state S.Store e.0) → HoldsNone e.1 (state S.Store conn).now) }
+        ensures same { IfErr result (λ e. HasCleanDisk (state S.Store e.0) → e.1 ≢ why.Store → IsSame (state S.Store conn) (state S.Store e.0)) }
+        ensures crash_after { IfOk result (λ t. Survives (state S.Store conn) (state S.Store t.conn) (λ _. ⊥)) }
+        ensures crash { IfErr result (λ e. Survives (state S.Store conn) (state S.Store e.0) (λ _. ⊥)) }
+    {
+        let mut conn = conn;
+        if !conn.is_autocommit() {
+            return Err((conn, AdoptFault::Store));
+        }
+        match adopt_store(alloc, &mut conn) {
+            Ok(latest) => Ok(Tables {
+                conn,
+                last: latest.stamp,
+                next: latest.next,
+                is_closed: false,
+            }),
+            Err(fault) => Err((conn, fault)),
+        }
+    }
+
     /// The stamp of the last accepted change, in milliseconds since 1970 UTC; 0 in a new register.
     pub fn last(&self) -> i64
-        ensures { result ≡ self.now.last }
+        ensures value { result ≡ self.now.last }
+        ensures last { IsLive (IsHonest S.Store self.now) self.now.is_closed → result ≡ last_stamp (held S.Store self.now) }
+        ensures moment { result ≤ℤ last_moment }
+        ensures sound { IsLive (IsHonest S.Store self.now) self.now.is_closed → IsSoundTimeline (held S.Store self.now) }
     {
         self.last
     }
 
     /// The number that the next new object takes.
     pub fn next(&self) -> u64
-        ensures { result ≡ self.now.next }
+        ensures value { result ≡ self.now.next }
+        ensures next { IsLive (IsHonest S.Store self.now) self.now.is_closed → result ≡ (last_register (held S.Store self.now)).next }
     {
         self.next
     }
@@ -88,6 +140,95 @@ impl<S: Alter> Tables<S> {
         ensures { result ≡ self.now.is_closed }
     {
         self.is_closed
+    }
+
+    /// The register at a moment, in milliseconds since 1970 UTC: before the first stamp nothing, after the last what stands now. 501:
+    /// there was no memory. 502: a call of the store failed, and from then on 503. Nothing changes.
+    pub fn read_at(&mut self, alloc: Global, at: i64) -> Result<Register, StoreFault>
+        ensures value { IsHonest S.Store self.new → IfOk result (λ it. it ≡ register_at (held S.Store self.old) at) }
+        ensures same { IsLive (IsHonest S.Store self.new) self.new.is_closed → held S.Store self.new ≡ held S.Store self.old }
+        ensures was { IsHonest S.Store self.new → IsHonest S.Store self.old }
+        ensures last { self.new.last ≡ self.old.last }
+        ensures next { self.new.next ≡ self.old.next }
+        ensures closes { Closes self.old.is_closed self.new.is_closed result }
+        ensures crash { Survives (state S.Store self.old.conn) (state S.Store self.new.conn) (λ _. ⊥) }
+    {
+        if self.is_closed {
+            return Err(StoreFault::Closed);
+        }
+        match register_in(alloc, &mut self.conn, at) {
+            Ok(register) => Ok(register),
+            Err(fault) => {
+                self.is_closed = fault == StoreFault::Store;
+                Err(fault)
+            }
+        }
+    }
+
+    /// The answer to a question. 501: there was no memory. 502: a call of the store failed, and from then on 503. Nothing changes.
+    pub fn ask<T, Q: Question<T>>(&mut self, alloc: Global, question: &Q) -> Result<T, StoreFault>
+        ensures value { IsHonest S.Store self.new → IfOk result (λ it. IsAnswer (Q.answers question.now) (state S.Store self.old.conn) it) }
+        ensures same { IsLive (IsHonest S.Store self.new) self.new.is_closed → held S.Store self.new ≡ held S.Store self.old }
+        ensures was { IsHonest S.Store self.new → IsHonest S.Store self.old }
+        ensures last { self.new.last ≡ self.old.last }
+        ensures next { self.new.next ≡ self.old.next }
+        ensures closes { Closes self.old.is_closed self.new.is_closed result }
+        ensures crash { Survives (state S.Store self.old.conn) (state S.Store self.new.conn) (λ _. ⊥) }
+    {
+        if self.is_closed {
+            return Err(StoreFault::Closed);
+        }
+        match ask_store(alloc, &mut self.conn, question) {
+            Ok(answer) => Ok(answer),
+            Err(fault) => {
+                self.is_closed = fault == StoreFault::Store;
+                Err(fault)
+            }
+        }
+    }
+
+    /// The register now. 501, 502, 503 as for `read_at`. Nothing changes.
+    pub fn last_register(&mut self, alloc: Global) -> Result<Register, StoreFault>
+        ensures value { IsHonest S.Store self.new → IfOk result (λ it. it ≡ last_register (held S.Store self.old)) }
+        ensures last { self.new.last ≡ self.old.last }
+        ensures same { IsLive (IsHonest S.Store self.new) self.new.is_closed → held S.Store self.new ≡ held S.Store self.old }
+        ensures was { IsHonest S.Store self.new → IsHonest S.Store self.old }
+        ensures closes { Closes self.old.is_closed self.new.is_closed result }
+    {
+        let last = self.last();
+        self.read_at(alloc, last)
+    }
+
+    /// Writes a change that an act makes of the last register, with its stamp, in one transaction whose last call of the store is the
+    /// commit. 502: a call of the store failed, or the change cannot be written as it is: a text that is longer than its field, a number
+    /// that is none; from then on 503. 501: there was no memory. After a fault nothing has changed in a store that is open.
+    pub fn write(&mut self, alloc: Global, change: &Change, stamp: i64) -> Result<(), StoreFault>
+        requires { IsLive (IsHonest S.Store self.old) self.old.is_closed → CanWrite (held S.Store self.old) change.now stamp }
+        ensures ok { IsLive (IsHonest S.Store self.new) self.new.is_closed → OnOk result (held S.Store self.new ≡ written (held S.Store self.old) change.now stamp) }
+        ensures err { IsLive (IsHonest S.Store self.new) self.new.is_closed → OnErr result (held S.Store self.new ≡ held S.Store self.old) }
+        ensures was { IsHonest S.Store self.new → IsHonest S.Store self.old }
+        ensures closes { Closes self.old.is_closed self.new.is_closed result }
+        ensures crash { self.old.is_closed ≡ false → Survives (state S.Store self.old.conn) (state S.Store self.new.conn)
+            (λ db. HoldsTimeline db (written (held S.Store self.old) change.now stamp)) }
+    {
+        if self.is_closed {
+            return Err(StoreFault::Closed);
+        }
+        versions_stand_for_one();
+        order_does_not_matter();
+        writes_stand();
+        writing_keeps_soundness();
+        match record(alloc, &mut self.conn, change, self.next, stamp) {
+            Ok(()) => {
+                self.last = stamp;
+                self.next = change.next;
+                Ok(())
+            }
+            Err(fault) => {
+                self.is_closed = fault == StoreFault::Store;
+                Err(fault)
+            }
+        }
     }
 
     /// Hands the connection back, as it is.

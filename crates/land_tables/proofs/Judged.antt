@@ -1,0 +1,34 @@
+-- What is found passes its tests, or misses the first that it misses.
+use Rattle.std.proofs.Common.{◌≡◌, Bool, true, false, cond, List, [], ◌∷◌, Some, None, Result, Ok, Err}
+use Rattle.land_history.specs.Intervals.{has_intervals}
+use Rattle.land_history.specs.Lawful.{IsLawful}
+use Rattle.land_history.specs.Moments.{follows, last, latest_from}
+use Rattle.land_history.specs.declared.history.History.{History}
+use Rattle.land_history.specs.declared.moment.Moment.{Moment}
+use Rattle.land_tables.specs.Findings.{IsJudged, IsLatest, is_first_version, is_one_edition}
+use Rattle.land_tables.specs.declared.fault.AdoptFault.{AdoptFault}
+use Rattle.land_tables.specs.declared.fault.AdoptFault.TheVariants.{NotOurs, Interval, Unsound, Version, NoMemory, Store}
+use Rattle.land_tables.specs.declared.finding.Findings.{Findings}
+
+-- of some moments one is the latest
+some_last : (m : Moment) (ms : List Moment) → latest_from (λ m. true) (Some m) ms ≡ None → ⊥
+some_last m [] none = (let e = none in cc)
+some_last m (n ∷ ns) none = go (follows (Some m) n) none (λ k. some_last k ns)
+  where
+    go : (b : Bool) → latest_from (λ m. true) (cond b (Some n) (Some m)) ns ≡ None → ((k : Moment) → latest_from (λ m. true) (Some k) ns ≡ None → ⊥) → ⊥
+    go true none rest = rest n none
+    go false none rest = rest m none
+
+no_last : (ms : List Moment) (h : History) → last ms ≡ None → ¬ IsLawful ms h
+no_last [] h none lawful = (let e = lawful.moments in cc)
+no_last (m ∷ ms) h none lawful = some_last m ms none
+
+pub judged : (found : Findings) (r : Result Moment AdoptFault) → is_one_edition found.editions ≡ true → is_first_version found.editions ≡ true → has_intervals found.moments found.history ≡ true
+    → IsLawful found.moments found.history → IsLatest found.moments r → IsJudged found r
+judged found (Ok latest) one first intervals lawful is = record { passes = record { one = one; first = first; intervals = intervals; lawful = lawful }; last = is }
+judged found (Err Unsound) one first intervals lawful is = (one, first, intervals, no_last found.moments found.history is)
+judged found (Err Store) one first intervals lawful is = is
+judged found (Err NotOurs) one first intervals lawful is = absurd is
+judged found (Err Version) one first intervals lawful is = absurd is
+judged found (Err Interval) one first intervals lawful is = absurd is
+judged found (Err NoMemory) one first intervals lawful is = absurd is

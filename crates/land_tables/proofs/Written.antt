@@ -1,0 +1,150 @@
+-- Tables in which a change was written stand for the timeline with it.
+use Rattle.std.proofs.Common.{◌≡◌, ◌≢◌, ◌∷◌, Bool, false, Result, Ok, Err, ℕ, refl, sym, ap, subst, ◌∙◌, IsTrue, arith}
+use Rattle.std.specs.Prelude.{ℤ, ◌≤ℤ◌}
+use Rattle.std.proofs.lemmas.Int.{ints}
+use Rattle.land_core.specs.declared.change.Change.{Change}
+use Rattle.land_core.specs.declared.register.Register.{Register}
+use Rattle.land_history.specs.Changed.{changed}
+use Rattle.land_keep.specs.Keeping.{CanWrite, IsLive}
+use Rattle.land_keep.proofs.Past.{change_stands}
+use Rattle.land_keep.specs.Laws.{WritingKeepsSound}
+use Rattle.land_keep.specs.Machine.{written}
+use Rattle.land_keep.specs.Moments.{last_moment}
+use Rattle.land_keep.specs.Timeline.{IsSoundTimeline, Timeline, last_register, last_stamp}
+use Rattle.land_recording.specs.Whole.{Records}
+use Rattle.land_keep.specs.declared.store_fault.StoreFault.{StoreFault}
+use Rattle.land_keep.specs.declared.store_fault.StoreFault.TheVariants.{Store}
+use Rattle.land_schema.specs.Land.{IsLand}
+use Rattle.land_standing.proofs.WrittenTimelines.{stays_last, written_last}
+use Rattle.land_standing.specs.Laws.{OrderDoesNotMatter, VersionsStandForOne}
+use Rattle.land_standing.specs.Writing.{WritesStand}
+use Rattle.land_tables.proofs.Tellings.{tells}
+use Rattle.land_tables.specs.Calls.{IsSafeWrite, IsSame, MayRecord}
+use Rattle.land_tables.specs.Office.{HoldsRegister, IsHonest, IsOffice, IsWhole, Office, held}
+use Rattle.land_tables.specs.Standing.{HoldsTimeline, timeline_in}
+use Rattle.land_writes.specs.History.{HoldsHistory}
+use Rattle.sqlite.specs.Held.{Held, state}
+use Rattle.sqlite.specs.Store.{Ghosts}
+use Rattle.sqlite.specs.Effect.{Database}
+use Rattle.sqlite.specs.State.{HasCleanDisk, IsUnchanged, State, Survives}
+use Rattle.sqlite.proofs.StateLemmas.{survives_then, survives_weaker}
+use Rattle.sqlite_trees.specs.Tree.{Trees}
+
+least : (a b : ℤ) → a ≡ b → a ≤ℤ b
+least a b is = omega (arith, ints)
+
+-- the next number is that of the change
+next_written : (tl : Timeline) (change : Change) (stamp : ℤ) → IsSoundTimeline (written tl change stamp) → change.next ≡ (last_register (written tl change stamp)).next
+next_written tl change stamp sound =
+    let last = stays_last (written tl change stamp) stamp sound.rising (least (last_stamp (written tl change stamp)) stamp (written_last tl change stamp)) in
+    ap (λ (r : Register). r.next) (sym (change_stands tl change stamp stamp (least stamp stamp refl)) ∙ last)
+
+module _ (one : VersionsStandForOne) (order : OrderDoesNotMatter) (writes : WritesStand) (keeps : WritingKeepsSound) (change : Change) (stamp : ℤ) where
+  pub holds_written : (old new : Database) (next : ℕ) (tl : Timeline) → IsSoundTimeline tl → HoldsTimeline old.trees tl → next ≡ (last_register tl).next → CanWrite tl change stamp
+      → Records change next stamp old new → HoldsTimeline new.trees (written tl change stamp)
+  holds_written old new next tl sound holds is can done = record {
+    listed = record { stamp = stamp; next = change.next } ∷ holds.listed;
+    history = changed (last_register tl).next change stamp holds.history;
+    holds = subst (λ n. HoldsHistory new.trees (record { stamp = stamp; next = change.next } ∷ holds.listed) (changed n change stamp holds.history)) is (done.held holds.listed holds.history holds.holds);
+    stands = writes holds.listed holds.history tl change stamp sound holds.stands can;
+  }
+
+  pub tells_written : (old new : Database) (next : ℕ) (tl : Timeline) → IsSoundTimeline tl → HoldsTimeline old.trees tl → next ≡ (last_register tl).next → CanWrite tl change stamp
+      → Records change next stamp old new → timeline_in new.trees ≡ written tl change stamp
+  tells_written old new next tl sound holds is can done =
+      tells one order new.trees (written tl change stamp) (holds_written old new next tl sound holds is can done) (keeps tl change stamp sound can)
+
+  pub office_written : (old new : State) (last : ℤ) (next : ℕ) → IsOffice old last next → CanWrite (timeline_in old.now.trees) change stamp → Records change next stamp old.now new.now
+      → IsTrue new.is_open → new.committed ≡ new.now → IsOffice new stamp change.next
+  office_written old new last next office can done is_open committed =
+      let tl = timeline_in old.now.trees in
+      let it = office.register in
+      let tells_new = tells_written old.now new.now next tl it.sound it.holds office.next can done in
+      record {
+        register = record {
+          is_open = is_open;
+          committed = committed;
+          land = subst IsLand (sym done.schema) it.land;
+          holds = rw tells_new (holds_written old.now new.now next tl it.sound it.holds office.next can done);
+          sound = rw tells_new (keeps tl change stamp it.sound can);
+        };
+        last = rw tells_new (sym (written_last tl change stamp));
+        next = rw tells_new (next_written tl change stamp (keeps tl change stamp it.sound can));
+      }
+
+clean_before : {P : Trees → Type 0} (a b : State) → Survives a b P → HasCleanDisk b → HasCleanDisk a
+clean_before a b s clean = omega (arith, s.clean)
+
+-- a write that failed, and what its fault is told as
+pub not_recorded : {X : Type 0} {Done : Database → Database → Type 0} {Commits : Trees → Type 0} (a b c : State) (fault : StoreFault) → (HasCleanDisk a → HoldsRegister a)
+    → (HasCleanDisk b → IsTrue b.is_open → (b.now ≡ a.committed) × (b.committed ≡ a.committed)) → Survives a b Commits
+    → (HasCleanDisk c → fault ≢ Store → IsUnchanged b c) → Survives b c (λ _. ⊥) → IsSafeWrite {X = X} (Err fault) Done Commits a c
+not_recorded {Commits = Commits} a b c fault register neither first told next = record {
+  done = λ _. tt;
+  kept = λ _. tt;
+  same = λ clean other. (
+      let shows = (told clean other).0 in
+      let was = clean_before b c next clean in
+      let undone = neither was shows.was_open in
+      let had = (register (clean_before a b first was)).committed in
+      record { is_open = shows.is_open; now = shows.now_is ∙ (undone.0 ∙ had); committed = shows.committed_is ∙ (undone.1 ∙ sym (shows.now_is ∙ undone.0)) });
+  survives = survives_then a b c Commits (λ _. ⊥) Commits (λ _ _ x. x) (λ _ _ n. absurd n) first next;
+}
+
+-- a store that is as it was is the office that it was
+same_office : (a b : State) (last : ℤ) (next : ℕ) → IsOffice a last next → IsSame a b → IsOffice b last next
+same_office a b last next office same = record {
+  register = record {
+    is_open = same.is_open;
+    committed = same.committed;
+    land = rw same.now office.register.land;
+    holds = rw same.now office.register.holds;
+    sound = rw same.now office.register.sound;
+  };
+  last = rw same.now office.last;
+  next = rw same.now office.next;
+}
+
+-- tables after a write
+module _ {S : Type 0} (g : Ghosts S) (one : VersionsStandForOne) (order : OrderDoesNotMatter) (writes : WritesStand) (keeps : WritingKeepsSound) (change : Change) (stamp : ℤ)
+    (now : Office S) (whole : IsWhole g now) (open_still : now.is_closed ≡ false) (can : IsLive (IsHonest g now) now.is_closed → CanWrite (held g now) change stamp) (conn : Held S) where
+  abbrev a : State
+  a = state g now.conn
+
+  abbrev b : State
+  b = state g conn
+
+  abbrev IsSafe : Result (Unit {0}) StoreFault → Type 0
+  IsSafe r = IsSafeWrite r (Records change now.next stamp) (MayRecord change now.next stamp (state g now.conn).now) (state g now.conn) (state g conn)
+
+  pub crash_written : (r : Result (Unit {0}) StoreFault) → IsSafe r → Survives (state g now.conn) (state g conn) (λ db. HoldsTimeline db (written (held g now) change stamp))
+  crash_written r safe = survives_weaker a b (MayRecord change now.next stamp a.now) (λ db. HoldsTimeline db (written (held g now) change stamp))
+      (λ clean db may.
+      let live : IsLive (IsHonest g now) now.is_closed = (clean_before a b safe.survives clean, open_still) in
+      let office = whole.office live in
+      subst (λ trees. HoldsTimeline trees (written (held g now) change stamp)) (sym may.2)
+      (holds_written one order writes keeps change stamp a.now may.0 now.next (held g now) office.register.sound office.register.holds office.next (can live) may.1))
+      safe.survives
+
+  pub timeline_written : IsSafe (Ok tt) → IsHonest g (record now { conn = conn }) → timeline_in (state g conn).now.trees ≡ written (held g now) change stamp
+  timeline_written safe clean =
+      let live : IsLive (IsHonest g now) now.is_closed = (clean_before a b safe.survives clean, open_still) in
+      let office = whole.office live in
+      tells_written one order writes keeps change stamp a.now b.now now.next (held g now) office.register.sound office.register.holds office.next (can live) (safe.done clean)
+
+  pub whole_written : (closed : Bool) → conn.in_transaction ≡ false → stamp ≤ℤ last_moment → IsSafe (Ok tt) → IsWhole g (record { conn = conn; last = stamp; next = change.next; is_closed = closed })
+  whole_written closed alone moment safe = record {
+    alone = alone;
+    moment = moment;
+    office = λ still. (
+        let live : IsLive (IsHonest g now) now.is_closed = (clean_before a b safe.survives still.0, open_still) in
+        office_written one order writes keeps change stamp a b now.last now.next (whole.office live) (can live) (safe.done still.0) (safe.kept still.0).0 (safe.kept still.0).1);
+  }
+
+  pub whole_unwritten : (fault : StoreFault) (closed : Bool) → (closed ≡ false → fault ≢ Store) → conn.in_transaction ≡ false → IsSafe (Err fault)
+      → IsWhole g (record { conn = conn; last = now.last; next = now.next; is_closed = closed })
+  whole_unwritten fault closed other alone safe = record {
+    alone = alone;
+    moment = whole.moment;
+    office = λ still. same_office a b now.last now.next (whole.office (clean_before a b safe.survives still.0, open_still)) (safe.same still.0 (other still.1));
+  }

@@ -1,0 +1,12 @@
+use Rattle.land_tables.proofs.Judgements.{judged_err, judged_ok}
+use Rattle.sqlite.specs.Held.{state}
+use Rattle.land_tables.proofs.adopting.adopt_store.Goals as goal
+
+pub returns-in-Ok-clause-judgement : goal.returns-in-Ok-clause-judgement
+returns-in-Ok-clause-judgement g c =
+    judged_ok (state g.S.Store c.args.conn.now) (state g.S.Store c.judge_store.new.conn) c.requires.settled c.in-Ok.latest c.in-Ok.ensures.look
+
+pub returns-in-Err-clause-judgement : goal.returns-in-Err-clause-judgement
+returns-in-Err-clause-judgement g c =
+    judged_err (state g.S.Store c.args.conn.now) (state g.S.Store c.judge_store.new.conn) c.requires.settled (state g.S.Store c.told.new.conn) c.in-Err.fault c.told.result
+    c.in-Err.ensures.look c.in-Err.ensures.refused c.told.ensures.told c.told.ensures.same c.told.ensures.survives

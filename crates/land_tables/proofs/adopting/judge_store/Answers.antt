@@ -1,0 +1,21 @@
+use Rattle.std.proofs.Common.{rules}
+use Rattle.land_rows.proofs.Looking.{look_told}
+use Rattle.land_schema.specs.Land.{IsLand}
+use Rattle.land_tables.proofs.Adopted.{to_refusal, to_register}
+use Rattle.sqlite.specs.Held.{state}
+use Rattle.land_tables.proofs.adopting.judge_store.Goals as goal
+
+pub returns-clause-look : goal.returns-clause-look
+returns-clause-look g c =
+    let a = state g.S.Store c.args.conn.now in
+    let land : IsLand c.args.conn.now.schema = search rules in
+    look_told a (state g.S.Store c.find_all.new.conn) c.judge.result c.in_ok-found.ensures.look
+    (λ clean finds. to_register c.lawful_versions_stand.ensures c.versions_stand_for_one.ensures c.order_does_not_matter.ensures c.the_last_moment_is_the_last_stamp.ensures
+    c.sound_timelines_are_lawful.ensures c.order_keeps_intervals.ensures a.now land c.in_ok-found.found finds c.judge.result c.judge.ensures.judged)
+
+pub returns-clause-refused : goal.returns-clause-refused
+returns-clause-refused g c clean =
+    let a = state g.S.Store c.args.conn.now in
+    let land : IsLand c.args.conn.now.schema = search rules in
+    to_refusal c.lawful_versions_stand.ensures c.versions_stand_for_one.ensures c.order_does_not_matter.ensures c.the_last_moment_is_the_last_stamp.ensures
+    c.sound_timelines_are_lawful.ensures c.order_keeps_intervals.ensures a.now land c.in_ok-found.found (c.in_ok-found.ensures.look.given clean) c.judge.result c.judge.ensures.judged

@@ -1,0 +1,26 @@
+use Rattle.std.proofs.Common.{◌≡◌, of_z, to_z, w64, refl, rules, subst, sym}
+use Rattle.land_tables.proofs.Adopted.{refused_holds_none}
+use Rattle.land_tables.proofs.Judgements.{same_office}
+use Rattle.land_tables.specs.Calls.{IsSame}
+use Rattle.land_tables.specs.Office.{IsOffice}
+use Rattle.sqlite.specs.Held.{state}
+use Rattle.sqlite.specs.State.{HasCleanDisk}
+use Rattle.land_tables.proofs.tables.Tables.adopt.Goals as goal
+
+pub returns-in-Ok-clause-adopted : goal.returns-in-Ok-clause-adopted
+returns-in-Ok-clause-adopted g c =
+    let a = state g.S.Store c.args.conn in
+    let b = state g.S.Store c.adopt_store.new.conn in
+    let latest = c.in-Ok.latest in
+    let judged = c.in-Ok.ensures.judgement in
+    let stamp : to_z w64 (of_z w64 latest.stamp) ≡ latest.stamp = search rules in
+    let same : HasCleanDisk b → IsSame a b = λ clean. judged.same clean (λ e. let it = e in cc) in
+    record {
+      is_open = refl;
+      register = λ clean. (judged.register clean).register;
+      office = λ clean. subst (λ z. IsOffice b z latest.next) (sym stamp) (same_office a b latest (same clean) (judged.register clean));
+      same = same;
+    }
+
+pub returns-in-Err-clause-none : goal.returns-in-Err-clause-none
+returns-in-Err-clause-none g c clean = refused_holds_none c.in-Err.fault (state g.S.Store c.args.conn).now (c.in-Err.ensures.judgement.refused clean)

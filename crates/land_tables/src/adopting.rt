@@ -1,0 +1,72 @@
+//! A store is taken for a register's.
+ghost use Rattle.std.specs.Prelude.{◌≡◌, ◌≢◌, ◌⊎◌, ◌≤ℤ◌, false, IfErr, IfOk, IsTrue};
+ghost use Rattle.land_keep.specs.Moments.{last_moment};
+ghost use Rattle.land_rows.specs.Looks.{IsLook};
+ghost use Rattle.land_tables.specs.Adopting.{IsJudgement, IsRefused, IsRegisterTo};
+ghost use Rattle.land_tables.specs.declared.fault.AdoptFault.TheVariants as why;
+ghost use Rattle.sqlite.specs.Held.{state};
+ghost use Rattle.sqlite.specs.State.{HasCleanDisk, IsUnchanged, Survives};
+
+use crate::fault::AdoptFault;
+use crate::finding::find_all;
+use crate::judging::judge;
+use land_history::moment::Moment;
+use land_rows::openness::is_open;
+use land_schema::schema::is_land;
+use land_standing::judging_laws::{order_keeps_intervals, sound_timelines_are_lawful};
+use land_standing::laws::{
+    lawful_versions_stand, order_does_not_matter, the_last_moment_is_the_last_stamp,
+    versions_stand_for_one,
+};
+use sqlite::{Alter, Connection};
+use std::alloc::Global;
+
+/// What a store holds, judged.
+fn judge_store<S: Alter>(alloc: Global, conn: &mut Connection<S>) -> Result<Moment, AdoptFault>
+    ensures look { IsLook result (IsRegisterTo (state S.Store conn.old).now) (state S.Store conn.old) (state S.Store conn.new) }
+    ensures refused { HasCleanDisk (state S.Store conn.new) → IfErr result (λ fault. IsRefused fault (state S.Store conn.old).now) }
+    ensures moment { IfOk result (λ latest. latest.stamp ≤ℤ last_moment) }
+    ensures mode { conn.old.in_transaction ≡ false → conn.new.in_transaction ≡ false }
+{
+    lawful_versions_stand();
+    versions_stand_for_one();
+    order_does_not_matter();
+    the_last_moment_is_the_last_stamp();
+    sound_timelines_are_lawful();
+    order_keeps_intervals();
+    if !is_land(conn.schema()) {
+        return Err(AdoptFault::NotOurs);
+    }
+    let found = find_all(alloc, conn)?;
+    judge(alloc, &found)
+}
+
+/// A fault as it is told: itself where the store is still open, else 502.
+fn told<S: Alter>(conn: &mut Connection<S>, fault: AdoptFault) -> AdoptFault
+    ensures told { (result ≡ fault) ⊎ (result ≡ why.Store) }
+    ensures same { HasCleanDisk (state S.Store conn.new) → result ≢ why.Store → IsUnchanged (state S.Store conn.old) (state S.Store conn.new) }
+    ensures survives { Survives (state S.Store conn.old) (state S.Store conn.new) (λ _. ⊥) }
+    ensures mode { conn.old.in_transaction ≡ false → conn.new.in_transaction ≡ false }
+{
+    if is_open(conn) {
+        fault
+    } else {
+        AdoptFault::Store
+    }
+}
+
+/// The moment of the last change to the register that a store holds. But for a fault 502 the store is open, and as it was.
+pub(crate) fn adopt_store<S: Alter>(
+    alloc: Global,
+    conn: &mut Connection<S>,
+) -> Result<Moment, AdoptFault>
+    requires settled { IsTrue (state S.Store conn.old).is_open → (state S.Store conn.old).now ≡ (state S.Store conn.old).committed }
+    ensures judgement { IsJudgement result (state S.Store conn.old) (state S.Store conn.new) }
+    ensures moment { IfOk result (λ latest. latest.stamp ≤ℤ last_moment) }
+    ensures mode { conn.old.in_transaction ≡ false → conn.new.in_transaction ≡ false }
+{
+    match judge_store(alloc, conn) {
+        Ok(latest) => Ok(latest),
+        Err(fault) => Err(told(conn, fault)),
+    }
+}

@@ -1,0 +1,65 @@
+//! Whether what is found in tables is a register's.
+ghost use Rattle.std.specs.Prelude.{◌≡◌, ◌≤ℤ◌, IfOk};
+ghost use Rattle.land_keep.specs.Moments.{last_moment};
+ghost use Rattle.land_tables.specs.Findings.{IsJudged, IsLatest, is_first_version, is_one_edition};
+
+use crate::fault::AdoptFault;
+use crate::finding::Findings;
+use land_history::intervals::has_intervals;
+use land_history::lawful::is_lawful;
+use land_history::moment::Moment;
+use land_history::moments::last;
+use land_keep::moments::LAST_MOMENT;
+use land_versions::edition::Edition;
+use std::alloc::Global;
+
+/// Judges what was found by its tests, in their order, and answers the latest moment. 520: there is not one edition. 523: it is another
+/// version. 521: lifespans are not as they may be. 522: the history is not lawful. 501: there was no memory.
+pub(crate) fn judge(alloc: Global, found: &Findings) -> Result<Moment, AdoptFault>
+    ensures judged { IsJudged found.now result }
+    ensures moment { IfOk result (λ latest. latest.stamp ≤ℤ last_moment) }
+{
+    if !is_one_edition(found.editions.as_slice()) {
+        return Err(AdoptFault::NotOurs);
+    }
+    if !is_first_version(found.editions.as_slice()) {
+        return Err(AdoptFault::Version);
+    }
+    if !has_intervals(&found.history, found.moments.as_slice()) {
+        return Err(AdoptFault::Interval);
+    }
+    if !is_lawful(alloc, &found.history, found.moments.as_slice())? {
+        return Err(AdoptFault::Unsound);
+    }
+    latest(found.moments.as_slice())
+}
+
+/// The latest moment. A lawful history has one. Where it is none, the store has given back what was not written to it: 502.
+fn latest(moments: &[Moment]) -> Result<Moment, AdoptFault>
+    ensures latest { IsLatest moments.now result }
+    ensures moment { IfOk result (λ latest. latest.stamp ≤ℤ last_moment) }
+{
+    match last(moments) {
+        Some(moment) if moment.stamp <= LAST_MOMENT => Ok(moment),
+        Some(_) => Err(AdoptFault::Store),
+        None => Err(AdoptFault::Unsound),
+    }
+}
+
+fn is_one_edition(editions: &[Edition]) -> bool
+    ensures { result ≡ is_one_edition editions.now }
+{
+    match editions {
+        [edition] => edition.id == 1,
+        _ => false,
+    }
+}
+
+fn is_first_version(editions: &[Edition]) -> bool
+    ensures { result ≡ is_first_version editions.now }
+{
+    match editions {
+        [edition, ..] => edition.version == 1,
+        [] => false,
+    }
+}

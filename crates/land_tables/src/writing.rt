@@ -1,0 +1,77 @@
+//! A change of the register is written.
+ghost use Rattle.std.specs.Prelude.{◌≡◌, ◌≢◌, ◌&&◌, ◌≤ℤ◌, pos, false, int_le, IsTrue, Err, OnErr, OnOk};
+ghost use Rattle.land_keep.specs.Moments.{last_moment};
+ghost use Rattle.land_keep.specs.declared.store_fault.StoreFault.TheVariants as store;
+ghost use Rattle.land_recording.specs.Whole.{Records, fits_change};
+ghost use Rattle.land_schema.specs.Land.{IsLand};
+ghost use Rattle.land_tables.specs.Calls.{IsSafeWrite, MayRecord};
+ghost use Rattle.land_tables.specs.Office.{HoldsRegister};
+ghost use Rattle.land_writes.specs.Holding.{IsMoment};
+ghost use Rattle.sqlite.specs.Held.{state};
+ghost use Rattle.sqlite.specs.State.{HasCleanDisk, Survives};
+
+use crate::register::told;
+use land_core::change::Change;
+use land_keep::moments::LAST_MOMENT;
+use land_keep::store_fault::StoreFault;
+use land_listing::fault::ReadFault;
+use land_recording::change::{fits, record_change};
+use sqlite::{Alter, Connection, Error};
+use std::alloc::Global;
+
+/// Whether a change can be written with a stamp.
+fn can_record(change: &Change, stamp: i64) -> bool
+    ensures { result ≡ (int_le (pos 0) stamp && int_le stamp last_moment && fits_change change.now) }
+{
+    0 <= stamp && stamp <= LAST_MOMENT && fits(change)
+}
+
+/// Writes a change in one transaction, whose last call of the store is the commit.
+fn record_at_once<S: Alter>(
+    alloc: Global,
+    conn: &mut Connection<S>,
+    change: &Change,
+    next: u64,
+    stamp: i64,
+) -> Result<(), Error>
+    requires alone { conn.old.in_transaction ≡ false }
+    requires fits { IsTrue (fits_change change.now) }
+    requires moment { IsMoment stamp }
+    requires land { HasCleanDisk (state S.Store conn.old) → IsLand (state S.Store conn.old).now.schema }
+    ensures done { HasCleanDisk (state S.Store conn.new) → OnOk result (Records change.now next stamp (state S.Store conn.old).now (state S.Store conn.new).now) }
+    ensures committed { HasCleanDisk (state S.Store conn.new) → OnOk result ((state S.Store conn.new).committed ≡ (state S.Store conn.new).now) }
+    ensures open { HasCleanDisk (state S.Store conn.new) → OnOk result (IsTrue (state S.Store conn.new).is_open) }
+    ensures neither { HasCleanDisk (state S.Store conn.new) → IsTrue (state S.Store conn.new).is_open
+        → OnErr result (((state S.Store conn.new).now ≡ (state S.Store conn.old).committed) × ((state S.Store conn.new).committed ≡ (state S.Store conn.old).committed)) }
+    ensures crash { Survives (state S.Store conn.old) (state S.Store conn.new) (MayRecord change.now next stamp (state S.Store conn.old).now) }
+    ensures ended { conn.new.in_transaction ≡ false }
+{
+    let mut tx = conn.transaction();
+    record_change(alloc, &mut tx, change, next, stamp)?;
+    tx.commit()
+}
+
+/// Writes a change with its stamp. A store that it leaves without a fault 502 is open, with all committed: what it had, or that with the
+/// change.
+pub(crate) fn record<S: Alter>(
+    alloc: Global,
+    conn: &mut Connection<S>,
+    change: &Change,
+    next: u64,
+    stamp: i64,
+) -> Result<(), StoreFault>
+    requires alone { conn.old.in_transaction ≡ false }
+    requires register { HasCleanDisk (state S.Store conn.old) → HoldsRegister (state S.Store conn.old) }
+    ensures open { result ≢ Err store.Closed }
+    ensures moment { OnOk result (stamp ≤ℤ last_moment) }
+    ensures safe { IsSafeWrite result (Records change.now next stamp) (MayRecord change.now next stamp (state S.Store conn.old).now) (state S.Store conn.old) (state S.Store conn.new) }
+    ensures ended { conn.new.in_transaction ≡ false }
+{
+    if !can_record(change, stamp) {
+        return Err(StoreFault::Store);
+    }
+    match record_at_once(alloc, conn, change, next, stamp) {
+        Ok(()) => Ok(()),
+        Err(error) => Err(told(conn, ReadFault::from(error))),
+    }
+}
