@@ -1,0 +1,22 @@
+//! All objects of a kind that stand at a moment.
+//!
+//! In each text of this crate parameter 1 is the caller and parameter 2 the moment. A row stands where the moment is not before its `since`
+//! and is before its `until`.
+
+/// All parties.
+pub const PARTIES: &str = "SELECT number FROM party WHERE since <= ?2 AND ?2 < until";
+
+/// All units.
+pub const UNITS: &str = "SELECT number FROM unit WHERE since <= ?2 AND ?2 < until";
+
+/// All parcels.
+pub const PARCELS: &str = "SELECT number FROM parcel WHERE since <= ?2 AND ?2 < until";
+
+/// All entries.
+pub const ENTRIES: &str = "SELECT number FROM rrr WHERE since <= ?2 AND ?2 < until";
+
+/// All sources.
+pub const SOURCES: &str = "SELECT number FROM source WHERE since <= ?2 AND ?2 < until";
+
+/// All mutations.
+pub const MUTATIONS: &str = "SELECT number FROM mutation WHERE since <= ?2 AND ?2 < until";

@@ -1,0 +1,2 @@
+-- Lemmas of the keeper over joins.
+pub mod Seen

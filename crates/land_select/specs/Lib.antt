@@ -1,0 +1,1 @@
+-- Definitions of the keeper over joins: those of the layers below.

@@ -1,0 +1,6 @@
+//! The keeper over joins: what a caller may see is selected by SQL.
+#![tactic(auto)]
+
+mod sight;
+pub mod sight_text;
+pub mod sql_keeper;

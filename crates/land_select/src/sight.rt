@@ -1,0 +1,36 @@
+//! What a caller sees of a kind, by joins.
+ghost use Rattle.std.specs.Prelude.{◌≡◌};
+
+use land_core::caller::Caller;
+use land_core::kind::Kind;
+use land_core::sequence::NumberList;
+use land_joins::sight::sight;
+use land_listing::fault::ReadFault;
+use land_tables::question::Question;
+use sqlite::{Alter, Connection};
+use std::alloc::Global;
+
+/// Which numbers of a kind a caller sees at a moment.
+#[derive(Clone, Copy, Debug)]
+pub(crate) struct Sight {
+    /// Who asks.
+    pub(crate) caller: Caller,
+    /// What is asked for.
+    pub(crate) kind: Kind,
+    /// The moment, in milliseconds since 1970 UTC.
+    pub(crate) moment: i64,
+}
+
+impl Question<NumberList> for Sight {
+    ghost use Rattle.land_joins.specs.Sight.{IsSight};
+
+    ghost answers = { λ it db numbers. IsSight it.caller it.kind it.moment db numbers };
+
+    fn ask<S: Alter>(
+        &self,
+        alloc: Global,
+        conn: &mut Connection<S>,
+    ) -> Result<NumberList, ReadFault> {
+        sight(alloc, conn, self.caller, self.kind, self.moment)
+    }
+}

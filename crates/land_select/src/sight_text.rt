@@ -1,0 +1,94 @@
+//! The texts of a role's sight, kind by kind.
+ghost use Rattle.std.specs.Prelude.{◌≡◌, map};
+ghost use Rattle.land_core.specs.declared.kind.Kind.TheVariants as kinds;
+ghost use Rattle.land_core.specs.declared.role.Role.TheVariants as roles;
+ghost use Rattle.land_joins.specs.Texts.{text_of};
+ghost use Rattle.land_sights.specs.Sights.{selections_of};
+
+use land_core::kind::Kind;
+use land_core::role::Role;
+use land_joins::{all, creditor, group, holder, lodger, named, own};
+
+/// The texts that list all objects of a kind.
+fn all_texts(kind: Kind) -> &'static [&'static str]
+    ensures { map (λ text. text.now) result.now ≡ map text_of (selections_of roles.Notary kind) }
+{
+    match kind {
+        Kind::Party => &[all::PARTIES],
+        Kind::Unit => &[all::UNITS],
+        Kind::Parcel => &[all::PARCELS],
+        Kind::Rrr => &[all::ENTRIES],
+        Kind::Source => &[all::SOURCES],
+        Kind::Mutation => &[all::MUTATIONS],
+    }
+}
+
+fn party_texts_of_citizen() -> &'static [&'static str]
+    ensures { map (λ text. text.now) result.now ≡ map text_of (selections_of roles.Citizen kinds.Party) }
+{
+    &[own::ITSELF, own::GROUPS, holder::PARTIES, group::PARTIES]
+}
+
+fn citizen_texts(kind: Kind) -> &'static [&'static str]
+    ensures { map (λ text. text.now) result.now ≡ map text_of (selections_of roles.Citizen kind) }
+{
+    match kind {
+        Kind::Party => party_texts_of_citizen(),
+        Kind::Unit => &[holder::UNITS, group::UNITS],
+        Kind::Parcel => &[all::PARCELS],
+        Kind::Rrr => &[holder::ENTRIES, group::ENTRIES],
+        Kind::Source => &[],
+        Kind::Mutation => &[named::HELD, named::THROUGH],
+    }
+}
+
+fn conveyancer_texts(kind: Kind) -> &'static [&'static str]
+    ensures { map (λ text. text.now) result.now ≡ map text_of (selections_of roles.Conveyancer kind) }
+{
+    match kind {
+        Kind::Party => &[own::ITSELF, lodger::PARTIES],
+        Kind::Unit => &[lodger::UNITS],
+        Kind::Parcel => &[all::PARCELS],
+        Kind::Rrr => &[lodger::ENTRIES],
+        Kind::Source => &[],
+        Kind::Mutation => &[own::LODGINGS],
+    }
+}
+
+fn bank_texts(kind: Kind) -> &'static [&'static str]
+    ensures { map (λ text. text.now) result.now ≡ map text_of (selections_of roles.Bank kind) }
+{
+    match kind {
+        Kind::Party => &[own::ITSELF, creditor::PARTIES],
+        Kind::Unit => &[creditor::UNITS],
+        Kind::Parcel => &[all::PARCELS],
+        Kind::Rrr => &[creditor::ENTRIES],
+        Kind::Source => &[],
+        Kind::Mutation => &[own::LODGINGS],
+    }
+}
+
+fn surveyor_texts(kind: Kind) -> &'static [&'static str]
+    ensures { map (λ text. text.now) result.now ≡ map text_of (selections_of roles.CertifiedSurveyor kind) }
+{
+    match kind {
+        Kind::Party => &[own::ITSELF],
+        Kind::Parcel => &[all::PARCELS],
+        Kind::Mutation => &[own::LODGINGS],
+        Kind::Unit | Kind::Rrr | Kind::Source => &[],
+    }
+}
+
+/// The texts whose numbers together are what a role sees of a kind: 0 to 4 of 23. Parameter 1 is the caller, parameter 2 the moment in
+/// milliseconds since 1970 UTC.
+pub fn sight_text(role: Role, kind: Kind) -> &'static [&'static str]
+    ensures { map (λ text. text.now) result.now ≡ map text_of (selections_of role kind) }
+{
+    match role {
+        Role::Citizen => citizen_texts(kind),
+        Role::Conveyancer => conveyancer_texts(kind),
+        Role::Bank => bank_texts(kind),
+        Role::CertifiedSurveyor => surveyor_texts(kind),
+        Role::Notary | Role::StateAdministrator => all_texts(kind),
+    }
+}

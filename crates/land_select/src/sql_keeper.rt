@@ -1,0 +1,131 @@
+//! The keeper over joins.
+ghost use Rattle.std.specs.Prelude.{◌≡◌, ◌≤ℤ◌};
+ghost use Rattle.land_keep.specs.Moments.{last_moment};
+
+use crate::sight::Sight;
+use land_acts::slice::Slice;
+use land_core::act::Act;
+use land_core::ask::Ask;
+use land_core::caller::Caller;
+use land_core::change::Change;
+use land_core::kind::Kind;
+use land_core::object::Object;
+use land_core::sequence::NumberList;
+use land_keep::keeper::Keeper;
+use land_keep::moments::LAST_MOMENT;
+use land_keep::store_fault::StoreFault;
+use land_keep::view::View;
+use land_rules::verdict::Verdict;
+use land_tables::table_keeper::TableKeeper;
+use land_tables::tables::Tables;
+use sqlite::Alter;
+use std::alloc::Global;
+
+/// A keeper over tables, whatever their store: what a caller sees of a kind is selected by joins. All else is read from whole tables.
+pub struct SqlKeeper<S: Alter> {
+    /// The keeper over whole tables.
+    whole: TableKeeper<S>,
+}
+
+impl<S: Alter + Drop> Drop for SqlKeeper<S> {
+    fn drop(self) {
+        let SqlKeeper { whole: _ } = self;
+    }
+}
+
+impl<S: Alter> SqlKeeper<S> {
+    /// A keeper over tables, closed if a call of their store has failed.
+    pub fn new(tables: Tables<S>) -> SqlKeeper<S>
+        ensures { result.whole.tables ≡ tables }
+    {
+        SqlKeeper {
+            whole: TableKeeper::new(tables),
+        }
+    }
+
+    /// Hands the tables back, as they are.
+    pub fn into_tables(self) -> Tables<S>
+        ensures { result ≡ self.whole.tables }
+    {
+        let SqlKeeper { whole } = self;
+        whole.into_tables()
+    }
+}
+
+impl<S: Alter> Keeper for SqlKeeper<S> {
+    ghost use Rattle.land_core.specs.Register.{object_at};
+    ghost use Rattle.land_acts.specs.Slices.{slice_of};
+    ghost use Rattle.land_keep.specs.Sheets.{view_at};
+    ghost use Rattle.land_keep.specs.Timeline.{last_stamp};
+    ghost use Rattle.land_tables.specs.Office.{IsHonest, held};
+
+    ghost timeline = { λ keeper. held S.Store keeper.whole.tables };
+
+    ghost closed = { λ keeper. keeper.whole.tables.is_closed };
+
+    ghost honest = { λ keeper. IsHonest S.Store keeper.whole.tables };
+
+    fn last(&self) -> i64 {
+        self.whole.last()
+    }
+
+    fn is_closed(&self) -> bool {
+        self.whole.is_closed()
+    }
+
+    fn first_denial(
+        &mut self,
+        alloc: Global,
+        caller: Caller,
+        ask: &Ask,
+        now: i64,
+    ) -> Result<Verdict, StoreFault> {
+        self.whole.first_denial(alloc, caller, ask, now)
+    }
+
+    fn sight(
+        &mut self,
+        alloc: Global,
+        caller: Caller,
+        kind: Kind,
+        at: i64,
+    ) -> Result<NumberList, StoreFault> {
+        if at < 0 {
+            return self.whole.sight(alloc, caller, kind, at);
+        }
+        let sight = Sight {
+            caller,
+            kind,
+            moment: at.min(LAST_MOMENT),
+        };
+        self.whole.tables.ask(alloc, &sight)
+    }
+
+    fn object(
+        &mut self,
+        alloc: Global,
+        kind: Kind,
+        number: u64,
+        at: i64,
+    ) -> Result<Option<Object>, StoreFault> {
+        self.whole.object(alloc, kind, number, at)
+    }
+
+    fn view(
+        &mut self,
+        alloc: Global,
+        caller: Caller,
+        unit: u64,
+        at: i64,
+    ) -> Result<Option<View>, StoreFault> {
+        self.whole.view(alloc, caller, unit, at)
+    }
+
+    fn slice(&mut self, alloc: Global, caller: Caller, act: &Act) -> Result<Slice, StoreFault> {
+        self.whole.slice(alloc, caller, act)
+    }
+
+    fn write(&mut self, alloc: Global, change: &Change, stamp: i64) -> Result<(), StoreFault> {
+        self.whole.write(alloc, change, stamp)
+    }
+}
