@@ -5,6 +5,7 @@ pub mod HeaderLemmas
 pub mod Honesty
 pub mod ItemLemmas
 pub mod ListingLemmas
+pub mod Moving
 pub mod ResponseLemmas
 pub mod ServingLemmas
 pub mod StoreHeads

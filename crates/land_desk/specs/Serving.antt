@@ -79,6 +79,30 @@ abbrev pub Answers : {C : Type 0} → (State C → Request → Reply → State C
 Answers hears from (request h body) r to = Told hears (reading h.method h.target (field_map (fields_of h)) body) from r to
 Answers hears from (faulty f) r to = ((r ≡ reply.Fault (number_of f)) ⊎ (r ≡ reply.Store 501)) × (to ≡ from)
 
+-- ---- what is heard of a stream, whether its bytes are known or not
+
+-- one request is heard, or none
+abbrev pub MayHear : {C : Type 0} → (State C → Request → Reply → State C → Type 0) → State C → State C → Type 0
+MayHear hears from to = (to ≡ from) ⊎ ((asked : Request) × (r : Reply) × hears from asked r to)
+
+-- these requests are heard one after another, and get these replies
+abbrev pub HearsAll : {C : Type 0} → (State C → Request → Reply → State C → Type 0) → State C → List Request → List Reply → State C → Type 0
+HearsAll hears from [] [] to = to ≡ from
+HearsAll {C} hears from (asked ∷ requests) (r ∷ replies) to =
+    (mid : State C) × hears from asked r mid × HearsAll hears mid requests replies to
+HearsAll hears from [] (r ∷ replies) to = ⊥
+HearsAll hears from (asked ∷ requests) [] to = ⊥
+
+-- the machine comes from one state to another by requests that it hears, and by nothing else
+abbrev pub Moves : {C : Type 0} → (State C → Request → Reply → State C → Type 0) → State C → State C → Type 0
+Moves hears from to = (requests : List Request) × (replies : List Reply) × HearsAll hears from requests replies to
+
+-- it comes to some state at which a keeper stands
+abbrev pub MovesTo : {C : Type 0} → (State C → Request → Reply → State C → Type 0) → State C → (stands : State C → Type 0) → Type 0
+MovesTo {C} hears from stands = (to : State C) × Moves hears from to × stands to
+
+-- ---- what is served of bytes
+
 -- the item at the front of the bytes is answered, its reply is said, and rest is left
 abbrev pub One : {C : Type 0} → (State C → Request → Reply → State C → Type 0) → List ℕ → State C → Exchange → List ℕ → State C → Type 0
 One hears bytes from x rest to =

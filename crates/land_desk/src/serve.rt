@@ -2,7 +2,7 @@
 ghost use Rattle.std.specs.Prelude.{◌≤◌, length, IfSome};
 ghost use Rattle.land_keep.specs.Keeping.{IsAt};
 ghost use Rattle.land_routes.specs.Table.{FindsRoutes};
-ghost use Rattle.land_desk.specs.Serving.{HearsIf, ServesTo};
+ghost use Rattle.land_desk.specs.Serving.{HearsIf, MovesTo, ServesTo};
 
 use crate::counted_reader::CountedReader;
 use crate::head::FIELD_ROOM;
@@ -46,6 +46,9 @@ pub fn serve<R: Read, W: Write, K: Keeper, C: Clock>(
         (record { closed = K.closed keeper.old; timeline = K.timeline keeper.old; clock = clock.old })
         (IsAt (K.honest keeper.new) (K.closed keeper.new) (K.timeline keeper.new) clock.new)
         (W.contents writer.old) (W.contents writer.new) result) }
+    ensures moves { MovesTo (HearsIf (K.honest keeper.new) C.reads)
+        (record { closed = K.closed keeper.old; timeline = K.timeline keeper.old; clock = clock.old })
+        (IsAt (K.honest keeper.new) (K.closed keeper.new) (K.timeline keeper.new) clock.new) }
     ensures was { K.honest keeper.new → K.honest keeper.old }
 {
     let Ok(router) = routes(alloc) else {
@@ -83,6 +86,9 @@ fn serve_items<R: Read, W: Write, K: Keeper, C: Clock>(
         (record { closed = K.closed keeper.old; timeline = K.timeline keeper.old; clock = clock.old })
         (IsAt (K.honest keeper.new) (K.closed keeper.new) (K.timeline keeper.new) clock.new)
         (W.contents writer.old) (W.contents writer.new) result) }
+    ensures moves { MovesTo (HearsIf (K.honest keeper.new) C.reads)
+        (record { closed = K.closed keeper.old; timeline = K.timeline keeper.old; clock = clock.old })
+        (IsAt (K.honest keeper.new) (K.closed keeper.new) (K.timeline keeper.new) clock.new) }
     ensures was { K.honest keeper.new → K.honest keeper.old }
 {
     let mut buffer = Vec::new(alloc);

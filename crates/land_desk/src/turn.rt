@@ -13,7 +13,7 @@ ghost use Rattle.land_wire.specs.Laws.{IsStated};
 ghost use Rattle.land_wire.specs.Reading.{reading};
 ghost use Rattle.land_desk.specs.Frame.{fields_of};
 ghost use Rattle.land_desk.specs.Items.{IsRequestIn};
-ghost use Rattle.land_desk.specs.Serving.{Brings, HearsIf};
+ghost use Rattle.land_desk.specs.Serving.{Brings, HearsIf, MayHear};
 ghost use Rattle.land_desk.specs.Turns.{IsTurn, IsWritten, Spoken, answer_bytes};
 
 use crate::buffer::drop_front;
@@ -68,6 +68,10 @@ pub(crate) fn take_turn<R: Read, W: Write, K: Keeper, C: Clock>(
         (λ from to. IsTurn (HearsIf (K.honest keeper.new) C.reads) bytes from to
         (prepend_known buffer.new.items (R.remaining reader.new.reader))
         (W.contents writer.old) (W.contents writer.new) result)) }
+    ensures hears { Brings
+        (IsAt (K.honest keeper.old) (K.closed keeper.old) (K.timeline keeper.old) clock.old)
+        (IsAt (K.honest keeper.new) (K.closed keeper.new) (K.timeline keeper.new) clock.new)
+        (MayHear (HearsIf (K.honest keeper.new) C.reads)) }
     ensures was { K.honest keeper.new → K.honest keeper.old }
 {
     match read_item(reader, buffer, headers) {

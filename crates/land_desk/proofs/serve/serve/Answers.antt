@@ -2,6 +2,7 @@ use Rattle.std.proofs.Common.{refl}
 use Rattle.land_keep.specs.Keeping.{IsAt}
 use Rattle.land_desk.specs.Serving.{HearsIf}
 use Rattle.land_desk.proofs.Honesty.{comes_to_nothing}
+use Rattle.land_desk.proofs.Moving.{unmoved}
 use Rattle.land_desk.proofs.serve.serve.Goals as goal
 
 pub returns-in_default-clause-served : goal.returns-in_default-clause-served
@@ -18,3 +19,9 @@ returns-in_default-vec-clause-served g c = comes_to_nothing (HearsIf (g.K.Keeper
 
 pub returns-clause-served : goal.returns-clause-served
 returns-clause-served g c = simp c.new-counted.ensures.reader at c.serve_items.ensures.served
+
+pub returns-in_default-clause-moves : goal.returns-in_default-clause-moves
+returns-in_default-clause-moves g c = (_, unmoved (HearsIf (g.K.Keeper.honest c.args.keeper.now) g.C.Clock.reads) _, (refl, refl, λ live. refl))
+
+pub returns-in_default-vec-clause-moves : goal.returns-in_default-vec-clause-moves
+returns-in_default-vec-clause-moves g c = (_, unmoved (HearsIf (g.K.Keeper.honest c.args.keeper.now) g.C.Clock.reads) _, (refl, refl, λ live. refl))

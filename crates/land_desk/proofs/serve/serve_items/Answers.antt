@@ -5,6 +5,7 @@ use Rattle.land_keep.specs.Machine.{State}
 use Rattle.land_desk.specs.Serving.{HearsIf}
 use Rattle.land_desk.specs.Turns.{IsTurn}
 use Rattle.land_desk.proofs.Honesty.{comes_to, comes_to_end_of_asking, heard_later, keeps_on, starts}
+use Rattle.land_desk.proofs.Moving.{moves_on, unmoved}
 use Rattle.land_desk.proofs.ServingLemmas.{serves_end, serves_last, serves_fault}
 use Rattle.land_desk.proofs.serve.serve_items.Goals as goal
 
@@ -86,7 +87,11 @@ loop-replies-preserved g c =
           (λ s. IsAt (g.K.Keeper.honest c.take_turn.new.keeper) (g.K.Keeper.closed c.take_turn.new.keeper) (g.K.Keeper.timeline c.take_turn.new.keeper) c.take_turn.new.clock s)
           from start before after w u v c.loop-replies.replies c.in-Ok-More.field-0 c.in-Ok-More.field-0-is
           c.loop-replies.invariant.1 c.in-Ok-More.ensures.turn,
-      (λ trust. c.loop-replies.invariant.2 (c.in-Ok-More.ensures.was trust)),
+      moves_on hears later weaken
+          (λ s. IsAt (g.K.Keeper.honest c.loop-replies.keeper) (g.K.Keeper.closed c.loop-replies.keeper) (g.K.Keeper.timeline c.loop-replies.keeper) c.loop-replies.clock s)
+          (λ s. IsAt (g.K.Keeper.honest c.take_turn.new.keeper) (g.K.Keeper.closed c.take_turn.new.keeper) (g.K.Keeper.timeline c.take_turn.new.keeper) c.take_turn.new.clock s)
+          from c.loop-replies.invariant.2 c.in-Ok-More.ensures.hears,
+      (λ trust. c.loop-replies.invariant.3 (c.in-Ok-More.ensures.was trust)),
     )
 
 pub loop-replies-init : goal.loop-replies-init
@@ -96,6 +101,7 @@ loop-replies-init g c =
       starts (HearsIf (g.K.Keeper.honest c.args.keeper.now) g.C.Clock.reads)
           (λ s. IsAt (g.K.Keeper.honest c.args.keeper.now) (g.K.Keeper.closed c.args.keeper.now) (g.K.Keeper.timeline c.args.keeper.now) c.args.clock.now s) from
           (g.R.Read.remaining c.args.reader.now.reader) c.new-buffer.result.items (g.W.Write.contents c.args.writer.now) (refl, refl, λ live. refl) c.new-buffer.ensures.items,
+      (from, unmoved (HearsIf (g.K.Keeper.honest c.args.keeper.now) g.C.Clock.reads) from, (refl, refl, λ live. refl)),
       (λ trust. trust),
     )
 
@@ -106,3 +112,36 @@ returns-clause-served g c = comes_to_end_of_asking (HearsIf (g.K.Keeper.honest c
     (g.R.Read.remaining c.args.reader.now.reader)
     (prepend_known c.loop-replies.buffer.items (g.R.Read.remaining c.loop-replies.reader.reader))
     (g.W.Write.contents c.args.writer.now) (g.W.Write.contents c.loop-replies.writer) c.loop-replies.replies c.loop-replies.invariant.1
+
+pub returns-in-Ok-End-clause-moves : goal.returns-in-Ok-End-clause-moves
+returns-in-Ok-End-clause-moves g c =
+    let hears = HearsIf (g.K.Keeper.honest c.loop-replies.keeper) g.C.Clock.reads in
+    let later = HearsIf (g.K.Keeper.honest c.take_turn.new.keeper) g.C.Clock.reads in
+    let weaken = heard_later g.C.Clock.reads (g.K.Keeper.honest c.loop-replies.keeper) (g.K.Keeper.honest c.take_turn.new.keeper) c.in-Ok-End.ensures.was in
+    moves_on hears later weaken
+    (λ s. IsAt (g.K.Keeper.honest c.loop-replies.keeper) (g.K.Keeper.closed c.loop-replies.keeper) (g.K.Keeper.timeline c.loop-replies.keeper) c.loop-replies.clock s)
+    (λ s. IsAt (g.K.Keeper.honest c.take_turn.new.keeper) (g.K.Keeper.closed c.take_turn.new.keeper) (g.K.Keeper.timeline c.take_turn.new.keeper) c.take_turn.new.clock s)
+    (record { closed = g.K.Keeper.closed c.args.keeper.now; timeline = g.K.Keeper.timeline c.args.keeper.now; clock = c.args.clock.now })
+    c.loop-replies.invariant.2 c.in-Ok-End.ensures.hears
+
+pub returns-in-Ok-Last-clause-moves : goal.returns-in-Ok-Last-clause-moves
+returns-in-Ok-Last-clause-moves g c =
+    let hears = HearsIf (g.K.Keeper.honest c.loop-replies.keeper) g.C.Clock.reads in
+    let later = HearsIf (g.K.Keeper.honest c.take_turn.new.keeper) g.C.Clock.reads in
+    let weaken = heard_later g.C.Clock.reads (g.K.Keeper.honest c.loop-replies.keeper) (g.K.Keeper.honest c.take_turn.new.keeper) c.in-Ok-Last.ensures.was in
+    moves_on hears later weaken
+    (λ s. IsAt (g.K.Keeper.honest c.loop-replies.keeper) (g.K.Keeper.closed c.loop-replies.keeper) (g.K.Keeper.timeline c.loop-replies.keeper) c.loop-replies.clock s)
+    (λ s. IsAt (g.K.Keeper.honest c.take_turn.new.keeper) (g.K.Keeper.closed c.take_turn.new.keeper) (g.K.Keeper.timeline c.take_turn.new.keeper) c.take_turn.new.clock s)
+    (record { closed = g.K.Keeper.closed c.args.keeper.now; timeline = g.K.Keeper.timeline c.args.keeper.now; clock = c.args.clock.now })
+    c.loop-replies.invariant.2 c.in-Ok-Last.ensures.hears
+
+pub returns-in-Err-clause-moves : goal.returns-in-Err-clause-moves
+returns-in-Err-clause-moves g c =
+    let hears = HearsIf (g.K.Keeper.honest c.loop-replies.keeper) g.C.Clock.reads in
+    let later = HearsIf (g.K.Keeper.honest c.take_turn.new.keeper) g.C.Clock.reads in
+    let weaken = heard_later g.C.Clock.reads (g.K.Keeper.honest c.loop-replies.keeper) (g.K.Keeper.honest c.take_turn.new.keeper) c.in-Err.ensures.was in
+    moves_on hears later weaken
+    (λ s. IsAt (g.K.Keeper.honest c.loop-replies.keeper) (g.K.Keeper.closed c.loop-replies.keeper) (g.K.Keeper.timeline c.loop-replies.keeper) c.loop-replies.clock s)
+    (λ s. IsAt (g.K.Keeper.honest c.take_turn.new.keeper) (g.K.Keeper.closed c.take_turn.new.keeper) (g.K.Keeper.timeline c.take_turn.new.keeper) c.take_turn.new.clock s)
+    (record { closed = g.K.Keeper.closed c.args.keeper.now; timeline = g.K.Keeper.timeline c.args.keeper.now; clock = c.args.clock.now })
+    c.loop-replies.invariant.2 c.in-Err.ensures.hears

@@ -2,7 +2,7 @@ use Rattle.std.proofs.Common.{◌≤◌, length}
 use Rattle.std.specs.Io.KnownBytes.{prepend_known}
 use Rattle.land_keep.specs.Keeping.{IsAt}
 use Rattle.land_keep.specs.Machine.{State}
-use Rattle.land_desk.specs.Serving.{HearsIf, SoFar}
+use Rattle.land_desk.specs.Serving.{HearsIf, MovesTo, SoFar}
 use Rattle.land_desk.specs.Turns.{IfBoth}
 use Rattle.land_desk.proofs.serve.serve_items.Given as goal
 
@@ -15,4 +15,7 @@ invariant-loop-replies g l =
     (record { closed = g.K.Keeper.closed l.initial.keeper; timeline = g.K.Keeper.timeline l.initial.keeper; clock = l.initial.clock })
     now (g.W.Write.contents l.initial.writer) (g.W.Write.contents l.writer) l.replies
     × IsAt (g.K.Keeper.honest l.keeper) (g.K.Keeper.closed l.keeper) (g.K.Keeper.timeline l.keeper) l.clock now)
+    × MovesTo (HearsIf (g.K.Keeper.honest l.keeper) g.C.Clock.reads)
+    (record { closed = g.K.Keeper.closed l.initial.keeper; timeline = g.K.Keeper.timeline l.initial.keeper; clock = l.initial.clock })
+    (IsAt (g.K.Keeper.honest l.keeper) (g.K.Keeper.closed l.keeper) (g.K.Keeper.timeline l.keeper) l.clock)
     × (g.K.Keeper.honest l.keeper → g.K.Keeper.honest l.initial.keeper)

@@ -1,9 +1,10 @@
-use Rattle.std.proofs.Common.{◌+◌, Err, Ok, drop}
+use Rattle.std.proofs.Common.{◌+◌, [], inl, refl, Err, Ok, drop}
 use Rattle.std.specs.Io.KnownBytes.{prepend_known}
 use Rattle.land_desk.specs.Serving.{HearsIf}
 use Rattle.land_desk.specs.Turns.{IsTurn}
 use Rattle.land_desk.specs.declared.serve.DeskFault.TheVariants as desk
 use Rattle.land_desk.specs.declared.turn.Turn.TheVariants as turn
+use Rattle.land_desk.proofs.Moving.{one_heard}
 use Rattle.land_desk.proofs.TurnLemmas.{end_told, fault_told, request_told, stays_put, unread}
 use Rattle.land_desk.proofs.turn.take_turn.Goals as goal
 
@@ -54,3 +55,20 @@ returns-in-Err-NoMemory-clause-turn g c =
     let w = g.W.Write.contents c.args.writer.now in
     stays_put hears start _ _ (λ bytes from to. IsTurn hears bytes from to left w w (Err desk.NoMemory)) (λ s at. at)
     (λ s. unread hears start left w s desk.NoMemory (λ e. cc))
+
+pub returns-in-Ok-Fault-clause-hears : goal.returns-in-Ok-Fault-clause-hears
+returns-in-Ok-Fault-clause-hears g c from at = (from, inl refl, at)
+
+pub returns-in-Ok-End-clause-hears : goal.returns-in-Ok-End-clause-hears
+returns-in-Ok-End-clause-hears g c from at = (from, inl refl, at)
+
+pub returns-in-Err-Read-clause-hears : goal.returns-in-Err-Read-clause-hears
+returns-in-Err-Read-clause-hears g c from at = (from, inl refl, at)
+
+pub returns-in-Err-NoMemory-clause-hears : goal.returns-in-Err-NoMemory-clause-hears
+returns-in-Err-NoMemory-clause-hears g c from at = (from, inl refl, at)
+
+pub returns-in-Ok-Request-clause-hears : goal.returns-in-Ok-Request-clause-hears
+returns-in-Ok-Request-clause-hears g c from at =
+    let it = c.answer_request-answer.ensures.spoken [] from at in
+    (it.0, one_heard (HearsIf (g.K.Keeper.honest c.answer_request-answer.new.keeper) g.C.Clock.reads) _ from it.1.0 _ it.0 it.1.1, it.2)

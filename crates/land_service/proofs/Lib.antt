@@ -1,0 +1,2 @@
+-- Lemmas of serving connections one after another.
+pub mod Turns
