@@ -7,12 +7,12 @@ use Rattle.land_desk.specs.Serving.{IsServing}
 use Rattle.land_desk.specs.declared.serve.DeskFault.{DeskFault}
 use Rattle.land_desk.specs.declared.serve.Served.{Served}
 use Rattle.land_words.specs.Names.{IsReading}
+use Rattle.land_words.specs.Orders.{Order, to_talk, to_make, to_serve, to_check, order_of}
 use Rattle.land_words.specs.declared.command.Command.{Command}
-use Rattle.land_words.specs.declared.command.Command.TheVariants.{Talk}
 use Rattle.land_words.specs.declared.words_fault.WordsFault.{WordsFault}
 use Rattle.land_words.specs.declared.words_fault.WordsFault.TheVariants as words
 use Rattle.land.specs.ProgramFaults.{fault_of, line_of, status_of}
-use Rattle.land.specs.declared.program_fault.ProgramFault.TheVariants.{NoMemory}
+use Rattle.land.specs.declared.program_fault.ProgramFault.TheVariants.{NoMemory, Open}
 use Rattle.land.specs.declared.set_clock.SetClock.{SetClock}
 
 -- a clock that is set reads what it is set to, each time
@@ -36,14 +36,21 @@ abbrev pub IsEnding : Result Served DeskFault → (old new : Option (List ℕ)) 
 IsEnding (Ok served) old new status = (status ≡ 0) × Appends old new []
 IsEnding (Err fault) old new status = (status ≡ status_of (fault_of fault)) × IsSaid (line_of (fault_of fault)) old new
 
+-- no file is opened yet: nothing is written but that, and the status is that of its fault
+abbrev pub IsUnopened : (old new : Option (List ℕ)) → (old_errors new_errors : Option (List ℕ)) → (status : ℕ) → Type 0
+IsUnopened old new old_errors new_errors status = (status ≡ status_of Open) × Appends old new [] × IsSaid (line_of Open) old_errors new_errors
+
 -- a command, by what it writes on the output and on that of errors, and its status
-abbrev pub IsRun : Command → (input : List ℕ) → (old new : Option (List ℕ)) → (old_errors new_errors : Option (List ℕ)) → (status : ℕ) → Type 0
-IsRun (Talk clock) input old new old_errors new_errors status =
+abbrev pub IsRun : Order → (input : List ℕ) → (old new : Option (List ℕ)) → (old_errors new_errors : Option (List ℕ)) → (status : ℕ) → Type 0
+IsRun (to_talk clock) input old new old_errors new_errors status =
     (served : Result Served DeskFault) × IsTalk input clock old new served × IsEnding served old_errors new_errors status
+IsRun (to_make file) input old new old_errors new_errors status = IsUnopened old new old_errors new_errors status
+IsRun (to_serve file port connections) input old new old_errors new_errors status = IsUnopened old new old_errors new_errors status
+IsRun (to_check file) input old new old_errors new_errors status = IsUnopened old new old_errors new_errors status
 
 -- what is done for what the words are read as: refused words write nothing but what `clap` says of them, and their status is 2
 abbrev pub IsDone : Result Command WordsFault → (input : List ℕ) → (old new : Option (List ℕ)) → (old_errors new_errors : Option (List ℕ)) → (status : ℕ) → Type 0
-IsDone (Ok command) input old new old_errors new_errors status = IsRun command input old new old_errors new_errors status
+IsDone (Ok command) input old new old_errors new_errors status = IsRun (order_of command) input old new old_errors new_errors status
 IsDone (Err (words.Refused text)) input old new old_errors new_errors status =
     (status ≡ 2) × Appends old new [] × IsSaid (string_bytes text) old_errors new_errors
 IsDone (Err words.NoMemory) input old new old_errors new_errors status =

@@ -23,9 +23,11 @@ abbrev pub status_of : ProgramFault → ℕ
 status_of program.Words = 2
 status_of program.Stream = 1
 status_of program.NoMemory = 1
+status_of program.Open = 1
 
 -- the line that is told of it
 abbrev pub line_of : ProgramFault → List ℕ
 line_of program.Words = codes "land: a word of the command line is no text\n"
 line_of program.Stream = codes "land: input or output failed\n"
 line_of program.NoMemory = codes "land: fault 501\n"
+line_of program.Open = codes "land: cannot open\n"

@@ -16,6 +16,8 @@ pub enum ProgramFault {
     Stream,
     /// There was no memory.
     NoMemory,
+    /// A file could not be opened.
+    Open,
 }
 
 impl ProgramFault {
@@ -25,7 +27,7 @@ impl ProgramFault {
     {
         match self {
             ProgramFault::Words => 2,
-            ProgramFault::Stream | ProgramFault::NoMemory => 1,
+            ProgramFault::Stream | ProgramFault::NoMemory | ProgramFault::Open => 1,
         }
     }
 
@@ -37,6 +39,7 @@ impl ProgramFault {
             ProgramFault::Words => "land: a word of the command line is no text\n",
             ProgramFault::Stream => "land: input or output failed\n",
             ProgramFault::NoMemory => "land: fault 501\n",
+            ProgramFault::Open => "land: cannot open\n",
         }
     }
 }

@@ -2,6 +2,7 @@
 ghost use Rattle.std.specs.Prelude.{◌≡◌, IfSome};
 ghost use Rattle.land.specs.Program.{IsEnding, IsRun, IsSaid, IsTalk};
 ghost use Rattle.land.specs.ProgramFaults.{line_of, status_of};
+ghost use Rattle.land_words.specs.Orders.{order_of};
 
 use crate::program_fault::ProgramFault;
 use crate::set_clock::SetClock;
@@ -13,20 +14,24 @@ use std::alloc::Global;
 use std::io::{Read, Write};
 
 /// Does a command over the streams that are handed in, and gives the status: 0, or 1 for a fault, which is told on `errors`.
+/// Commands over files end with `land: cannot open` until registers are kept in files.
 pub fn run_command<I: Read, O: Write, E: Write>(
     alloc: Global,
-    command: Command,
+    command: Command<'_>,
     input: &mut I,
     output: &mut O,
     errors: &mut E,
 ) -> u8
-    ensures { IfSome (I.remaining input.old) (λ bytes. IsRun command bytes
+    ensures { IfSome (I.remaining input.old) (λ bytes. IsRun (order_of command.entry) bytes
         (O.contents output.old) (O.contents output.new) (E.contents errors.old) (E.contents errors.new) result) }
 {
     match command {
         Command::Talk { clock } => {
             let served = talk(alloc, clock, input, output);
             conclude(errors, served)
+        }
+        Command::New { .. } | Command::Serve { .. } | Command::Check { .. } => {
+            complain(errors, ProgramFault::Open)
         }
     }
 }

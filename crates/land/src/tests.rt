@@ -13,6 +13,7 @@ mod readings;
 mod replies;
 mod requests;
 mod scenario;
+mod service;
 mod streams;
 mod talk;
 mod turns;

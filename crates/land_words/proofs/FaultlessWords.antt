@@ -1,126 +1,141 @@
--- Words in which `clap` finds no fault name a command. Each further command has such lemmas of its own, as `talk` has.
-use Rattle.std.proofs.Common.{◌≡◌, ◌∙◌, ◌&&◌, ◌||◌, not, refl, sym, subst, pos, Bool, true, false, List, [], ◌∷◌, Option, Some, None, cond, is_some, length, option_map, codes}
-use Rattle.std.specs.Prelude.{find}
+-- Words in which `clap` finds no fault name a command. Each further command has such a lemma of its own.
+use Rattle.std.proofs.Common.{◌≡◌, refl, ℕ, ℤ, pos, negsuc, Bool, true, false, List, [], ◌∷◌, ◌++◌, Option, Some, None, cond, is_some, option_map, codes}
+use Rattle.std.specs.Prelude.{◌≤ℤ◌}
 use Rattle.std.specs.Option.{option_map_or}
 use Rattle.std.specs.Str.Parse.{signed_digits_value}
-use Rattle.clap.specs.Faults.{check_fault, defaults_fault, entered_fault, fault_of, level_fault, repeat_fault, settle_fault, use_fault, walk_fault}
-use Rattle.clap.specs.Kinds.{check_kinds, range_kinds, value_kinds}
-use Rattle.clap.specs.Simple.{Shape, argument_words, built, entered, filled, filled_from, help_rule, label_of, names_of, new_shape, rows_at}
-use Rattle.clap.specs.Takes.{is_given}
-use Rattle.clap.specs.Values.{IsSignedIn}
-use Rattle.clap.specs.Walk.{Held, Row, Rule, Text, answers_to, finished, nothing_held, rows_after, settled, stop_after, used, walk, walk_from}
-use Rattle.clap.specs.declared.builder.value_parser.ValueParser.{ValueParser}
+use Rattle.clap.specs.Faults.{check_fault, defaults_fault, entered_fault, fault_of, level_fault, settle_fault, walk_fault}
+use Rattle.clap.specs.Simple.{Shape, argument_words, built, entered, filled_from, help_rule, label_of, names_of, new_shape, rows_at}
+use Rattle.clap.specs.Values.{Accepts}
+use Rattle.clap.specs.Walk.{Row, Rule, Text, answers_to, finished, first_of, nothing_held, rows_after, settled, stop_after, walk, walk_from}
 use Rattle.clap.specs.declared.builder.value_parser.ValueParser.TheVariants as parser
-use Rattle.clap.specs.declared.parser.matches.ValueSource.TheVariants.{CommandLine}
 use Rattle.land_words.specs.Commands.{land_app}
 use Rattle.land_words.specs.Names.{IsFoundAs, Names}
-use Rattle.land_words.specs.Options.{moment_rule}
-use Rattle.land_words.specs.declared.command.Command.{Command}
-use Rattle.land_words.specs.declared.command.Command.TheVariants.{Talk}
-use Rattle.land_words.proofs.WalkKeeps.{both_none, settle_keeps, walk_keeps}
-use Rattle.land_words.proofs.NumberRows.{AllPass, HasFirst, given_first, no_default, no_kind_accepted, set_pass}
+use Rattle.land_words.specs.Options.{connections_rule, counts, file_rule, moment_rule, moments, port_rule, ports}
+use Rattle.land_words.specs.Orders.{Order, to_talk, to_make, to_serve, to_check}
+use Rattle.land_words.proofs.GivenOptions.{Each, HasNoDefault, given_passes, help_keeps, option_keeps, required_given}
+use Rattle.land_words.proofs.WalkKeeps.{both_none}
 
--- a moment's text
-abbrev pub IsMoment : Text → Type 0
-IsMoment = IsSignedIn (pos 0) (pos 4102444799999)
-
--- a use of a moment's option that is without fault has a moment for its value
-moment_used : (name : Text) (is_required again : Bool) (values : List Text) (rows : List Row)
-    → use_fault again (filled (moment_rule name is_required)) values rows ≡ [] → HasFirst name IsMoment values
-moment_used name is_required again [] rows e = cc
-moment_used name is_required again (v ∷ values) rows e =
-    let action = (both_none (range_kinds 1 1 (length (v ∷ values))) _ e).1 in
-    let each = (both_none (repeat_fault again name rows) _ action).1 in
-    let first = (both_none (value_kinds false moments v) _ each).0 in
-    no_kind_accepted false moments v first
-  where
-    moments : ValueParser
-    moments = parser.Signed (pos 0) (pos 4102444799999)
-
-moment_keeps : (name : Text) (is_required again : Bool) (values : List Text) (rows : List Row)
-    → use_fault again (filled (moment_rule name is_required)) values rows ≡ [] → AllPass name IsMoment rows
-    → AllPass name IsMoment (used (filled (moment_rule name is_required)) values rows)
-moment_keeps name is_required again [] rows e h = cc
-moment_keeps name is_required again (v ∷ values) rows e h =
-    set_pass name IsMoment name _ CommandLine (v ∷ values) rows (λ same. moment_used name is_required again (v ∷ values) rows e) h
-
--- a use of `--help` is never without fault
-no_help : (again : Bool) (values : List Text) (rows : List Row) → use_fault again (filled help_rule) values rows ≡ [] → ⊥
-no_help again values rows e = let bad = (both_none (range_kinds 0 0 (length values)) _ e).1 in cc
-
--- `talk` as `clap` builds it
-abbrev pub talk_built : Shape
-talk_built = record (new_shape (codes "talk")) {
-  rules = filled_from 1 (moment_rule (codes "clock") true ∷ help_rule ∷ []);
+-- a command with these options, as `clap` builds it
+abbrev pub built_of : (name : Text) → List Rule → Shape
+built_of name options = record (new_shape name) {
+  rules = filled_from 1 (options ++ help_rule ∷ []);
   is_built = true;
   disable_help_subcommand = true;
 }
 
-talk_keeps : (p : Rule → Bool) (a : Rule) → find p talk_built.rules ≡ Some a → (again : Bool) (values : List Text) (rows : List Row) → use_fault again a values rows ≡ []
-    → AllPass (codes "clock") IsMoment rows → AllPass (codes "clock") IsMoment (used a values rows)
-talk_keeps p a found again values rows e h = go (p clock) (p help) found
-  where
-    clock : Rule
-    clock = filled (moment_rule (codes "clock") true)
+abbrev pub talk_built : Shape
+talk_built = built_of (codes "talk") (moment_rule (codes "clock") true ∷ [])
 
-    help : Rule
-    help = filled help_rule
+-- a command with a file alone
+abbrev pub file_built : Text → Shape
+file_built name = built_of name (file_rule ∷ [])
 
-    go : (s t : Bool) → cond s (Some clock) (cond t (Some help) None) ≡ Some a → AllPass (codes "clock") IsMoment (used a values rows)
-    go true t is =
-        let one : a ≡ clock = cc in
-        subst (λ (x : Rule). AllPass (codes "clock") IsMoment (used x values rows)) (sym one)
-        (moment_keeps (codes "clock") true again values rows (subst (λ (x : Rule). use_fault again x values rows ≡ []) one e) h)
-    go false true is =
-        let one : a ≡ help = cc in
-        absurd (no_help again values rows (subst (λ (x : Rule). use_fault again x values rows ≡ []) one e))
-    go false false is = cc
-
--- the rows of `talk` at the end of its words, which no default changes
-talk_finished : (h : Held) → finished talk_built.rules h ≡ (settled talk_built.rules h).rows
-talk_finished h =
-    let clock = no_default (settled talk_built.rules h).rows (filled (moment_rule (codes "clock") true)) refl in
-    no_default _ (filled help_rule) refl ∙ clock
-
--- where no argument is wanted that is required, the first one is given
-is_wanted : (given others : Bool) → check_kinds false false ((true && not given) || others) ≡ [] → given ≡ true
-is_wanted true others e = refl
-is_wanted false others e = cc
+abbrev pub serve_built : Shape
+serve_built = built_of (codes "serve") (file_rule ∷ port_rule ∷ connections_rule ∷ [])
 
 -- words of `talk` without a fault have a moment for its clock
 talk_named : (words : List Text) → level_fault talk_built [] nothing_held words false [] ≡ []
-    → (command : Command) × IsFoundAs (Some (rows_at talk_built words)) command
+    → (order : Order) × IsFoundAs (Some (rows_at talk_built words)) order
 talk_named words e =
-    let end = (walk talk_built.rules [] nothing_held words).held in
-    let walked = both_none (walk_fault talk_built [] (walk_from nothing_held) words) _ e in
-    let settles = both_none (settle_fault talk_built.rules false end) _ walked.1 in
-    let checks = (both_none (defaults_fault (settled talk_built.rules end).rows talk_built.rules) _ settles.1).1 in
-    let rows = rows_after talk_built.rules [] words in
-    let kept = walk_keeps talk_built (AllPass (codes "clock") IsMoment) talk_keeps [] (walk_from nothing_held) words walked.0 tt in
-    let settled_kept = settle_keeps talk_built (AllPass (codes "clock") IsMoment) talk_keeps false end settles.0 kept in
-    let pass : AllPass (codes "clock") IsMoment rows = subst (AllPass (codes "clock") IsMoment) (sym (talk_finished end)) settled_kept in
-    let given = given_first (codes "clock") IsMoment rows pass (is_wanted (is_given (codes "clock") rows) _ checks) in
-    (Talk (signed_digits_value 10 given.0), (rows, refl, record { text = given.0; found = given.1; in_range = given.2; value = refl }))
+    let none : Each HasNoDefault talk_built.rules = (refl, (refl, tt)) in
+    let given = required_given talk_built none words e in
+    let clock = given_passes talk_built none words e (codes "clock") (Accepts false moments)
+    (option_keeps (codes "clock") (Accepts false moments) (codes "clock") true moments (λ same text h. h), (help_keeps _, tt)) (given.0 refl) in (
+      to_talk (signed_digits_value 10 clock.0),
+      (rows_after talk_built.rules [] words, refl, record { text = clock.0; found = clock.1; in_range = clock.2; value = refl }),
+    )
+
+-- words of a command with a file alone have a text for it
+file_named : (name : Text) (words : List Text) → level_fault (file_built name) [] nothing_held words false [] ≡ []
+    → (file : Text) × (first_of (codes "file") (rows_after (file_built name).rules [] words) ≡ Some file)
+file_named name words e =
+    let none : Each HasNoDefault (file_built name).rules = (refl, (refl, tt)) in
+    let given = required_given (file_built name) none words e in
+    let file = given_passes (file_built name) none words e (codes "file") (Accepts false parser.String)
+    (option_keeps (codes "file") (Accepts false parser.String) (codes "file") true parser.String (λ same text h. h), (help_keeps _, tt)) (given.0 refl) in
+    (file.0, file.1)
+
+-- a number that is not below 1 is that of a count
+counted : (z : ℤ) → pos 1 ≤ℤ z → (n : ℕ) × (z ≡ pos n)
+counted (pos n) h = (n, refl)
+counted (negsuc n) h = absurd h.le
+
+-- words of `serve` without a fault have a file, a port and how many connections to serve
+serve_named : (words : List Text) → level_fault serve_built [] nothing_held words false [] ≡ []
+    → (order : Order) × IsFoundAs (Some (rows_at serve_built words)) order
+serve_named words e =
+    let none : Each HasNoDefault serve_built.rules = (refl, (refl, (refl, (refl, tt)))) in
+    let given = required_given serve_built none words e in
+    let file = given_passes serve_built none words e (codes "file") (Accepts false parser.String) (
+      option_keeps (codes "file") (Accepts false parser.String) (codes "file") true parser.String (λ same text h. h),
+      (
+        option_keeps (codes "file") (Accepts false parser.String) (codes "port") true ports (λ same. cc),
+        (option_keeps (codes "file") (Accepts false parser.String) (codes "connections") true counts (λ same. cc), (help_keeps _, tt)),
+      ),
+    ) (given.0 refl) in
+    let port = given_passes serve_built none words e (codes "port") (Accepts false ports) (
+      option_keeps (codes "port") (Accepts false ports) (codes "file") true parser.String (λ same. cc),
+      (
+        option_keeps (codes "port") (Accepts false ports) (codes "port") true ports (λ same text h. h),
+        (option_keeps (codes "port") (Accepts false ports) (codes "connections") true counts (λ same. cc), (help_keeps _, tt)),
+      ),
+    ) (given.1.0 refl) in
+    let count = given_passes serve_built none words e (codes "connections") (Accepts false counts) (
+      option_keeps (codes "connections") (Accepts false counts) (codes "file") true parser.String (λ same. cc),
+      (
+        option_keeps (codes "connections") (Accepts false counts) (codes "port") true ports (λ same. cc),
+        (option_keeps (codes "connections") (Accepts false counts) (codes "connections") true counts (λ same text h. h), (help_keeps _, tt)),
+      ),
+    ) (given.1.1.0 refl) in
+    let at_port = counted (signed_digits_value 10 port.0) port.2.2 in
+    let in_all = counted (signed_digits_value 10 count.0) count.2.2 in (
+      to_serve file.0 at_port.0 in_all.0,
+      (
+        rows_after serve_built.rules [] words,
+        refl,
+        (
+          file.1,
+          record { text = port.0; found = port.1; in_range = port.2; value = at_port.1 },
+          record { text = count.0; found = count.1; in_range = count.2; value = in_all.1 },
+        ),
+      ),
+    )
 
 -- where a command is wanted, one is there
 command_wanted : (rows : List Row) (has : Bool) → check_fault (built land_app).top rows has ≡ [] → has ≡ true
 command_wanted rows true e = refl
 command_wanted rows false e = cc
 
+-- the command whose word this is
+abbrev picked : (talk make serve check : Bool) → Option Shape
+picked talk make serve check =
+    cond talk (Some talk_built)
+    (cond make (Some (file_built (codes "new"))) (cond serve (Some serve_built) (cond check (Some (file_built (codes "check"))) None)))
+
+picked_named : (words : List Text) (talk make serve check : Bool)
+    → is_some (option_map (λ s. rows_at s words) (picked talk make serve check)) ≡ true
+    → option_map_or (λ s. level_fault s [] nothing_held words false []) (picked talk make serve check) [] ≡ []
+    → (order : Order) × IsFoundAs (option_map (λ s. rows_at s words) (picked talk make serve check)) order
+picked_named words true make serve check has e = talk_named words e
+picked_named words false true serve check has e =
+    let file = file_named (codes "new") words e in
+    (to_make file.0, (rows_after (file_built (codes "new")).rules [] words, refl, file.1))
+picked_named words false false true check has e = serve_named words e
+picked_named words false false false true has e =
+    let file = file_named (codes "check") words e in
+    (to_check file.0, (rows_after (file_built (codes "check")).rules [] words, refl, file.1))
+picked_named words false false false false has e = cc
+
 -- the command at which the walk over the words stops
 command_named : (stop : Option (Text × List Text)) → is_some (entered (built land_app) stop) ≡ true → entered_fault (built land_app) stop ≡ []
-    → (command : Command) × IsFoundAs (entered (built land_app) stop) command
+    → (order : Order) × IsFoundAs (entered (built land_app) stop) order
 command_named None has e = cc
-command_named (Some q) has e = go (answers_to q.0 (label_of talk_built)) has e
-  where
-    go : (t : Bool) → is_some (option_map (λ s. rows_at s q.1) (cond t (Some talk_built) None)) ≡ true
-        → option_map_or (λ s. level_fault s [] nothing_held q.1 false []) (cond t (Some talk_built) None) [] ≡ []
-        → (command : Command) × IsFoundAs (option_map (λ s. rows_at s q.1) (cond t (Some talk_built) None)) command
-    go true has e = talk_named q.1 e
-    go false has e = cc
+command_named (Some q) has e =
+    picked_named q.1 (answers_to q.0 (label_of talk_built)) (answers_to q.0 (label_of (file_built (codes "new"))))
+    (answers_to q.0 (label_of serve_built)) (answers_to q.0 (label_of (file_built (codes "check")))) has e
 
 -- words without a fault name a command
-pub named_by_words : (words : List Text) → fault_of land_app words ≡ [] → (command : Command) × Names words command
+pub named_by_words : (words : List Text) → fault_of land_app words ≡ [] → (order : Order) × Names words order
 named_by_words words e =
     let a = built land_app in
     let given = argument_words land_app words in

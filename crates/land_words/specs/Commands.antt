@@ -4,7 +4,7 @@ use Rattle.clap.specs.Words.{App, app_of, new_app, with_rule, with_subcommand}
 use Rattle.clap.specs.Simple.{on_top}
 use Rattle.clap.specs.declared.builder.command.Command.{Command}
 use Rattle.clap.specs.declared.builder.command.Command.TheViews.{out-Command}
-use Rattle.land_words.specs.Options.{moment_rule}
+use Rattle.land_words.specs.Options.{connections_rule, file_rule, moment_rule, port_rule}
 
 -- a program that does nothing by itself: one of its commands is wanted, and none of them is for help
 abbrev pub of_commands : App → App
@@ -14,9 +14,24 @@ of_commands = on_top (λ top. record top { subcommand_required = true; disable_h
 abbrev pub talk_app : App
 talk_app = with_rule (new_app (codes "talk")) (moment_rule (codes "clock") true)
 
+-- `new --file FILE`
+abbrev pub make_app : App
+make_app = with_rule (new_app (codes "new")) file_rule
+
+-- `serve --file FILE --port PORT --connections COUNT`
+abbrev pub serve_app : App
+serve_app = with_rule (with_rule (with_rule (new_app (codes "serve")) file_rule) port_rule) connections_rule
+
+-- `check --file FILE`
+abbrev pub check_app : App
+check_app = with_rule (new_app (codes "check")) file_rule
+
 -- the program with all its commands
 abbrev pub land_app : App
-land_app = with_subcommand (of_commands (new_app (codes "land"))) talk_app.top
+land_app =
+    with_subcommand
+    (with_subcommand (with_subcommand (with_subcommand (of_commands (new_app (codes "land"))) talk_app.top) make_app.top) serve_app.top)
+    check_app.top
 
 -- a command reads words as this one does, and has no option that commands below it share
 pub record IsCommand (app : App) (command : Command) : Type 0 where

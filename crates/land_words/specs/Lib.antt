@@ -3,3 +3,4 @@ pub mod Commands
 pub mod Laws
 pub mod Names
 pub mod Options
+pub mod Orders

@@ -5,8 +5,8 @@ use Rattle.clap.specs.Words.{IsSignedIn, Row, Text, fault_of, first_of, kind_of,
 use Rattle.clap.specs.declared.error.Error.{Error}
 use Rattle.clap.specs.declared.error.kind.ErrorKind.TheVariants as kind
 use Rattle.land_words.specs.Commands.{land_app}
+use Rattle.land_words.specs.Orders.{Order, to_talk, to_make, to_serve, to_check, order_of}
 use Rattle.land_words.specs.declared.command.Command.{Command}
-use Rattle.land_words.specs.declared.command.Command.TheVariants.{Talk}
 use Rattle.land_words.specs.declared.words_fault.WordsFault.{WordsFault}
 use Rattle.land_words.specs.declared.words_fault.WordsFault.TheVariants.{Refused, NoMemory}
 
@@ -23,31 +23,40 @@ IsNumberOf rows option least most (Some number) = HasNumber rows option least mo
 IsNumberOf rows option least most None = (number : ℤ) → HasNumber rows option least most number → ⊥
 
 -- the word of a command
-abbrev pub word_of : Command → Text
-word_of (Talk clock) = codes "talk"
+abbrev pub word_of : Order → Text
+word_of (to_talk clock) = codes "talk"
+word_of (to_make file) = codes "new"
+word_of (to_serve file port connections) = codes "serve"
+word_of (to_check file) = codes "check"
 
--- a command's options are what `clap` found, each number in its range: moments go from 0 to the end of the year 2099
-abbrev pub HasOptions : List Row → Command → Type 0
-HasOptions rows (Talk clock) = HasNumber rows (codes "clock") (pos 0) (pos 4102444799999) clock
+-- a command's options are what `clap` found, each number in its range: moments go from 0 to the end of the year 2099,
+-- ports from 1 to 65535, and a million connections are served at most
+abbrev pub HasOptions : List Row → Order → Type 0
+HasOptions rows (to_talk clock) = HasNumber rows (codes "clock") (pos 0) (pos 4102444799999) clock
+HasOptions rows (to_make file) = first_of (codes "file") rows ≡ Some file
+HasOptions rows (to_serve file port connections) =
+    (first_of (codes "file") rows ≡ Some file) × HasNumber rows (codes "port") (pos 1) (pos 65535) (pos port)
+    × HasNumber rows (codes "connections") (pos 1) (pos 1000000) (pos connections)
+HasOptions rows (to_check file) = first_of (codes "file") rows ≡ Some file
 
 -- a command and its options are what `clap` found
-abbrev pub IsFoundAs : Option (Text × List Row) → Command → Type 0
-IsFoundAs found command = (rows : List Row) × (found ≡ Some (word_of command, rows)) × HasOptions rows command
+abbrev pub IsFoundAs : Option (Text × List Row) → Order → Type 0
+IsFoundAs found order = (rows : List Row) × (found ≡ Some (word_of order, rows)) × HasOptions rows order
 
 -- the words name a command: `clap` finds no fault in them, and what it finds is that command with its options
-pub record Names (words : List Text) (command : Command) : Type 0 where
+pub record Names (words : List Text) (order : Order) : Type 0 where
   pub faultless : fault_of land_app words ≡ []
-  pub found : IsFoundAs (subcommand_of land_app words) command
+  pub found : IsFoundAs (subcommand_of land_app words) order
 
 -- the command that was found, or none was
-abbrev pub IsNamedIn : Option (Text × List Row) → Option Command → Type 0
-IsNamedIn found (Some command) = IsFoundAs found command
-IsNamedIn found None = (command : Command) → IsFoundAs found command → ⊥
+abbrev pub IsNamedIn : Option (Text × List Row) → Option Order → Type 0
+IsNamedIn found (Some order) = IsFoundAs found order
+IsNamedIn found None = (order : Order) → IsFoundAs found order → ⊥
 
--- the options of `talk` are what was found, or they are not
-abbrev pub IsTalkOf : List Row → Option Command → Type 0
-IsTalkOf rows (Some command) = (word_of command ≡ codes "talk") × HasOptions rows command
-IsTalkOf rows None = (command : Command) → word_of command ≡ codes "talk" → HasOptions rows command → ⊥
+-- the options of the command of this word are what was found, or they are not
+abbrev pub IsOrderOf : (word : Text) → List Row → Option Order → Type 0
+IsOrderOf word rows (Some order) = (word_of order ≡ word) × HasOptions rows order
+IsOrderOf word rows None = (order : Order) → word_of order ≡ word → HasOptions rows order → ⊥
 
 -- an error of `clap` other than want of memory refuses the words
 abbrev pub IsRefusalOf : Error → WordsFault → Type 0
@@ -56,6 +65,6 @@ IsRefusalOf error NoMemory = Unit {0}
 
 -- what the words are read as: the command that they name; where they are refused, `clap` finds a fault in them
 abbrev pub IsReading : List Text → Result Command WordsFault → Type 0
-IsReading words (Ok command) = Names words command
+IsReading words (Ok command) = Names words (order_of command)
 IsReading words (Err (Refused text)) = fault_of land_app words ≢ []
 IsReading words (Err NoMemory) = Unit {0}

@@ -1,17 +1,46 @@
 -- Options of commands, as `clap` reads them.
-use Rattle.std.specs.Prelude.{◌≡◌, Bool, false, Some, pos}
+use Rattle.std.specs.Prelude.{◌≡◌, Bool, true, false, Some, pos, codes}
 use Rattle.clap.specs.Words.{Rule, Text, new_rule, rule_of}
 use Rattle.clap.specs.declared.builder.arg.Arg.{Arg}
+use Rattle.clap.specs.declared.builder.value_parser.ValueParser.{ValueParser}
 use Rattle.clap.specs.declared.builder.value_parser.ValueParser.TheVariants as parser
 
--- `--NAME MS`, a moment: a number from 0 to 4102444799999. It stands under its own name, and has one value
-abbrev pub moment_rule : (name : Text) → (is_required : Bool) → Rule
-moment_rule name is_required = record (new_rule name) {
+-- `--NAME VALUE`: an option that stands under its own name, and has one value, which the parser takes
+abbrev pub option_rule : (name : Text) → (is_required : Bool) → ValueParser → Rule
+option_rule name is_required values = record (new_rule name) {
   long = Some name;
   value_names = 1;
   required = is_required;
-  parser = Some (parser.Signed (pos 0) (pos 4102444799999));
+  parser = Some values;
 }
+
+-- numbers from 0 to 4102444799999
+abbrev pub moments : ValueParser
+moments = parser.Signed (pos 0) (pos 4102444799999)
+
+-- numbers from 1 to 65535
+abbrev pub ports : ValueParser
+ports = parser.Signed (pos 1) (pos 65535)
+
+-- numbers from 1 to 1000000
+abbrev pub counts : ValueParser
+counts = parser.Signed (pos 1) (pos 1000000)
+
+-- `--NAME MS`, a moment
+abbrev pub moment_rule : (name : Text) → (is_required : Bool) → Rule
+moment_rule name is_required = option_rule name is_required moments
+
+-- `--file FILE`, any text
+abbrev pub file_rule : Rule
+file_rule = option_rule (codes "file") true parser.String
+
+-- `--port PORT`
+abbrev pub port_rule : Rule
+port_rule = option_rule (codes "port") true ports
+
+-- `--connections COUNT`
+abbrev pub connections_rule : Rule
+connections_rule = option_rule (codes "connections") true counts
 
 -- an option reads words by this rule, and belongs to its command alone
 pub record IsOption (rule : Rule) (option : Arg) : Type 0 where

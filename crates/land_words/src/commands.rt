@@ -2,17 +2,18 @@
 //! no proof has more than one of them in sight.
 ghost use Rattle.std.specs.Prelude.{IfOk};
 ghost use Rattle.clap.specs.Words.{App, Rule, new_app, with_rule, with_subcommand};
-ghost use Rattle.land_words.specs.Commands.{IsCommand, land_app, of_commands, talk_app};
+ghost use Rattle.land_words.specs.Commands.{IsCommand, check_app, land_app, make_app, of_commands, serve_app, talk_app};
 ghost use Rattle.land_words.specs.Options.{IsOption};
 
-use crate::options::moment_option;
+use crate::options::{connections_option, file_option, moment_option, port_option};
 use clap::{Arg, Command};
 use std::alloc::{AllocError, Global};
 
-fn named<'a>(alloc: Global, name: &'a str, about: &'a str) -> Command<'a>
+/// A command with what help says of it: what it does, and at the end an example.
+fn named<'a>(alloc: Global, name: &'a str, about: &'a str, example: &'a str) -> Command<'a>
     ensures { IsCommand (new_app name.entry.now) result }
 {
-    Command::new(alloc, name).about(about)
+    Command::new(alloc, name).about(about).after_help(example)
 }
 
 fn with_option<'a>(command: Command<'a>, option: Arg<'a>) -> Result<Command<'a>, AllocError>
@@ -41,21 +42,68 @@ fn with_command<'a>(above: Command<'a>, command: Command<'a>) -> Result<Command<
 fn talk<'a>(alloc: Global) -> Result<Command<'a>, AllocError>
     ensures { IfOk result (IsCommand talk_app) }
 {
-    let talk = named(alloc, "talk", "Answers standard input over a new register");
+    let about =
+        "Answers the HTTP requests on standard input over a new register, which is kept in memory alone";
+    let example = "Example: land talk --clock 1000 < requests.http";
+    let talk = named(alloc, "talk", about, example);
     let clock = moment_option(
         alloc,
         "clock",
-        "What the clock always reads, in milliseconds since 1970 UTC",
+        "What the clock always reads, in milliseconds since 1970 UTC, 0 to 4102444799999",
         true,
     );
     with_option(talk, clock)
+}
+
+fn make<'a>(alloc: Global) -> Result<Command<'a>, AllocError>
+    ensures { IfOk result (IsCommand make_app) }
+{
+    let about = "Makes a new register in a file, and prints nothing";
+    let example = "Example: land new --file town.land";
+    let make = named(alloc, "new", about, example);
+    let file = file_option(
+        alloc,
+        "The file to make; one that has tables is left as it is",
+    );
+    with_option(make, file)
+}
+
+fn serve<'a>(alloc: Global) -> Result<Command<'a>, AllocError>
+    ensures { IfOk result (IsCommand serve_app) }
+{
+    let about =
+        "Answers HTTP connections on 127.0.0.1, one after another, over the register in a file";
+    let example = "Example: land serve --file town.land --port 8080 --connections 1000";
+    let serve = named(alloc, "serve", about, example);
+    let with_file = with_option(
+        serve,
+        file_option(alloc, "The file of the register, as 'land new' makes it"),
+    )?;
+    let with_port = with_option(with_file, port_option(alloc))?;
+    with_option(with_port, connections_option(alloc))
+}
+
+fn check<'a>(alloc: Global) -> Result<Command<'a>, AllocError>
+    ensures { IfOk result (IsCommand check_app) }
+{
+    let about =
+        "Says whether a file holds a sound register, with its last moment and its next number";
+    let example = "Example: land check --file town.land";
+    let check = named(alloc, "check", about, example);
+    let file = file_option(alloc, "The file of the register");
+    with_option(check, file)
 }
 
 /// The program with all its commands.
 pub fn land<'a>(alloc: Global) -> Result<Command<'a>, AllocError>
     ensures { IfOk result (IsCommand land_app) }
 {
-    let talk = talk(alloc)?;
-    let land = of_commands(named(alloc, "land", "A land register"));
-    with_command(land, talk)
+    let about =
+        "A land register: parties, their rights, restrictions and responsibilities, and the land that these are of";
+    let more = "More on a command, with an example: land COMMAND --help";
+    let land = of_commands(named(alloc, "land", about, more));
+    let talking = with_command(land, talk(alloc)?)?;
+    let making = with_command(talking, make(alloc)?)?;
+    let serving = with_command(making, serve(alloc)?)?;
+    with_command(serving, check(alloc)?)
 }

@@ -1,5 +1,5 @@
 //! Laws, each stated over the definitions alone.
-ghost use Rattle.land_words.specs.Laws.{FaultlessWordsLaw, OneCommandLaw, PlainWordsLaw};
+ghost use Rattle.land_words.specs.Laws.{FaultlessWordsLaw, OneCommandLaw, PlainFileLaw, PlainServiceLaw, PlainTalkLaw};
 
 /// The same words name one command at most.
 pub fn words_name_one_command()
@@ -13,5 +13,15 @@ pub fn faultless_words_name_a_command()
 
 /// `talk --clock MS` names that talk, where MS is the decimal digits of a moment.
 pub fn plain_words_are_read()
-    ensures { PlainWordsLaw }
+    ensures { PlainTalkLaw }
+{}
+
+/// `new --file FILE` and `check --file FILE` name these commands with that file.
+pub fn plain_files_are_read()
+    ensures { PlainFileLaw }
+{}
+
+/// `serve --file FILE --port PORT --connections COUNT` names that service, where PORT and COUNT are decimal digits.
+pub fn plain_services_are_read()
+    ensures { PlainServiceLaw }
 {}

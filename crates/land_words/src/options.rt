@@ -1,20 +1,69 @@
 //! The options of the commands.
-ghost use Rattle.land_words.specs.Options.{IsOption, moment_rule};
+ghost use Rattle.std.specs.Prelude.{pos, true};
+ghost use Rattle.land_words.specs.Options.{IsOption, connections_rule, file_rule, moment_rule, option_rule, port_rule};
 
 use clap::Arg;
+use clap::builder::ValueParser;
 use std::alloc::Global;
 
 /// The last moment that there is: the end of the year 2099 in UTC.
 pub const LAST_MOMENT: i64 = 4_102_444_799_999;
 
+/// The last port that there is.
+pub const LAST_PORT: i64 = 65_535;
+
+/// How many connections may be served at most.
+pub const MOST_CONNECTIONS: i64 = 1_000_000;
+
+/// An option `--NAME VALUE`.
+fn option<'a>(
+    alloc: Global,
+    name: &'a str,
+    value_name: &'a str,
+    help: &'a str,
+    is_required: bool,
+    values: ValueParser<'a>,
+) -> Arg<'a>
+    ensures { IsOption (option_rule name.entry.now is_required values.entry) result }
+{
+    Arg::new(alloc, name)
+        .long(name)
+        .value_name(value_name)
+        .help(help)
+        .required(is_required)
+        .value_parser(values)
+}
+
 /// An option `--NAME MS`: a moment in milliseconds since 1970 UTC, up to the last one.
 pub fn moment_option<'a>(alloc: Global, name: &'a str, help: &'a str, is_required: bool) -> Arg<'a>
     ensures { IsOption (moment_rule name.entry.now is_required) result }
 {
-    Arg::new(alloc, name)
-        .long(name)
-        .value_name("MS")
-        .help(help)
-        .required(is_required)
-        .value_parser(clap::value_parser!(i64).range(0..=LAST_MOMENT))
+    let moments = clap::value_parser!(i64).range(0..=LAST_MOMENT);
+    option(alloc, name, "MS", help, is_required, moments)
+}
+
+/// The option `--file FILE`: any text.
+pub fn file_option<'a>(alloc: Global, help: &'a str) -> Arg<'a>
+    ensures { IsOption file_rule result }
+{
+    let texts = clap::value_parser!(String);
+    option(alloc, "file", "FILE", help, true, texts)
+}
+
+/// The option `--port PORT`, from 1 on.
+pub fn port_option<'a>(alloc: Global) -> Arg<'a>
+    ensures { IsOption port_rule result }
+{
+    let help = "The port to listen on, 1 to 65535";
+    let ports = clap::value_parser!(u16).range(1..=LAST_PORT);
+    option(alloc, "port", "PORT", help, true, ports)
+}
+
+/// The option `--connections COUNT`, from 1 on.
+pub fn connections_option<'a>(alloc: Global) -> Arg<'a>
+    ensures { IsOption connections_rule result }
+{
+    let help = "How many connections to answer before it ends, 1 to 1000000";
+    let counts = clap::value_parser!(u32).range(1..=MOST_CONNECTIONS);
+    option(alloc, "connections", "COUNT", help, true, counts)
 }

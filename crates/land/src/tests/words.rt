@@ -5,49 +5,98 @@ use land_words::words_fault::WordsFault;
 use std::alloc::{AllocError, Global};
 use std::test::Fail;
 
-/// Words, and the moment at which they ask to talk.
+/// Words, and the command that they name.
 struct Words {
     words: &'static [&'static str],
-    clock: i64,
+    command: Command<'static>,
 }
 
 /// A number of an option is decimal digits, after a sign or none; leading zeros are let through.
 const WORDS: &[Words] = &[
     Words {
         words: &["land", "talk", "--clock", "1000"],
-        clock: 1000,
+        command: Command::Talk { clock: 1000 },
     },
     Words {
         words: &["land", "talk", "--clock=1000"],
-        clock: 1000,
+        command: Command::Talk { clock: 1000 },
     },
     Words {
         words: &["another name", "talk", "--clock", "1000"],
-        clock: 1000,
+        command: Command::Talk { clock: 1000 },
     },
     Words {
         words: &["land", "talk", "--clock", "0"],
-        clock: 0,
+        command: Command::Talk { clock: 0 },
     },
     Words {
         words: &["land", "talk", "--clock", "0000000001000"],
-        clock: 1000,
+        command: Command::Talk { clock: 1000 },
     },
     Words {
         words: &["land", "talk", "--clock", "00000000000000000000000001000"],
-        clock: 1000,
+        command: Command::Talk { clock: 1000 },
     },
     Words {
         words: &["land", "talk", "--clock", "4102444799999"],
-        clock: 4_102_444_799_999,
+        command: Command::Talk {
+            clock: 4_102_444_799_999,
+        },
     },
     Words {
         words: &["land", "talk", "--clock", "+5"],
-        clock: 5,
+        command: Command::Talk { clock: 5 },
     },
     Words {
         words: &["land", "talk", "--clock=-0"],
-        clock: 0,
+        command: Command::Talk { clock: 0 },
+    },
+    Words {
+        words: &["land", "new", "--file", "a b.land"],
+        command: Command::New { file: "a b.land" },
+    },
+    Words {
+        words: &["land", "new", "--file="],
+        command: Command::New { file: "" },
+    },
+    Words {
+        words: &["land", "new", "--file=-"],
+        command: Command::New { file: "-" },
+    },
+    Words {
+        words: &["land", "check", "--file", "/tmp/é"],
+        command: Command::Check { file: "/tmp/é" },
+    },
+    Words {
+        words: &[
+            "land",
+            "serve",
+            "--file",
+            "x",
+            "--port",
+            "1",
+            "--connections",
+            "1",
+        ],
+        command: Command::Serve {
+            file: "x",
+            port: 1,
+            connections: 1,
+        },
+    },
+    Words {
+        words: &[
+            "land",
+            "serve",
+            "--connections=1000000",
+            "--port=65535",
+            "--file=x",
+        ],
+        command: Command::Serve {
+            file: "x",
+            port: 65_535,
+            connections: 1_000_000,
+        },
     },
 ];
 
@@ -158,6 +207,86 @@ const REFUSED: &[Refused] = &[
         words: &["land", "talk", "--clock", "x"],
         text: "error: invalid value 'x' for '--clock <MS>': ",
     },
+    Refused {
+        words: &["land", "new"],
+        text: "error: the following required arguments were not provided:\n  --file <FILE>\n",
+    },
+    Refused {
+        words: &["land", "new", "--file"],
+        text: "error: a value is required for '--file <FILE>' but none was supplied\n",
+    },
+    Refused {
+        words: &["land", "new", "x"],
+        text: "error: unexpected argument 'x' found\n",
+    },
+    Refused {
+        words: &["land", "New", "--file", "x"],
+        text: "error: unrecognized subcommand 'New'\n",
+    },
+    Refused {
+        words: &["land", "check", "--file", "x", "--clock", "1000"],
+        text: "error: unexpected argument '--clock' found\n",
+    },
+    Refused {
+        words: &["land", "check", "--file", "x", "--file", "y"],
+        text: "error: the argument '--file <FILE>' cannot be used multiple times\n",
+    },
+    Refused {
+        words: &["land", "serve", "--file", "x"],
+        text: "error: the following required arguments were not provided:\n  --port <PORT>\n  --connections <COUNT>\n",
+    },
+    Refused {
+        words: &[
+            "land",
+            "serve",
+            "--file",
+            "x",
+            "--port",
+            "0",
+            "--connections",
+            "1",
+        ],
+        text: "error: invalid value '0' for '--port <PORT>': 0 is not in 1..=65535\n",
+    },
+    Refused {
+        words: &[
+            "land",
+            "serve",
+            "--file",
+            "x",
+            "--port",
+            "65536",
+            "--connections",
+            "1",
+        ],
+        text: "error: invalid value '65536' for '--port <PORT>': 65536 is not in 1..=65535\n",
+    },
+    Refused {
+        words: &[
+            "land",
+            "serve",
+            "--file",
+            "x",
+            "--port",
+            "8080",
+            "--connections",
+            "0",
+        ],
+        text: "error: invalid value '0' for '--connections <COUNT>': 0 is not in 1..=1000000\n",
+    },
+    Refused {
+        words: &[
+            "land",
+            "serve",
+            "--file",
+            "x",
+            "--port",
+            "8080",
+            "--connections",
+            "1000001",
+        ],
+        text: "error: invalid value '1000001' for '--connections <COUNT>': 1000001 is not in 1..=1000000\n",
+    },
 ];
 
 /// Words that ask for help, and a part of the help.
@@ -180,31 +309,65 @@ const HELP: &[Refused] = &[
     },
     Refused {
         words: &["land", "talk", "--help"],
-        text: "--clock <MS>  What the clock always reads, in milliseconds since 1970 UTC\n",
+        text: "--clock <MS>  What the clock always reads, in milliseconds since 1970 UTC, 0 to 4102444799999\n",
     },
     Refused {
         words: &["land", "talk", "--clock", "1000", "-h"],
         text: "Usage: land talk --clock <MS>\n",
     },
+    Refused {
+        words: &["land", "--help"],
+        text: "  serve ",
+    },
+    Refused {
+        words: &["land", "--help"],
+        text: "\n\nMore on a command, with an example: land COMMAND --help\n",
+    },
+    Refused {
+        words: &["land", "new", "--help"],
+        text: "Usage: land new --file <FILE>\n",
+    },
+    Refused {
+        words: &["land", "serve", "--help"],
+        text: "Usage: land serve --file <FILE> --port <PORT> --connections <COUNT>\n",
+    },
+    Refused {
+        words: &["land", "serve", "--help"],
+        text: "The port to listen on, 1 to 65535\n",
+    },
+    Refused {
+        words: &["land", "serve", "-h"],
+        text: "\n\nExample: land serve --file town.land --port 8080 --connections 1000\n",
+    },
+    Refused {
+        words: &["land", "check", "--help"],
+        text: "Usage: land check --file <FILE>\n",
+    },
 ];
 
-/// What these words are read as.
-fn read(alloc: Global, row: &[&str]) -> Result<Result<Command, WordsFault>, AllocError> {
+/// The words, as the system hands them over.
+fn strings(alloc: Global, row: &[&str]) -> Result<Vec<String>, AllocError> {
     let mut words = Vec::new(alloc);
     for word in row {
         words.push(String::from_str(alloc, word)?)?;
     }
-    match read_words(alloc, &words) {
+    Ok(words)
+}
+
+/// What these words are read as.
+fn read(alloc: Global, words: &[String]) -> Result<Result<Command<'_>, WordsFault>, AllocError> {
+    match read_words(alloc, words) {
         Err(WordsFault::NoMemory) => Err(AllocError),
         other => Ok(other),
     }
 }
 
 #[test]
-fn talk_is_given_a_moment(rt: HostRuntime) -> Result<(), Fail> {
+fn words_name_their_command(rt: HostRuntime) -> Result<(), Fail> {
     for row in WORDS {
-        match read(rt.alloc(), row.words)? {
-            Ok(command) => assert_eq!(rt; command, Command::Talk { clock: row.clock }),
+        let words = strings(rt.alloc(), row.words)?;
+        match read(rt.alloc(), &words)? {
+            Ok(command) => assert_eq!(rt; command, row.command),
             Err(_) => assert!(rt; false),
         }
     }
@@ -214,7 +377,8 @@ fn talk_is_given_a_moment(rt: HostRuntime) -> Result<(), Fail> {
 #[test]
 fn other_words_are_refused(rt: HostRuntime) -> Result<(), Fail> {
     for row in REFUSED {
-        match read(rt.alloc(), row.words)? {
+        let words = strings(rt.alloc(), row.words)?;
+        match read(rt.alloc(), &words)? {
             Err(WordsFault::Refused(text)) => assert!(rt; text.as_str().starts_with(row.text)),
             _ => assert!(rt; false),
         }
@@ -225,7 +389,8 @@ fn other_words_are_refused(rt: HostRuntime) -> Result<(), Fail> {
 #[test]
 fn help_is_a_refusal(rt: HostRuntime) -> Result<(), Fail> {
     for row in HELP {
-        match read(rt.alloc(), row.words)? {
+        let words = strings(rt.alloc(), row.words)?;
+        match read(rt.alloc(), &words)? {
             Err(WordsFault::Refused(text)) => assert!(rt; text.as_str().contains(row.text)),
             _ => assert!(rt; false),
         }

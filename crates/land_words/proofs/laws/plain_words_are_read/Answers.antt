@@ -1,5 +1,5 @@
-use Rattle.land_words.proofs.PlainWords.{plain_words}
+use Rattle.land_words.proofs.PlainWords.{plain_talk}
 use Rattle.land_words.proofs.laws.plain_words_are_read.Goals as goal
 
 pub returns : goal.returns
-returns c = plain_words
+returns c = plain_talk

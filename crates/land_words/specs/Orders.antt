@@ -1,0 +1,18 @@
+-- What commands ask for.
+use Rattle.std.specs.Prelude.{ℕ, ℤ}
+use Rattle.clap.specs.Words.{Text}
+use Rattle.land_words.specs.declared.command.Command.{Command}
+use Rattle.land_words.specs.declared.command.Command.TheVariants.{Talk, New, Serve, Check}
+
+-- a command with the texts of its options, wherever these are kept
+pub data Order : Type 0 where
+  to_talk : (clock : ℤ) → Order
+  to_make : (file : Text) → Order
+  to_serve : (file : Text) (port connections : ℕ) → Order
+  to_check : (file : Text) → Order
+
+abbrev pub order_of : Command → Order
+order_of (Talk clock) = to_talk clock
+order_of (New file) = to_make file.now
+order_of (Serve file port connections) = to_serve file.now port connections
+order_of (Check file) = to_check file.now
