@@ -1,0 +1,3 @@
+-- Lemmas of what is denied.
+pub mod Enough
+pub mod Telling

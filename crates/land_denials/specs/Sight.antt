@@ -1,0 +1,49 @@
+-- What is told of a view, by what is in sight alone.
+use Rattle.std.specs.Prelude.{◌≡◌, ℕ, Bool, true, false, ◌&&◌, ◌||◌, if◌then◌else◌}
+use Rattle.land_core.specs.Register.{stands}
+use Rattle.land_core.specs.Role.{is_role}
+use Rattle.land_core.specs.Soundness.{IsSound}
+use Rattle.land_core.specs.declared.caller.Caller.{Caller}
+use Rattle.land_core.specs.declared.kind.Kind.{Kind}
+use Rattle.land_core.specs.declared.kind.Kind.TheVariants as kind
+use Rattle.land_core.specs.declared.register.Register.{Register}
+use Rattle.land_core.specs.declared.role.Role.{Role}
+use Rattle.land_core.specs.declared.role.Role.TheVariants.{Conveyancer, Notary, StateAdministrator}
+use Rattle.land_rules.specs.Laws.{is_itself, rule_of_role}
+use Rattle.land_rules.specs.Relations.{is_lodger_on}
+use Rattle.land_rules.specs.Rules.{first_denial, sees, view_rules}
+use Rattle.land_rules.specs.declared.verdict.Verdict.{Verdict}
+use Rattle.land_rules.specs.declared.verdict.Verdict.TheVariants.{Allowed, Denied}
+
+-- a conveyancer that views a unit
+abbrev pub is_unit_of_conveyancer : Role → Kind → Bool
+is_unit_of_conveyancer role kind.Party = false
+is_unit_of_conveyancer role kind.Unit = is_role role Conveyancer
+is_unit_of_conveyancer role kind.Parcel = false
+is_unit_of_conveyancer role kind.Rrr = false
+is_unit_of_conveyancer role kind.Source = false
+is_unit_of_conveyancer role kind.Mutation = false
+
+-- what is in sight is shown. What is not is denied by the rule of the caller's role and the kind, but for two cases, in which it is
+-- rule 27: a caller looks for itself, and a conveyancer for a unit that its own undecided mutation names
+abbrev pub told_by : (in_sight awaited : Bool) → Caller → Kind → (number : ℕ) → Verdict
+told_by in_sight awaited caller k number = if in_sight then Allowed
+    else Denied (if is_unit_of_conveyancer caller.role k && awaited || is_itself caller k number then 27 else rule_of_role caller.role k)
+
+-- so the verdict on a view follows from the sight of a sound register
+abbrev pub SightTellsVerdicts : Type 0
+SightTellsVerdicts = (at : Register) → IsSound at → (caller : Caller) (k : Kind) (number : ℕ)
+    → first_denial (view_rules at caller k number) ≡ told_by (sees at caller k number) (is_lodger_on at caller.party number) caller k number
+
+-- parcels are shown to all, and notaries and state administrators are shown all
+abbrev pub sees_all : Role → Kind → Bool
+sees_all role kind.Party = is_role role Notary || is_role role StateAdministrator
+sees_all role kind.Unit = is_role role Notary || is_role role StateAdministrator
+sees_all role kind.Parcel = true
+sees_all role kind.Rrr = is_role role Notary || is_role role StateAdministrator
+sees_all role kind.Source = is_role role Notary || is_role role StateAdministrator
+sees_all role kind.Mutation = is_role role Notary || is_role role StateAdministrator
+
+-- who is shown all objects of a kind sees each that stands, and no other
+abbrev pub AllThatStandsIsSeen : Type 0
+AllThatStandsIsSeen = (at : Register) (caller : Caller) (k : Kind) (number : ℕ) → sees_all caller.role k ≡ true → sees at caller k number ≡ stands at k number

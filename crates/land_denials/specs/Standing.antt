@@ -1,0 +1,75 @@
+-- What the standing rules look at.
+use Rattle.std.specs.Prelude.{◌≡◌, ℕ, Bool, Option, None, Some, IfSome}
+use Rattle.std.specs.FinMap as map
+use Rattle.land_core.specs.Register.{stands, holds}
+use Rattle.land_core.specs.declared.act.Act.{Act}
+use Rattle.land_core.specs.declared.act.Act.TheVariants as act
+use Rattle.land_core.specs.declared.ask.Ask.{Ask}
+use Rattle.land_core.specs.declared.ask.Ask.TheVariants as ask
+use Rattle.land_core.specs.declared.caller.Caller.{Caller}
+use Rattle.land_core.specs.declared.content.Content.{Content}
+use Rattle.land_core.specs.declared.content.Content.TheVariants as content
+use Rattle.land_core.specs.declared.kind.Kind.TheVariants as kind
+use Rattle.land_core.specs.declared.register.Register.{Register}
+use Rattle.land_rules.specs.Rules.{first_denial, standing_rules}
+
+-- the entry that a discharge names
+abbrev pub entry_of_content : Content → Option ℕ
+entry_of_content (content.Transfer it) = None
+entry_of_content (content.Subdivision it) = None
+entry_of_content (content.Merger it) = None
+entry_of_content (content.Mortgage it) = None
+entry_of_content (content.Discharge it) = Some it.mortgage
+
+abbrev pub entry_of_act : Act → Option ℕ
+entry_of_act (act.Enrol it) = None
+entry_of_act (act.Group it) = None
+entry_of_act (act.Regroup it) = None
+entry_of_act (act.Grant it) = None
+entry_of_act (act.Revoke it) = None
+entry_of_act (act.Register it) = None
+entry_of_act (act.Burden it) = None
+entry_of_act (act.Lift it) = None
+entry_of_act (act.Lodge it) = entry_of_content it.content
+entry_of_act (act.Approve it) = None
+entry_of_act (act.Refuse it) = None
+
+-- the mutation that is approved or refused
+abbrev pub mutation_of_act : Act → Option ℕ
+mutation_of_act (act.Enrol it) = None
+mutation_of_act (act.Group it) = None
+mutation_of_act (act.Regroup it) = None
+mutation_of_act (act.Grant it) = None
+mutation_of_act (act.Revoke it) = None
+mutation_of_act (act.Register it) = None
+mutation_of_act (act.Burden it) = None
+mutation_of_act (act.Lift it) = None
+mutation_of_act (act.Lodge it) = None
+mutation_of_act (act.Approve it) = Some it.mutation
+mutation_of_act (act.Refuse it) = Some it.mutation
+
+-- of what is asked, which is no act where something is to be seen
+abbrev pub discharged : Ask → Option ℕ
+discharged (ask.View k number moment) = None
+discharged (ask.List k moment) = None
+discharged (ask.Sheet unit moment) = None
+discharged (ask.Do it) = entry_of_act it
+
+abbrev pub decided : Ask → Option ℕ
+decided (ask.View k number moment) = None
+decided (ask.List k moment) = None
+decided (ask.Sheet unit moment) = None
+decided (ask.Do it) = mutation_of_act it
+
+-- few records are enough to judge who asks: the caller, the role that it names, the entry that it would discharge and the mutation
+-- that it would decide, each as the register has it
+pub record IsEnough (few now : Register) (caller : Caller) (a : Ask) : Type 0 where
+  pub party : stands few kind.Party caller.party ≡ stands now kind.Party caller.party
+  pub role : holds few caller.party caller.role ≡ holds now caller.party caller.role
+  pub entry : IfSome (discharged a) (λ n. map.get few.rrrs n ≡ map.get now.rrrs n)
+  pub mutation : IfSome (decided a) (λ n. map.get few.mutations n ≡ map.get now.mutations n)
+
+-- so the standing rules deny by few records what they deny by the whole register, by the same rule
+abbrev pub FewAreEnough : Type 0
+FewAreEnough = (few now : Register) (caller : Caller) (a : Ask) (past : Bool) → IsEnough few now caller a
+    → first_denial (standing_rules few caller a past) ≡ first_denial (standing_rules now caller a past)

@@ -1,0 +1,23 @@
+//! Laws, each stated over the definitions alone.
+ghost use Rattle.land_denials.specs.Sight.{AllThatStandsIsSeen, SightTellsVerdicts};
+ghost use Rattle.land_denials.specs.Standing.{FewAreEnough};
+
+use land_rules::laws::denials_tell_sight;
+
+/// The standing rules look at the caller, the role that it names, the entry that it would discharge and the mutation that it would
+/// decide, and at nothing else of the register.
+pub fn few_are_enough()
+    ensures { FewAreEnough }
+{}
+
+/// The verdict on a view follows from whether the object is in sight, and for a unit that is not, from the caller's own lodgings.
+pub fn sight_tells_verdicts()
+    ensures { SightTellsVerdicts }
+{
+    denials_tell_sight();
+}
+
+/// Who is shown all objects of a kind sees each that stands, and no other.
+pub fn all_that_stands_is_seen()
+    ensures { AllThatStandsIsSeen }
+{}

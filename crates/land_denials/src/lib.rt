@@ -1,0 +1,6 @@
+//! Who is denied what, told by few records of the register and by what is in sight.
+#![tactic(auto)]
+
+pub mod laws;
+pub mod sight;
+pub mod standing;
