@@ -20,13 +20,13 @@ module _ (db : Trees) (moments : List Moment) (h : History) (held : HoldsHistory
   party_within p stands = let v = version t h.parties p stands in (row_of db moments h held parties (of p v.since v.until) v.has).2.1
 
   member_within : (m : GroupMember) → Stands t h.members m → is_number m.member.party ≡ true
-  member_within m stands = let v = version t h.members m stands in (row_of db moments h held members (of m v.since v.until) v.has).2.1
+  member_within m stands = let v = version t h.members m stands in (row_of db moments h held members (of m v.since v.until) v.has).2.1.0
 
   entry_within : (e : Entry) → Stands t h.rrrs e → is_number e.1.party ≡ true
-  entry_within e stands = let v = version t h.rrrs e stands in (row_of db moments h held rrrs (of e v.since v.until) v.has).2.1
+  entry_within e stands = let v = version t h.rrrs e stands in (row_of db moments h held rrrs (of e v.since v.until) v.has).2.1.0
 
   lodger_within : (m : ℕ × MutationRecord) → Stands t h.mutations m → is_number m.1.lodger ≡ true
-  lodger_within m stands = let v = version t h.mutations m stands in (row_of db moments h held mutations (of m v.since v.until) v.has).2.1
+  lodger_within m stands = let v = version t h.mutations m stands in (row_of db moments h held mutations (of m v.since v.until) v.has).2.1.0
 
   -- a caller that is somebody has such a number
   somebody : (n caller : ℕ) → n ≡ caller → is_number n ≡ true → is_number caller ≡ true

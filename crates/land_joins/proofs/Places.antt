@@ -8,6 +8,7 @@ use Rattle.land_core.specs.Numbers.{is_number}
 use Rattle.land_core.specs.declared.mutation.MutationRecord.{MutationRecord}
 use Rattle.land_core.specs.declared.parcel.ParcelRecord.{ParcelRecord}
 use Rattle.land_core.specs.declared.party.PartyRecord.{PartyRecord}
+use Rattle.land_core.specs.declared.roles.Grant.{Grant}
 use Rattle.land_core.specs.declared.rrr.RrrRecord.{RrrRecord}
 use Rattle.land_core.specs.declared.source.SourceRecord.{SourceRecord}
 use Rattle.land_core.specs.declared.unit.UnitRecord.{UnitRecord}
@@ -17,20 +18,22 @@ use Rattle.land_history.specs.declared.moment.Moment.{Moment}
 use Rattle.land_history.specs.declared.naming.Naming.{Naming}
 use Rattle.land_history.specs.declared.version.Version.{Version}
 use Rattle.land_joins.proofs.Shapes.{Fits}
-use Rattle.land_joins.proofs.Words.{entry_cell, entry_word, in_range, state_cell}
+use Rattle.land_joins.proofs.Words.{entry_cell, entry_word, in_range, role_cell, state_cell}
 use Rattle.land_rows.specs.Looks.{columns_from}
 use Rattle.land_rows.specs.Versions.{whole}
 use Rattle.land_texts.specs.Mutations.{state_word}
+use Rattle.land_texts.specs.Parties.{role_word}
 use Rattle.land_versions.specs.Cells.{end_in, moment_in, name_in, number_in, flag_in, label_in, text_in, title_in, reference_in, share_in}
 use Rattle.land_versions.specs.Member.{member_in}
 use Rattle.land_versions.specs.Mutation.{mutation_in}
 use Rattle.land_versions.specs.Naming.{naming_in}
 use Rattle.land_versions.specs.Parcel.{parcel_in}
 use Rattle.land_versions.specs.Party.{party_in}
+use Rattle.land_versions.specs.Role.{grant_in}
 use Rattle.land_versions.specs.Rrr.{class_by, rrr_in}
 use Rattle.land_versions.specs.Source.{source_in}
 use Rattle.land_versions.specs.Unit.{unit_in}
-use Rattle.land_versions.specs.Words.{class_word_in, party_kind_in, source_kind_in, state_in}
+use Rattle.land_versions.specs.Words.{class_word_in, party_kind_in, role_in, source_kind_in, state_in}
 use Rattle.land_bodies.specs.Mutations.{content_in}
 use Rattle.land_bodies.specs.Outlines.{outline_of}
 use Rattle.land_writes.specs.History.{HoldsHistory}
@@ -40,6 +43,7 @@ use Rattle.land_writes.specs.Mutation as mutation
 use Rattle.land_writes.specs.Naming as naming
 use Rattle.land_writes.specs.Parcel as parcel
 use Rattle.land_writes.specs.Party as party
+use Rattle.land_writes.specs.Role as role
 use Rattle.land_writes.specs.Rrr as rrr
 use Rattle.land_writes.specs.Source as source
 use Rattle.land_writes.specs.Unit as unit
@@ -53,6 +57,7 @@ use Rattle.sqlite_value.specs.declared.value.Value.TheVariants.{Null, Int, Text}
 
 pub data Place : Type 0 where
   parties : Place
+  roles : Place
   members : Place
   units : Place
   parcels : Place
@@ -64,6 +69,7 @@ pub data Place : Type 0 where
 -- what the versions of a table are of
 abbrev pub What : Place → Type 0
 What parties = ℕ × PartyRecord
+What roles = Grant
 What members = GroupMember
 What units = ℕ × UnitRecord
 What parcels = ℕ × ParcelRecord
@@ -75,6 +81,7 @@ What names = Naming
 -- how they are read
 abbrev pub reading : (p : Place) → Reading (What p)
 reading parties = party.parties
+reading roles = role.roles
 reading members = member.members
 reading units = unit.units
 reading parcels = parcel.parcels
@@ -88,6 +95,7 @@ tree p = (reading p).table.tree
 
 abbrev pub versions : (p : Place) → History → List (Version (What p))
 versions parties h = h.parties
+versions roles h = h.roles
 versions members h = h.members
 versions units h = h.units
 versions parcels h = h.parcels
@@ -98,6 +106,7 @@ versions names h = h.namings
 
 keeps : (db : Trees) (moments : List Moment) (h : History) → HoldsHistory db moments h → (p : Place) → Keeps (reading p) db (versions p h)
 keeps db moments h held parties = held.the_parties
+keeps db moments h held roles = held.the_roles
 keeps db moments h held members = held.the_members
 keeps db moments h held units = held.the_units
 keeps db moments h held parcels = held.the_parcels
@@ -109,6 +118,7 @@ keeps db moments h held names = held.the_namings
 -- a statement reads the rows of the tables
 pub as_stored : (db : Trees) (p : Place) → overlay db [] (tree p) ≡ db (tree p)
 as_stored db parties = refl
+as_stored db roles = refl
 as_stored db members = refl
 as_stored db units = refl
 as_stored db parcels = refl
@@ -120,9 +130,10 @@ as_stored db names = refl
 -- the columns that joins look at, of a row that says a version
 abbrev pub shape : (p : Place) → Version (What p) → Row
 shape parties v = Null ∷ whole v.what.0 ∷ Null ∷ Null ∷ Int v.since ∷ Int v.until ∷ []
+shape roles v = Null ∷ whole v.what.party ∷ Text (role_word v.what.role) ∷ Int v.since ∷ Int v.until ∷ []
 shape members v = Null ∷ whole v.what.group ∷ whole v.what.member.party ∷ Null ∷ Null ∷ Int v.since ∷ Int v.until ∷ []
 shape units v = Null ∷ whole v.what.0 ∷ Null ∷ Null ∷ Int v.since ∷ Int v.until ∷ []
-shape parcels v = Null ∷ whole v.what.0 ∷ Null ∷ Null ∷ Null ∷ Null ∷ Int v.since ∷ Int v.until ∷ []
+shape parcels v = Null ∷ whole v.what.0 ∷ whole v.what.1.unit ∷ Null ∷ Null ∷ Null ∷ Int v.since ∷ Int v.until ∷ []
 shape rrrs v =
     Null ∷ whole v.what.0 ∷ whole v.what.1.unit ∷ whole v.what.1.party ∷ Text (entry_word v.what.1.class) ∷ Null ∷ Null ∷ Null ∷ Null
     ∷ Null ∷ Null ∷ Null ∷ Int v.since ∷ Int v.until ∷ []
@@ -132,22 +143,27 @@ shape mutations v =
     ∷ Int v.until ∷ []
 shape names v = Null ∷ whole v.what.mutation ∷ whole v.what.unit ∷ Int v.since ∷ Int v.until ∷ []
 
--- the number that a caller may be compared with is within its limits
+-- a number is one that an object can have
+abbrev pub IsNumber : ℕ → Type 0
+IsNumber n = is_number n ≡ true
+
+-- the numbers that a number which is asked for may be compared with are within their limits
 abbrev pub IsWithin : (p : Place) → Version (What p) → Type 0
-IsWithin parties v = is_number v.what.0 ≡ true
-IsWithin members v = is_number v.what.member.party ≡ true
-IsWithin units v = Unit {0}
-IsWithin parcels v = Unit {0}
-IsWithin rrrs v = is_number v.what.1.party ≡ true
-IsWithin sources v = Unit {0}
-IsWithin mutations v = is_number v.what.1.lodger ≡ true
-IsWithin names v = Unit {0}
+IsWithin parties v = IsNumber v.what.0
+IsWithin roles v = IsNumber v.what.party
+IsWithin members v = IsNumber v.what.member.party × IsNumber v.what.group
+IsWithin units v = IsNumber v.what.0
+IsWithin parcels v = IsNumber v.what.0 × IsNumber v.what.1.unit
+IsWithin rrrs v = IsNumber v.what.1.party × IsNumber v.what.0 × IsNumber v.what.1.unit
+IsWithin sources v = IsNumber v.what.0
+IsWithin mutations v = IsNumber v.what.1.lodger × IsNumber v.what.0
+IsWithin names v = IsNumber v.what.mutation × IsNumber v.what.unit
 
 -- what is known of a row that says a version
 abbrev pub IsOf : (p : Place) → Version (What p) → Row → Type 0
 IsOf p v r = Fits (shape p v) 0 r × IsWithin p v
 
-abbrev Shows : Place → Type 0
+abbrev pub Shows : Place → Type 0
 Shows p = (r : Row) (v : Version (What p)) → (reading p).said (columns_from 1 (reading p).width r) ≡ Ok v → IsOf p v r
 
 a_party : Shows parties
@@ -178,8 +194,22 @@ a_member r v e =
     let since = d.is ∙ ap (λ (w : Version GroupMember). Ok w.since) all in
     let until = f.is ∙ ap (λ (w : Version GroupMember). Ok w.until) all in (
       (tt, (number_is (column r 1) v.what.group group, (number_is (column r 2) v.what.member.party party, (tt, (tt, (moment_is (column r 5) v.since since, (end_is (column r 6) v.until until, tt))))))),
-      in_range (column r 2) v.what.member.party party,
+      (in_range (column r 2) v.what.member.party party, in_range (column r 1) v.what.group group),
     )
+
+a_grant : Shows roles
+unfolding grant_in
+a_grant r v e =
+    let a = stepped (number_in (column r 1)) _ v e in
+    let b = stepped (role_in (column r 2)) _ v a.rest in
+    let d = stepped (moment_in (column r 3)) _ v b.rest in
+    let f = stepped (end_in (column r 4)) _ v d.rest in
+    let all = same_value _ v f.rest in
+    let party = a.is ∙ ap (λ (w : Version Grant). Ok w.what.party) all in
+    let role = b.is ∙ ap (λ (w : Version Grant). Ok w.what.role) all in
+    let since = d.is ∙ ap (λ (w : Version Grant). Ok w.since) all in
+    let until = f.is ∙ ap (λ (w : Version Grant). Ok w.until) all in
+    ((tt, (number_is (column r 1) v.what.party party, (role_cell (column r 2) v.what.role role, (moment_is (column r 3) v.since since, (end_is (column r 4) v.until until, tt))))), in_range (column r 1) v.what.party party)
 
 a_unit : Shows units
 unfolding unit_in
@@ -193,7 +223,7 @@ a_unit r v e =
     let number = a.is ∙ ap (λ (w : Version (ℕ × UnitRecord)). Ok w.what.0) all in
     let since = d.is ∙ ap (λ (w : Version (ℕ × UnitRecord)). Ok w.since) all in
     let until = f.is ∙ ap (λ (w : Version (ℕ × UnitRecord)). Ok w.until) all in
-    ((tt, (number_is (column r 1) v.what.0 number, (tt, (tt, (moment_is (column r 4) v.since since, (end_is (column r 5) v.until until, tt)))))), tt)
+    ((tt, (number_is (column r 1) v.what.0 number, (tt, (tt, (moment_is (column r 4) v.since since, (end_is (column r 5) v.until until, tt)))))), in_range (column r 1) v.what.0 number)
 
 a_parcel : Shows parcels
 unfolding parcel_in
@@ -208,9 +238,10 @@ a_parcel r v e =
     let f = stepped (end_in (column r 7)) _ v d.rest in
     let all = same_value _ v f.rest in
     let number = a.is ∙ ap (λ (w : Version (ℕ × ParcelRecord)). Ok w.what.0) all in
+    let unit = b.is ∙ ap (λ (w : Version (ℕ × ParcelRecord)). Ok w.what.1.unit) all in
     let since = d.is ∙ ap (λ (w : Version (ℕ × ParcelRecord)). Ok w.since) all in
     let until = f.is ∙ ap (λ (w : Version (ℕ × ParcelRecord)). Ok w.until) all in
-    ((tt, (number_is (column r 1) v.what.0 number, (tt, (tt, (tt, (tt, (moment_is (column r 6) v.since since, (end_is (column r 7) v.until until, tt)))))))), tt)
+    ((tt, (number_is (column r 1) v.what.0 number, (number_is (column r 2) v.what.1.unit unit, (tt, (tt, (tt, (moment_is (column r 6) v.since since, (end_is (column r 7) v.until until, tt)))))))), (in_range (column r 1) v.what.0 number, in_range (column r 2) v.what.1.unit unit))
 
 an_entry : Shows rrrs
 unfolding rrr_in
@@ -246,7 +277,7 @@ an_entry r v e =
           ),
         ),
       ),
-      in_range (column r 3) v.what.1.party party,
+      (in_range (column r 3) v.what.1.party party, in_range (column r 1) v.what.0 number, in_range (column r 2) v.what.1.unit unit),
     )
 
 a_source : Shows sources
@@ -261,7 +292,7 @@ a_source r v e =
     let number = a.is ∙ ap (λ (w : Version (ℕ × SourceRecord)). Ok w.what.0) all in
     let since = d.is ∙ ap (λ (w : Version (ℕ × SourceRecord)). Ok w.since) all in
     let until = f.is ∙ ap (λ (w : Version (ℕ × SourceRecord)). Ok w.until) all in
-    ((tt, (number_is (column r 1) v.what.0 number, (tt, (tt, (moment_is (column r 4) v.since since, (end_is (column r 5) v.until until, tt)))))), tt)
+    ((tt, (number_is (column r 1) v.what.0 number, (tt, (tt, (moment_is (column r 4) v.since since, (end_is (column r 5) v.until until, tt)))))), in_range (column r 1) v.what.0 number)
 
 a_mutation : Shows mutations
 unfolding mutation_in
@@ -308,7 +339,7 @@ a_mutation r v e =
           ),
         ),
       ),
-      in_range (column r 2) v.what.1.lodger lodger,
+      (in_range (column r 2) v.what.1.lodger lodger, in_range (column r 1) v.what.0 number),
     )
 
 a_naming : Shows names
@@ -323,10 +354,11 @@ a_naming r v e =
     let unit = b.is ∙ ap (λ (w : Version Naming). Ok w.what.unit) all in
     let since = d.is ∙ ap (λ (w : Version Naming). Ok w.since) all in
     let until = f.is ∙ ap (λ (w : Version Naming). Ok w.until) all in
-    ((tt, (number_is (column r 1) v.what.mutation mutation, (number_is (column r 2) v.what.unit unit, (moment_is (column r 3) v.since since, (end_is (column r 4) v.until until, tt))))), tt)
+    ((tt, (number_is (column r 1) v.what.mutation mutation, (number_is (column r 2) v.what.unit unit, (moment_is (column r 3) v.since since, (end_is (column r 4) v.until until, tt))))), (in_range (column r 1) v.what.mutation mutation, in_range (column r 2) v.what.unit unit))
 
-shows : (p : Place) → Shows p
+pub shows : (p : Place) → Shows p
 shows parties = a_party
+shows roles = a_grant
 shows members = a_member
 shows units = a_unit
 shows parcels = a_parcel

@@ -11,15 +11,18 @@ use Rattle.land_cells.specs.Rrr.{class_word}
 use Rattle.land_core.specs.Numbers.{is_number}
 use Rattle.land_core.specs.declared.mutation.MutationState.TheVariants as state
 use Rattle.land_core.specs.declared.mutation.MutationState.{MutationState}
+use Rattle.land_core.specs.declared.role.Role.TheVariants as role
+use Rattle.land_core.specs.declared.role.Role.{Role}
 use Rattle.land_core.specs.declared.rrr.Class.TheVariants as class
 use Rattle.land_core.specs.declared.rrr.Class.{Class}
 use Rattle.land_core.specs.declared.rrr.RightType.TheVariants as right
 use Rattle.land_core.specs.declared.rrr.RightType.{RightType}
 use Rattle.land_texts.specs.Mutations.{state_word}
+use Rattle.land_texts.specs.Parties.{role_word}
 use Rattle.land_texts.specs.Rrrs.{right_word}
 use Rattle.land_versions.specs.Cells.{allowed, natural_in, null_in, number_in, text_in, amount_in, currency_in, share_in}
 use Rattle.land_versions.specs.Rrr.{burden_in, class_by, mortgage_in, no_mortgage_in, no_right_in, right_in}
-use Rattle.land_versions.specs.Words.{class_of, class_word_in, state_in, state_of}
+use Rattle.land_versions.specs.Words.{class_of, class_word_in, role_in, state_in, state_of}
 use Rattle.land_versions.specs.declared.words.ClassWord.TheVariants as word
 use Rattle.land_versions.specs.declared.words.ClassWord.{ClassWord}
 use Rattle.sqlite_value.specs.Order.{Row, column}
@@ -55,6 +58,9 @@ or_else wording w t x y rest is later e = elim (tried (bytes_eq w t) w t x y res
 no_word : {X : Type 0} (wording : X → List ℕ) (w : List ℕ) (y : X) → ◌≡◌ {A = Result X WireFault} (Err fault.Text) (Ok y) → w ≡ wording y
 no_word wording w y e = let none : ⊥ = cc in absurd none
 
+no_role : (w : List ℕ) (r : Role) → ◌≡◌ {A = Result Role WireFault} (Err fault.Role) (Ok r) → w ≡ role_word r
+no_role w r e = let none : ⊥ = cc in absurd none
+
 pub state_word_is : (w : List ℕ) (s : MutationState) → state_of w ≡ Ok s → w ≡ state_word s
 state_word_is w s e =
     or_else state_word w (codes "lodged") state.Lodged s _ refl
@@ -77,6 +83,21 @@ class_word_is w c e =
     or_else class_word w (codes "restriction") word.Restriction c _ refl
     (or_else class_word w (codes "responsibility") word.Responsibility c _ refl
     (or_else class_word w (codes "mortgage") word.Mortgage c _ refl (right_word_is w c))) e
+
+role_word_is : (w : List ℕ) (r : Role) → body.role_of w ≡ Ok r → w ≡ role_word r
+role_word_is w r e =
+    or_else role_word w (codes "citizen") role.Citizen r _ refl
+    (or_else role_word w (codes "conveyancer") role.Conveyancer r _ refl
+    (or_else role_word w (codes "notary") role.Notary r _ refl
+    (or_else role_word w (codes "bank") role.Bank r _ refl
+    (or_else role_word w (codes "certifiedSurveyor") role.CertifiedSurveyor r _ refl
+    (or_else role_word w (codes "stateAdministrator") role.StateAdministrator r _ refl (no_role w r)))))) e
+
+pub role_cell : (c : Value) (r : Role) → role_in c ≡ Ok r → c ≡ Text (role_word r)
+unfolding role_in
+role_cell c r e =
+    let h = stepped (text_in c) body.role_of r e in
+    text_is c h.given h.is ∙ ap Text (role_word_is h.given r h.rest)
 
 pub state_cell : (c : Value) (s : MutationState) → state_in c ≡ Ok s → c ≡ Text (state_word s)
 unfolding state_in

@@ -25,8 +25,8 @@ use land_versions::cells::natural_at;
 use sqlite::{Alter, Connection, Error, Row};
 use std::alloc::Global;
 
-/// The number for which a caller is asked for: 0, which is nobody's, where no object can have the caller's.
-fn asked_for(caller: u64) -> u64
+/// The number that is asked for in place of one that is given: 0, which is nobody's, where no object can have it.
+pub fn asked_for(caller: u64) -> u64
     ensures { result ≡ asked_for caller }
 {
     if is_number(caller) { caller } else { 0 }

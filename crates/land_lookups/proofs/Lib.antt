@@ -1,0 +1,8 @@
+-- Lemmas of what look-ups find.
+pub mod Chains
+pub mod Parts
+pub mod Passing
+pub mod Persons
+pub mod Queries
+pub mod Records
+pub mod Tested

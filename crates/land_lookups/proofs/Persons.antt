@@ -1,0 +1,49 @@
+-- A party is shown by its own record, its roles and its members alone.
+use Rattle.std.proofs.Common.{◌≡◌, ℕ, Bool, true, nat_eq, cond, is_some, List, [], ◌∷◌, filter, None, Option, Some, refl, sym, ap, ap₂, ◌∙◌}
+use Rattle.std.proofs.lemmas.Bool.Decides.{Decides-eqb}
+use Rattle.std.specs.Cmp.{nat_cmp_total, tied_itself}
+use Rattle.std.specs.FinMap as map
+use Rattle.std.specs.FinMap.{FinMap, nat_cmp-IsAntisymmetric}
+use Rattle.std.specs.Option.{option_map, option_map_or}
+use Rattle.std.specs.Ordering.{is_eq, nat_cmp}
+use Rattle.land_core.proofs.FiniteSets.{exact_grants, grants_total}
+use Rattle.land_core.proofs.Reflection.{get-only}
+use Rattle.land_core.specs.Entries.{only}
+use Rattle.land_core.specs.Grants.{Grants, grant_of, has_grant}
+use Rattle.land_core.specs.Members.{Members, members_in}
+use Rattle.land_core.specs.Register.{nothing, object_at, party_at}
+use Rattle.land_core.specs.Role.{all_roles}
+use Rattle.land_core.specs.declared.kind.Kind.TheVariants as kinds
+use Rattle.land_core.specs.declared.object.Object.TheVariants as object
+use Rattle.land_core.specs.declared.object.Object.{Object}
+use Rattle.land_core.specs.declared.party.Party.{Party}
+use Rattle.land_core.specs.declared.party.PartyRecord.{PartyRecord}
+use Rattle.land_core.specs.declared.register.Register.{Register}
+use Rattle.land_core.specs.declared.role.Role.{Role}
+
+its_own : (n : ℕ) → nat_eq n n ≡ true
+its_own n = (Decides-eqb n n).1 refl
+
+filter_alike : {X : Type 0} (p q : X → Bool) → ((x : X) → p x ≡ q x) → (xs : List X) → filter p xs ≡ filter q xs
+filter_alike p q same [] = refl
+filter_alike p q same (x ∷ xs) = ap₂ (λ b rest. cond b (x ∷ rest) rest) (same x) (filter_alike p q same xs)
+
+module _ (r : Register) (n : ℕ) where
+  pub by_its_own : (found : PartyRecord) (roles : Grants) (members : FinMap nat_cmp Members) → roles ≡ only (λ grant u. nat_eq grant.party n) r.roles → members ≡ only (λ k ms. nat_eq k n) r.members
+      → object_at (record nothing { parties = map.insert map.empty n found; roles = roles; members = members }) kinds.Party n ≡ object_at (record r { parties = map.insert map.empty n found }) kinds.Party n
+  by_its_own found roles members are_roles are_members =
+      let group : map.get members n ≡ map.get r.members n = ap (λ m. map.get m n) are_members ∙ get-only nat_cmp_total nat_cmp-IsAntisymmetric (λ k ms. nat_eq k n) r.members n (λ v. its_own n) in
+      let held : filter (λ role. has_grant roles (grant_of n role)) all_roles ≡ filter (λ role. has_grant r.roles (grant_of n role)) all_roles =
+      filter_alike (λ role. has_grant roles (grant_of n role)) (λ role. has_grant r.roles (grant_of n role))
+      (λ role. ap (λ g. has_grant g (grant_of n role)) are_roles ∙ ap is_some (get-only grants_total exact_grants (λ grant u. nat_eq grant.party n) r.roles (grant_of n role) (λ v. its_own n))) all_roles in
+      ap₂ (λ ms held. option_map object.Party (option_map (λ p. record { number = n; kind = p.kind; name = p.name; members = option_map_or members_in ms []; roles = held }) (map.get (map.insert (map.empty {R = nat_cmp}) n found) n))) group held
+
+  -- a party that stands is shown as it is
+  pub as_it_stands : (found : PartyRecord) → Some found ≡ map.get r.parties n → object_at (record r { parties = map.insert map.empty n found }) kinds.Party n ≡ object_at r kinds.Party n
+  as_it_stands found is =
+      let got : map.get (map.insert (map.empty {R = nat_cmp}) n found) n ≡ map.get r.parties n = map.get-insert nat_cmp_total map.empty n found n ∙ ap (λ b. cond b (Some found) (map.get (map.empty {R = nat_cmp}) n)) (ap is_eq (tied_itself nat_cmp_total n)) ∙ is in
+      ap (λ o. option_map object.Party (option_map (λ p. record { number = n; kind = p.kind; name = p.name; members = option_map_or members_in (map.get r.members n) []; roles = filter (λ role. has_grant r.roles (grant_of n role)) all_roles }) o)) got
+
+  -- where none stands, none is shown
+  pub nobody_there : None ≡ map.get r.parties n → None ≡ object_at r kinds.Party n
+  nobody_there is = ap (λ o. option_map object.Party (option_map (λ p. record { number = n; kind = p.kind; name = p.name; members = option_map_or members_in (map.get r.members n) []; roles = filter (λ role. has_grant r.roles (grant_of n role)) all_roles }) o)) is

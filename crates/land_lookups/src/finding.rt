@@ -1,0 +1,60 @@
+//! Look-ups are run, and the rows that they give are read.
+ghost use Rattle.std.specs.Prelude.{◌≡◌, false, IfErr};
+ghost use Rattle.land_joins.specs.Running.{HoldsNone};
+ghost use Rattle.land_listing.specs.Reading.{IsRead};
+ghost use Rattle.land_lookups.specs.Finding.{AreRowsOf, AreSaidOf, CannotBeSaid};
+ghost use Rattle.land_rows.specs.Looks.{IsLook};
+ghost use Rattle.land_schema.specs.Land.{IsLand};
+ghost use Rattle.sqlite.specs.Held.{state};
+ghost use Rattle.sqlite.specs.State.{HasCleanDisk};
+
+use crate::look_up::{LookUp, text_of};
+use land_core::sequence::Sequence;
+use land_joins::running::asked_for;
+use land_listing::fault::ReadFault;
+use land_rows::cells::{of_moment, of_number};
+use land_versions::from_row::{FromRow, read_all};
+use sqlite::{Alter, Connection, Error, Row};
+use std::alloc::Global;
+
+/// The rows that a look-up finds at a moment, in whatever order.
+fn rows_of<S: Alter>(
+    conn: &mut Connection<S>,
+    look_up: LookUp,
+    number: u64,
+    at: i64,
+) -> Result<Vec<Row>, Error>
+    requires land { HasCleanDisk (state S.Store conn.old) → IsLand (state S.Store conn.old).now.schema }
+    ensures look { IsLook result (λ rows. AreRowsOf look_up number at (state S.Store conn.old).now.trees rows.items) (state S.Store conn.old) (state S.Store conn.new) }
+    ensures mode { conn.old.in_transaction ≡ false → conn.new.in_transaction ≡ false }
+{
+    conn.query_all(
+        text_of(look_up),
+        &[of_number(asked_for(number)), of_moment(at)],
+    )
+}
+
+/// What some rows say. 520: one of them cannot be read. 501: there was no memory.
+fn read<X: FromRow>(alloc: Global, rows: &[Row]) -> Result<Sequence<X>, ReadFault>
+    ensures { IsRead X.FromRow.said rows.now result }
+{
+    Ok(read_all(alloc, rows)?)
+}
+
+/// What the rows say that a look-up finds by a number at a moment, in milliseconds since 1970 UTC, in whatever order. 520: one of them
+/// cannot be read. 501: there was no memory.
+pub fn find<X: FromRow, S: Alter>(
+    alloc: Global,
+    conn: &mut Connection<S>,
+    look_up: LookUp,
+    number: u64,
+    at: i64,
+) -> Result<Sequence<X>, ReadFault>
+    requires land { HasCleanDisk (state S.Store conn.old) → IsLand (state S.Store conn.old).now.schema }
+    ensures look { IsLook result (λ it. AreSaidOf X.FromRow.said look_up number at (state S.Store conn.old).now.trees it) (state S.Store conn.old) (state S.Store conn.new) }
+    ensures unreadable { HasCleanDisk (state S.Store conn.new) → IfErr result (CannotBeSaid X.FromRow.said look_up number at (state S.Store conn.old).now.trees) }
+    ensures mode { conn.old.in_transaction ≡ false → conn.new.in_transaction ≡ false }
+{
+    let rows = rows_of(conn, look_up, number, at)?;
+    read(alloc, rows.as_slice())
+}

@@ -1,0 +1,35 @@
+//! What belongs to a lodger.
+ghost use Rattle.std.specs.Prelude.{◌≡◌, nat_eq, false, IfErr};
+ghost use Rattle.land_core.specs.Entries.{only};
+ghost use Rattle.land_joins.specs.Running.{HoldsNone};
+ghost use Rattle.land_lookups.specs.Parts.{IsPart};
+ghost use Rattle.land_rows.specs.Looks.{IsLook};
+ghost use Rattle.land_schema.specs.Land.{IsLand};
+ghost use Rattle.sqlite.specs.Held.{state};
+ghost use Rattle.sqlite.specs.State.{HasCleanDisk};
+
+use crate::finding::find;
+use crate::look_up::LookUp;
+use land_core::mutation::MutationRecord;
+use land_core::records::Records;
+use land_history::part::part_at;
+use land_listing::fault::ReadFault;
+use sqlite::{Alter, Connection};
+use std::alloc::Global;
+
+/// The mutations that a party lodged, decided or not, that stand at a moment, in milliseconds since 1970 UTC, under their numbers. 520: the
+/// tables hold no history. 501: there was no memory.
+pub fn mutations<S: Alter>(
+    alloc: Global,
+    conn: &mut Connection<S>,
+    lodger: u64,
+    at: i64,
+) -> Result<Records<MutationRecord>, ReadFault>
+    requires land { HasCleanDisk (state S.Store conn.old) → IsLand (state S.Store conn.old).now.schema }
+    ensures look { IsLook result (λ it. IsPart (λ r. only (λ n m. nat_eq m.lodger lodger) r.mutations) at (state S.Store conn.old).now.trees it) (state S.Store conn.old) (state S.Store conn.new) }
+    ensures unreadable { HasCleanDisk (state S.Store conn.new) → IfErr result (HoldsNone (state S.Store conn.old).now.trees) }
+    ensures mode { conn.old.in_transaction ≡ false → conn.new.in_transaction ≡ false }
+{
+    let found = find(alloc, conn, LookUp::MutationsOfLodger, lodger, at)?;
+    Ok(part_at(alloc, found.as_slice(), at)?)
+}

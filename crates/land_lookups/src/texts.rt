@@ -1,0 +1,56 @@
+//! The text of each look-up.
+//!
+//! In each of them parameter 1 is the number that is given, and parameter 2 the moment in milliseconds since 1970 UTC. A row stands where
+//! the moment is not before its `since` and is before its `until`.
+
+/// The party of a number.
+pub const PARTY: &str =
+    "SELECT number, name, kind, since, until FROM party WHERE number = ?1 AND since <= ?2 AND ?2 < until";
+
+/// The unit of a number.
+pub const UNIT: &str =
+    "SELECT number, name, checked, since, until FROM unit WHERE number = ?1 AND since <= ?2 AND ?2 < until";
+
+/// The parcel of a number.
+pub const PARCEL: &str =
+    "SELECT number, unit, label, outline, source, since, until FROM parcel WHERE number = ?1 AND since <= ?2 AND ?2 < until";
+
+/// The entry of a number.
+pub const ENTRY: &str =
+    "SELECT number, unit, party, class, num, den, amount, currency, place, words, source, since, until FROM rrr WHERE number = ?1 AND since <= ?2 AND ?2 < until";
+
+/// The source of a number.
+pub const SOURCE: &str =
+    "SELECT number, kind, title, since, until FROM source WHERE number = ?1 AND since <= ?2 AND ?2 < until";
+
+/// The mutation of a number.
+pub const MUTATION: &str =
+    "SELECT number, lodger, reference, source, lodged, act, content, state, since, until FROM mutation WHERE number = ?1 AND since <= ?2 AND ?2 < until";
+
+/// The parcels of a unit.
+pub const PARCELS_OF_UNIT: &str =
+    "SELECT number, unit, label, outline, source, since, until FROM parcel WHERE unit = ?1 AND since <= ?2 AND ?2 < until";
+
+/// The entries of a unit.
+pub const ENTRIES_OF_UNIT: &str =
+    "SELECT number, unit, party, class, num, den, amount, currency, place, words, source, since, until FROM rrr WHERE unit = ?1 AND since <= ?2 AND ?2 < until";
+
+/// The entries whose party is a party.
+pub const ENTRIES_OF_PARTY: &str =
+    "SELECT number, unit, party, class, num, den, amount, currency, place, words, source, since, until FROM rrr WHERE party = ?1 AND since <= ?2 AND ?2 < until";
+
+/// The roles of a party.
+pub const ROLES_OF_PARTY: &str =
+    "SELECT party, role, since, until FROM role WHERE party = ?1 AND since <= ?2 AND ?2 < until";
+
+/// The members of a group.
+pub const MEMBERS_OF_GROUP: &str =
+    "SELECT grp, party, num, den, since, until FROM member WHERE grp = ?1 AND since <= ?2 AND ?2 < until";
+
+/// The mutations that a party lodged, decided or not.
+pub const MUTATIONS_OF_LODGER: &str =
+    "SELECT number, lodger, reference, source, lodged, act, content, state, since, until FROM mutation WHERE lodger = ?1 AND since <= ?2 AND ?2 < until";
+
+/// The state administrators. Parameter 1 is not looked at.
+pub const ADMINISTRATORS: &str =
+    "SELECT party, role, since, until FROM role WHERE role = 'stateAdministrator' AND since <= ?2 AND ?2 < until";
