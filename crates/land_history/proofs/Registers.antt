@@ -8,7 +8,7 @@ use Rattle.land_history.specs.History.{StandsAt, register_at}
 use Rattle.land_history.specs.Standing.{standing}
 use Rattle.land_history.specs.declared.history.History.{History}
 
-eight : {A B C D E F G H X : Type 0} (make : A → B → C → D → E → F → G → H → X) {a i : A} {b j : B} {c k : C} {d l : D} {e m : E} {f n : F} {g o : G} {h p : H}
+pub eight : {A B C D E F G H X : Type 0} (make : A → B → C → D → E → F → G → H → X) {a i : A} {b j : B} {c k : C} {d l : D} {e m : E} {f n : F} {g o : G} {h p : H}
     → a ≡ i → b ≡ j → c ≡ k → d ≡ l → e ≡ m → f ≡ n → g ≡ o → h ≡ p → make a b c d e f g h ≡ make i j k l m n o p
 eight make a b c d e f g h = cc
 

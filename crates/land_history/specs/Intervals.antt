@@ -1,5 +1,5 @@
 -- The lifespans that the versions of a history may have.
-use Rattle.std.specs.Prelude.{ℕ, ℤ, pos, Bool, ◌&&◌, ◌||◌, ◌==◌, int_lt, List}
+use Rattle.std.specs.Prelude.{◌≡◌, ℕ, ℤ, pos, Bool, true, ◌&&◌, ◌||◌, ◌==◌, int_lt, List}
 use Rattle.std.specs.List.{list_all, list_any}
 use Rattle.std.specs.Ordering.{eq_by_cmp, int_eq}
 use Rattle.land_core.specs.Entries.{are_distinct}
@@ -39,6 +39,10 @@ is_interval moments v = int_lt v.since v.until && is_stamp moments v.since && (i
 abbrev pub overlap : {X : Type 0} → (X → X → Bool) → Version X → Version X → Bool
 overlap same_key v w = same_key v.what w.what && int_lt v.since w.until && int_lt w.since v.until
 
+-- no two lifespans of one key have a moment in common
+abbrev pub AreApart : {X : Type 0} → (X → X → Bool) → List (Version X) → Type 0
+AreApart same_key versions = are_distinct (overlap same_key) versions ≡ true
+
 abbrev pub are_intervals : {X : Type 0} → (X → X → Bool) → List Moment → List (Version X) → Bool
 are_intervals same_key moments versions = list_all (is_interval moments) versions && are_distinct (overlap same_key) versions
 
@@ -48,3 +52,15 @@ has_intervals moments h =
     are_intervals is_same_number moments h.parties && are_intervals is_same_grant moments h.roles && are_intervals is_same_member moments h.members
     && are_intervals is_same_number moments h.units && are_intervals is_same_number moments h.parcels && are_intervals is_same_number moments h.rrrs
     && are_intervals is_same_number moments h.sources && are_intervals is_same_number moments h.mutations && are_intervals is_same_naming moments h.namings
+
+-- in no list of versions two lifespans of one key have a moment in common
+pub record AreAllApart (h : History) : Type 0 where
+  pub parties : AreApart is_same_number h.parties
+  pub roles : AreApart is_same_grant h.roles
+  pub members : AreApart is_same_member h.members
+  pub units : AreApart is_same_number h.units
+  pub parcels : AreApart is_same_number h.parcels
+  pub rrrs : AreApart is_same_number h.rrrs
+  pub sources : AreApart is_same_number h.sources
+  pub mutations : AreApart is_same_number h.mutations
+  pub namings : AreApart is_same_naming h.namings

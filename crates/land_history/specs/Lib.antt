@@ -7,5 +7,6 @@ pub mod Intervals
 pub mod Lawful
 pub mod Laws
 pub mod Moments
+pub mod Moved
 pub mod Open
 pub mod Standing

@@ -1,23 +1,27 @@
 //! Whether the namings that stand are those that mutations name.
-ghost use Rattle.std.specs.FinMap as map;
 ghost use Rattle.std.specs.List.{list_all};
-ghost use Rattle.std.specs.Prelude.{◌≡◌, ◌||◌, not};
-ghost use Rattle.land_history.specs.History.{namings_of};
-ghost use Rattle.land_history.specs.Lawful.{are_listed, are_same_namings, is_listed, is_told};
+ghost use Rattle.std.specs.Option.{SomeIff};
+ghost use Rattle.std.specs.Prelude.{◌≡◌, ◌≤◌, ◌-◌, ◌||◌, true, not, nat_eq, length};
+ghost use Rattle.land_core.specs.Entries.{are_distinct};
+ghost use Rattle.land_history.specs.History.{named_units, namings_of};
+ghost use Rattle.land_history.specs.Intervals.{AreApart, is_same_naming};
+ghost use Rattle.land_history.specs.Lawful.{are_same_namings, is_told};
 ghost use Rattle.land_history.specs.Standing.{standing, stands};
 
-use crate::keyed::Keyed;
 use crate::naming::Naming;
 use crate::version::Version;
 use land_core::content::Content;
 use land_core::mutation::MutationRecord;
 use land_core::records::Records;
 
-/// Whether the namings that stand at a moment are those that some mutations name.
+/// Whether the namings that stand at a moment are those that some mutations name, neither of which have one twice: mutations name each of
+/// them, and there are as many as mutations name.
 pub fn are_named(namings: &[Version<Naming>], at: i64, mutations: &Records<MutationRecord>) -> bool
+    requires apart { AreApart is_same_naming namings.now }
+    requires once { are_distinct is_same_naming (namings_of mutations.now) ≡ true }
     ensures { result ≡ are_same_namings (standing at namings.now) (namings_of mutations.now) }
 {
-    name_all(mutations, namings, at) && all_stand(mutations, namings, at)
+    name_all(mutations, namings, at) && name_as_many(mutations, count_standing(namings, at))
 }
 
 /// Whether mutations name each of the namings that stand.
@@ -31,51 +35,49 @@ fn name_all(mutations: &Records<MutationRecord>, namings: &[Version<Naming>], at
 fn is_told(naming: &Naming, mutations: &Records<MutationRecord>) -> bool
     ensures { result ≡ is_told mutations.now naming.now }
 {
-    mutations.iter().any(|(number, mutation)| {
-        naming.mutation == *number && mutation.content.names_unit(naming.unit)
-    })
-}
-
-/// Whether the units that mutations name are among the namings that stand.
-fn all_stand(mutations: &Records<MutationRecord>, namings: &[Version<Naming>], at: i64) -> bool
-    ensures { result ≡ list_all (λ e. are_listed at namings.now e.0 e.1.content) (map.entries mutations.now) }
-{
-    mutations.iter().all(|(number, mutation)| are_listed(*number, &mutation.content, namings, at))
-}
-
-/// Whether each unit that a content names is among the namings that stand, under the number of its mutation.
-fn are_listed(mutation: u64, content: &Content, namings: &[Version<Naming>], at: i64) -> bool
-    ensures { result ≡ are_listed at namings.now mutation content.now }
-{
-    match content {
-        Content::Transfer(it) => is_unit_listed(mutation, it.unit, namings, at),
-        Content::Subdivision(it) => is_unit_listed(mutation, it.unit, namings, at),
-        Content::Merger(it) => {
-            is_unit_listed(mutation, it.unit, namings, at)
-                && are_others_listed(mutation, it.others.as_slice(), namings, at)
-        }
-        Content::Mortgage(it) => is_unit_listed(mutation, it.unit, namings, at),
-        Content::Discharge(it) => is_unit_listed(mutation, it.unit, namings, at),
+    match mutations.get(naming.mutation) {
+        Some(mutation) => mutation.content.names_unit(naming.unit),
+        None => false,
     }
 }
 
-fn are_others_listed(mutation: u64, others: &[u64], namings: &[Version<Naming>], at: i64) -> bool
-    ensures { result ≡ list_all (λ unit. is_listed at namings.now (record { mutation = mutation; unit = unit })) others.now }
+/// How many namings stand at a moment.
+fn count_standing(namings: &[Version<Naming>], at: i64) -> usize
+    ensures { result ≡ length (standing at namings.now) }
 {
-    others
-        .iter()
-        .all(|unit| is_unit_listed(mutation, *unit, namings, at))
+    let mut count = 0;
+    for version in namings {
+        if version.stands(at) {
+            count += 1;
+        }
+    }
+    count
 }
 
-fn is_unit_listed(mutation: u64, unit: u64, namings: &[Version<Naming>], at: i64) -> bool
-    ensures { result ≡ is_listed at namings.now (record { mutation = mutation; unit = unit }) }
+/// Whether mutations name so many units.
+fn name_as_many(mutations: &Records<MutationRecord>, count: usize) -> bool
+    ensures { result ≡ nat_eq (length (namings_of mutations.now)) count }
 {
-    is_listed(&Naming { mutation, unit }, namings, at)
+    let mut left = count;
+    for (_, mutation) in mutations.iter() {
+        match left_over(left, &mutation.content) {
+            Some(rest) => left = rest,
+            None => return false,
+        }
+    }
+    left == 0
 }
 
-/// Whether a naming is among those that stand.
-fn is_listed(naming: &Naming, namings: &[Version<Naming>], at: i64) -> bool
-    ensures { result ≡ is_listed at namings.now naming.now }
+/// A count less the number of the units that a content names; none if that is more.
+fn left_over(count: usize, content: &Content) -> Option<usize>
+    ensures { SomeIff result (length (named_units content.now) ≤ count) (count - length (named_units content.now)) }
 {
-    namings.iter().any(|version| version.stands(at) && naming.has_key_of(&version.what))
+    let rest = count.checked_sub(1)?;
+    match content {
+        Content::Merger(it) => rest.checked_sub(it.others.as_slice().len()),
+        Content::Transfer(_)
+        | Content::Subdivision(_)
+        | Content::Mortgage(_)
+        | Content::Discharge(_) => Some(rest),
+    }
 }

@@ -16,7 +16,7 @@ use Rattle.land_core.specs.Soundness.{IsSound}
 use Rattle.land_core.specs.declared.mutation.MutationRecord.{MutationRecord}
 use Rattle.land_core.specs.declared.register.Register.{Register}
 use Rattle.land_core.specs.declared.roles.Grant.{Grant}
-use Rattle.land_history.proofs.Permutations.{along_permutation}
+use Rattle.land_history.proofs.Permutations.{any_permuted}
 use Rattle.land_history.specs.History as history
 use Rattle.land_history.specs.History.{StandsAt, namings_of}
 use Rattle.land_history.specs.Intervals.{are_intervals, has_intervals, is_interval, is_same_grant, is_same_member, is_same_naming, is_same_number, is_stamp, overlap}
@@ -33,74 +33,14 @@ use Rattle.land_keep.specs.declared.timeline.Version.{Version as Begun}
 use Rattle.land_standing.specs.Laws.{LawfulVersionsStand}
 use Rattle.land_standing.specs.Timelines.{in_order, moment_of, version_of}
 use Rattle.land_standing.proofs.Between.{all_ended, all_later, none_after, none_standing, reached, same_standing}
-use Rattle.land_standing.proofs.Distinct.{distinct_standing}
-use Rattle.land_standing.proofs.Made.{made_part, made_roles, no_entries}
-use Rattle.land_standing.proofs.MadeGroups.{made_groups, no_groups}
-use Rattle.land_standing.proofs.NamingLists.{namings_distinct, same_namings}
+use Rattle.land_history.proofs.Distinct.{distinct_standing}
+use Rattle.land_history.proofs.Entered.{made_part, made_roles, no_entries}
+use Rattle.land_history.proofs.MadeGroups.{made_groups, no_groups}
+use Rattle.land_history.proofs.NamingLists.{namings_distinct, same_namings}
+use Rattle.land_history.proofs.Proper.{AllProper, Proper, all_proper}
 use Rattle.land_standing.proofs.One.{found_at, registered}
 use Rattle.land_standing.proofs.Rising.{Orderly, in_order_permuted, orderly, rises_from}
 use Rattle.land_standing.proofs.Sorting.{is_late}
-
--- ---- the nine lists of versions
-
--- each lifespan of one list is an interval, and no two of one key overlap
-record Proper {X : Type 0} (same : X → X → Bool) (moments : List Moment) (vs : List (Version X)) : Type 0 where
-  intervals : list_all (is_interval moments) vs ≡ true
-  apart : are_distinct (overlap same) vs ≡ true
-
-proper : {X : Type 0} (same : X → X → Bool) (moments : List Moment) (vs : List (Version X)) → are_intervals same moments vs ≡ true → Proper same moments vs
-proper same moments vs h = let parts = both_of (list_all (is_interval moments) vs) (are_distinct (overlap same) vs) h in record { intervals = parts.0; apart = parts.1 }
-
-record AllProper (moments : List Moment) (h : History) : Type 0 where
-  parties : Proper is_same_number moments h.parties
-  roles : Proper is_same_grant moments h.roles
-  members : Proper is_same_member moments h.members
-  units : Proper is_same_number moments h.units
-  parcels : Proper is_same_number moments h.parcels
-  rrrs : Proper is_same_number moments h.rrrs
-  sources : Proper is_same_number moments h.sources
-  mutations : Proper is_same_number moments h.mutations
-  namings : Proper is_same_naming moments h.namings
-
-record Nine (a b c d e f g h i : Bool) : Type 0 where
-  one : a ≡ true
-  two : b ≡ true
-  three : c ≡ true
-  four : d ≡ true
-  five : e ≡ true
-  six : f ≡ true
-  seven : g ≡ true
-  eight : h ≡ true
-  nine : i ≡ true
-
-nine_of : (a b c d e f g h i : Bool) → (a && b && c && d && e && f && g && h && i) ≡ true → Nine a b c d e f g h i
-nine_of a b c d e f g h i all =
-    let p = both_of (a && b && c && d && e && f && g && h) i all in
-    let q = both_of (a && b && c && d && e && f && g) h p.0 in
-    let r = both_of (a && b && c && d && e && f) g q.0 in
-    let s = both_of (a && b && c && d && e) f r.0 in
-    let t = both_of (a && b && c && d) e s.0 in
-    let u = both_of (a && b && c) d t.0 in
-    let v = both_of (a && b) c u.0 in
-    let w = both_of a b v.0 in
-    record { one = w.0; two = w.1; three = v.1; four = u.1; five = t.1; six = s.1; seven = r.1; eight = q.1; nine = p.1 }
-
-all_proper : (moments : List Moment) (h : History) → has_intervals moments h ≡ true → AllProper moments h
-all_proper moments h intervals =
-    let parts = nine_of (are_intervals is_same_number moments h.parties) (are_intervals is_same_grant moments h.roles) (are_intervals is_same_member moments h.members)
-    (are_intervals is_same_number moments h.units) (are_intervals is_same_number moments h.parcels) (are_intervals is_same_number moments h.rrrs)
-    (are_intervals is_same_number moments h.sources) (are_intervals is_same_number moments h.mutations) (are_intervals is_same_naming moments h.namings) intervals in
-    record {
-      parties = proper is_same_number moments h.parties parts.one;
-      roles = proper is_same_grant moments h.roles parts.two;
-      members = proper is_same_member moments h.members parts.three;
-      units = proper is_same_number moments h.units parts.four;
-      parcels = proper is_same_number moments h.parcels parts.five;
-      rrrs = proper is_same_number moments h.rrrs parts.six;
-      sources = proper is_same_number moments h.sources parts.seven;
-      mutations = proper is_same_number moments h.mutations parts.eight;
-      namings = proper is_same_naming moments h.namings parts.nine;
-    }
 
 -- ---- what stands at a stamp
 
@@ -201,16 +141,6 @@ stands_at moments h (m ∷ ms) t p rises lawful most all = go (int_le m.stamp t)
         later ns climbs = later_from m ns (late m.stamp t on) climbs
 
 -- ---- all of it
-
-or_turned : (a b c : Bool) → (a || (b || c)) ≡ (b || (a || c))
-or_turned a b c = grind arith
-
-any_permuted : {X : Type 0} (p : X → Bool) (xs ys : List X) → IsPermutation xs ys → list_any p ys ≡ list_any p xs
-any_permuted {X} p = along_permutation (λ xs ys. list_any p ys ≡ list_any p xs)
-    (λ xs. refl)
-    (λ x xs ys h. ap (λ b. p x || b) h)
-    (λ x y xs. or_turned (p y) (p x) (list_any p xs))
-    (λ xs ys zs g h. h ∙ g)
 
 same_moments : (h : History) (ms : List Moment) → map_list moment_of (map_list (version_of h) ms) ≡ ms
 same_moments h [] = refl

@@ -11,6 +11,8 @@ use Rattle.land_core.specs.Entries.{are_distinct}
 use Rattle.land_core.specs.Laws.{SoundnessByLookUps}
 use Rattle.land_core.specs.Soundness.{IsSound}
 use Rattle.land_core.specs.declared.register.Register.{Register}
+use Rattle.land_history.proofs.Distinct.{distinct_permuted}
+use Rattle.land_history.proofs.Permutations.{all_permuted}
 use Rattle.land_history.specs.History as history
 use Rattle.land_history.specs.History.{namings_of}
 use Rattle.land_history.specs.Intervals.{is_same_naming}
@@ -24,9 +26,8 @@ use Rattle.land_keep.specs.Timeline.{IsRising, IsSoundTimeline, Rises, Timeline}
 use Rattle.land_keep.specs.declared.timeline.Version.{Version}
 use Rattle.land_standing.specs.Judging.{SoundTimelinesAreLawful}
 use Rattle.land_standing.specs.Timelines.{StandsFor, in_order, moment_of, version_of}
-use Rattle.land_standing.proofs.IntervalOrders.{all_alike, distinct_permuted}
+use Rattle.land_standing.proofs.IntervalOrders.{all_alike}
 use Rattle.land_standing.proofs.One.{reads, stands_for_one}
-use Rattle.land_standing.proofs.Reordered.{all_permuted}
 use Rattle.land_standing.proofs.Rising.{in_order_permuted}
 use Rattle.land_standing.proofs.Sorting.{distinct}
 

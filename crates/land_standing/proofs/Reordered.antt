@@ -4,7 +4,7 @@ use Rattle.std.specs.Prelude.{ℤ}
 use Rattle.std.specs.List.{list_all}
 use Rattle.std.proofs.lemmas.List.Sorted.{IsPermutation-map, IsPermutation-sym, IsPermutation-trans}
 use Rattle.land_core.specs.declared.register.Register.{Register}
-use Rattle.land_history.proofs.Permutations.{along_permutation, filter_permuted}
+use Rattle.land_history.proofs.Permutations.{all_permuted, filter_permuted}
 use Rattle.land_history.specs.History.{StandsAt}
 use Rattle.land_history.specs.Open.{has_ended, have_ended}
 use Rattle.land_history.specs.Standing.{standing, stands}
@@ -19,17 +19,6 @@ stand_too : {X : Type 0} (t : ℤ) (one other : List (Version X)) (records : Lis
 stand_too t one other records p h =
     IsPermutation-trans (standing t other) (standing t one) records
     (IsPermutation-sym (standing t one) (standing t other) (IsPermutation-map (λ v. v.what) (filter (stands t) one) (filter (stands t) other) (filter_permuted (stands t) one other p))) h
-
-and_turned : (a b c : Bool) → (a && (b && c)) ≡ (b && (a && c))
-and_turned a b c = grind arith
-
--- a test of all
-pub all_permuted : {X : Type 0} (p : X → Bool) (xs ys : List X) → IsPermutation xs ys → list_all p ys ≡ list_all p xs
-all_permuted {X} p = along_permutation (λ xs ys. list_all p ys ≡ list_all p xs)
-    (λ xs. refl)
-    (λ x xs ys h. ap (λ b. p x && b) h)
-    (λ x y xs. and_turned (p y) (p x) (list_all p xs))
-    (λ xs ys zs g h. h ∙ g)
 
 pub nine : {a b c d e f g h i j k l m n o p q r : Bool} → a ≡ j → b ≡ k → c ≡ l → d ≡ m → e ≡ n → f ≡ o → g ≡ p → h ≡ q → i ≡ r
     → (a && b && c && d && e && f && g && h && i) ≡ (j && k && l && m && n && o && p && q && r)

@@ -8,11 +8,11 @@ use Rattle.std.specs.List.{list_all, list_any}
 use Rattle.std.specs.Ordering.{int_eq}
 use Rattle.land_core.proofs.Booleans.{both_of, not_true, or_false}
 use Rattle.land_core.specs.Entries.{are_distinct}
+use Rattle.land_history.proofs.Permutations.{all_permuted}
 use Rattle.land_history.specs.Lawful.{falls, is_same_stamp, never_falls}
 use Rattle.land_history.specs.declared.history.History.{History}
 use Rattle.land_history.specs.declared.moment.Moment.{Moment}
 use Rattle.land_keep.specs.Timeline.{Rises}
-use Rattle.land_standing.proofs.Reordered.{all_permuted}
 use Rattle.land_standing.specs.Timelines.{in_order, put_in, version_of}
 
 -- ---- the same moments

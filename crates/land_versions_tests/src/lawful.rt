@@ -2,6 +2,7 @@
 use crate::cell::Cell;
 use crate::histories::{OPEN, Span, history_of};
 use crate::table::Table;
+use land_history::intervals::has_intervals;
 use land_history::lawful::is_lawful;
 use land_history::moment::Moment;
 use land_history::moments::{last, next_at};
@@ -43,7 +44,7 @@ struct Case(&'static [Moment], &'static [Span], bool);
 const CASES: &[Case] = &[
     Case(&[Moment { stamp: 0, next: 2 }], NEW, true),
     // there is no moment, or one stamp twice
-    Case(&[], NEW, false),
+    Case(&[], &[], false),
     Case(
         &[Moment { stamp: 0, next: 2 }, Moment { stamp: 0, next: 2 }],
         NEW,
@@ -177,22 +178,6 @@ const CASES: &[Case] = &[
         ],
         false,
     ),
-    // a version at no moment of a change is in no register
-    Case(
-        &[
-            Moment { stamp: 0, next: 2 },
-            Moment {
-                stamp: 1005,
-                next: 10,
-            },
-        ],
-        &[
-            Span(Table::Party, OFFICE, 0, OPEN),
-            Span(Table::Role, ADMINISTRATOR, 0, OPEN),
-            Span(Table::Unit, &[], 1000, 1005),
-        ],
-        true,
-    ),
     // the names are those of the mutation: they are, one is of no mutation, one lacks, one is of another unit, one ends before
     Case(
         &[
@@ -281,14 +266,14 @@ const CASES: &[Case] = &[
     ),
 ];
 
-/// Whether a history is as lawful as its case says.
+/// Whether the lifespans of a history are as they may be, and it is as lawful as its case says.
 fn is_as_said<S: Alter>(
     alloc: Global,
     conn: &mut Connection<S>,
     case: &Case,
 ) -> Result<bool, Error> {
     let history = history_of(alloc, conn, case.1)?;
-    Ok(is_lawful(alloc, &history, case.0)? == case.2)
+    Ok(has_intervals(&history, case.0) && is_lawful(alloc, &history, case.0)? == case.2)
 }
 
 #[test]

@@ -1,15 +1,17 @@
-use Rattle.std.proofs.Common.{rules, ◌≡◌, ◌∙◌, ap, sym, ◌&&◌, ℤ, to_z, of_z, w64}
+use Rattle.std.proofs.Common.{rules, ◌≡◌, ◌∙◌, ap, ℤ, length, to_z, of_z, w64}
+use Rattle.std.specs.Prelude.{nat_eq}
 use Rattle.land_history.specs.History.{namings_of}
 use Rattle.land_history.specs.Lawful.{are_same_namings}
 use Rattle.land_history.specs.Standing.{standing}
-use Rattle.land_history.proofs.NamingTests.{both_told, none_told}
+use Rattle.land_history.proofs.NamingLists.{named_both}
+use Rattle.land_history.proofs.NamingTests.{none_told}
 use Rattle.land_history.proofs.namings.are_named.Goals as goal
 
 pub returns-then-name_all : goal.returns-then-name_all
 returns-then-name_all c =
     let at : to_z w64 (of_z w64 c.args.at) ≡ c.args.at = search rules in
-    ap (λ b. b && c.all_stand.result) (sym c.if-name_all.true)
-    ∙ both_told (to_z w64 (of_z w64 c.args.at)) c.args.namings.now c.args.mutations.now c.name_all.result c.all_stand.result c.name_all.ensures c.all_stand.ensures
+    named_both (to_z w64 (of_z w64 c.args.at)) c.args.namings.now c.args.mutations.now c.requires.apart c.requires.once c.name_all.result c.name_as_many.result c.if-name_all.true c.name_all.ensures
+    (c.name_as_many.ensures ∙ ap (nat_eq (length (namings_of c.args.mutations.now))) c.count_standing.ensures)
     ∙ ap (λ (t : ℤ). are_same_namings (standing t c.args.namings.now) (namings_of c.args.mutations.now)) at
 
 pub returns-else-name_all : goal.returns-else-name_all

@@ -20,7 +20,7 @@ use Rattle.land_fraction.specs.Ratio.{Ratio}
 use Rattle.land_history.specs.Groups.{group_members, joined, joined_members, members_of, with_members}
 use Rattle.land_history.specs.Intervals.{is_same_member}
 use Rattle.land_history.specs.declared.group_member.GroupMember.{GroupMember}
-use Rattle.land_standing.proofs.Made.{insert_new, no_entries}
+use Rattle.land_history.proofs.Entered.{insert_new, no_entries}
 
 abbrev one_of : ℕ → Member → GroupMember
 one_of group member = record { group = group; member = member }
@@ -30,7 +30,7 @@ abbrev listed : ℕ × Members → List GroupMember
 listed g = map_list (one_of g.0) (members_in g.1)
 
 -- the members of a group, none where there is no group
-abbrev or_none : Option Members → Members
+abbrev pub or_none : Option Members → Members
 or_none o = option_map_or (λ members. members) o map.empty
 
 append_nothing : {X : Type 0} (xs : List X) → xs ++ [] ≡ xs
@@ -95,7 +95,7 @@ put_member g p s (e ∷ es) old is sorted none = go (nat_cmp g e.0) refl (λ sam
         (IsPermutation-middle (listed e) (one_of g (member_of p s)) (flat_map listed es))
 
 -- a member is new to some groups
-abbrev IsNew : FinMap nat_cmp Members → GroupMember → Type 0
+abbrev pub IsNew : FinMap nat_cmp Members → GroupMember → Type 0
 IsNew m e = map.get (members_of m e.group) e.member.party ≡ None
 
 joined_one : (m : FinMap nat_cmp Members) (e : GroupMember) → IsNew m e → IsPermutation (group_members (joined m e)) (e ∷ group_members m)
@@ -111,7 +111,7 @@ other_party true b is h = h
 other_party false b is h = absurd (false≢true is)
 
 -- a member that is new stays so after another one joined
-new_still : (m : FinMap nat_cmp Members) (e x : GroupMember) → is_same_member e x ≡ false → IsNew m x → IsNew (joined m e) x
+pub new_still : (m : FinMap nat_cmp Members) (e x : GroupMember) → is_same_member e x ≡ false → IsNew m x → IsNew (joined m e) x
 new_still m e x apart new = ap (λ o. map.get (or_none o) x.member.party) (map.get-insert nat_cmp_total m e.group (joined_members m e) x.group) ∙ go (eq_by_cmp nat_cmp x.group e.group) refl
   where
     go : (b : Bool) → eq_by_cmp nat_cmp x.group e.group ≡ b → map.get (or_none (cond b (Some (joined_members m e)) (map.get m x.group))) x.member.party ≡ None
@@ -140,9 +140,12 @@ made_from m (e ∷ es) distinct free =
     (IsPermutation-append_left es (group_members (joined m e)) (e ∷ group_members m) (joined_one m e free.0))
     (IsPermutation-sym (group_members m ++ e ∷ es) (e ∷ (group_members m ++ es)) (IsPermutation-middle (group_members m) e es)))
 
+pub new_from_empty : (e : GroupMember) → IsNew map.empty e
+new_from_empty e = ap (λ o. map.get (or_none o) e.member.party) (map.get-empty nat_cmp e.group) ∙ map.get-empty nat_cmp e.member.party
+
 all_new : (es : List GroupMember) → AllByRecursion (IsNew map.empty) es
 all_new [] = tt
-all_new (e ∷ es) = (ap (λ o. map.get (or_none o) e.member.party) (map.get-empty nat_cmp e.group) ∙ map.get-empty nat_cmp e.member.party, all_new es)
+all_new (e ∷ es) = (new_from_empty e, all_new es)
 
 pub no_groups : group_members map.empty ≡ []
 no_groups = ap (flat_map listed) (no_entries nat_cmp Members)

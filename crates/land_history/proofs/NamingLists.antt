@@ -1,10 +1,10 @@
 -- The namings of a sound register's mutations, none twice.
-use Rattle.std.proofs.Common.{◌≡◌, ℕ, Bool, true, false, not, ◌||◌, ◌&&◌, ◌==◌, List, [], ◌∷◌, ◌++◌, flat_map, map as map_list, refl, ap, ◌∙◌, arith, IsPermutation}
-use Rattle.std.specs.Prelude.{nat_eq, nat_lt}
+use Rattle.std.proofs.Common.{◌≡◌, ℕ, Bool, true, false, not, ◌||◌, ◌&&◌, ◌==◌, List, [], ◌∷◌, ◌++◌, length, flat_map, map as map_list, refl, sym, ap, ◌∙◌, arith, IsPermutation}
+use Rattle.std.specs.Prelude.{ℤ, nat_eq, nat_lt}
 use Rattle.std.proofs.lemmas.Bool.Decides.{nat_tests}
 use Rattle.std.proofs.lemmas.List.Folds.{list_any-append}
 use Rattle.std.specs.FinMap as map
-use Rattle.std.specs.FinMap.{is_sorted}
+use Rattle.std.specs.FinMap.{FinMap, is_sorted}
 use Rattle.std.specs.FinMap.Entries.{below_all}
 use Rattle.std.specs.List.{AllByRecursion, list_all, list_any}
 use Rattle.std.specs.Ordering.{is_lt, nat_cmp}
@@ -21,11 +21,14 @@ use Rattle.land_core.specs.declared.mutation.MutationRecord.{MutationRecord}
 use Rattle.land_core.specs.declared.register.Register.{Register}
 use Rattle.land_core.specs.declared.soundness.Unsound.TheVariants.{Reference}
 use Rattle.land_history.specs.History.{named_units, namings_of}
-use Rattle.land_history.specs.Intervals.{is_same_naming}
-use Rattle.land_history.specs.Lawful.{are_same_namings}
+use Rattle.land_history.specs.Intervals.{AreApart, is_same_naming}
+use Rattle.land_history.specs.Lawful.{are_same_namings, is_told}
+use Rattle.land_history.specs.Standing.{standing, stands}
 use Rattle.land_history.specs.declared.naming.Naming.{Naming}
-use Rattle.land_standing.proofs.Distinct.{same_items}
-use Rattle.land_standing.proofs.Made.{distinct-map, distinct_alike}
+use Rattle.land_history.specs.declared.version.Version.{Version}
+use Rattle.land_history.proofs.Distinct.{as_many, distinct_standing, same_items}
+use Rattle.land_history.proofs.Entered.{distinct-map, distinct_alike}
+use Rattle.land_history.proofs.NamingTests.{told_all}
 
 -- ---- the units that a content names
 
@@ -164,3 +167,13 @@ pub same_namings : (standing named : List Naming) → are_distinct is_same_namin
 same_namings standing named ds dn same =
     let parts = both_of (list_all (λ n. list_any (is_same_naming n) named) standing) (list_all (λ n. list_any (is_same_naming n) standing) named) same in
     same_items is_same_naming one_naming naming_itself standing named ds dn parts.0 parts.1
+
+-- mutations name those that stand, and as many: then they are the same
+pub named_both : (t : ℤ) (versions : List (Version Naming)) (mutations : FinMap nat_cmp MutationRecord) → AreApart is_same_naming versions → are_distinct is_same_naming (namings_of mutations) ≡ true
+    → (one other : Bool) → one ≡ true → one ≡ list_all (λ v. not (stands t v) || is_told mutations v.what) versions → other ≡ nat_eq (length (namings_of mutations)) (length (standing t versions))
+    → other ≡ are_same_namings (standing t versions) (namings_of mutations)
+named_both t versions mutations apart once one other is told counted =
+    let all : list_all (λ n. list_any (is_same_naming n) (namings_of mutations)) (standing t versions) ≡ true = sym (told_all t versions mutations) ∙ sym told ∙ is in
+    counted
+    ∙ sym (as_many is_same_naming one_naming naming_itself (standing t versions) (namings_of mutations) (distinct_standing is_same_naming t versions apart) once all)
+    ∙ ap (λ b. b && list_all (λ n. list_any (is_same_naming n) (standing t versions)) (namings_of mutations)) (sym all)
