@@ -1,12 +1,12 @@
 -- Lawful versions stand for a timeline, the one that they lead to.
-use Rattle.std.proofs.Common.{◌≡◌, ℕ, Bool, true, false, cond, ◌||◌, ◌&&◌, List, [], ◌∷◌, flat_map, map as map_list, Option, Some, None, refl, sym, ap, ◌∙◌, subst, arith, IsPermutation}
+use Rattle.std.proofs.Common.{◌≡◌, ℕ, Bool, true, false, cond, ◌&&◌, List, [], ◌∷◌, flat_map, map as map_list, Option, Some, None, refl, sym, ap, ◌∙◌, subst, arith, IsPermutation}
 use Rattle.std.specs.Prelude.{ℤ, ◌<ℤ◌, ◌≤ℤ◌, int_le, nat_lt, length}
 use Rattle.std.proofs.lemmas.Bool.{false≢true}
 use Rattle.std.proofs.lemmas.Int.{ints}
 use Rattle.std.proofs.lemmas.List.Elements.{recursion_from_All}
 use Rattle.std.proofs.lemmas.List.Sorted.{All-permutation, IsPermutation-refl, IsPermutation-sym, length_permutation}
 use Rattle.std.specs.FinMap as map
-use Rattle.std.specs.List.{AllByRecursion, list_all, list_any}
+use Rattle.std.specs.List.{AllByRecursion, list_all}
 use Rattle.std.specs.Ordering.{int_eq, nat_cmp}
 use Rattle.land_core.proofs.Booleans.{both_of}
 use Rattle.land_core.specs.Entries.{are_distinct}
@@ -19,7 +19,7 @@ use Rattle.land_core.specs.declared.roles.Grant.{Grant}
 use Rattle.land_history.proofs.Permutations.{any_permuted}
 use Rattle.land_history.specs.History as history
 use Rattle.land_history.specs.History.{StandsAt, namings_of}
-use Rattle.land_history.specs.Intervals.{are_intervals, has_intervals, is_interval, is_same_grant, is_same_member, is_same_naming, is_same_number, is_stamp, overlap}
+use Rattle.land_history.specs.Intervals.{is_same_grant, is_same_member, is_same_naming, is_same_number, is_stamp}
 use Rattle.land_history.specs.Lawful.{IsLawfulAt, is_same_stamp, never_falls}
 use Rattle.land_history.specs.Open.{has_ended, have_ended}
 use Rattle.land_history.specs.Standing.{IsPartAt, part_at, standing}

@@ -1,7 +1,6 @@
 -- Versions stand for the same in whatever order they lie.
-use Rattle.std.proofs.Common.{◌≡◌, Bool, ◌&&◌, List, map, filter, refl, ap, ◌∙◌, arith, IsPermutation}
+use Rattle.std.proofs.Common.{◌≡◌, Bool, ◌&&◌, List, map, filter, ◌∙◌, IsPermutation}
 use Rattle.std.specs.Prelude.{ℤ}
-use Rattle.std.specs.List.{list_all}
 use Rattle.std.proofs.lemmas.List.Sorted.{IsPermutation-map, IsPermutation-sym, IsPermutation-trans}
 use Rattle.land_core.specs.declared.register.Register.{Register}
 use Rattle.land_history.proofs.Permutations.{all_permuted, filter_permuted}
