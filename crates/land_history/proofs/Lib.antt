@@ -21,3 +21,5 @@ pub mod Orders
 pub mod Permutations
 pub mod Proper
 pub mod Registers
+pub mod SpanOrders
+pub mod StampOrders

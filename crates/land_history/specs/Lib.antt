@@ -9,4 +9,6 @@ pub mod Laws
 pub mod Moments
 pub mod Moved
 pub mod Open
+pub mod Pairs
+pub mod Spans
 pub mod Standing

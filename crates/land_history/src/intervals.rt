@@ -1,83 +1,78 @@
 //! The lifespans that a history may have.
-ghost use Rattle.std.specs.List.{list_all, list_any};
-ghost use Rattle.std.specs.Prelude.{◌≡◌};
-ghost use Rattle.land_core.specs.Entries.{are_distinct};
-ghost use Rattle.land_history.specs.Intervals.{are_intervals, has_intervals, is_interval, is_stamp, overlap};
+ghost use Rattle.std.specs.List.{list_all};
+ghost use Rattle.std.specs.List.Sorted.{IsSorted};
+ghost use Rattle.std.specs.Ordering.{int_cmp};
+ghost use Rattle.std.specs.Prelude.{◌≡◌, IfOk};
+ghost use Rattle.land_history.specs.Intervals.{are_intervals, has_intervals, is_interval, is_interval_of};
 
 use crate::history::History;
 use crate::keyed::Keyed;
 use crate::moment::Moment;
+use crate::spans::are_apart;
+use crate::stamps::{is_among, stamps_of};
 use crate::version::Version;
+use std::alloc::{AllocError, Global};
 
 /// Whether each lifespan begins at a stamp, ends after it, at a stamp or not at all, and no two of one key have a moment in common.
-pub fn has_intervals(history: &History, moments: &[Moment]) -> bool
-    ensures { result ≡ has_intervals moments.now history.now }
+pub fn has_intervals(
+    alloc: Global,
+    history: &History,
+    moments: &[Moment],
+) -> Result<bool, AllocError>
+    ensures { IfOk result (λ it. it ≡ has_intervals moments.now history.now) }
 {
-    are_intervals(history.parties.as_slice(), moments)
-        && are_intervals(history.roles.as_slice(), moments)
-        && are_intervals(history.members.as_slice(), moments)
-        && are_intervals(history.units.as_slice(), moments)
-        && are_intervals(history.parcels.as_slice(), moments)
-        && are_intervals(history.rrrs.as_slice(), moments)
-        && are_intervals(history.sources.as_slice(), moments)
-        && are_intervals(history.mutations.as_slice(), moments)
-        && are_intervals(history.namings.as_slice(), moments)
+    Ok(
+        are_intervals(alloc, history.parties.as_slice(), moments)?
+            && are_intervals(alloc, history.roles.as_slice(), moments)?
+            && are_intervals(alloc, history.members.as_slice(), moments)?
+            && are_intervals(alloc, history.units.as_slice(), moments)?
+            && are_intervals(alloc, history.parcels.as_slice(), moments)?
+            && are_intervals(alloc, history.rrrs.as_slice(), moments)?
+            && are_intervals(alloc, history.sources.as_slice(), moments)?
+            && are_intervals(alloc, history.mutations.as_slice(), moments)?
+            && are_intervals(alloc, history.namings.as_slice(), moments)?,
+    )
 }
 
 /// The same of the versions of one kind.
-pub fn are_intervals<X: Keyed>(versions: &[Version<X>], moments: &[Moment]) -> bool
-    ensures { result ≡ are_intervals X.Keyed.same_key moments.now versions.now }
+pub fn are_intervals<X: Keyed>(
+    alloc: Global,
+    versions: &[Version<X>],
+    moments: &[Moment],
+) -> Result<bool, AllocError>
+    ensures { IfOk result (λ it. it ≡ are_intervals X.Keyed.same_key moments.now versions.now) }
 {
-    all_intervals(versions, moments) && are_apart(versions)
+    Ok(all_intervals(alloc, versions, moments)? && are_apart(alloc, versions)?)
 }
 
-fn all_intervals<X>(versions: &[Version<X>], moments: &[Moment]) -> bool
-    ensures { result ≡ list_all (is_interval moments.now) versions.now }
+fn all_intervals<X>(
+    alloc: Global,
+    versions: &[Version<X>],
+    moments: &[Moment],
+) -> Result<bool, AllocError>
+    ensures { IfOk result (λ it. it ≡ list_all (is_interval moments.now) versions.now) }
 {
-    versions.iter().all(|version| is_interval(version, moments))
+    let stamps = stamps_of(alloc, moments)?;
+    Ok(all_intervals_of(versions, stamps.as_slice()))
 }
 
-fn is_interval<X>(version: &Version<X>, moments: &[Moment]) -> bool
-    ensures { result ≡ is_interval moments.now version.now }
+fn all_intervals_of<X>(versions: &[Version<X>], stamps: &[i64]) -> bool
+    requires { IsSorted int_cmp stamps.now }
+    ensures { result ≡ list_all (is_interval_of stamps.now) versions.now }
 {
-    version.since < version.until
-        && is_stamp(moments, version.since)
-        && (version.until == 4_102_444_800_000 || is_stamp(moments, version.until))
-}
-
-/// Whether the register was changed at a moment.
-fn is_stamp(moments: &[Moment], at: i64) -> bool
-    ensures { result ≡ is_stamp moments.now at }
-{
-    moments.iter().any(|moment| moment.stamp == at)
-}
-
-/// Whether no two lifespans of one key have a moment in common.
-fn are_apart<X: Keyed>(versions: &[Version<X>]) -> bool
-    ensures { result ≡ are_distinct (overlap X.Keyed.same_key) versions.now }
-{
-    let mut rest = versions;
-    while let [version, later @ ..] = rest {
-        if overlaps(version, later) {
+    for version in versions {
+        if !is_interval_of(version, stamps) {
             return false;
         }
-        rest = later;
     }
     true
 }
 
-/// Whether the lifespan of a version overlaps one of some others of its key.
-fn overlaps<X: Keyed>(version: &Version<X>, others: &[Version<X>]) -> bool
-    ensures { result ≡ list_any (overlap X.Keyed.same_key version.now) others.now }
+fn is_interval_of<X>(version: &Version<X>, stamps: &[i64]) -> bool
+    requires { IsSorted int_cmp stamps.now }
+    ensures { result ≡ is_interval_of stamps.now version.now }
 {
-    others.iter().any(|other| overlap(version, other))
-}
-
-/// Whether two lifespans of one key have a moment in common.
-fn overlap<X: Keyed>(version: &Version<X>, other: &Version<X>) -> bool
-    ensures { result ≡ overlap X.Keyed.same_key version.now other.now }
-{
-    version.what.has_key_of(&other.what)
-        && version.since < other.until
-        && other.since < version.until
+    version.since < version.until
+        && is_among(stamps, version.since)
+        && (version.until == 4_102_444_800_000 || is_among(stamps, version.until))
 }

@@ -15,4 +15,6 @@ pub mod namings;
 pub mod part;
 pub mod register;
 pub mod roles;
+mod spans;
+mod stamps;
 pub mod version;

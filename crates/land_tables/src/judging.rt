@@ -25,7 +25,7 @@ pub(crate) fn judge(alloc: Global, found: &Findings) -> Result<Moment, AdoptFaul
     if !is_first_version(found.editions.as_slice()) {
         return Err(AdoptFault::Version);
     }
-    if !has_intervals(&found.history, found.moments.as_slice()) {
+    if !has_intervals(alloc, &found.history, found.moments.as_slice())? {
         return Err(AdoptFault::Interval);
     }
     if !is_lawful(alloc, &found.history, found.moments.as_slice())? {

@@ -273,7 +273,7 @@ fn is_as_said<S: Alter>(
     case: &Case,
 ) -> Result<bool, Error> {
     let history = history_of(alloc, conn, case.1)?;
-    Ok(has_intervals(&history, case.0) && is_lawful(alloc, &history, case.0)? == case.2)
+    Ok(has_intervals(alloc, &history, case.0)? && is_lawful(alloc, &history, case.0)? == case.2)
 }
 
 #[test]

@@ -169,7 +169,7 @@ fn may_have<S: Alter>(
     for (since, until) in lives {
         add(alloc, conn, &mut history, &Span(table, &[], *since, *until))?;
     }
-    Ok(has_intervals(&history, MOMENTS))
+    Ok(has_intervals(alloc, &history, MOMENTS)?)
 }
 
 #[test]
@@ -222,7 +222,7 @@ fn may_stand<S: Alter>(
         Span(beside.0, beside.1, 1003, OPEN),
     ];
     let history = history_of(alloc, conn, &both)?;
-    Ok(has_intervals(&history, MOMENTS))
+    Ok(has_intervals(alloc, &history, MOMENTS)?)
 }
 
 #[test]
