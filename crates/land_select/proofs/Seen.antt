@@ -3,6 +3,7 @@ use Rattle.std.proofs.Common.{◌≡◌, ◌∙◌, ap, refl, sym, inl, inr, Boo
 use Rattle.std.specs.Prelude.{ℤ, int_le, fold, unwrap_or, if◌then◌else◌}
 use Rattle.std.specs.List.{AllByRecursion}
 use Rattle.std.specs.Option.{option_map}
+use Rattle.land_core.specs.Laws.{SoundnessByLookUps}
 use Rattle.land_core.specs.Register.{nothing}
 use Rattle.land_core.specs.Soundness.{IsSound}
 use Rattle.land_core.specs.declared.caller.Caller.{Caller}
@@ -13,7 +14,9 @@ use Rattle.land_keep.specs.declared.store_fault.StoreFault.{StoreFault}
 use Rattle.land_keep.specs.declared.timeline.Version.{Version}
 use Rattle.land_rules.specs.Rules.{seen_of}
 use Rattle.land_joins.specs.Sight.{IsSight}
+use Rattle.land_lookups.specs.Parts.{IsPart}
 use Rattle.land_sights.specs.Laws.{IsSoundOrNothing}
+use Rattle.land_standing.proofs.One.{have_members}
 use Rattle.land_tables.proofs.ReadBack.{IsReadAt}
 use Rattle.land_tables.specs.Office.{IsAnswer}
 use Rattle.land_tables.specs.Standing.{timeline_in}
@@ -45,3 +48,13 @@ sight_seen s caller kind t u place (Ok it) answer =
     answer.answer holds.listed holds.history holds.holds (register_at tl u) (sound_or_nothing tl u answer.register.sound) (holds.stands.stands u place.0)
     ∙ ap (λ (r : Register). seen_of r caller kind) (sym (place.1 tl answer.register.sound))
 sight_seen s caller kind t u place (Err fault) answer = tt
+
+-- what is answered as a part of the register at a moment is that part of the timeline's register there
+pub part_stands : SoundnessByLookUps → {T : Type 0} (part : Register → T) (s : State) (t u : ℤ) → IsReadAt t u → (r : Result T StoreFault) → IfOk r (IsAnswer (IsPart part u) s)
+    → IfOk r (λ it. it ≡ part (register_at (timeline_in s.now.trees) t))
+part_stands look_ups part s t u place (Ok it) answer =
+    let tl = timeline_in s.now.trees in
+    let holds = answer.register.holds in
+    answer.answer holds.listed holds.history holds.holds (register_at tl u) (have_members look_ups tl u answer.register.sound) (holds.stands.stands u place.0)
+    ∙ ap part (sym (place.1 tl answer.register.sound))
+part_stands look_ups part s t u place (Err fault) answer = tt

@@ -1,6 +1,7 @@
 //! The keeper over joins: what a caller may see is selected by SQL.
 #![tactic(auto)]
 
+mod object;
 mod sight;
 pub mod sight_text;
 pub mod sql_keeper;

@@ -2,6 +2,7 @@
 ghost use Rattle.std.specs.Prelude.{◌≡◌, ◌≤ℤ◌};
 ghost use Rattle.land_keep.specs.Moments.{last_moment};
 
+use crate::object::ObjectAt;
 use crate::sight::Sight;
 use land_acts::slice::Slice;
 use land_core::act::Act;
@@ -9,6 +10,7 @@ use land_core::ask::Ask;
 use land_core::caller::Caller;
 use land_core::change::Change;
 use land_core::kind::Kind;
+use land_core::laws::soundness_by_look_ups;
 use land_core::object::Object;
 use land_core::sequence::NumberList;
 use land_keep::keeper::Keeper;
@@ -21,7 +23,8 @@ use land_tables::tables::Tables;
 use sqlite::Alter;
 use std::alloc::Global;
 
-/// A keeper over tables, whatever their store: what a caller sees of a kind is selected by joins. All else is read from whole tables.
+/// A keeper over tables, whatever their store: what a caller sees of a kind is selected by joins, and an object is looked up by its number.
+/// All else is read from whole tables.
 pub struct SqlKeeper<S: Alter> {
     /// The keeper over whole tables.
     whole: TableKeeper<S>,
@@ -108,7 +111,17 @@ impl<S: Alter> Keeper for SqlKeeper<S> {
         number: u64,
         at: i64,
     ) -> Result<Option<Object>, StoreFault> {
-        self.whole.object(alloc, kind, number, at)
+        if at < 0 {
+            return self.whole.object(alloc, kind, number, at);
+        }
+        soundness_by_look_ups();
+        let moment = at.min(LAST_MOMENT);
+        let object = ObjectAt {
+            kind,
+            number,
+            moment,
+        };
+        self.whole.tables.ask(alloc, &object)
     }
 
     fn view(
