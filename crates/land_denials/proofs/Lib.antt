@@ -1,3 +1,4 @@
 -- Lemmas of what is denied.
 pub mod Enough
+pub mod LookedUp
 pub mod Telling

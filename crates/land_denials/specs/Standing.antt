@@ -1,7 +1,11 @@
 -- What the standing rules look at.
-use Rattle.std.specs.Prelude.{◌≡◌, ℕ, Bool, Option, None, Some, IfSome}
+use Rattle.std.specs.Prelude.{◌≡◌, ℕ, Bool, Option, None, Some, IfSome, nat_eq}
 use Rattle.std.specs.FinMap as map
-use Rattle.land_core.specs.Register.{stands, holds}
+use Rattle.std.specs.FinMap.{FinMap}
+use Rattle.std.specs.Ordering.{nat_cmp}
+use Rattle.land_core.specs.Entries.{only}
+use Rattle.land_core.specs.Grants.{Grants}
+use Rattle.land_core.specs.Register.{nothing, stands, holds}
 use Rattle.land_core.specs.declared.act.Act.{Act}
 use Rattle.land_core.specs.declared.act.Act.TheVariants as act
 use Rattle.land_core.specs.declared.ask.Ask.{Ask}
@@ -10,7 +14,10 @@ use Rattle.land_core.specs.declared.caller.Caller.{Caller}
 use Rattle.land_core.specs.declared.content.Content.{Content}
 use Rattle.land_core.specs.declared.content.Content.TheVariants as content
 use Rattle.land_core.specs.declared.kind.Kind.TheVariants as kind
+use Rattle.land_core.specs.declared.mutation.MutationRecord.{MutationRecord}
+use Rattle.land_core.specs.declared.party.PartyRecord.{PartyRecord}
 use Rattle.land_core.specs.declared.register.Register.{Register}
+use Rattle.land_core.specs.declared.rrr.RrrRecord.{RrrRecord}
 use Rattle.land_rules.specs.Rules.{first_denial, standing_rules}
 
 -- the entry that a discharge names
@@ -73,3 +80,30 @@ pub record IsEnough (few now : Register) (caller : Caller) (a : Ask) : Type 0 wh
 abbrev pub FewAreEnough : Type 0
 FewAreEnough = (few now : Register) (caller : Caller) (a : Ask) (past : Bool) → IsEnough few now caller a
     → first_denial (standing_rules few caller a past) ≡ first_denial (standing_rules now caller a past)
+
+-- at most one record, under a number if there is one
+abbrev pub one_at : {V : Type 0} → Option ℕ → Option V → FinMap nat_cmp V
+one_at None found = map.empty
+one_at (Some n) None = map.empty
+one_at (Some n) (Some value) = map.insert map.empty n value
+
+-- the few records, as they are looked up one by one, and no others
+abbrev pub few_of : Caller → Ask → Option PartyRecord → Grants → Option RrrRecord → Option MutationRecord → Register
+few_of caller a party roles entry mutation = record nothing {
+  parties = one_at (Some caller.party) party;
+  roles = roles;
+  rrrs = one_at (discharged a) entry;
+  mutations = one_at (decided a) mutation;
+}
+
+-- what was looked up is what the register has: the caller with its roles, and what the ask names
+pub record AreLookedUp (now : Register) (caller : Caller) (a : Ask) (party : Option PartyRecord) (roles : Grants) (entry : Option RrrRecord) (mutation : Option MutationRecord) : Type 0 where
+  pub party_is : party ≡ map.get now.parties caller.party
+  pub roles_are : roles ≡ only (λ grant u. nat_eq grant.party caller.party) now.roles
+  pub entry_is : IfSome (discharged a) (λ n. entry ≡ map.get now.rrrs n)
+  pub mutation_is : IfSome (decided a) (λ n. mutation ≡ map.get now.mutations n)
+
+-- so these few are enough
+abbrev pub LookedUpIsEnough : Type 0
+LookedUpIsEnough = (now : Register) (caller : Caller) (a : Ask) (party : Option PartyRecord) (roles : Grants) (entry : Option RrrRecord) (mutation : Option MutationRecord)
+    → AreLookedUp now caller a party roles entry mutation → IsEnough (few_of caller a party roles entry mutation) now caller a

@@ -1,6 +1,6 @@
 //! Laws, each stated over the definitions alone.
 ghost use Rattle.land_denials.specs.Sight.{AllThatStandsIsSeen, SightTellsVerdicts};
-ghost use Rattle.land_denials.specs.Standing.{FewAreEnough};
+ghost use Rattle.land_denials.specs.Standing.{FewAreEnough, LookedUpIsEnough};
 
 use land_rules::laws::denials_tell_sight;
 
@@ -20,4 +20,9 @@ pub fn sight_tells_verdicts()
 /// Who is shown all objects of a kind sees each that stands, and no other.
 pub fn all_that_stands_is_seen()
     ensures { AllThatStandsIsSeen }
+{}
+
+/// The caller with its roles, and the entry and the mutation that an ask names, as they are looked up, are enough to judge who asks.
+pub fn looked_up_is_enough()
+    ensures { LookedUpIsEnough }
 {}

@@ -1,6 +1,7 @@
 //! Who is denied what, told by few records of the register and by what is in sight.
 #![tactic(auto)]
 
+pub mod few;
 pub mod laws;
 pub mod sight;
 pub mod standing;
