@@ -1,0 +1,2 @@
+-- Lemmas of what is written of a text.
+pub mod Fronts

@@ -1,0 +1,2 @@
+-- Definitions of what is written of a text.
+pub mod Writing
