@@ -1,5 +1,5 @@
 -- What is looked up is enough to judge who asks.
-use Rattle.std.proofs.Common.{◌≡◌, ℕ, Bool, true, nat_eq, cond, is_some, None, Option, Some, refl, sym, ap, ◌∙◌}
+use Rattle.std.proofs.Common.{◌≡◌, ℕ, true, nat_eq, cond, is_some, None, Option, Some, refl, ap, ◌∙◌}
 use Rattle.std.proofs.lemmas.Bool.Decides.{Decides-eqb}
 use Rattle.std.specs.Cmp.{nat_cmp_total, tied_itself}
 use Rattle.std.specs.FinMap as map
