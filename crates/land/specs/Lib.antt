@@ -1,3 +1,4 @@
 -- Definitions of the program.
+pub mod Filed
 pub mod Program
 pub mod ProgramFaults

@@ -1,7 +1,7 @@
--- What the program does with its words and the bytes of its input.
-use Rattle.std.specs.Prelude.{◌≡◌, ◌⊎◌, ℕ, ℤ, false, List, [], take, string_bytes, Option, Result, Ok, Err}
+-- What the program does with its words, the bytes of its input, and files.
+use Rattle.std.specs.Prelude.{◌≡◌, ◌⊎◌, ℕ, ℤ, false, List, [], take, string_bytes, Option, Result, Ok, Err, IfSome}
 use Rattle.std.specs.Io.KnownBytes.{Appends}
-use Rattle.land_keep.specs.Machine.{State}
+use Rattle.land_keep.specs.Machine as machine
 use Rattle.land_keep.specs.Timeline.{new_timeline}
 use Rattle.land_desk.specs.Serving.{IsServing}
 use Rattle.land_desk.specs.declared.serve.DeskFault.{DeskFault}
@@ -11,8 +11,12 @@ use Rattle.land_words.specs.Orders.{Order, to_talk, to_make, to_serve, to_check,
 use Rattle.land_words.specs.declared.command.Command.{Command}
 use Rattle.land_words.specs.declared.words_fault.WordsFault.{WordsFault}
 use Rattle.land_words.specs.declared.words_fault.WordsFault.TheVariants as words
+use Rattle.sqlite.specs.State.{State}
+use Rattle.sqlite.specs.Store.{Ghosts}
+use Rattle.land.specs.Filed.{IsChecking, IsFileService, IsMaking}
 use Rattle.land.specs.ProgramFaults.{fault_of, line_of, status_of}
-use Rattle.land.specs.declared.program_fault.ProgramFault.TheVariants.{NoMemory, Open}
+use Rattle.land.specs.declared.program_fault.ProgramFault.{ProgramFault}
+use Rattle.land.specs.declared.program_fault.ProgramFault.TheVariants.{NoMemory}
 use Rattle.land.specs.declared.set_clock.SetClock.{SetClock}
 
 -- a clock that is set reads what it is set to, each time
@@ -20,12 +24,12 @@ abbrev pub reads_as_set : SetClock → ℤ → SetClock → Type 0
 reads_as_set old reading new = (reading ≡ old.reading) × (new ≡ old)
 
 -- a new register, which is open, and a clock that is set
-abbrev pub at_start : ℤ → State SetClock
+abbrev pub at_start : ℤ → machine.State SetClock
 at_start reading = record { closed = false; timeline = new_timeline; clock = record { reading = reading } }
 
 -- the input is served over a new register, where the clock reads the same each time
 abbrev pub IsTalk : (input : List ℕ) → (reading : ℤ) → (old new : Option (List ℕ)) → Result Served DeskFault → Type 0
-IsTalk input reading old new result = (to : State SetClock) × IsServing reads_as_set input (at_start reading) to old new result
+IsTalk input reading old new result = (to : machine.State SetClock) × IsServing reads_as_set input (at_start reading) to old new result
 
 -- a text is written, or a front of it where the writer fails
 abbrev pub IsSaid : List ℕ → (old new : Option (List ℕ)) → Type 0
@@ -36,27 +40,38 @@ abbrev pub IsEnding : Result Served DeskFault → (old new : Option (List ℕ)) 
 IsEnding (Ok served) old new status = (status ≡ 0) × Appends old new []
 IsEnding (Err fault) old new status = (status ≡ status_of (fault_of fault)) × IsSaid (line_of (fault_of fault)) old new
 
--- no file is opened yet: nothing is written but that, and the status is that of its fault
-abbrev pub IsUnopened : (old new : Option (List ℕ)) → (old_errors new_errors : Option (List ℕ)) → (status : ℕ) → Type 0
-IsUnopened old new old_errors new_errors status = (status ≡ status_of Open) × Appends old new [] × IsSaid (line_of Open) old_errors new_errors
+-- the same after a command over a file
+abbrev pub IsSettled : {T : Type 0} → Result T ProgramFault → (old new : Option (List ℕ)) → (status : ℕ) → Type 0
+IsSettled (Ok done) old new status = (status ≡ 0) × Appends old new []
+IsSettled (Err fault) old new status = (status ≡ status_of fault) × IsSaid (line_of fault) old new
 
--- a command, by what it writes on the output and on that of errors, and its status
-abbrev pub IsRun : Order → (input : List ℕ) → (old new : Option (List ℕ)) → (old_errors new_errors : Option (List ℕ)) → (status : ℕ) → Type 0
-IsRun (to_talk clock) input old new old_errors new_errors status =
-    (served : Result Served DeskFault) × IsTalk input clock old new served × IsEnding served old_errors new_errors status
-IsRun (to_make file) input old new old_errors new_errors status = IsUnopened old new old_errors new_errors status
-IsRun (to_serve file port connections) input old new old_errors new_errors status = IsUnopened old new old_errors new_errors status
-IsRun (to_check file) input old new old_errors new_errors status = IsUnopened old new old_errors new_errors status
+-- what is done over files whose stores may be found to hold this, by a clock
+module _ {S C : Type 0} (g : Ghosts S) (holds : List ℕ → State → Type 0) (reads : C → ℤ → C → Type 0) where
+  -- a command, by what it writes on the output and on that of errors, and its status
+  abbrev pub IsRun : Order → (input : Option (List ℕ)) → (clock clock_after : C) → (old new : Option (List ℕ)) → (old_errors new_errors : Option (List ℕ))
+      → (status : ℕ) → Type 0
+  IsRun (to_talk reading) input clock clock_after old new old_errors new_errors status =
+      (served : Result Served DeskFault) × IfSome input (λ bytes. IsTalk bytes reading old new served) × IsEnding served old_errors new_errors status
+  IsRun (to_make file) input clock clock_after old new old_errors new_errors status =
+      (done : Result (Unit {0}) ProgramFault) × IsMaking g (holds file) done × Appends old new [] × IsSettled done old_errors new_errors status
+  IsRun (to_serve file port connections) input clock clock_after old new old_errors new_errors status =
+      (done : Result (Unit {0}) ProgramFault) × IsFileService g (holds file) reads connections clock clock_after done × Appends old new []
+      × IsSettled done old_errors new_errors status
+  IsRun (to_check file) input clock clock_after old new old_errors new_errors status =
+      (done : Result (Unit {0}) ProgramFault) × IsChecking g (holds file) old new done × IsSettled done old_errors new_errors status
 
--- what is done for what the words are read as: refused words write nothing but what `clap` says of them, and their status is 2
-abbrev pub IsDone : Result Command WordsFault → (input : List ℕ) → (old new : Option (List ℕ)) → (old_errors new_errors : Option (List ℕ)) → (status : ℕ) → Type 0
-IsDone (Ok command) input old new old_errors new_errors status = IsRun (order_of command) input old new old_errors new_errors status
-IsDone (Err (words.Refused text)) input old new old_errors new_errors status =
-    (status ≡ 2) × Appends old new [] × IsSaid (string_bytes text) old_errors new_errors
-IsDone (Err words.NoMemory) input old new old_errors new_errors status =
-    (status ≡ status_of NoMemory) × Appends old new [] × IsSaid (line_of NoMemory) old_errors new_errors
+  -- what is done for what the words are read as: refused words write nothing but what `clap` says of them, and their status is 2
+  abbrev pub IsDone : Result Command WordsFault → (input : Option (List ℕ)) → (clock clock_after : C) → (old new : Option (List ℕ))
+      → (old_errors new_errors : Option (List ℕ)) → (status : ℕ) → Type 0
+  IsDone (Ok command) input clock clock_after old new old_errors new_errors status =
+      IsRun (order_of command) input clock clock_after old new old_errors new_errors status
+  IsDone (Err (words.Refused text)) input clock clock_after old new old_errors new_errors status =
+      (status ≡ 2) × Appends old new [] × IsSaid (string_bytes text) old_errors new_errors
+  IsDone (Err words.NoMemory) input clock clock_after old new old_errors new_errors status =
+      (status ≡ status_of NoMemory) × Appends old new [] × IsSaid (line_of NoMemory) old_errors new_errors
 
--- what is done for the words
-abbrev pub IsObeyed : List (List ℕ) → (input : List ℕ) → (old new : Option (List ℕ)) → (old_errors new_errors : Option (List ℕ)) → (status : ℕ) → Type 0
-IsObeyed said input old new old_errors new_errors status =
-    (outcome : Result Command WordsFault) × IsReading said outcome × IsDone outcome input old new old_errors new_errors status
+  -- what is done for the words
+  abbrev pub IsObeyed : List (List ℕ) → (input : Option (List ℕ)) → (clock clock_after : C) → (old new : Option (List ℕ))
+      → (old_errors new_errors : Option (List ℕ)) → (status : ℕ) → Type 0
+  IsObeyed said input clock clock_after old new old_errors new_errors status =
+      (outcome : Result Command WordsFault) × IsReading said outcome × IsDone outcome input clock clock_after old new old_errors new_errors status

@@ -1,9 +1,12 @@
 //! Why the program ends without success.
 ghost use Rattle.std.specs.Prelude.{◌≡◌};
 ghost use Rattle.std.specs.IoError.{error_kind};
-ghost use Rattle.land.specs.ProgramFaults.{fault_of, IsFaultOfWords, line_of, status_of};
+ghost use Rattle.land.specs.ProgramFaults.{fault_of, fault_of_adopting, fault_of_making, fault_of_service, IsFaultOfWords, line_of, status_of};
 
 use land_desk::serve::DeskFault;
+use land_keep::store_fault::StoreFault;
+use land_service::service::ServiceFault;
+use land_tables::fault::AdoptFault;
 use std::alloc::AllocError;
 use std::io;
 
@@ -12,12 +15,24 @@ use std::io;
 pub enum ProgramFault {
     /// A word of the command line is no text.
     Words,
-    /// A read or a write failed.
+    /// A read or a write failed, or the next connection could not be had.
     Stream,
-    /// There was no memory.
+    /// 501: there was no memory.
     NoMemory,
     /// A file could not be opened.
     Open,
+    /// A port could not be listened on.
+    Listen,
+    /// 502: a call of the store failed, or a register was to be made where there is one.
+    Closed,
+    /// 520: the file has not the tables of a register, or a value that cannot be read as its field.
+    NotOurs,
+    /// 521: the lifespans of its rows do not go together.
+    Interval,
+    /// 522: the register at some stamp is not sound.
+    Unsound,
+    /// 523: its tables were made by another version of their shapes.
+    Version,
 }
 
 impl ProgramFault {
@@ -28,6 +43,8 @@ impl ProgramFault {
         match self {
             ProgramFault::Words => 2,
             ProgramFault::Stream | ProgramFault::NoMemory | ProgramFault::Open => 1,
+            ProgramFault::Listen | ProgramFault::Closed | ProgramFault::NotOurs => 1,
+            ProgramFault::Interval | ProgramFault::Unsound | ProgramFault::Version => 1,
         }
     }
 
@@ -40,6 +57,12 @@ impl ProgramFault {
             ProgramFault::Stream => "land: input or output failed\n",
             ProgramFault::NoMemory => "land: fault 501\n",
             ProgramFault::Open => "land: cannot open\n",
+            ProgramFault::Listen => "land: cannot listen\n",
+            ProgramFault::Closed => "land: fault 502\n",
+            ProgramFault::NotOurs => "land: fault 520\n",
+            ProgramFault::Interval => "land: fault 521\n",
+            ProgramFault::Unsound => "land: fault 522\n",
+            ProgramFault::Version => "land: fault 523\n",
         }
     }
 }
@@ -51,6 +74,46 @@ impl From<DeskFault> for ProgramFault {
         match fault {
             DeskFault::Read | DeskFault::Write => ProgramFault::Stream,
             DeskFault::NoMemory => ProgramFault::NoMemory,
+        }
+    }
+}
+
+/// From a store in which no register could be made.
+impl From<StoreFault> for ProgramFault {
+    ghost from_gives = { λ from to. to ≡ fault_of_making from };
+
+    fn from(fault: StoreFault) -> ProgramFault {
+        match fault {
+            StoreFault::NoMemory => ProgramFault::NoMemory,
+            StoreFault::Store | StoreFault::Closed => ProgramFault::Closed,
+        }
+    }
+}
+
+/// From a store that was not taken for a register's.
+impl From<AdoptFault> for ProgramFault {
+    ghost from_gives = { λ from to. to ≡ fault_of_adopting from };
+
+    fn from(fault: AdoptFault) -> ProgramFault {
+        match fault {
+            AdoptFault::NotOurs => ProgramFault::NotOurs,
+            AdoptFault::Interval => ProgramFault::Interval,
+            AdoptFault::Unsound => ProgramFault::Unsound,
+            AdoptFault::Version => ProgramFault::Version,
+            AdoptFault::NoMemory => ProgramFault::NoMemory,
+            AdoptFault::Store => ProgramFault::Closed,
+        }
+    }
+}
+
+/// From a service that ended early.
+impl From<ServiceFault> for ProgramFault {
+    ghost from_gives = { λ from to. to ≡ fault_of_service from };
+
+    fn from(fault: ServiceFault) -> ProgramFault {
+        match fault {
+            ServiceFault::Closed => ProgramFault::Closed,
+            ServiceFault::Accept => ProgramFault::Stream,
         }
     }
 }

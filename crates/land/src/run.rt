@@ -1,42 +1,55 @@
 //! The commands of the program.
-ghost use Rattle.std.specs.Prelude.{◌≡◌, IfSome};
-ghost use Rattle.land.specs.Program.{IsEnding, IsRun, IsSaid, IsTalk};
+ghost use Rattle.std.specs.Prelude.{◌≡◌, [], IfOk, IfSome};
+ghost use Rattle.std.specs.Io.KnownBytes.{Appends};
+ghost use Rattle.land.specs.Program.{IsEnding, IsRun, IsSaid, IsSettled, IsTalk};
 ghost use Rattle.land.specs.ProgramFaults.{line_of, status_of};
+ghost use Rattle.land_tables.specs.Office.{IsCreated};
 ghost use Rattle.land_words.specs.Orders.{order_of};
+ghost use Rattle.sqlite.specs.Steps.{over_memory};
 
+use crate::filed::{check, make, serve_file};
+use crate::host::Host;
 use crate::program_fault::ProgramFault;
 use crate::set_clock::SetClock;
 use land_desk::send::send;
 use land_desk::serve::{DeskFault, Served, serve};
-use land_keep::plain_keeper::PlainKeeper;
+use land_keep::clock::Clock;
+use land_tables::table_keeper::TableKeeper;
+use land_tables::tables::Tables;
 use land_words::command::Command;
-use std::alloc::Global;
+use sqlite::{Connection, MemStore};
+use std::alloc::{AllocError, Global};
 use std::io::{Read, Write};
 
-/// Does a command over the streams that are handed in, and gives the status: 0, or 1 for a fault, which is told on `errors`.
-/// Commands over files end with `land: cannot open` until registers are kept in files.
-pub fn run_command<I: Read, O: Write, E: Write>(
-    alloc: Global,
+/// Does a command over the streams and the machine's clock that are handed in, and gives the status: 0, or 1 for a fault,
+/// which is told on `errors`. `talk` has a clock of its own.
+pub fn run_command<H: Host, I: Read, O: Write, E: Write, C: Clock>(
+    host: &mut H,
     command: Command<'_>,
     input: &mut I,
     output: &mut O,
     errors: &mut E,
+    clock: &mut C,
 ) -> u8
-    ensures { IfSome (I.remaining input.old) (λ bytes. IsRun (order_of command.entry) bytes
-        (O.contents output.old) (O.contents output.new) (E.contents errors.old) (E.contents errors.new) result) }
+    ensures { IsRun H.Store.Store H.holds C.reads (order_of command.entry) (I.remaining input.old) clock.old clock.new
+        (O.contents output.old) (O.contents output.new) (E.contents errors.old) (E.contents errors.new) result }
 {
     match command {
         Command::Talk { clock } => {
-            let served = talk(alloc, clock, input, output);
+            let served = talk(host.alloc(), clock, input, output);
             conclude(errors, served)
         }
-        Command::New { .. } | Command::Serve { .. } | Command::Check { .. } => {
-            complain(errors, ProgramFault::Open)
-        }
+        Command::New { file } => settle(errors, make(host, file)),
+        Command::Serve {
+            file,
+            port,
+            connections,
+        } => settle(errors, serve_file(host, file, port, connections, clock)),
+        Command::Check { file } => settle(errors, check(host, file, output)),
     }
 }
 
-/// Serves the input over a new register, with a clock that reads the same each time.
+/// Serves the input over a new register, which is kept in tables in memory, with a clock that reads the same each time.
 fn talk<I: Read, O: Write>(
     alloc: Global,
     reading: i64,
@@ -45,11 +58,23 @@ fn talk<I: Read, O: Write>(
 ) -> Result<Served, DeskFault>
     ensures { IfSome (I.remaining input.old) (λ bytes. IsTalk bytes reading (O.contents output.old) (O.contents output.new) result) }
 {
-    let Ok(mut keeper) = PlainKeeper::new(alloc) else {
+    let Ok(tables) = new_tables(alloc) else {
         return Err(DeskFault::NoMemory);
     };
+    let mut keeper = TableKeeper::new(tables);
     let mut clock = SetClock { reading };
     serve(alloc, input, output, &mut keeper, &mut clock)
+}
+
+/// The tables of a new register in memory; all that can be wanting there is memory.
+fn new_tables(alloc: Global) -> Result<Tables<MemStore>, AllocError>
+    ensures { IfOk result (IsCreated over_memory) }
+{
+    let conn = Connection::open_in_memory(alloc)?;
+    match Tables::create(conn) {
+        Ok(tables) => Ok(tables),
+        Err(_) => Err(AllocError),
+    }
 }
 
 /// The status after serving. A fault is told.
@@ -59,6 +84,16 @@ fn conclude<E: Write>(errors: &mut E, served: Result<Served, DeskFault>) -> u8
     match served {
         Ok(_) => 0,
         Err(fault) => complain(errors, ProgramFault::from(fault)),
+    }
+}
+
+/// The status after a command over a file. A fault is told.
+fn settle<E: Write>(errors: &mut E, done: Result<(), ProgramFault>) -> u8
+    ensures { IsSettled done (E.contents errors.old) (E.contents errors.new) result }
+{
+    match done {
+        Ok(()) => 0,
+        Err(fault) => complain(errors, fault),
     }
 }
 

@@ -5,6 +5,10 @@ ghost use Rattle.land_service.specs.Coming.{Comes, brought};
 use std::io;
 use std::io::{Read, Write};
 use std::net::{TcpListener, TcpStream};
+use std::time::Duration;
+
+/// How long a connection is waited for, once it is there: so many seconds for its next bytes, and so many until it takes some.
+const PATIENCE: u64 = 30;
 
 /// A source of connections, one after another.
 pub trait Connections {
@@ -22,7 +26,8 @@ pub trait Connections {
         ensures { Comes (coming self.old) (coming self.new) (brought Self.Reader.remaining result) };
 }
 
-/// A socket's connection is read and written through two handles of it, and ends where both are let go.
+/// A socket's connection is read and written through two handles of it, and ends where both are let go. One that brings nothing or
+/// takes nothing for `PATIENCE` seconds has failed to, so that it does not keep the next one waiting for ever.
 impl Connections for TcpListener {
     type Reader = TcpStream;
 
@@ -30,6 +35,8 @@ impl Connections for TcpListener {
 
     fn next_connection(&mut self) -> io::Result<(TcpStream, TcpStream)> {
         let (writer, _) = self.accept()?;
+        writer.set_read_timeout(Some(Duration::from_secs(PATIENCE)))?;
+        writer.set_write_timeout(Some(Duration::from_secs(PATIENCE)))?;
         let reader = writer.try_clone()?;
         Ok((reader, writer))
     }

@@ -6,6 +6,7 @@ use Rattle.std.proofs.lemmas.Option.{IfSome_then}
 use Rattle.land_desk.specs.Serving.{Hears}
 use Rattle.land_desk.proofs.Honesty.{serves_honestly}
 use Rattle.land_desk.proofs.ServingLemmas.{nothing_done}
+use Rattle.sqlite.proofs.Callers.{memory_is_clean}
 use Rattle.land.specs.Program.{at_start, reads_as_set}
 use Rattle.land.proofs.run.talk.Goals as goal
 
@@ -14,10 +15,11 @@ returns-in_default g c =
     let nothing = nothing_done (Hears reads_as_set) (g.I.Read.remaining c.args.input.now) (g.O.Write.contents c.args.output.now) (at_start c.args.reading) in
     IfSome_then (g.I.Read.remaining c.args.input.now) nothing (λ bytes served. (_, served))
 
--- the keeper in memory is always honest
+-- a store in memory is always honest
 pub returns : goal.returns
 returns g c =
     let fit : FitsSigned w64 c.args.reading = search rules in
-    let it = simp (to_z-of_z, c.in-Ok.ensures) at c.serve.ensures.served in
+    let begun = c.in-Ok.ensures in
+    let it = simp (to_z-of_z, c.new-keeper.ensures, begun.is_open, begun.timeline (memory_is_clean c.in-Ok.tables.conn)) at c.serve.ensures.served in
     IfSome_then (g.I.Read.remaining c.args.input.now) it
-    (λ bytes served. (served.0, serves_honestly reads_as_set _ tt bytes (at_start c.args.reading) served.0 _ _ _ served.1))
+    (λ bytes served. (served.0, serves_honestly reads_as_set _ (memory_is_clean c.serve.new.keeper.tables.conn) bytes (at_start c.args.reading) served.0 _ _ _ served.1))

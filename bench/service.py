@@ -1,0 +1,194 @@
+#!/usr/bin/env python3
+"""Requests a second of the service over a file, beside Python's http.server with sqlite3 over the same tables.
+
+    ./land --help            # builds the program where it is not built
+    bench/service.py [OBJECTS [SECONDS]]
+
+Makes a register of so many parties (1,000), and asks both services the same for so many seconds each (5), in turns: one
+party, the list of all parties, and an enrolment, each over one kept connection and over one connection a request. Python's
+service looks up role and party by an index, and commits an enrolment to the same tables; it knows this policy alone.
+"""
+import http.client
+import http.server
+import json
+import os
+import shutil
+import socket
+import sqlite3
+import subprocess
+import sys
+import tempfile
+import time
+
+TOP = os.path.dirname(os.path.dirname(os.path.abspath(__file__)))
+PROGRAM = os.path.join(TOP, "crates", "land", "out", "land")
+OFFICE = {"Register-Party": "1", "Register-Role": "stateAdministrator"}
+OPEN = 4102444800000
+
+
+class Desk(http.server.BaseHTTPRequestHandler):
+    """The service in Python, for the office."""
+
+    protocol_version = "HTTP/1.1"
+    wbufsize = -1
+
+    def reply(self, status, body):
+        text = json.dumps(body, separators=(",", ":")).encode()
+        self.send_response_only(status)
+        self.send_header("Content-Type", "application/json")
+        self.send_header("Content-Length", str(len(text)))
+        self.end_headers()
+        self.wfile.write(text)
+
+    def is_denied(self):
+        caller = int(self.headers["Register-Party"]), self.headers["Register-Role"], OPEN
+        found = self.server.base.execute("SELECT 1 FROM role WHERE party = ? AND role = ? AND until = ?", caller)
+        if found.fetchone():
+            return False
+        self.reply(403, {"denied": 2})
+        return True
+
+    def do_GET(self):
+        if self.is_denied():
+            return
+        base = self.server.base
+        if self.path == "/parties":
+            rows = base.execute("SELECT number FROM party WHERE until = ? ORDER BY number", (OPEN,))
+            self.reply(200, {"numbers": [number for number, in rows]})
+            return
+        number = int(self.path.rpartition("/")[2])
+        party = base.execute("SELECT name, kind FROM party WHERE number = ? AND until = ?", (number, OPEN)).fetchone()
+        if party is None:
+            self.reply(403, {"denied": 27})
+            return
+        roles = base.execute("SELECT role FROM role WHERE party = ? AND until = ?", (number, OPEN))
+        self.reply(200, {"object": {"kind": party[1], "members": [], "name": party[0], "number": number,
+                                    "roles": [role for role, in roles]}})
+
+    def do_POST(self):
+        body = json.loads(self.rfile.read(int(self.headers["Content-Length"])))
+        if self.is_denied():
+            return
+        base = self.server.base
+        last, number = base.execute("SELECT stamp, next FROM moments ORDER BY stamp DESC LIMIT 1").fetchone()
+        stamp = max(time.time_ns() // 1000000, last + 1)
+        with base:
+            base.execute("INSERT INTO party (number, since, until, name, kind) VALUES (?, ?, ?, ?, ?)",
+                         (number, stamp, OPEN, body["name"], body["kind"]))
+            base.execute("INSERT INTO role (party, role, since, until) VALUES (?, ?, ?, ?)",
+                         (number, "citizen", stamp, OPEN))
+            base.execute("INSERT INTO moments (stamp, next) VALUES (?, ?)", (stamp, number + 1))
+        self.reply(200, {"made": [number], "number": number, "stamp": stamp})
+
+    def log_message(self, *_):
+        pass
+
+
+def python_service(file, port):
+    server = http.server.HTTPServer(("127.0.0.1", port), Desk)
+    server.base = sqlite3.connect(file)
+    server.base.execute("PRAGMA journal_mode = wal")
+    server.base.execute("PRAGMA synchronous = full")
+    server.serve_forever()
+
+
+def free_port():
+    with socket.socket() as it:
+        it.bind(("127.0.0.1", 0))
+        return it.getsockname()[1]
+
+
+def started(words, port):
+    """A service that was started, once it listens."""
+    service = subprocess.Popen(words)
+    for _ in range(400):
+        try:
+            socket.create_connection(("127.0.0.1", port)).close()
+            return service
+        except ConnectionRefusedError:
+            if service.poll() is not None:
+                raise SystemExit(f"a service ends with {service.returncode}")
+            time.sleep(0.02)
+    raise SystemExit("nothing listens on the port")
+
+
+def ask(connection, method, path, body):
+    connection.request(method, path, body, OFFICE)
+    reply = connection.getresponse()
+    told = reply.read()
+    if reply.status != 200:
+        raise SystemExit(f"{method} {path}: {reply.status}: {told}")
+    return told
+
+
+ASKED = {
+    "one party": ("GET", "/parties/500", None),
+    "the list of parties": ("GET", "/parties", None),
+    "an enrolment": ("POST", "/acts/enrol", '{"kind":"naturalPerson","name":"Anna"}'),
+}
+
+
+def rate(port, request, seconds, is_kept):
+    """Requests a second."""
+    count, begin = 0, time.perf_counter()
+    kept = http.client.HTTPConnection("127.0.0.1", port)
+    while time.perf_counter() - begin < seconds:
+        connection = kept if is_kept else http.client.HTTPConnection("127.0.0.1", port)
+        ask(connection, *request)
+        if not is_kept:
+            connection.close()
+        count += 1
+    spent = time.perf_counter() - begin
+    kept.close()
+    return count / spent
+
+
+def land(file, port):
+    return [PROGRAM, "serve", "--file", file, "--port", str(port), "--connections", "1000000"]
+
+
+def fill(file, objects):
+    subprocess.run([PROGRAM, "new", "--file", file], check=True)
+    port = free_port()
+    words = land(file, port)
+    words[-1] = "2"
+    service = started(words, port)
+    connection = http.client.HTTPConnection("127.0.0.1", port)
+    for number in range(2, objects + 1):
+        ask(connection, "POST", "/acts/enrol", json.dumps({"kind": "naturalPerson", "name": f"Party {number}"}))
+    connection.close()
+    if service.wait() != 0:
+        raise SystemExit(f"the service ends with {service.returncode}")
+
+
+def main():
+    if sys.argv[1:2] == ["serve"]:
+        python_service(sys.argv[2], int(sys.argv[3]))
+        return
+    objects = int(sys.argv[1]) if len(sys.argv) > 1 else 1000
+    seconds = float(sys.argv[2]) if len(sys.argv) > 2 else 5
+    with tempfile.TemporaryDirectory() as folder:
+        first = os.path.join(folder, "first.land")
+        fill(first, objects)
+        print(f"{objects} parties, requests a second")
+        print(f"{'':22}{'':12}{'land':>10}{'Python':>10}")
+        for name, request in ASKED.items():
+            for is_kept in (True, False):
+                rates = []
+                for is_land in (True, False):
+                    file = os.path.join(folder, "copy.land")
+                    shutil.copy(first, file)
+                    port = free_port()
+                    words = land(file, port) if is_land else [sys.executable, __file__, "serve", file, str(port)]
+                    service = started(words, port)
+                    rates.append(rate(port, request, seconds, is_kept))
+                    service.kill()
+                    service.wait()
+                    for end in ("", "-wal", "-shm"):
+                        if os.path.exists(file + end):
+                            os.remove(file + end)
+                way = "kept" if is_kept else "each new"
+                print(f"{name:22}{way:12}{rates[0]:10.0f}{rates[1]:10.0f}", flush=True)
+
+
+main()
