@@ -1,7 +1,6 @@
 -- Commands over files, by what their last call gives.
-use Rattle.std.proofs.Common.{◌≡◌, inl, inr, subst, ℕ, ℤ, Result, Ok, Err}
+use Rattle.std.proofs.Common.{◌≡◌, inr, subst, ℕ, ℤ, Result, Ok, Err}
 use Rattle.std.specs.Prelude.{IfErr}
-use Rattle.land_service.specs.declared.service.ServiceFault.{ServiceFault}
 use Rattle.land_tables.specs.Office.{Office}
 use Rattle.sqlite.specs.State.{State}
 use Rattle.sqlite.specs.Store.{Ghosts}
