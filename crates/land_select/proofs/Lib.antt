@@ -1,2 +1,3 @@
 -- Lemmas of the keeper over joins.
 pub mod Seen
+pub mod Viewed

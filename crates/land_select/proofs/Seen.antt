@@ -1,6 +1,7 @@
 -- What the joins select is what the register's rules let a caller see.
-use Rattle.std.proofs.Common.{◌≡◌, ◌∙◌, ap, refl, sym, inl, inr, Bool, true, false, cond, [], ◌∷◌, Option, Some, None, List, ℕ, Result, Ok, Err, IfOk}
-use Rattle.std.specs.Prelude.{ℤ, int_le, fold, unwrap_or, if◌then◌else◌}
+use Rattle.std.proofs.Common.{◌≡◌, ◌∙◌, ap, refl, sym, inl, inr, Bool, true, false, cond, [], ◌∷◌, Option, Some, None, List, ℕ, Result, Ok, Err, IfOk, arith}
+use Rattle.std.proofs.lemmas.Int.{ints}
+use Rattle.std.specs.Prelude.{ℤ, pos, ◌≤ℤ◌, int_le, int_lt, fold, unwrap_or, if◌then◌else◌}
 use Rattle.std.specs.List.{AllByRecursion}
 use Rattle.std.specs.Option.{option_map}
 use Rattle.land_core.specs.Laws.{SoundnessByLookUps}
@@ -15,6 +16,7 @@ use Rattle.land_keep.specs.declared.timeline.Version.{Version}
 use Rattle.land_rules.specs.Rules.{seen_of}
 use Rattle.land_joins.specs.Sight.{IsSight}
 use Rattle.land_lookups.specs.Parts.{IsPart}
+use Rattle.land_select.specs.Views.{IsShown}
 use Rattle.land_sights.specs.Laws.{IsSoundOrNothing}
 use Rattle.land_standing.proofs.One.{have_members}
 use Rattle.land_tables.proofs.ReadBack.{IsReadAt}
@@ -39,6 +41,10 @@ found_sound t (v ∷ vs) found whole sound = found_sound t vs (cond (int_le v.st
 pub sound_or_nothing : (tl : Timeline) (t : ℤ) → IsSoundTimeline tl → IsSoundOrNothing (register_at tl t)
 sound_or_nothing tl t sound = found_sound t tl None (inr refl) sound.sound
 
+-- a moment that is not before the first
+pub from_first : (t : ℤ) → int_lt t (pos 0) ≡ false → pos 0 ≤ℤ t
+from_first t h = grind (arith, ints)
+
 -- what is answered of tables at a moment is seen in the timeline's register there
 pub sight_seen : (s : State) (caller : Caller) (kind : Kind) (t u : ℤ) → IsReadAt t u → (r : Result (List ℕ) StoreFault) → IfOk r (IsAnswer (IsSight caller kind u) s)
     → IfOk r (λ it. it ≡ seen_of (register_at (timeline_in s.now.trees) t) caller kind)
@@ -58,3 +64,13 @@ part_stands look_ups part s t u place (Ok it) answer =
     answer.answer holds.listed holds.history holds.holds (register_at tl u) (have_members look_ups tl u answer.register.sound) (holds.stands.stands u place.0)
     ∙ ap part (sym (place.1 tl answer.register.sound))
 part_stands look_ups part s t u place (Err fault) answer = tt
+
+-- what is shown of tables at a moment is what is shown of the timeline's register there
+pub shown_stands : {T : Type 0} (shown : Register → T) (s : State) (t u : ℤ) → IsReadAt t u → (r : Result T StoreFault) → IfOk r (IsAnswer (IsShown shown u) s)
+    → IfOk r (λ it. it ≡ shown (register_at (timeline_in s.now.trees) t))
+shown_stands shown s t u place (Ok it) answer =
+    let tl = timeline_in s.now.trees in
+    let holds = answer.register.holds in
+    answer.answer holds.listed holds.history holds.holds (register_at tl u) (sound_or_nothing tl u answer.register.sound) (holds.stands.stands u place.0)
+    ∙ ap shown (sym (place.1 tl answer.register.sound))
+shown_stands shown s t u place (Err fault) answer = tt

@@ -1,1 +1,2 @@
--- Definitions of the keeper over joins: those of the layers below.
+-- Definitions of what the keeper over joins shows.
+pub mod Views

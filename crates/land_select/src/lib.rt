@@ -5,3 +5,4 @@ mod object;
 mod sight;
 pub mod sight_text;
 pub mod sql_keeper;
+mod view;

@@ -4,6 +4,7 @@ ghost use Rattle.land_keep.specs.Moments.{last_moment};
 
 use crate::object::ObjectAt;
 use crate::sight::Sight;
+use crate::view::{UnitSeen, naming};
 use land_acts::slice::Slice;
 use land_core::act::Act;
 use land_core::ask::Ask;
@@ -23,8 +24,8 @@ use land_tables::tables::Tables;
 use sqlite::Alter;
 use std::alloc::Global;
 
-/// A keeper over tables, whatever their store: what a caller sees of a kind is selected by joins, and an object is looked up by its number.
-/// All else is read from whole tables.
+/// A keeper over tables, whatever their store: what a caller sees of a kind is selected by joins, and objects and title sheets are looked up by
+/// their numbers. All else is read from whole tables.
 pub struct SqlKeeper<S: Alter> {
     /// The keeper over whole tables.
     whole: TableKeeper<S>,
@@ -115,11 +116,11 @@ impl<S: Alter> Keeper for SqlKeeper<S> {
             return self.whole.object(alloc, kind, number, at);
         }
         soundness_by_look_ups();
-        let moment = at.min(LAST_MOMENT);
+        let looked_at = at.min(LAST_MOMENT);
         let object = ObjectAt {
             kind,
             number,
-            moment,
+            moment: looked_at,
         };
         self.whole.tables.ask(alloc, &object)
     }
@@ -131,7 +132,17 @@ impl<S: Alter> Keeper for SqlKeeper<S> {
         unit: u64,
         at: i64,
     ) -> Result<Option<View>, StoreFault> {
-        self.whole.view(alloc, caller, unit, at)
+        if at < 0 {
+            return self.whole.view(alloc, caller, unit, at);
+        }
+        let moment = at.min(LAST_MOMENT);
+        let seen = UnitSeen {
+            caller,
+            unit,
+            moment,
+        };
+        let found = self.whole.tables.ask(alloc, &seen)?;
+        Ok(naming(found, at))
     }
 
     fn slice(&mut self, alloc: Global, caller: Caller, act: &Act) -> Result<Slice, StoreFault> {
