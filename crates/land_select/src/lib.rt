@@ -1,8 +1,11 @@
 //! The keeper over joins: what a caller may see is selected by SQL.
 #![tactic(auto)]
 
+mod denial;
 mod object;
 mod sight;
 pub mod sight_text;
 pub mod sql_keeper;
+mod standing;
 mod view;
+mod viewing;

@@ -2,6 +2,7 @@
 ghost use Rattle.std.specs.Prelude.{◌≡◌, ◌≤ℤ◌};
 ghost use Rattle.land_keep.specs.Moments.{last_moment};
 
+use crate::denial::Denial;
 use crate::object::ObjectAt;
 use crate::sight::Sight;
 use crate::view::{UnitSeen, naming};
@@ -15,7 +16,7 @@ use land_core::laws::soundness_by_look_ups;
 use land_core::object::Object;
 use land_core::sequence::NumberList;
 use land_keep::keeper::Keeper;
-use land_keep::moments::LAST_MOMENT;
+use land_keep::moments::{LAST_MOMENT, named_moment};
 use land_keep::store_fault::StoreFault;
 use land_keep::view::View;
 use land_rules::verdict::Verdict;
@@ -24,8 +25,8 @@ use land_tables::tables::Tables;
 use sqlite::Alter;
 use std::alloc::Global;
 
-/// A keeper over tables, whatever their store: what a caller sees of a kind is selected by joins, and objects and title sheets are looked up by
-/// their numbers. All else is read from whole tables.
+/// A keeper over tables, whatever their store: what a caller sees of a kind is selected by joins, objects and title sheets are looked up by
+/// their numbers, and so is what is judged. Slices are read from whole tables.
 pub struct SqlKeeper<S: Alter> {
     /// The keeper over whole tables.
     whole: TableKeeper<S>,
@@ -84,7 +85,19 @@ impl<S: Alter> Keeper for SqlKeeper<S> {
         ask: &Ask,
         now: i64,
     ) -> Result<Verdict, StoreFault> {
-        self.whole.first_denial(alloc, caller, ask, now)
+        let at = named_moment(ask).unwrap_or(now);
+        if at < 0 {
+            return self.whole.first_denial(alloc, caller, ask, now);
+        }
+        soundness_by_look_ups();
+        let asked_for = at.min(LAST_MOMENT);
+        let denial = Denial {
+            caller,
+            ask,
+            past: at < now,
+            moment: asked_for,
+        };
+        self.whole.tables.ask(alloc, &denial)
     }
 
     fn sight(
