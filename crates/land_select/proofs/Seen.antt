@@ -7,11 +7,14 @@ use Rattle.std.specs.Option.{option_map}
 use Rattle.land_core.specs.Laws.{SoundnessByLookUps}
 use Rattle.land_core.specs.Register.{nothing}
 use Rattle.land_core.specs.Soundness.{IsSound}
+use Rattle.land_acts.specs.Slices.{slice_of}
+use Rattle.land_core.specs.declared.act.Act.{Act}
 use Rattle.land_core.specs.declared.ask.Ask.{Ask}
 use Rattle.land_core.specs.declared.caller.Caller.{Caller}
 use Rattle.land_core.specs.declared.kind.Kind.{Kind}
 use Rattle.land_core.specs.declared.register.Register.{Register}
 use Rattle.land_keep.proofs.Timelines.{last_is_moment}
+use Rattle.land_keep.specs.Keeping.{Closes}
 use Rattle.land_keep.specs.Machine.{moment_of, verdict_at}
 use Rattle.land_keep.specs.Moments.{IsMoment, last_moment}
 use Rattle.land_keep.specs.Timeline.{IsSoundTimeline, Timeline, last_register, register_at}
@@ -24,6 +27,7 @@ use Rattle.land_lookups.specs.Parts.{IsPart}
 use Rattle.land_select.specs.Verdicts.{IsVerdict}
 use Rattle.land_select.specs.Views.{IsShown}
 use Rattle.land_sights.specs.Laws.{IsSoundOrNothing}
+use Rattle.land_slices.specs.Gathered.{IsSo}
 use Rattle.land_standing.proofs.One.{have_members}
 use Rattle.land_standing.proofs.WrittenTimelines.{stays_last}
 use Rattle.land_tables.proofs.ReadBack.{IsReadAt}
@@ -105,3 +109,17 @@ pub verdict_told : SoundnessByLookUps → (s : State) (caller : Caller) (a : Ask
 verdict_told look_ups s caller a now t u is_moment place r answer =
     let tl = timeline_in s.now.trees in
     subst (λ (x : ℤ). IfOk r (λ it. it ≡ verdict_of (last_register tl) (register_at tl x) caller a (int_lt x now))) is_moment (verdict_stands look_ups s caller a (int_lt t now) t u place r answer)
+
+-- the slice that is answered of tables is that of the timeline's last register; a store that is closed answers none
+pub slice_stands : SoundnessByLookUps → (s : State) (caller : Caller) (a : Act) (next : ℕ) (before after : Bool) → (r : Result Register StoreFault) → Closes before after r
+    → (before ≡ false → next ≡ (last_register (timeline_in s.now.trees)).next) → IfOk r (IsAnswer (λ db it. IsSo (λ r. r.next ≡ next → it ≡ slice_of r caller a) last_moment db) s)
+    → IfOk r (λ it. it ≡ slice_of (last_register (timeline_in s.now.trees)) caller a)
+slice_stands look_ups s caller a next true after (Ok it) closes is answer = absurd closes
+slice_stands look_ups s caller a next false after (Ok it) closes is answer =
+    let tl = timeline_in s.now.trees in
+    let sound = answer.register.sound in
+    let holds = answer.register.holds in
+    let last : register_at tl last_moment ≡ last_register tl = stays_last tl last_moment sound.rising (last_is_moment tl sound) in
+    subst (λ (r : Register). r.next ≡ next → it ≡ slice_of r caller a) last
+    (answer.answer holds.listed holds.history holds.holds (register_at tl last_moment) (have_members look_ups tl last_moment sound) (holds.stands.stands last_moment the_last)) (sym (is refl))
+slice_stands look_ups s caller a next before after (Err fault) closes is answer = tt

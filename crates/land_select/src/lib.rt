@@ -5,6 +5,7 @@ mod denial;
 mod object;
 mod sight;
 pub mod sight_text;
+mod slicing;
 pub mod sql_keeper;
 mod standing;
 mod view;

@@ -5,6 +5,7 @@ ghost use Rattle.land_keep.specs.Moments.{last_moment};
 use crate::denial::Denial;
 use crate::object::ObjectAt;
 use crate::sight::Sight;
+use crate::slicing::Sliced;
 use crate::view::{UnitSeen, naming};
 use land_acts::slice::Slice;
 use land_core::act::Act;
@@ -159,7 +160,14 @@ impl<S: Alter> Keeper for SqlKeeper<S> {
     }
 
     fn slice(&mut self, alloc: Global, caller: Caller, act: &Act) -> Result<Slice, StoreFault> {
-        self.whole.slice(alloc, caller, act)
+        soundness_by_look_ups();
+        let sliced = Sliced {
+            caller,
+            act,
+            next: self.whole.tables.next(),
+            moment: LAST_MOMENT,
+        };
+        self.whole.tables.ask(alloc, &sliced)
     }
 
     fn write(&mut self, alloc: Global, change: &Change, stamp: i64) -> Result<(), StoreFault> {
