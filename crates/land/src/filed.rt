@@ -7,9 +7,9 @@ use crate::host::Host;
 use crate::program_fault::ProgramFault;
 use land_desk::send::send;
 use land_keep::clock::Clock;
+use land_select::sql_keeper::SqlKeeper;
 use land_service::connections::Connections;
 use land_service::service::{ServiceFault, serve_connections};
-use land_tables::table_keeper::TableKeeper;
 use land_tables::tables::Tables;
 use sqlite::{Alter, Connection};
 use std::alloc::{AllocError, Global};
@@ -99,7 +99,7 @@ fn serve_tables<S: Alter, L: Connections, C: Clock>(
 ) -> (Result<(), ServiceFault>, Tables<S>)
     ensures { IsServedOver S.Store C.reads connections tables clock.old result.1 clock.new result.0 }
 {
-    let mut keeper = TableKeeper::new(tables);
+    let mut keeper = SqlKeeper::new(tables);
     let served = serve_connections(alloc, listener, connections, &mut keeper, clock);
     (served, keeper.into_tables())
 }

@@ -14,7 +14,7 @@ use crate::set_clock::SetClock;
 use land_desk::send::send;
 use land_desk::serve::{DeskFault, Served, serve};
 use land_keep::clock::Clock;
-use land_tables::table_keeper::TableKeeper;
+use land_select::sql_keeper::SqlKeeper;
 use land_tables::tables::Tables;
 use land_words::command::Command;
 use sqlite::{Connection, MemStore};
@@ -61,7 +61,7 @@ fn talk<I: Read, O: Write>(
     let Ok(tables) = new_tables(alloc) else {
         return Err(DeskFault::NoMemory);
     };
-    let mut keeper = TableKeeper::new(tables);
+    let mut keeper = SqlKeeper::new(tables);
     let mut clock = SetClock { reading };
     serve(alloc, input, output, &mut keeper, &mut clock)
 }

@@ -1,2 +1,4 @@
 -- Lemmas of the keeper over joins.
+pub mod Judged
 pub mod Seen
+pub mod Viewed

@@ -1,22 +1,35 @@
 -- What the joins select is what the register's rules let a caller see.
-use Rattle.std.proofs.Common.{◌≡◌, ◌∙◌, ap, refl, sym, inl, inr, Bool, true, false, cond, [], ◌∷◌, Option, Some, None, List, ℕ, Result, Ok, Err, IfOk}
-use Rattle.std.specs.Prelude.{ℤ, int_le, fold, unwrap_or, if◌then◌else◌}
+use Rattle.std.proofs.Common.{◌≡◌, ◌∙◌, ap, refl, sym, inl, inr, Bool, true, false, cond, [], ◌∷◌, Option, Some, None, List, ℕ, Result, Ok, Err, IfOk, arith, subst}
+use Rattle.std.proofs.lemmas.Int.{ints}
+use Rattle.std.specs.Prelude.{ℤ, pos, ◌≤ℤ◌, int_le, int_lt, fold, unwrap_or, if◌then◌else◌}
 use Rattle.std.specs.List.{AllByRecursion}
 use Rattle.std.specs.Option.{option_map}
 use Rattle.land_core.specs.Laws.{SoundnessByLookUps}
 use Rattle.land_core.specs.Register.{nothing}
 use Rattle.land_core.specs.Soundness.{IsSound}
+use Rattle.land_acts.specs.Slices.{slice_of}
+use Rattle.land_core.specs.declared.act.Act.{Act}
+use Rattle.land_core.specs.declared.ask.Ask.{Ask}
 use Rattle.land_core.specs.declared.caller.Caller.{Caller}
 use Rattle.land_core.specs.declared.kind.Kind.{Kind}
 use Rattle.land_core.specs.declared.register.Register.{Register}
-use Rattle.land_keep.specs.Timeline.{IsSoundTimeline, Timeline, register_at}
+use Rattle.land_keep.proofs.Timelines.{last_is_moment}
+use Rattle.land_keep.specs.Keeping.{Closes}
+use Rattle.land_keep.specs.Machine.{moment_of, verdict_at}
+use Rattle.land_keep.specs.Moments.{IsMoment, last_moment}
+use Rattle.land_keep.specs.Timeline.{IsSoundTimeline, Timeline, last_register, register_at}
 use Rattle.land_keep.specs.declared.store_fault.StoreFault.{StoreFault}
 use Rattle.land_keep.specs.declared.timeline.Version.{Version}
-use Rattle.land_rules.specs.Rules.{seen_of}
+use Rattle.land_rules.specs.Rules.{seen_of, verdict_of}
+use Rattle.land_rules.specs.declared.verdict.Verdict.{Verdict}
 use Rattle.land_joins.specs.Sight.{IsSight}
 use Rattle.land_lookups.specs.Parts.{IsPart}
+use Rattle.land_select.specs.Verdicts.{IsVerdict}
+use Rattle.land_select.specs.Views.{IsShown}
 use Rattle.land_sights.specs.Laws.{IsSoundOrNothing}
+use Rattle.land_slices.specs.Gathered.{IsSo}
 use Rattle.land_standing.proofs.One.{have_members}
+use Rattle.land_standing.proofs.WrittenTimelines.{stays_last}
 use Rattle.land_tables.proofs.ReadBack.{IsReadAt}
 use Rattle.land_tables.specs.Office.{IsAnswer}
 use Rattle.land_tables.specs.Standing.{timeline_in}
@@ -39,6 +52,10 @@ found_sound t (v ∷ vs) found whole sound = found_sound t vs (cond (int_le v.st
 pub sound_or_nothing : (tl : Timeline) (t : ℤ) → IsSoundTimeline tl → IsSoundOrNothing (register_at tl t)
 sound_or_nothing tl t sound = found_sound t tl None (inr refl) sound.sound
 
+-- a moment that is not before the first
+pub from_first : (t : ℤ) → int_lt t (pos 0) ≡ false → pos 0 ≤ℤ t
+from_first t h = grind (arith, ints)
+
 -- what is answered of tables at a moment is seen in the timeline's register there
 pub sight_seen : (s : State) (caller : Caller) (kind : Kind) (t u : ℤ) → IsReadAt t u → (r : Result (List ℕ) StoreFault) → IfOk r (IsAnswer (IsSight caller kind u) s)
     → IfOk r (λ it. it ≡ seen_of (register_at (timeline_in s.now.trees) t) caller kind)
@@ -58,3 +75,51 @@ part_stands look_ups part s t u place (Ok it) answer =
     answer.answer holds.listed holds.history holds.holds (register_at tl u) (have_members look_ups tl u answer.register.sound) (holds.stands.stands u place.0)
     ∙ ap part (sym (place.1 tl answer.register.sound))
 part_stands look_ups part s t u place (Err fault) answer = tt
+
+-- what is shown of tables at a moment is what is shown of the timeline's register there
+pub shown_stands : {T : Type 0} (shown : Register → T) (s : State) (t u : ℤ) → IsReadAt t u → (r : Result T StoreFault) → IfOk r (IsAnswer (IsShown shown u) s)
+    → IfOk r (λ it. it ≡ shown (register_at (timeline_in s.now.trees) t))
+shown_stands shown s t u place (Ok it) answer =
+    let tl = timeline_in s.now.trees in
+    let holds = answer.register.holds in
+    answer.answer holds.listed holds.history holds.holds (register_at tl u) (sound_or_nothing tl u answer.register.sound) (holds.stands.stands u place.0)
+    ∙ ap shown (sym (place.1 tl answer.register.sound))
+shown_stands shown s t u place (Err fault) answer = tt
+
+the_last : IsMoment last_moment
+the_last = (omega (arith, ints), omega (arith, ints))
+
+-- the verdict that is answered of tables is told by the timeline's registers, the last one and the one at the moment
+verdict_stands : SoundnessByLookUps → (s : State) (caller : Caller) (a : Ask) (past : Bool) (t u : ℤ) → IsReadAt t u → (r : Result Verdict StoreFault) → IfOk r (IsAnswer (IsVerdict caller a past u) s)
+    → IfOk r (λ it. it ≡ verdict_of (last_register (timeline_in s.now.trees)) (register_at (timeline_in s.now.trees) t) caller a past)
+verdict_stands look_ups s caller a past t u place (Ok it) answer =
+    let tl = timeline_in s.now.trees in
+    let sound = answer.register.sound in
+    let holds = answer.register.holds in
+    let last : register_at tl last_moment ≡ last_register tl = stays_last tl last_moment sound.rising (last_is_moment tl sound) in
+    answer.answer holds.listed holds.history holds.holds (register_at tl last_moment) (register_at tl u) (have_members look_ups tl last_moment sound) (sound_or_nothing tl u sound)
+    (holds.stands.stands last_moment the_last) (holds.stands.stands u place.0)
+    ∙ ap (λ (now : Register). verdict_of now (register_at tl u) caller a past) last
+    ∙ ap (λ (r : Register). verdict_of (last_register tl) r caller a past) (sym (place.1 tl sound))
+verdict_stands look_ups s caller a past t u place (Err fault) answer = tt
+
+-- so it is the verdict on what is asked
+pub verdict_told : SoundnessByLookUps → (s : State) (caller : Caller) (a : Ask) (now t u : ℤ) → t ≡ moment_of a now → IsReadAt t u → (r : Result Verdict StoreFault)
+    → IfOk r (IsAnswer (IsVerdict caller a (int_lt t now) u) s) → IfOk r (λ it. it ≡ verdict_at (timeline_in s.now.trees) caller a now)
+verdict_told look_ups s caller a now t u is_moment place r answer =
+    let tl = timeline_in s.now.trees in
+    subst (λ (x : ℤ). IfOk r (λ it. it ≡ verdict_of (last_register tl) (register_at tl x) caller a (int_lt x now))) is_moment (verdict_stands look_ups s caller a (int_lt t now) t u place r answer)
+
+-- the slice that is answered of tables is that of the timeline's last register; a store that is closed answers none
+pub slice_stands : SoundnessByLookUps → (s : State) (caller : Caller) (a : Act) (next : ℕ) (before after : Bool) → (r : Result Register StoreFault) → Closes before after r
+    → (before ≡ false → next ≡ (last_register (timeline_in s.now.trees)).next) → IfOk r (IsAnswer (λ db it. IsSo (λ r. r.next ≡ next → it ≡ slice_of r caller a) last_moment db) s)
+    → IfOk r (λ it. it ≡ slice_of (last_register (timeline_in s.now.trees)) caller a)
+slice_stands look_ups s caller a next true after (Ok it) closes is answer = absurd closes
+slice_stands look_ups s caller a next false after (Ok it) closes is answer =
+    let tl = timeline_in s.now.trees in
+    let sound = answer.register.sound in
+    let holds = answer.register.holds in
+    let last : register_at tl last_moment ≡ last_register tl = stays_last tl last_moment sound.rising (last_is_moment tl sound) in
+    subst (λ (r : Register). r.next ≡ next → it ≡ slice_of r caller a) last
+    (answer.answer holds.listed holds.history holds.holds (register_at tl last_moment) (have_members look_ups tl last_moment sound) (holds.stands.stands last_moment the_last)) (sym (is refl))
+slice_stands look_ups s caller a next before after (Err fault) closes is answer = tt

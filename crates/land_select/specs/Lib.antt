@@ -1,1 +1,3 @@
--- Definitions of the keeper over joins: those of the layers below.
+-- Definitions of what the keeper over joins shows, and of how it judges.
+pub mod Verdicts
+pub mod Views

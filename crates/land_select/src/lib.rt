@@ -1,7 +1,12 @@
 //! The keeper over joins: what a caller may see is selected by SQL.
 #![tactic(auto)]
 
+mod denial;
 mod object;
 mod sight;
 pub mod sight_text;
+mod slicing;
 pub mod sql_keeper;
+mod standing;
+mod view;
+mod viewing;

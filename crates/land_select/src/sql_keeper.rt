@@ -2,8 +2,11 @@
 ghost use Rattle.std.specs.Prelude.{◌≡◌, ◌≤ℤ◌};
 ghost use Rattle.land_keep.specs.Moments.{last_moment};
 
+use crate::denial::Denial;
 use crate::object::ObjectAt;
 use crate::sight::Sight;
+use crate::slicing::Sliced;
+use crate::view::{UnitSeen, naming};
 use land_acts::slice::Slice;
 use land_core::act::Act;
 use land_core::ask::Ask;
@@ -14,7 +17,7 @@ use land_core::laws::soundness_by_look_ups;
 use land_core::object::Object;
 use land_core::sequence::NumberList;
 use land_keep::keeper::Keeper;
-use land_keep::moments::LAST_MOMENT;
+use land_keep::moments::{LAST_MOMENT, named_moment};
 use land_keep::store_fault::StoreFault;
 use land_keep::view::View;
 use land_rules::verdict::Verdict;
@@ -23,8 +26,8 @@ use land_tables::tables::Tables;
 use sqlite::Alter;
 use std::alloc::Global;
 
-/// A keeper over tables, whatever their store: what a caller sees of a kind is selected by joins, and an object is looked up by its number.
-/// All else is read from whole tables.
+/// A keeper over tables, whatever their store: what a caller sees of a kind is selected by joins, objects and title sheets are looked up by
+/// their numbers, and so is what is judged. Slices are read from whole tables.
 pub struct SqlKeeper<S: Alter> {
     /// The keeper over whole tables.
     whole: TableKeeper<S>,
@@ -83,7 +86,19 @@ impl<S: Alter> Keeper for SqlKeeper<S> {
         ask: &Ask,
         now: i64,
     ) -> Result<Verdict, StoreFault> {
-        self.whole.first_denial(alloc, caller, ask, now)
+        let at = named_moment(ask).unwrap_or(now);
+        if at < 0 {
+            return self.whole.first_denial(alloc, caller, ask, now);
+        }
+        soundness_by_look_ups();
+        let asked_for = at.min(LAST_MOMENT);
+        let denial = Denial {
+            caller,
+            ask,
+            past: at < now,
+            moment: asked_for,
+        };
+        self.whole.tables.ask(alloc, &denial)
     }
 
     fn sight(
@@ -115,11 +130,11 @@ impl<S: Alter> Keeper for SqlKeeper<S> {
             return self.whole.object(alloc, kind, number, at);
         }
         soundness_by_look_ups();
-        let moment = at.min(LAST_MOMENT);
+        let looked_at = at.min(LAST_MOMENT);
         let object = ObjectAt {
             kind,
             number,
-            moment,
+            moment: looked_at,
         };
         self.whole.tables.ask(alloc, &object)
     }
@@ -131,11 +146,28 @@ impl<S: Alter> Keeper for SqlKeeper<S> {
         unit: u64,
         at: i64,
     ) -> Result<Option<View>, StoreFault> {
-        self.whole.view(alloc, caller, unit, at)
+        if at < 0 {
+            return self.whole.view(alloc, caller, unit, at);
+        }
+        let moment = at.min(LAST_MOMENT);
+        let seen = UnitSeen {
+            caller,
+            unit,
+            moment,
+        };
+        let found = self.whole.tables.ask(alloc, &seen)?;
+        Ok(naming(found, at))
     }
 
     fn slice(&mut self, alloc: Global, caller: Caller, act: &Act) -> Result<Slice, StoreFault> {
-        self.whole.slice(alloc, caller, act)
+        soundness_by_look_ups();
+        let sliced = Sliced {
+            caller,
+            act,
+            next: self.whole.tables.next(),
+            moment: LAST_MOMENT,
+        };
+        self.whole.tables.ask(alloc, &sliced)
     }
 
     fn write(&mut self, alloc: Global, change: &Change, stamp: i64) -> Result<(), StoreFault> {

@@ -15,8 +15,8 @@ pub returns-clause-value : goal.returns-clause-value
 returns-clause-value g c clean =
     let s = state g.S.Store c.args.self.now.whole.tables.conn in
     let t : to_z w64 (of_z w64 c.args.at) ≡ c.args.at = search rules in
-    let u : to_z w64 (of_z w64 c.min-moment.result) ≡ c.min-moment.result = search rules in
+    let u : to_z w64 (of_z w64 c.min-looked_at.result) ≡ c.min-looked_at.result = search rules in
     let le : pos 0 ≤ℤ c.args.at = grind (arith, ints) in
-    let least : c.min-moment.result ≡ int_min c.args.at last_moment = search rules in
+    let least : c.min-looked_at.result ≡ int_min c.args.at last_moment = search rules in
     let answer = subst (λ (x : ℤ). IfOk c.ask.result (IsAnswer (IsPart (λ r. object_at r c.args.kind c.args.number) x) s)) u (c.ask.ensures.value clean) in
-    part_stands c.soundness_by_look_ups.ensures (λ r. object_at r c.args.kind c.args.number) s c.args.at c.min-moment.result (read_moment c.args.at c.min-moment.result le least) c.ask.result answer
+    part_stands c.soundness_by_look_ups.ensures (λ r. object_at r c.args.kind c.args.number) s c.args.at c.min-looked_at.result (read_moment c.args.at c.min-looked_at.result le least) c.ask.result answer

@@ -1,0 +1,177 @@
+-- What few records and what is in sight tell is the verdict on what is asked.
+use Rattle.std.proofs.Common.{◌≡◌, ◌∙◌, ◌++◌, ◌&&◌, ◌||◌, ℕ, ℤ, Bool, true, false, nat_eq, cond, List, [], ◌∷◌, filter, None, Some, Option, is_some, Ok, IfSome, IsTrue, refl, sym, ap, ap₂, arith, inl}
+use Rattle.std.proofs.lemmas.Bool.{false≢true}
+use Rattle.std.proofs.lemmas.Bool.Decides.{Decides-and}
+use Rattle.std.specs.Bool.{Decides}
+use Rattle.std.specs.Cmp.{nat_cmp_total}
+use Rattle.std.specs.FinMap as map
+use Rattle.std.specs.FinMap.{FinMap, nat_cmp-IsAntisymmetric}
+use Rattle.std.specs.List.{list_any}
+use Rattle.std.specs.Option.{option_map}
+use Rattle.std.specs.Ordering.{nat_cmp}
+use Rattle.land_core.proofs.Reflection.{entries-only}
+use Rattle.land_core.specs.Entries.{only, some}
+use Rattle.land_core.specs.Laws.{SoundnessByLookUps}
+use Rattle.land_core.specs.Mutations.{is_undecided}
+use Rattle.land_core.specs.Contents.{names_unit}
+use Rattle.land_core.specs.Register.{object_at, stands}
+use Rattle.land_core.specs.Role.{is_role}
+use Rattle.land_core.specs.declared.ask.Ask.{Ask}
+use Rattle.land_core.specs.declared.caller.Caller.{Caller}
+use Rattle.land_core.specs.declared.kind.Kind.{Kind}
+use Rattle.land_core.specs.declared.kind.Kind.TheVariants as kind
+use Rattle.land_core.specs.declared.register.Register.{Register}
+use Rattle.land_core.specs.declared.role.Role.TheVariants.{Conveyancer}
+use Rattle.land_denials.specs.Sight.{is_unit_of_conveyancer, told_by}
+use Rattle.land_denials.specs.Standing.{FewAreEnough, LookedUpIsEnough, decided, discharged}
+use Rattle.land_history.specs.History.{StandsAt}
+use Rattle.land_history.specs.declared.history.History.{History}
+use Rattle.land_lookups.specs.Parts.{IsPart}
+use Rattle.land_rows.specs.Looks.{IsLook}
+use Rattle.land_rules.specs.Laws.{is_itself, rule_of_role}
+use Rattle.land_rules.specs.Relations.{is_lodger_on, is_pending_on}
+use Rattle.land_rules.specs.Rules.{Rules, first_denial, is_allowed, sees, sight_rules, standing_rules, verdict_of, view_rules}
+use Rattle.land_rules.specs.declared.verdict.Verdict.{Verdict}
+use Rattle.land_rules.specs.declared.verdict.Verdict.TheVariants.{Allowed, Denied}
+use Rattle.land_select.specs.Verdicts.{few_in, record_at, roles_in}
+use Rattle.land_sights.proofs.References.{refers}
+use Rattle.land_sights.proofs.Views.{lodger_decides}
+use Rattle.land_sights.specs.Denials.{AwaitsIt, SelectionsTellVerdicts, VerdictIsTold}
+use Rattle.land_sights.specs.Laws.{IsSoundOrNothing}
+use Rattle.sqlite.specs.State.{HasCleanDisk, State}
+use Rattle.sqlite_trees.specs.Tree.{Trees}
+
+-- where the store is open, not to look at it is a look
+pub looked_at_nothing : {X E : Type 0} (x : X) (Given : X → Type 0) (a : State) → (HasCleanDisk a → IsTrue a.is_open) → (HasCleanDisk a → Given x) → IsLook {X = X} {E = E} (Ok x) Given a a
+looked_at_nothing x Given a is_open given = record {
+  given = given;
+  same = λ clean. (record { was_open = is_open clean; is_open = is_open clean; now_is = refl; committed_is = refl; mode = refl }, record { changes = refl; last_rowid = refl }, refl);
+  left = λ _. tt;
+  survives = record { clean = omega arith; shield = λ x. x; counts = omega arith; limit = refl; closes = λ _ t. inl t; crash = λ _ _ x. inl x };
+}
+
+-- two parts of a register are one
+pub both_parts : {T U : Type 0} (f : Register → T) (g : Register → U) (t : ℤ) (db : Trees) (x : T) (y : U) → IsPart f t db x → IsPart g t db y → IsPart {T = T × U} (λ r. (f r, g r)) t db (x, y)
+both_parts f g t db x y one two moments h held r have stand = ap₂ (λ a b. (a, b)) (one moments h held r have stand) (two moments h held r have stand)
+
+-- ---- who asks
+
+at_number : {V : Type 0} (o : Option ℕ) (m : FinMap nat_cmp V) → IfSome o (λ n. record_at m o ≡ map.get m n)
+at_number None m = tt
+at_number (Some n) m = refl
+
+-- by the few records of a register is denied what is denied by all of it
+pub few_deny : FewAreEnough → LookedUpIsEnough → (r : Register) (caller : Caller) (a : Ask) (past : Bool) (few : Register) → few ≡ few_in r caller a
+    → first_denial (standing_rules few caller a past) ≡ first_denial (standing_rules r caller a past)
+few_deny enough looked r caller a past few is =
+    let party = map.get r.parties caller.party in
+    let entry = record_at r.rrrs (discharged a) in
+    let mutation = record_at r.mutations (decided a) in
+    ap (λ (m : Register). first_denial (standing_rules m caller a past)) is
+    ∙ enough (few_in r caller a) r caller a past
+    (looked r caller a party (roles_in r caller.party) entry mutation (record { party_is = refl; roles_are = refl; entry_is = at_number (discharged a) r.rrrs; mutation_is = at_number (decided a) r.mutations }))
+
+-- ---- what is in sight
+
+shown_there : {T U V : Type 0} (f : U → V) (g : T → U) (o : Option T) → is_some (option_map f (option_map g o)) ≡ is_some o
+shown_there f g None = refl
+shown_there f g (Some x) = refl
+
+-- an object is shown where it stands
+pub object_stands : (r : Register) (k : Kind) (n : ℕ) → is_some (object_at r k n) ≡ stands r k n
+object_stands r kind.Party n = shown_there _ _ (map.get r.parties n)
+object_stands r kind.Unit n = shown_there _ _ (map.get r.units n)
+object_stands r kind.Parcel n = shown_there _ _ (map.get r.parcels n)
+object_stands r kind.Rrr n = shown_there _ _ (map.get r.rrrs n)
+object_stands r kind.Source n = shown_there _ _ (map.get r.sources n)
+object_stands r kind.Mutation n = shown_there _ _ (map.get r.mutations n)
+
+-- some item of those that pass a test passes another that implies it, where some item does
+any_left : {X : Type 0} (p q : X → Bool) → ((x : X) → p x ≡ true → q x ≡ true) → (xs : List X) → list_any p (filter q xs) ≡ list_any p xs
+any_left p q implies [] = refl
+any_left p q implies (x ∷ xs) = go (q x) (implies x) (any_left p q implies xs)
+  where
+    none : (c : Bool) → (c ≡ true → false ≡ true) → c ≡ false
+    none true h = absurd (false≢true (h refl))
+    none false h = refl
+
+    go : (b : Bool) → (p x ≡ true → b ≡ true) → list_any p (filter q xs) ≡ list_any p xs → list_any p (cond b (x ∷ filter q xs) (filter q xs)) ≡ (p x || list_any p xs)
+    go true h rest = ap (λ c. p x || c) rest
+    go false h rest = rest ∙ ap (λ c. c || list_any p xs) (sym (none (p x) h))
+
+-- of the mutations of a lodger one is pending on a unit where one of all is
+pub pending_among : (r : Register) (party unit : ℕ) → some (λ n m. is_pending_on party unit m) (only (λ n m. nat_eq m.lodger party) r.mutations) ≡ is_lodger_on r party unit
+pending_among r party unit =
+    ap (list_any (λ e. is_pending_on party unit e.1)) (entries-only nat_cmp_total nat_cmp-IsAntisymmetric (λ n m. nat_eq m.lodger party) r.mutations)
+    ∙ any_left (λ e. is_pending_on party unit e.1) (λ e. nat_eq e.1.lodger party) (λ e. lodged (is_undecided e.1) (nat_eq e.1.lodger party) (names_unit unit e.1.content)) (map.entries r.mutations)
+  where
+    lodged : (a b c : Bool) → ((a && b) && c) ≡ true → b ≡ true
+    lodged true true c h = refl
+    lodged true false c h = h
+    lodged false b c h = absurd (false≢true h)
+
+-- a conveyancer's unit that its own undecided mutation names
+awaits_decides : (r : Register) (t : ℤ) (h : History) → StandsAt t h r → SoundnessByLookUps → IsSoundOrNothing r → (caller : Caller) (k : Kind) (n : ℕ)
+    → Decides (is_unit_of_conveyancer caller.role k && is_lodger_on r caller.party n) (AwaitsIt t h caller k n)
+awaits_decides r t h is look_ups premise caller kind.Party n = ((λ e. absurd (false≢true e)), (λ none. absurd none))
+awaits_decides r t h is look_ups premise caller kind.Unit n =
+    Decides-and (is_role caller.role Conveyancer) (is_lodger_on r caller.party n) ((λ e. e), (λ e. e)) (lodger_decides r t h is (refers look_ups r premise) caller.party n)
+awaits_decides r t h is look_ups premise caller kind.Parcel n = ((λ e. absurd (false≢true e)), (λ none. absurd none))
+awaits_decides r t h is look_ups premise caller kind.Rrr n = ((λ e. absurd (false≢true e)), (λ none. absurd none))
+awaits_decides r t h is look_ups premise caller kind.Source n = ((λ e. absurd (false≢true e)), (λ none. absurd none))
+awaits_decides r t h is look_ups premise caller kind.Mutation n = ((λ e. absurd (false≢true e)), (λ none. absurd none))
+
+denied_is_not_allowed : (j : ℕ) → Denied j ≡ Allowed → ⊥
+denied_is_not_allowed j e = cc
+
+-- the verdict on a view is told by what is in sight, also where nothing stands
+pub view_told : SelectionsTellVerdicts → SoundnessByLookUps → (r : Register) (h : History) (t : ℤ) → IsSoundOrNothing r → StandsAt t h r → (caller : Caller) (k : Kind) (n : ℕ)
+    → told_by (sees r caller k n) (is_unit_of_conveyancer caller.role k && is_lodger_on r caller.party n) caller k n ≡ first_denial (view_rules r caller k n)
+view_told law look_ups r h t premise is caller k n = sym (by_verdict (first_denial (view_rules r caller k n)) (law r h t premise is caller k n))
+  where
+    awaited : Bool
+    awaited = is_unit_of_conveyancer caller.role k && is_lodger_on r caller.party n
+
+    twice : (a b c : Bool) → ((a && (a && b)) || c) ≡ ((a && b) || c)
+    twice true b c = refl
+    twice false b c = refl
+
+    by_verdict : (v : Verdict) → VerdictIsTold t h caller k n v → v ≡ told_by (is_allowed v) (is_unit_of_conveyancer caller.role k && is_lodger_on r caller.party n) caller k n
+    by_verdict Allowed told = refl
+    by_verdict (Denied j) told =
+        by_tests (is_unit_of_conveyancer caller.role k && is_lodger_on r caller.party n) (awaits_decides r t h is look_ups premise caller k n) (is_itself caller k n) refl
+        ∙ ap (λ b. Denied (cond b 27 (rule_of_role caller.role k))) (sym (twice (is_unit_of_conveyancer caller.role k) (is_lodger_on r caller.party n) (is_itself caller k n)))
+      where
+        by_tests : (w : Bool) → Decides w (AwaitsIt t h caller k n) → (i : Bool) → is_itself caller k n ≡ i → Denied j ≡ Denied (cond (w || i) 27 (rule_of_role caller.role k))
+        by_tests true d i e = told.awaited (λ seen. denied_is_not_allowed j (told.shown seen)) (d.0 refl)
+        by_tests false d true e = told.itself (λ seen. denied_is_not_allowed j (told.shown seen)) e
+        by_tests false d false e = told.hidden (λ seen. denied_is_not_allowed j (told.shown seen)) e (λ it. false≢true (d.1 it))
+
+-- ---- the verdict
+
+allowed_first : (xs ys : Rules) → first_denial xs ≡ Allowed → first_denial (xs ++ ys) ≡ first_denial ys
+allowed_first [] ys h = refl
+allowed_first (x ∷ xs) ys h = go x.1 (allowed_first xs ys) h
+  where
+    go : (b : Bool) → (first_denial xs ≡ Allowed → first_denial (xs ++ ys) ≡ first_denial ys) → cond b (Denied x.0) (first_denial xs) ≡ Allowed
+        → cond b (Denied x.0) (first_denial (xs ++ ys)) ≡ first_denial ys
+    go true rest h = absurd (denied_is_not_allowed x.0 h)
+    go false rest h = rest h
+
+denied_first : (xs ys : Rules) (j : ℕ) → first_denial xs ≡ Denied j → first_denial (xs ++ ys) ≡ Denied j
+denied_first [] ys j h = absurd (denied_is_not_allowed j (sym h))
+denied_first (x ∷ xs) ys j h = go x.1 (denied_first xs ys j) h
+  where
+    go : (b : Bool) → (first_denial xs ≡ Denied j → first_denial (xs ++ ys) ≡ Denied j) → cond b (Denied x.0) (first_denial xs) ≡ Denied j
+        → cond b (Denied x.0) (first_denial (xs ++ ys)) ≡ Denied j
+    go true rest h = h
+    go false rest h = rest h
+
+-- where the standing rules allow, the sight rules say what is said
+pub sight_says : (now at : Register) (caller : Caller) (a : Ask) (past : Bool) (it : Verdict) → Allowed ≡ first_denial (standing_rules now caller a past) → it ≡ first_denial (sight_rules at caller a)
+    → it ≡ verdict_of now at caller a past
+sight_says now at caller a past it allowed is = is ∙ sym (allowed_first (standing_rules now caller a past) (sight_rules at caller a) (sym allowed))
+
+-- and what they deny is denied
+pub standing_says : (now at : Register) (caller : Caller) (a : Ask) (past : Bool) (j : ℕ) → Denied j ≡ first_denial (standing_rules now caller a past) → Denied j ≡ verdict_of now at caller a past
+standing_says now at caller a past j denied = sym (denied_first (standing_rules now caller a past) (sight_rules at caller a) j (sym denied))

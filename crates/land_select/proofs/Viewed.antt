@@ -1,0 +1,137 @@
+-- What look-ups and joins show of a unit is what its view has.
+use Rattle.std.proofs.Common.{◌≡◌, ◌++◌, ◌&&◌, ◌∙◌, ℕ, ℤ, Bool, true, false, nat_eq, cond, List, [], ◌∷◌, filter, map as map_list, None, Some, Option, is_some, Ok, Err, IsErr, Result, refl, sym, ap, ap₂, append_assoc, inl, inr}
+use Rattle.std.specs.Cmp.{nat_cmp_total}
+use Rattle.std.specs.FinMap as map
+use Rattle.std.specs.FinMap.{FinMap, nat_cmp-IsAntisymmetric}
+use Rattle.std.specs.List.{Contains, list_any}
+use Rattle.std.specs.Ordering.{nat_cmp}
+use Rattle.land_core.proofs.Reflection.{entries-only}
+use Rattle.land_core.specs.Entries.{only, with_entries}
+use Rattle.land_core.specs.Laws.{SoundnessByLookUps}
+use Rattle.land_core.specs.declared.caller.Caller.{Caller}
+use Rattle.land_core.specs.declared.kind.Kind.TheVariants.{Rrr}
+use Rattle.land_core.specs.declared.parcel.ParcelRecord.{ParcelRecord}
+use Rattle.land_core.specs.declared.register.Register.{Register}
+use Rattle.land_core.specs.declared.rrr.RrrRecord.{RrrRecord}
+use Rattle.land_denials.specs.Sight.{AllThatStandsIsSeen, sees_all}
+use Rattle.land_history.specs.Groups.{HaveMembers}
+use Rattle.land_history.specs.History.{StandsAt}
+use Rattle.land_joins.specs.Running.{OfHeld}
+use Rattle.land_joins.specs.Sight.{IsSight}
+use Rattle.land_core.specs.Register.{unit_at}
+use Rattle.land_core.specs.declared.unit.Unit.{Unit as UnitShown}
+use Rattle.land_core.specs.declared.unit.UnitRecord.{UnitRecord}
+use Rattle.land_keep.specs.Sheets.{entries_seen, named_rrr, parcels_at, shown_parcel, view_at}
+use Rattle.std.specs.Option.{option_map}
+use Rattle.land_keep.specs.declared.view.NamedRrr.{NamedRrr}
+use Rattle.land_lookups.specs.Parts.{IsPart}
+use Rattle.land_rows.proofs.Looking.{look_told}
+use Rattle.land_rows.specs.Looks.{IsLook}
+use Rattle.land_rules.specs.Laws.{SeenIsExactly}
+use Rattle.land_rules.specs.Rules.{seen_of, sees}
+use Rattle.land_select.specs.Views.{IsShown, in_sight, named_at, named_of, view_from}
+use Rattle.land_sights.specs.Laws.{IsSoundOrNothing}
+use Rattle.land_sights.proofs.Containing.{first, later}
+use Rattle.land_sights.proofs.Standing.{entry_there}
+use Rattle.land_standing.proofs.Members.{no_members, sound_members}
+use Rattle.sqlite.specs.State.{State}
+use Rattle.sqlite_trees.specs.Tree.{Trees}
+
+-- where a register is sound or holds nothing, no group is without members
+pub have_members : SoundnessByLookUps → (r : Register) → IsSoundOrNothing r → HaveMembers r.members
+have_members look_ups r (inl sound) = sound_members look_ups r sound
+have_members look_ups r (inr none) = rw none no_members
+
+-- so a part of it is shown
+pub part_shown : SoundnessByLookUps → {T : Type 0} (part : Register → T) (t : ℤ) (db : Trees) (it : T) → IsPart part t db it → IsShown part t db it
+part_shown look_ups part t db it is moments h held r premise stands = is moments h held r (have_members look_ups r premise) stands
+
+-- the parcels of a unit
+pub parcels_are : (r : Register) (unit : ℕ) (found : FinMap nat_cmp ParcelRecord) → found ≡ only (λ n p. nat_eq p.unit unit) r.parcels → map_list (λ e. shown_parcel e.0 e.1) (map.entries found) ≡ parcels_at r unit
+parcels_are r unit found is =
+    ap (λ m. map_list (λ e. shown_parcel e.0 e.1) (map.entries m)) is ∙ ap (map_list (λ e. shown_parcel e.0 e.1)) (entries-only nat_cmp_total nat_cmp-IsAntisymmetric (λ n p. nat_eq p.unit unit) r.parcels)
+
+-- ---- entries
+
+-- those that are named, and those that are to be named yet, are some
+abbrev pub AreNamedSoFar : (t : ℤ) → Trees → List NamedRrr → (rest entries : List (ℕ × RrrRecord)) → Type 0
+AreNamedSoFar t db all rest entries = OfHeld db (λ h. (r : Register) → HaveMembers r.members → StandsAt t h r → all ++ named_of r rest ≡ named_of r entries)
+
+pub one_named : (t : ℤ) (db : Trees) (all : List NamedRrr) (n : ℕ) (e : RrrRecord) (rest entries : List (ℕ × RrrRecord)) (it : NamedRrr)
+    → AreNamedSoFar t db all ((n, e) ∷ rest) entries → IsPart (λ r. named_rrr r n e) t db it → AreNamedSoFar t db (all ++ it ∷ []) rest entries
+one_named t db all n e rest entries it so_far is moments h held r have stands =
+    append_assoc all (it ∷ []) (named_of r rest) ∙ ap (λ x. all ++ x ∷ named_of r rest) (is moments h held r have stands) ∙ so_far moments h held r have stands
+
+module _ {X : Type 0} where
+  twice : (p q : X → Bool) (xs : List X) → filter p (filter q xs) ≡ filter (λ x. q x && p x) xs
+  twice p q [] = refl
+  twice p q (x ∷ xs) = go (q x) (twice p q xs)
+    where
+      go : (b : Bool) → filter p (filter q xs) ≡ filter (λ x. q x && p x) xs → filter p (cond b (x ∷ filter q xs) (filter q xs)) ≡ cond (b && p x) (x ∷ filter (λ x. q x && p x) xs) (filter (λ x. q x && p x) xs)
+      go true rest = ap (λ l. cond (p x) (x ∷ l) l) rest
+      go false rest = rest
+
+  alike : (p q : X → Bool) → ((x : X) → p x ≡ q x) → (xs : List X) → filter p xs ≡ filter q xs
+  alike p q same [] = refl
+  alike p q same (x ∷ xs) = ap₂ (λ b rest. cond b (x ∷ rest) rest) (same x) (alike p q same xs)
+
+  -- so it is of tests that agree on what the list has
+  agreed : (p q : X → Bool) (xs : List X) → ((x : X) → Contains xs x → p x ≡ q x) → filter p xs ≡ filter q xs
+  agreed p q [] same = refl
+  agreed p q (x ∷ xs) same = ap₂ (λ b rest. cond b (x ∷ rest) rest) (same x (first x xs)) (agreed p q xs (λ y among. same y (later x xs y among)))
+
+both_true : (a b : Bool) → b ≡ true → a ≡ (a && b)
+both_true true b is = sym is
+both_true false b is = refl
+
+-- who is shown all entries sees those of a unit
+pub all_in_sight : AllThatStandsIsSeen → (r : Register) (caller : Caller) (unit : ℕ) → sees_all caller.role Rrr ≡ true → only (λ n e. nat_eq e.unit unit) r.rrrs ≡ in_sight r caller unit
+all_in_sight law r caller unit all =
+    ap (with_entries (map.empty {R = nat_cmp}))
+    (agreed (λ e. nat_eq e.1.unit unit) (λ e. nat_eq e.1.unit unit && sees r caller Rrr e.0) (map.entries r.rrrs)
+    (λ e among. both_true (nat_eq e.1.unit unit) (sees r caller Rrr e.0) (law r caller Rrr e.0 all ∙ ap is_some (entry_there r.rrrs e among))))
+
+-- of the entries of a unit, those that are listed are in sight
+pub listed_in_sight : SeenIsExactly → (r : Register) (caller : Caller) (unit : ℕ) (listed : List ℕ) → listed ≡ seen_of r caller Rrr
+    → only (λ n e. list_any (nat_eq n) listed) (only (λ n e. nat_eq e.unit unit) r.rrrs) ≡ in_sight r caller unit
+listed_in_sight exact r caller unit listed are =
+    ap (with_entries (map.empty {R = nat_cmp}))
+    (ap (filter (λ e. list_any (nat_eq e.0) listed)) (entries-only nat_cmp_total nat_cmp-IsAntisymmetric (λ n e. nat_eq e.unit unit) r.rrrs)
+    ∙ twice (λ e. list_any (nat_eq e.0) listed) (λ e. nat_eq e.1.unit unit) (map.entries r.rrrs)
+    ∙ alike (λ e. nat_eq e.1.unit unit && list_any (nat_eq e.0) listed) (λ e. nat_eq e.1.unit unit && sees r caller Rrr e.0)
+    (λ e. ap (λ b. nat_eq e.1.unit unit && b) (ap (list_any (nat_eq e.0)) are ∙ (exact r caller Rrr).exact e.0)) (map.entries r.rrrs))
+
+-- named, these are the entries that are seen
+pub named_in_sight : (r : Register) (caller : Caller) (unit : ℕ) → named_of r (map.entries (in_sight r caller unit)) ≡ entries_seen r caller unit
+named_in_sight r caller unit = ap (named_of r) (entries-only nat_cmp_total nat_cmp-IsAntisymmetric (λ n e. nat_eq e.unit unit && sees r caller Rrr n) r.rrrs)
+
+-- the entries of a unit, and the numbers of all entries that the caller sees
+abbrev pub AreListed : (t : ℤ) → Trees → Caller → (unit : ℕ) → FinMap nat_cmp RrrRecord → List ℕ → Type 0
+AreListed t db caller unit entries listed = IsPart (λ r. only (λ n e. nat_eq e.unit unit) r.rrrs) t db entries × IsSight caller Rrr t db listed
+
+-- ---- the view
+
+composed : (r : Register) (caller : Caller) (unit : ℕ) (t : ℤ) (o : Option UnitRecord) → option_map (view_from r caller unit t) o
+    ≡ option_map (λ u. record { unit = u; parcels = parcels_at r unit; rrrs = entries_seen r caller unit; at = t }) (option_map (λ u. record { number = unit; name = u.name; checked = u.checked }) o)
+composed r caller unit t None = refl
+composed r caller unit t (Some u) = refl
+
+-- of the unit that stands, or of none, the view is made
+pub view_is : (r : Register) (caller : Caller) (unit : ℕ) (t : ℤ) (o : Option UnitRecord) → o ≡ map.get r.units unit → option_map (view_from r caller unit t) o ≡ view_at r caller unit t
+view_is r caller unit t o is =
+    composed r caller unit t o
+    ∙ ap (λ o. option_map (λ u. record { unit = u; parcels = parcels_at r unit; rrrs = entries_seen r caller unit; at = t }) (option_map (λ u. record { number = unit; name = u.name; checked = u.checked }) o)) is
+
+-- a view of one moment that names another
+pub renamed : (r : Register) (caller : Caller) (unit : ℕ) (t u : ℤ) → named_at t (view_at r caller unit u) ≡ view_at r caller unit t
+renamed r caller unit t u = go (unit_at r unit)
+  where
+    go : (o : Option UnitShown) → named_at t (option_map (λ w. record { unit = w; parcels = parcels_at r unit; rrrs = entries_seen r caller unit; at = u }) o)
+        ≡ option_map (λ w. record { unit = w; parcels = parcels_at r unit; rrrs = entries_seen r caller unit; at = t }) o
+    go None = refl
+    go (Some w) = refl
+
+-- after looks that succeeded there may be no memory for what is made of them
+pub look_lost : {X Y E F : Type 0} {x : X} {P : X → Type 0} {Q : Y → Type 0} (a b : State) (r : Result Y F) → IsErr r → IsLook {X = X} {E = E} (Ok x) P a b → IsLook r Q a b
+look_lost a b (Err f) failed look = look_told a b (Err f) look (λ _ _. tt)
+look_lost a b (Ok y) failed look = absurd (let is = failed in cc)

@@ -1,0 +1,42 @@
+use Rattle.std.proofs.Common.{rules, ◌≡◌, ap₂, subst, to_z, of_z, w64, Ok, ◌∙◌}
+use Rattle.std.specs.FinMap as map
+use Rattle.land_denials.specs.Standing.{decided, discharged, few_of}
+use Rattle.land_listing.specs.declared.fault.ReadFault.{ReadFault}
+use Rattle.land_lookups.specs.Parts.{IsPart}
+use Rattle.land_rows.proofs.Looking.{look_fails, look_then, look_told}
+use Rattle.land_rows.specs.Looks.{IsLook}
+use Rattle.land_select.proofs.Viewed.{look_lost}
+use Rattle.land_select.specs.Verdicts.{record_at, roles_in}
+use Rattle.sqlite.specs.Effect.{Database}
+use Rattle.sqlite.specs.Held.{state}
+use Rattle.land_select.proofs.standing.few.Goals as goal
+
+pub returns-in_err-asked-clause-look : goal.returns-in_err-asked-clause-look
+returns-in_err-asked-clause-look g c =
+    look_fails (state g.S.Store c.args.conn.now) (state g.S.Store c.person.new.conn) (state g.S.Store c.named.new.conn) c.from_residual-in_err-asked.result c.from_residual-in_err-asked.ensures.0 c.in_ok-asking.ensures.look c.in_err-asked.ensures.look
+
+pub returns-in_err-few_of-clause-look : goal.returns-in_err-few_of-clause-look
+returns-in_err-few_of-clause-look g c =
+    let a = state g.S.Store c.args.conn.now in
+    let d = state g.S.Store c.named.new.conn in
+    let two : IsLook {X = Unit {0}} {E = ReadFault} (Ok tt) (λ _. Unit {0}) a d = look_then a (state g.S.Store c.person.new.conn) d c.in_ok-asking.ensures.look c.in_ok-asked.ensures.look (λ _ _ _ _. tt) in
+    look_lost a d c.from_residual-in_err-few_of.result c.from_residual-in_err-few_of.ensures.0 two
+
+pub returns-clause-look : goal.returns-clause-look
+returns-clause-look g c =
+    let a = state g.S.Store c.args.conn.now in
+    let d = state g.S.Store c.named.new.conn in
+    let caller = c.args.caller in
+    let ask = c.args.ask.now in
+    let t = c.args.at in
+    let when : to_z w64 (of_z w64 t) ≡ t = search rules in
+    let asking = c.in_ok-asking.asking in
+    let asked = c.in_ok-asked.asked in
+    let both : IsLook {X = Unit {0}} {E = ReadFault} (Ok tt)
+    (λ _. IsPart (λ r. (map.get r.parties caller.party, roles_in r caller.party)) t a.now.trees asking × IsPart (λ r. (record_at r.rrrs (discharged ask), record_at r.mutations (decided ask))) t a.now.trees asked) a d =
+    look_then a (state g.S.Store c.person.new.conn) d (rw when at c.in_ok-asking.ensures.look) (rw when at c.in_ok-asked.ensures.look)
+    (λ clean same one two. (one, subst (λ (now : Database). IsPart (λ r. (record_at r.rrrs (discharged ask), record_at r.mutations (decided ask))) t now.trees asked) same two)) in
+    look_told a d _ both
+    (λ clean both moments h held r have stands.
+    c.in_ok-few_of.ensures
+    ∙ ap₂ (λ one two. few_of caller ask one.0 one.1 two.0 two.1) (both.0 moments h held r have stands) (both.1 moments h held r have stands))

@@ -1,0 +1,14 @@
+use Rattle.std.proofs.Common.{rules, ◌≡◌, to_z, of_z, w64, ◌∙◌}
+use Rattle.land_rows.proofs.Looking.{look_told}
+use Rattle.land_select.proofs.Judged.{few_deny}
+use Rattle.sqlite.specs.Held.{state}
+use Rattle.land_select.proofs.standing.standing.Goals as goal
+
+pub returns-clause-look : goal.returns-clause-look
+returns-clause-look g c =
+    let when : to_z w64 (of_z w64 c.args.at) ≡ c.args.at = search rules in
+    let look = rw when at c.in_ok-few.ensures.look in
+    look_told (state g.S.Store c.args.conn.now) (state g.S.Store c.few.new.conn) _ look
+    (λ clean is moments h held r have stands.
+    c.standing_verdict.ensures
+    ∙ few_deny c.few_are_enough.ensures c.looked_up_is_enough.ensures r c.args.caller c.args.ask.now c.args.past c.in_ok-few.few (is moments h held r have stands))

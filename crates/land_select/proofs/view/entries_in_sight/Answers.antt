@@ -1,0 +1,50 @@
+use Rattle.std.proofs.Common.{rules, ◌≡◌, nat_eq, subst, sym, to_z, of_z, w64, Ok, ap, ◌∙◌}
+use Rattle.std.specs.List.{list_any}
+use Rattle.land_core.specs.Entries.{only}
+use Rattle.land_core.specs.declared.kind.Kind.TheVariants.{Rrr}
+use Rattle.land_joins.specs.Sight.{IsSight}
+use Rattle.land_listing.specs.declared.fault.ReadFault.{ReadFault}
+use Rattle.land_rows.proofs.Looking.{look_fails, look_then, look_told}
+use Rattle.land_rows.specs.Looks.{IsLook}
+use Rattle.land_select.proofs.Viewed.{AreListed, all_in_sight, have_members, listed_in_sight, look_lost}
+use Rattle.sqlite.specs.Effect.{Database}
+use Rattle.sqlite.specs.Held.{state}
+use Rattle.land_select.proofs.view.entries_in_sight.Goals as goal
+
+pub returns-then-sees_all-clause-look : goal.returns-then-sees_all-clause-look
+returns-then-sees_all-clause-look g c =
+    let when : to_z w64 (of_z w64 c.args.at) ≡ c.args.at = search rules in
+    let look = rw when at c.in_ok-entries.ensures.look in
+    let all = sym c.sees_all.ensures ∙ c.if-sees_all.true in
+    look_told (state g.S.Store c.args.conn.now) (state g.S.Store c.entries.new.conn) _ look
+    (λ clean is moments h held r premise stands.
+    is moments h held r (have_members c.soundness_by_look_ups.ensures r premise) stands ∙ all_in_sight c.all_that_stands_is_seen.ensures r c.args.caller c.args.unit all)
+
+pub returns-in_err-listed-clause-look : goal.returns-in_err-listed-clause-look
+returns-in_err-listed-clause-look g c =
+    look_fails (state g.S.Store c.args.conn.now) (state g.S.Store c.entries.new.conn) (state g.S.Store c.sight.new.conn) c.from_residual-in_err-listed.result c.from_residual-in_err-listed.ensures.0 c.in_ok-entries.ensures.look c.in_err-listed.ensures.look
+
+pub returns-in_err-listed_entries-clause-look : goal.returns-in_err-listed_entries-clause-look
+returns-in_err-listed_entries-clause-look g c =
+    let a = state g.S.Store c.args.conn.now in
+    let d = state g.S.Store c.sight.new.conn in
+    let two : IsLook {X = Unit {0}} {E = ReadFault} (Ok tt) (λ _. Unit {0}) a d = look_then a (state g.S.Store c.entries.new.conn) d c.in_ok-entries.ensures.look c.in_ok-listed.ensures.look (λ _ _ _ _. tt) in
+    look_lost a d c.from_residual-in_err-listed_entries.result c.from_residual-in_err-listed_entries.ensures.0 two
+
+pub returns-clause-look : goal.returns-clause-look
+returns-clause-look g c =
+    let a = state g.S.Store c.args.conn.now in
+    let b = state g.S.Store c.entries.new.conn in
+    let d = state g.S.Store c.sight.new.conn in
+    let t = c.args.at in
+    let when : to_z w64 (of_z w64 t) ≡ t = search rules in
+    let entries = c.in_ok-entries.entries in
+    let listed = c.in_ok-listed.listed in
+    let both : IsLook {X = Unit {0}} {E = ReadFault} (Ok tt) (λ _. AreListed t a.now.trees c.args.caller c.args.unit entries listed) a d =
+    look_then a b d (rw when at c.in_ok-entries.ensures.look) (rw when at c.in_ok-listed.ensures.look)
+    (λ clean same one two. (one, subst (λ (now : Database). IsSight c.args.caller Rrr t now.trees listed) same two)) in
+    let kept = rw c.as_slice.ensures at c.in_ok-listed_entries.ensures in
+    look_told a d _ both
+    (λ clean both moments h held r premise stands.
+    kept ∙ ap (only (λ n e. list_any (nat_eq n) listed)) (both.0 moments h held r (have_members c.soundness_by_look_ups.ensures r premise) stands)
+    ∙ listed_in_sight c.seen_is_exact.ensures r c.args.caller c.args.unit listed (both.1 moments h held r premise stands))

@@ -1,0 +1,26 @@
+use Rattle.std.proofs.Common.{rules, ◌≡◌, nat_eq, sym, to_z, of_z, w64, ap, is_some, ◌∙◌}
+use Rattle.std.specs.List.{list_any}
+use Rattle.land_rows.proofs.Looking.{look_told}
+use Rattle.land_select.proofs.Judged.{object_stands}
+use Rattle.land_select.proofs.Viewed.{have_members}
+use Rattle.sqlite.specs.Held.{state}
+use Rattle.land_select.proofs.viewing.is_in_sight.Goals as goal
+
+pub returns-then-sees_all-clause-look : goal.returns-then-sees_all-clause-look
+returns-then-sees_all-clause-look g c =
+    let when : to_z w64 (of_z w64 c.args.at) ≡ c.args.at = search rules in
+    let look = rw when at c.in_ok-found.ensures.look in
+    let all = sym c.sees_all.ensures ∙ c.if-sees_all.true in
+    look_told (state g.S.Store c.args.conn.now) (state g.S.Store c.object.new.conn) _ look
+    (λ clean is moments h held r premise stands.
+    c.is_some.ensures ∙ ap is_some (is moments h held r (have_members c.soundness_by_look_ups.ensures r premise) stands) ∙ object_stands r c.args.kind c.args.number
+    ∙ sym (c.all_that_stands_is_seen.ensures r c.args.caller c.args.kind c.args.number all))
+
+pub returns-clause-look : goal.returns-clause-look
+returns-clause-look g c =
+    let when : to_z w64 (of_z w64 c.args.at) ≡ c.args.at = search rules in
+    let look = rw when at c.in_ok-listed.ensures.look in
+    let told = rw c.as_slice.ensures at c.is_listed.ensures in
+    look_told (state g.S.Store c.args.conn.now) (state g.S.Store c.sight.new.conn) _ look
+    (λ clean is moments h held r premise stands.
+    told ∙ ap (list_any (nat_eq c.args.number)) (is moments h held r premise stands) ∙ (c.seen_is_exact.ensures r c.args.caller c.args.kind).exact c.args.number)

@@ -1,0 +1,37 @@
+-- What look-ups and joins tell of who asks and of what is in sight.
+use Rattle.std.specs.FinMap as map
+use Rattle.std.specs.FinMap.{FinMap}
+use Rattle.std.specs.Ordering.{nat_cmp}
+use Rattle.std.specs.Prelude.{◌≡◌, ℕ, ℤ, Bool, nat_eq, Option, option_and_then}
+use Rattle.land_core.specs.Entries.{only}
+use Rattle.land_core.specs.Grants.{Grants}
+use Rattle.land_core.specs.declared.ask.Ask.{Ask}
+use Rattle.land_core.specs.declared.caller.Caller.{Caller}
+use Rattle.land_core.specs.declared.register.Register.{Register}
+use Rattle.land_denials.specs.Standing.{decided, discharged, few_of}
+use Rattle.land_history.specs.Groups.{HaveMembers}
+use Rattle.land_history.specs.History.{StandsAt}
+use Rattle.land_joins.specs.Running.{OfHeld}
+use Rattle.land_keep.specs.Moments.{last_moment}
+use Rattle.land_rules.specs.Rules.{verdict_of}
+use Rattle.land_rules.specs.declared.verdict.Verdict.{Verdict}
+use Rattle.land_sights.specs.Laws.{IsSoundOrNothing}
+use Rattle.sqlite_trees.specs.Tree.{Trees}
+
+-- the record at a number, none where there is no number
+abbrev pub record_at : {V : Type 0} → FinMap nat_cmp V → Option ℕ → Option V
+record_at m number = option_and_then (map.get m) number
+
+-- the roles of a party
+abbrev pub roles_in : Register → (party : ℕ) → Grants
+roles_in r party = only (λ grant u. nat_eq grant.party party) r.roles
+
+-- the few records of a register by which who asks is judged
+abbrev pub few_in : Register → Caller → Ask → Register
+few_in r caller a = few_of caller a (map.get r.parties caller.party) (roles_in r caller.party) (record_at r.rrrs (discharged a)) (record_at r.mutations (decided a))
+
+-- Where the tables hold a history, this is the verdict on what is asked, by the register that stands at the last moment and the one that
+-- stands at the asked one, which is sound or has nothing in it.
+abbrev pub IsVerdict : Caller → Ask → (past : Bool) → (t : ℤ) → Trees → Verdict → Type 0
+IsVerdict caller a past t db it =
+    OfHeld db (λ h. (now at : Register) → HaveMembers now.members → IsSoundOrNothing at → StandsAt last_moment h now → StandsAt t h at → it ≡ verdict_of now at caller a past)

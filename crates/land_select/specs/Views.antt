@@ -1,0 +1,52 @@
+-- What look-ups and joins show of the register that stands at a moment.
+use Rattle.std.specs.Prelude.{◌≡◌, ℕ, ℤ, ◌&&◌, nat_eq, List, [], map as map_list, Option}
+use Rattle.std.specs.FinMap.{FinMap}
+use Rattle.std.specs.Ordering.{nat_cmp}
+use Rattle.land_core.specs.Entries.{only}
+use Rattle.land_core.specs.declared.caller.Caller.{Caller}
+use Rattle.land_core.specs.declared.kind.Kind.TheVariants.{Rrr}
+use Rattle.land_rules.specs.Rules.{sees}
+use Rattle.std.specs.Option.{option_map, option_map_or}
+use Rattle.land_core.specs.declared.party.PartyRecord.{PartyRecord}
+use Rattle.land_core.specs.declared.register.Register.{Register}
+use Rattle.land_core.specs.declared.rrr.RrrRecord.{RrrRecord}
+use Rattle.land_history.specs.History.{StandsAt}
+use Rattle.land_joins.specs.Running.{OfHeld}
+use Rattle.land_core.specs.declared.unit.UnitRecord.{UnitRecord}
+use Rattle.land_keep.specs.Sheets.{entries_seen, named_rrr, parcels_at}
+use Rattle.land_keep.specs.declared.view.View.{View}
+use Rattle.land_keep.specs.declared.view.NamedRrr.{NamedRrr}
+use Rattle.land_sights.specs.Laws.{IsSoundOrNothing}
+use Rattle.sqlite_trees.specs.Tree.{Trees}
+
+-- where the tables hold a history that at the moment stands for a register, sound or with nothing in it, this is what is shown of it
+abbrev pub IsShown : {T : Type 0} → (Register → T) → (t : ℤ) → Trees → T → Type 0
+IsShown shown t db it = OfHeld db (λ h. (r : Register) → IsSoundOrNothing r → StandsAt t h r → it ≡ shown r)
+
+-- some entries, each with the name of its party
+abbrev pub named_of : Register → List (ℕ × RrrRecord) → List NamedRrr
+named_of r entries = map_list (λ e. named_rrr r e.0 e.1) entries
+
+-- an entry with its number and the name of its party, nothing where that does not stand
+abbrev pub with_name : ℕ → RrrRecord → Option PartyRecord → NamedRrr
+with_name n e party = record {
+  rrr = record { number = n; unit = e.unit; party = e.party; class = e.class; source = e.source };
+  name = option_map_or (λ p. p.name) party [];
+}
+
+-- the entries of a unit that a caller sees
+abbrev pub in_sight : Register → Caller → (unit : ℕ) → FinMap nat_cmp RrrRecord
+in_sight r caller unit = only (λ n e. nat_eq e.unit unit && sees r caller Rrr n) r.rrrs
+
+-- a unit that stands, as a caller sees it
+abbrev pub view_from : Register → Caller → (unit : ℕ) → (moment : ℤ) → UnitRecord → View
+view_from r caller unit moment found = record {
+  unit = record { number = unit; name = found.name; checked = found.checked };
+  parcels = parcels_at r unit;
+  rrrs = entries_seen r caller unit;
+  at = moment;
+}
+
+-- a view that names a moment
+abbrev pub named_at : (moment : ℤ) → Option View → Option View
+named_at moment found = option_map {T = View} (λ v. record v { at = moment }) found

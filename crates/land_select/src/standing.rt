@@ -1,0 +1,138 @@
+//! Who may ask, by look-ups.
+ghost use Rattle.std.specs.FinMap as map;
+ghost use Rattle.std.specs.Prelude.{◌≡◌, false, IsTrue};
+ghost use Rattle.land_denials.specs.Standing.{decided, discharged};
+ghost use Rattle.land_lookups.specs.Parts.{IsPart};
+ghost use Rattle.land_rows.specs.Looks.{IsLook};
+ghost use Rattle.land_rules.specs.Rules.{first_denial, standing_rules};
+ghost use Rattle.land_schema.specs.Land.{IsLand};
+ghost use Rattle.land_select.specs.Verdicts.{few_in, record_at, roles_in};
+ghost use Rattle.sqlite.specs.Held.{state};
+ghost use Rattle.sqlite.specs.State.{HasCleanDisk};
+
+use land_core::ask::Ask;
+use land_core::caller::Caller;
+use land_core::mutation::MutationRecord;
+use land_core::party::PartyRecord;
+use land_core::register::Register;
+use land_core::roles::Roles;
+use land_core::rrr::RrrRecord;
+use land_denials::few::few_of;
+use land_denials::laws::{few_are_enough, looked_up_is_enough};
+use land_denials::standing::{decided, discharged, standing_verdict};
+use land_listing::fault::ReadFault;
+use land_lookups::{by_number, of_party};
+use land_rules::verdict::Verdict;
+use sqlite::{Alter, Connection};
+use std::alloc::Global;
+
+/// A party that stands at a moment, or none, and its roles.
+fn person<S: Alter>(
+    alloc: Global,
+    conn: &mut Connection<S>,
+    number: u64,
+    at: i64,
+) -> Result<(Option<PartyRecord>, Roles), ReadFault>
+    requires land { HasCleanDisk (state S.Store conn.old) → IsLand (state S.Store conn.old).now.schema }
+    ensures look { IsLook result (λ it. IsPart (λ r. (map.get r.parties number, roles_in r number)) at (state S.Store conn.old).now.trees it) (state S.Store conn.old) (state S.Store conn.new) }
+    ensures mode { conn.old.in_transaction ≡ false → conn.new.in_transaction ≡ false }
+{
+    let party = by_number::party(alloc, conn, number, at)?;
+    let roles = of_party::roles(alloc, conn, number, at)?;
+    Ok((party, roles))
+}
+
+/// The entry of a number that stands at a moment, if there is a number.
+fn entry_at<S: Alter>(
+    alloc: Global,
+    conn: &mut Connection<S>,
+    number: Option<u64>,
+    at: i64,
+) -> Result<Option<RrrRecord>, ReadFault>
+    requires open { HasCleanDisk (state S.Store conn.old) → IsTrue (state S.Store conn.old).is_open }
+    requires land { HasCleanDisk (state S.Store conn.old) → IsLand (state S.Store conn.old).now.schema }
+    ensures look { IsLook result (λ it. IsPart (λ r. record_at r.rrrs number) at (state S.Store conn.old).now.trees it) (state S.Store conn.old) (state S.Store conn.new) }
+    ensures mode { conn.old.in_transaction ≡ false → conn.new.in_transaction ≡ false }
+{
+    match number {
+        Some(number) => by_number::entry(alloc, conn, number, at),
+        None => Ok(None),
+    }
+}
+
+/// The mutation of a number that stands at a moment, if there is a number.
+fn mutation_at<S: Alter>(
+    alloc: Global,
+    conn: &mut Connection<S>,
+    number: Option<u64>,
+    at: i64,
+) -> Result<Option<MutationRecord>, ReadFault>
+    requires open { HasCleanDisk (state S.Store conn.old) → IsTrue (state S.Store conn.old).is_open }
+    requires land { HasCleanDisk (state S.Store conn.old) → IsLand (state S.Store conn.old).now.schema }
+    ensures look { IsLook result (λ it. IsPart (λ r. record_at r.mutations number) at (state S.Store conn.old).now.trees it) (state S.Store conn.old) (state S.Store conn.new) }
+    ensures mode { conn.old.in_transaction ≡ false → conn.new.in_transaction ≡ false }
+{
+    match number {
+        Some(number) => by_number::mutation(alloc, conn, number, at),
+        None => Ok(None),
+    }
+}
+
+/// The entry that what is asked would discharge and the mutation that it would decide, as they stand at a moment.
+fn named<S: Alter>(
+    alloc: Global,
+    conn: &mut Connection<S>,
+    ask: &Ask,
+    at: i64,
+) -> Result<(Option<RrrRecord>, Option<MutationRecord>), ReadFault>
+    requires open { HasCleanDisk (state S.Store conn.old) → IsTrue (state S.Store conn.old).is_open }
+    requires land { HasCleanDisk (state S.Store conn.old) → IsLand (state S.Store conn.old).now.schema }
+    ensures look { IsLook result (λ it. IsPart (λ r. (record_at r.rrrs (discharged ask.now), record_at r.mutations (decided ask.now))) at (state S.Store conn.old).now.trees it)
+        (state S.Store conn.old) (state S.Store conn.new) }
+    ensures mode { conn.old.in_transaction ≡ false → conn.new.in_transaction ≡ false }
+{
+    let entry = entry_at(alloc, conn, discharged(ask), at)?;
+    let mutation = mutation_at(alloc, conn, decided(ask), at)?;
+    Ok((entry, mutation))
+}
+
+/// The few records by which who asks is judged, as they stand at a moment.
+fn few<S: Alter>(
+    alloc: Global,
+    conn: &mut Connection<S>,
+    caller: Caller,
+    ask: &Ask,
+    at: i64,
+) -> Result<Register, ReadFault>
+    requires open { HasCleanDisk (state S.Store conn.old) → IsTrue (state S.Store conn.old).is_open }
+    requires land { HasCleanDisk (state S.Store conn.old) → IsLand (state S.Store conn.old).now.schema }
+    ensures look { IsLook result (λ it. IsPart (λ r. few_in r caller ask.now) at (state S.Store conn.old).now.trees it) (state S.Store conn.old) (state S.Store conn.new) }
+    ensures mode { conn.old.in_transaction ≡ false → conn.new.in_transaction ≡ false }
+{
+    let asking = person(alloc, conn, caller.party, at)?;
+    let asked = named(alloc, conn, ask, at)?;
+    let (party, roles) = asking;
+    let (entry, mutation) = asked;
+    Ok(few_of(alloc, caller, ask, party, roles, entry, mutation)?)
+}
+
+/// The least standing rule that denies what is asked, by the register that stands at a moment.
+pub(crate) fn standing<S: Alter>(
+    alloc: Global,
+    conn: &mut Connection<S>,
+    caller: Caller,
+    ask: &Ask,
+    past: bool,
+    at: i64,
+) -> Result<Verdict, ReadFault>
+    requires open { HasCleanDisk (state S.Store conn.old) → IsTrue (state S.Store conn.old).is_open }
+    requires land { HasCleanDisk (state S.Store conn.old) → IsLand (state S.Store conn.old).now.schema }
+    ensures look { IsLook result (λ it. IsPart (λ r. first_denial (standing_rules r caller ask.now past)) at (state S.Store conn.old).now.trees it)
+        (state S.Store conn.old) (state S.Store conn.new) }
+    ensures mode { conn.old.in_transaction ≡ false → conn.new.in_transaction ≡ false }
+{
+    few_are_enough();
+    looked_up_is_enough();
+    let few = few(alloc, conn, caller, ask, at)?;
+    Ok(standing_verdict(&few, caller, ask, past))
+}

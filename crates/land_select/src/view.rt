@@ -1,0 +1,298 @@
+//! A unit as a caller sees it at a moment, by look-ups and joins.
+ghost use Rattle.std.specs.FinMap as map;
+ghost use Rattle.std.specs.List.{list_any};
+ghost use Rattle.std.specs.Prelude.{◌≡◌, false, nat_eq, map as map_list, [], IfOk, IsTrue, Some};
+ghost use Rattle.land_core.specs.Entries.{only};
+ghost use Rattle.land_keep.specs.Sheets.{entries_seen, named_rrr, parcels_at, shown_parcel, view_at};
+ghost use Rattle.land_lookups.specs.Parts.{IsPart};
+ghost use Rattle.land_rows.specs.Looks.{IsLook};
+ghost use Rattle.land_schema.specs.Land.{IsLand};
+ghost use Rattle.land_select.specs.Views.{IsShown, in_sight, named_at, named_of, view_from, with_name};
+ghost use Rattle.sqlite.specs.Held.{state};
+ghost use Rattle.sqlite.specs.State.{HasCleanDisk};
+
+use land_core::caller::Caller;
+use land_core::duplicate::Duplicate;
+use land_core::kind::Kind;
+use land_core::laws::soundness_by_look_ups;
+use land_core::parcel::{Parcel, ParcelRecord};
+use land_core::party::PartyRecord;
+use land_core::records::Records;
+use land_core::rrr::{Rrr, RrrRecord};
+use land_core::sequence::Sequence;
+use land_core::text::Text;
+use land_core::unit::{Unit, UnitRecord};
+use land_denials::laws::all_that_stands_is_seen;
+use land_denials::sight::sees_all;
+use land_joins::sight::sight;
+use land_keep::view::{NamedRrr, View};
+use land_listing::fault::ReadFault;
+use land_lookups::{by_number, of_unit};
+use land_rules::laws::seen_is_exact;
+use land_shape::Ring;
+use land_tables::question::Question;
+use sqlite::{Alter, Connection};
+use std::alloc::{AllocError, Global};
+
+/// Parcels with their numbers, ascending.
+fn shown_parcels(
+    alloc: Global,
+    found: &Records<ParcelRecord>,
+) -> Result<Sequence<Parcel>, AllocError>
+    ensures { IfOk result (λ it. it ≡ map_list (λ e. shown_parcel e.0 e.1) (map.entries found.now)) }
+{
+    let mut parcels = Sequence::new(alloc);
+    for (number, parcel) in found.iter() {
+        parcels.push(Parcel {
+            number: *number,
+            unit: parcel.unit,
+            label: parcel.label.copy(alloc)?,
+            outline: Ring::copy(&parcel.outline)?,
+            source: parcel.source,
+        })?;
+    }
+    Ok(parcels)
+}
+
+/// The parcels of a unit that stand at a moment, by ascending numbers.
+fn parcels_of<S: Alter>(
+    alloc: Global,
+    conn: &mut Connection<S>,
+    unit: u64,
+    at: i64,
+) -> Result<Sequence<Parcel>, ReadFault>
+    requires land { HasCleanDisk (state S.Store conn.old) → IsLand (state S.Store conn.old).now.schema }
+    ensures look { IsLook result (λ it. IsPart (λ r. parcels_at r unit) at (state S.Store conn.old).now.trees it) (state S.Store conn.old) (state S.Store conn.new) }
+    ensures mode { conn.old.in_transaction ≡ false → conn.new.in_transaction ≡ false }
+{
+    let found = of_unit::parcels(alloc, conn, unit, at)?;
+    Ok(shown_parcels(alloc, &found)?)
+}
+
+/// An entry with its number and the name of its party; nothing where that does not stand.
+fn with_name(
+    alloc: Global,
+    number: u64,
+    entry: &RrrRecord,
+    party: Option<PartyRecord>,
+) -> Result<NamedRrr, AllocError>
+    ensures { IfOk result (λ it. it ≡ with_name number entry.now party) }
+{
+    let name = match party {
+        Some(PartyRecord { kind: _, name }) => name,
+        None => Text::new(String::new(alloc)),
+    };
+    Ok(NamedRrr {
+        rrr: Rrr {
+            number,
+            unit: entry.unit,
+            party: entry.party,
+            class: entry.class.copy(alloc)?,
+            source: entry.source,
+        },
+        name,
+    })
+}
+
+/// An entry with its number and the name that its party has at a moment.
+fn named<S: Alter>(
+    alloc: Global,
+    conn: &mut Connection<S>,
+    number: u64,
+    entry: &RrrRecord,
+    at: i64,
+) -> Result<NamedRrr, ReadFault>
+    requires land { HasCleanDisk (state S.Store conn.old) → IsLand (state S.Store conn.old).now.schema }
+    ensures look { IsLook result (λ it. IsPart (λ r. named_rrr r number entry.now) at (state S.Store conn.old).now.trees it) (state S.Store conn.old) (state S.Store conn.new) }
+    ensures mode { conn.old.in_transaction ≡ false → conn.new.in_transaction ≡ false }
+{
+    let found = by_number::party(alloc, conn, entry.party, at)?;
+    Ok(with_name(alloc, number, entry, found)?)
+}
+
+/// Whether a number is listed.
+pub(crate) fn is_listed(listed: &[u64], number: u64) -> bool
+    ensures { result ≡ list_any (nat_eq number) listed.now }
+{
+    listed.iter().any(|it| number == *it)
+}
+
+/// Of some entries those whose numbers are listed.
+fn listed_entries(
+    alloc: Global,
+    found: &Records<RrrRecord>,
+    listed: &[u64],
+) -> Result<Records<RrrRecord>, AllocError>
+    ensures { IfOk result (λ it. it ≡ only (λ n e. list_any (nat_eq n) listed.now) found.now) }
+{
+    let mut kept = Records::new(alloc);
+    for (number, entry) in found.iter() {
+        if is_listed(listed, *number) {
+            kept.insert(*number, entry.copy(alloc)?)?;
+        }
+    }
+    Ok(kept)
+}
+
+/// Some entries, by ascending numbers, each with the name that its party has at a moment.
+fn named_entries<S: Alter>(
+    alloc: Global,
+    conn: &mut Connection<S>,
+    entries: &Records<RrrRecord>,
+    at: i64,
+) -> Result<Sequence<NamedRrr>, ReadFault>
+    requires open { HasCleanDisk (state S.Store conn.old) → IsTrue (state S.Store conn.old).is_open }
+    requires land { HasCleanDisk (state S.Store conn.old) → IsLand (state S.Store conn.old).now.schema }
+    ensures look { IsLook result (λ it. IsPart (λ r. named_of r (map.entries entries.now)) at (state S.Store conn.old).now.trees it) (state S.Store conn.old) (state S.Store conn.new) }
+    ensures mode { conn.old.in_transaction ≡ false → conn.new.in_transaction ≡ false }
+{
+    let mut all = Sequence::new(alloc);
+    for (number, entry) in entries.iter() {
+        all.push(named(alloc, conn, *number, entry, at)?)?;
+    }
+    Ok(all)
+}
+
+/// The entries of a unit that a caller sees at a moment, under their numbers.
+fn entries_in_sight<S: Alter>(
+    alloc: Global,
+    conn: &mut Connection<S>,
+    caller: Caller,
+    unit: u64,
+    at: i64,
+) -> Result<Records<RrrRecord>, ReadFault>
+    requires open { HasCleanDisk (state S.Store conn.old) → IsTrue (state S.Store conn.old).is_open }
+    requires land { HasCleanDisk (state S.Store conn.old) → IsLand (state S.Store conn.old).now.schema }
+    ensures look { IsLook result (λ it. IsShown (λ r. in_sight r caller unit) at (state S.Store conn.old).now.trees it) (state S.Store conn.old) (state S.Store conn.new) }
+    ensures mode { conn.old.in_transaction ≡ false → conn.new.in_transaction ≡ false }
+{
+    seen_is_exact();
+    soundness_by_look_ups();
+    all_that_stands_is_seen();
+    let entries = of_unit::entries(alloc, conn, unit, at)?;
+    if sees_all(caller.role, Kind::Rrr) {
+        return Ok(entries);
+    }
+    let listed = sight(alloc, conn, caller, Kind::Rrr, at)?;
+    Ok(listed_entries(alloc, &entries, listed.as_slice())?)
+}
+
+/// The entries of a unit that a caller sees at a moment, by ascending numbers, with the names of their parties.
+fn seen_entries<S: Alter>(
+    alloc: Global,
+    conn: &mut Connection<S>,
+    caller: Caller,
+    unit: u64,
+    at: i64,
+) -> Result<Sequence<NamedRrr>, ReadFault>
+    requires open { HasCleanDisk (state S.Store conn.old) → IsTrue (state S.Store conn.old).is_open }
+    requires land { HasCleanDisk (state S.Store conn.old) → IsLand (state S.Store conn.old).now.schema }
+    ensures look { IsLook result (λ it. IsShown (λ r. entries_seen r caller unit) at (state S.Store conn.old).now.trees it) (state S.Store conn.old) (state S.Store conn.new) }
+    ensures mode { conn.old.in_transaction ≡ false → conn.new.in_transaction ≡ false }
+{
+    soundness_by_look_ups();
+    let entries = entries_in_sight(alloc, conn, caller, unit, at)?;
+    named_entries(alloc, conn, &entries, at)
+}
+
+/// A unit that stands, as a caller sees it.
+fn view_with<S: Alter>(
+    alloc: Global,
+    conn: &mut Connection<S>,
+    caller: Caller,
+    unit: u64,
+    at: i64,
+    found: UnitRecord,
+) -> Result<Option<View>, ReadFault>
+    requires open { HasCleanDisk (state S.Store conn.old) → IsTrue (state S.Store conn.old).is_open }
+    requires land { HasCleanDisk (state S.Store conn.old) → IsLand (state S.Store conn.old).now.schema }
+    ensures look { IsLook result (λ it. IsShown (λ r. Some (view_from r caller unit at found)) at (state S.Store conn.old).now.trees it)
+        (state S.Store conn.old) (state S.Store conn.new) }
+    ensures mode { conn.old.in_transaction ≡ false → conn.new.in_transaction ≡ false }
+{
+    soundness_by_look_ups();
+    let parcels = parcels_of(alloc, conn, unit, at)?;
+    let rrrs = seen_entries(alloc, conn, caller, unit, at)?;
+    let UnitRecord { name, checked } = found;
+    Ok(Some(View {
+        unit: Unit {
+            number: unit,
+            name,
+            checked,
+        },
+        parcels,
+        rrrs,
+        at,
+    }))
+}
+
+/// The unit that stands, as a caller sees it, or `None`.
+fn view<S: Alter>(
+    alloc: Global,
+    conn: &mut Connection<S>,
+    caller: Caller,
+    unit: u64,
+    at: i64,
+) -> Result<Option<View>, ReadFault>
+    requires open { HasCleanDisk (state S.Store conn.old) → IsTrue (state S.Store conn.old).is_open }
+    requires land { HasCleanDisk (state S.Store conn.old) → IsLand (state S.Store conn.old).now.schema }
+    ensures look { IsLook result (λ it. IsShown (λ r. view_at r caller unit at) at (state S.Store conn.old).now.trees it)
+        (state S.Store conn.old) (state S.Store conn.new) }
+    ensures mode { conn.old.in_transaction ≡ false → conn.new.in_transaction ≡ false }
+{
+    soundness_by_look_ups();
+    let known = by_number::unit(alloc, conn, unit, at)?;
+    match known {
+        Some(found) => view_with(alloc, conn, caller, unit, at, found),
+        None => Ok(None),
+    }
+}
+
+/// How a caller sees a unit at a moment.
+#[derive(Clone, Copy, Debug)]
+pub(crate) struct UnitSeen {
+    /// Who asks.
+    pub(crate) caller: Caller,
+    /// The number of the unit.
+    pub(crate) unit: u64,
+    /// The moment, in milliseconds since 1970 UTC.
+    pub(crate) moment: i64,
+}
+
+impl Question<Option<View>> for UnitSeen {
+    ghost use Rattle.land_keep.specs.Sheets.{view_at};
+    ghost use Rattle.land_select.specs.Views.{IsShown};
+
+    ghost answers = { λ it db found. IsShown (λ r. view_at r it.caller it.unit it.moment) it.moment db found };
+
+    fn ask<S: Alter>(
+        &self,
+        alloc: Global,
+        conn: &mut Connection<S>,
+    ) -> Result<Option<View>, ReadFault> {
+        view(alloc, conn, self.caller, self.unit, self.moment)
+    }
+}
+
+/// A view that names a moment.
+pub(crate) fn naming(found: Option<View>, at: i64) -> Option<View>
+    ensures { result ≡ named_at at found }
+{
+    match found {
+        Some(view) => {
+            let View {
+                unit,
+                parcels,
+                rrrs,
+                at: _,
+            } = view;
+            Some(View {
+                unit,
+                parcels,
+                rrrs,
+                at,
+            })
+        }
+        None => None,
+    }
+}

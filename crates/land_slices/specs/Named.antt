@@ -1,0 +1,68 @@
+-- Whom and what an act names, of a register's mutations.
+use Rattle.std.specs.Prelude.{ℕ, Bool, nat_eq, List, [], ◌∷◌, map as map_list}
+use Rattle.std.specs.FinMap as map
+use Rattle.std.specs.FinMap.{FinMap}
+use Rattle.std.specs.List.{list_any}
+use Rattle.std.specs.Option.{option_map_or}
+use Rattle.std.specs.Ordering.{nat_cmp}
+use Rattle.land_core.specs.declared.act.Act.{Act}
+use Rattle.land_core.specs.declared.act.Act.TheVariants as act
+use Rattle.land_core.specs.declared.content.Content.{Content}
+use Rattle.land_core.specs.declared.content.Content.TheVariants as content
+use Rattle.land_core.specs.declared.mutation.MutationRecord.{MutationRecord}
+
+-- whether a number is listed
+abbrev pub lists : List ℕ → ℕ → Bool
+lists numbers n = list_any (nat_eq n) numbers
+
+-- the parties that a content names: who receives, or who lends
+abbrev pub parties_of_content : Content → List ℕ
+parties_of_content (content.Transfer it) = it.receiver ∷ []
+parties_of_content (content.Subdivision it) = []
+parties_of_content (content.Merger it) = []
+parties_of_content (content.Mortgage it) = it.creditor ∷ []
+parties_of_content (content.Discharge it) = []
+
+-- and the units
+abbrev pub units_of_content : Content → List ℕ
+units_of_content (content.Transfer it) = it.unit ∷ []
+units_of_content (content.Subdivision it) = it.unit ∷ []
+units_of_content (content.Merger it) = it.unit ∷ it.others
+units_of_content (content.Mortgage it) = it.unit ∷ []
+units_of_content (content.Discharge it) = it.unit ∷ []
+
+-- those of the content of a mutation that stands at a number
+abbrev pub of_mutation : (Content → List ℕ) → FinMap nat_cmp MutationRecord → ℕ → List ℕ
+of_mutation listed mutations n = option_map_or (λ m. listed m.content) (map.get mutations n) []
+
+-- the parties that an act names, in itself or through the mutation that it decides
+abbrev pub parties_of : Act → FinMap nat_cmp MutationRecord → List ℕ
+parties_of (act.Enrol it) mutations = []
+parties_of (act.Group it) mutations = map_list (λ member. member.party) it.members
+parties_of (act.Regroup it) mutations = it.group ∷ map_list (λ member. member.party) it.members
+parties_of (act.Grant it) mutations = it.party ∷ []
+parties_of (act.Revoke it) mutations = it.party ∷ []
+parties_of (act.Register it) mutations = map_list (λ right. right.party) it.rights
+parties_of (act.Burden it) mutations = it.party ∷ []
+parties_of (act.Lift it) mutations = []
+parties_of (act.Lodge it) mutations = parties_of_content it.content
+parties_of (act.Approve it) mutations = of_mutation parties_of_content mutations it.mutation
+parties_of (act.Refuse it) mutations = of_mutation parties_of_content mutations it.mutation
+
+-- the units that it names, likewise
+abbrev pub units_of : Act → FinMap nat_cmp MutationRecord → List ℕ
+units_of (act.Enrol it) mutations = []
+units_of (act.Group it) mutations = []
+units_of (act.Regroup it) mutations = []
+units_of (act.Grant it) mutations = []
+units_of (act.Revoke it) mutations = []
+units_of (act.Register it) mutations = []
+units_of (act.Burden it) mutations = it.unit ∷ []
+units_of (act.Lift it) mutations = []
+units_of (act.Lodge it) mutations = units_of_content it.content
+units_of (act.Approve it) mutations = of_mutation units_of_content mutations it.mutation
+units_of (act.Refuse it) mutations = of_mutation units_of_content mutations it.mutation
+
+-- the sources of some mutations
+abbrev pub sources_of : FinMap nat_cmp MutationRecord → List ℕ
+sources_of mutations = map_list (λ e. e.1.source) (map.entries mutations)

@@ -1,0 +1,10 @@
+//! What is looked up of a register so that an act can be planned.
+#![tactic(auto)]
+
+mod gathers;
+mod holdings;
+mod mutations;
+mod named;
+mod papers;
+mod people;
+pub mod slice;
