@@ -1,8 +1,9 @@
 //! Stores that are taken for a register's, and damaged ones that are not.
-use crate::creating::store;
-use crate::looks::{LOOKS, first_wrong};
+use crate::conclusion::conclude;
+use crate::creating::{expect_fault, run, store};
 use crate::playing::played;
-use crate::stop::Stop;
+use land_scenario::looks::look_at_steps;
+use land_scenario::stop::Stop;
 use land_tables::tables::Tables;
 use sqlite::{Connection, MemStore};
 use std::alloc::Global;
@@ -242,70 +243,73 @@ fn adopted(alloc: Global, conn: Connection<MemStore>) -> (u16, Connection<MemSto
     }
 }
 
-/// Damages the tables, takes them, and undoes the damage: the fault that they had, and the store. Want of memory stops the test.
+/// Damages the tables, takes them, and undoes the damage: the fault that they had, and the store.
 fn undone(
     alloc: Global,
     conn: Connection<MemStore>,
     damage: &Damage,
 ) -> Result<(u16, Connection<MemStore>), Stop> {
     let mut conn = conn;
-    conn.execute_batch(damage.0)?;
+    run(&mut conn, damage.0)?;
     let (fault, back) = adopted(alloc, conn);
-    if fault == 501 {
-        return Err(Stop::Memory);
-    }
     let mut conn = back;
-    conn.execute_batch(damage.1)?;
+    run(&mut conn, damage.1)?;
     Ok((fault, conn))
 }
 
-/// The place of the first damage that has another fault, if any, and the store.
-fn first_unlike(
+/// Each of some damages has its fault; the store, when they are undone.
+fn after_damages(
     alloc: Global,
     conn: Connection<MemStore>,
+    name: &'static str,
     damages: &[Damage],
-) -> Result<(Option<usize>, Connection<MemStore>), Stop> {
+) -> Result<Connection<MemStore>, Stop> {
     let mut conn = conn;
     for (place, damage) in damages.iter().enumerate() {
         let (fault, back) = undone(alloc, conn, damage)?;
         conn = back;
-        if fault != damage.2 {
-            return Ok((Some(place), conn));
-        }
+        expect_fault(fault, damage.2, name, place)?;
     }
-    Ok((None, conn))
+    Ok(conn)
 }
 
-const DAMAGES: &[&[Damage]] = &[UNREADABLE, VERSIONS, LIFESPANS, UNSOUND, HARMLESS, BEGUN];
+const DAMAGES: &[(&str, &[Damage])] = &[
+    ("unreadable", UNREADABLE),
+    ("version", VERSIONS),
+    ("lifespan", LIFESPANS),
+    ("unsound", UNSOUND),
+    ("harmless", HARMLESS),
+    ("begun", BEGUN),
+];
+
+/// Each damage has its fault, and what is undone leaves the rows of the scenario.
+fn damages_have_their_faults(alloc: Global) -> Result<(), Stop> {
+    let mut conn = played(alloc)?.into_connection();
+    for (name, damages) in DAMAGES {
+        conn = after_damages(alloc, conn, name, damages)?;
+    }
+    look_at_steps(alloc, &mut conn)
+}
 
 #[test]
 fn damaged_tables_have_their_faults(rt: HostRuntime) -> Result<(), Fail> {
-    let mut conn = played(&rt, rt.alloc())?;
-    for (list, damages) in DAMAGES.iter().enumerate() {
-        let (wrong, back) = first_unlike(rt.alloc(), conn, damages)?;
-        conn = back;
-        if let Some(place) = wrong {
-            panic!(rt; "list {list}, damage {place}");
-        }
-    }
-    assert!(rt; first_wrong(rt.alloc(), &mut conn, LOOKS)?.is_none());
-    Ok(())
+    conclude(&rt, damages_have_their_faults(rt.alloc()))
 }
 
-/// The fault of a store after a text. Want of memory stops the test.
+/// The fault of a store after a text.
 fn fault_after(alloc: Global, text: &str) -> Result<u16, Stop> {
-    let (fault, _) = adopted(alloc, store(alloc, text)?);
-    if fault == 501 {
-        Err(Stop::Memory)
-    } else {
-        Ok(fault)
+    Ok(adopted(alloc, store(alloc, text)?).0)
+}
+
+/// Stores of others are not taken.
+fn are_others(alloc: Global) -> Result<(), Stop> {
+    for (place, text) in OTHERS.iter().enumerate() {
+        expect_fault(fault_after(alloc, text)?, 520, "other", place)?;
     }
+    Ok(())
 }
 
 #[test]
 fn stores_of_others_are_520(rt: HostRuntime) -> Result<(), Fail> {
-    for (place, text) in OTHERS.iter().enumerate() {
-        assert!(rt; fault_after(rt.alloc(), text)? == 520, "row {place}");
-    }
-    Ok(())
+    conclude(&rt, are_others(rt.alloc()))
 }

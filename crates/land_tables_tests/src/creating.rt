@@ -1,6 +1,7 @@
 //! A new register in a store, and stores in which none is made.
-use crate::looks::{Look, first_wrong};
-use crate::stop::Stop;
+use crate::conclusion::conclude;
+use land_scenario::looks::{Look, look_at};
+use land_scenario::stop::{Stop, expect};
 use land_tables::tables::Tables;
 use sqlite::{Connection, MemStore};
 use std::alloc::Global;
@@ -28,7 +29,7 @@ const NEW: &[Look] = &[
 ];
 
 /// The number of the fault with which a store is given back, 0 where a register was made in it.
-fn made(conn: Connection<MemStore>) -> (u16, Connection<MemStore>) {
+pub fn made(conn: Connection<MemStore>) -> (u16, Connection<MemStore>) {
     match Tables::create(conn) {
         Ok(tables) => {
             let is_new = tables.last() == 0 && tables.next() == 2 && !tables.is_closed();
@@ -38,11 +39,25 @@ fn made(conn: Connection<MemStore>) -> (u16, Connection<MemStore>) {
     }
 }
 
+/// Runs a text on a store.
+pub fn run(conn: &mut Connection<MemStore>, text: &str) -> Result<(), Stop> {
+    conn.execute_batch(text)?;
+    Ok(())
+}
+
 /// A store on which a text was run.
 pub fn store(alloc: Global, text: &str) -> Result<Connection<MemStore>, Stop> {
     let mut conn = Connection::open_in_memory(alloc)?;
-    conn.execute_batch(text)?;
+    run(&mut conn, text)?;
     Ok(conn)
+}
+
+/// Goes on where a fault is the one that is to be. Want of memory stops the test.
+pub fn expect_fault(fault: u16, wanted: u16, name: &'static str, place: usize) -> Result<(), Stop> {
+    if fault == 501 {
+        return Err(Stop::Memory);
+    }
+    expect(fault == wanted, name, place)
 }
 
 /// A text that is run on an empty store, and the fault that `create` has then, 0 where it makes a register.
@@ -56,38 +71,41 @@ const BEGINS: &[Begin] = &[
     Begin("CREATE TABLE other (x INTEGER); DROP TABLE other", 0),
 ];
 
-/// The fault that `create` has after a text. Want of memory stops the test.
+/// The fault that `create` has after a text.
 fn fault_after(alloc: Global, text: &str) -> Result<u16, Stop> {
-    let (fault, _) = made(store(alloc, text)?);
-    if fault == 501 {
-        Err(Stop::Memory)
-    } else {
-        Ok(fault)
+    Ok(made(store(alloc, text)?).0)
+}
+
+/// A register is made where the store is empty.
+fn is_made(alloc: Global) -> Result<(), Stop> {
+    for (place, begin) in BEGINS.iter().enumerate() {
+        expect_fault(fault_after(alloc, begin.0)?, begin.1, "begin", place)?;
     }
+    Ok(())
 }
 
 #[test]
 fn a_register_is_made_in_an_empty_store(rt: HostRuntime) -> Result<(), Fail> {
-    for (place, begin) in BEGINS.iter().enumerate() {
-        assert!(rt; fault_after(rt.alloc(), begin.0)? == begin.1, "row {place}");
-    }
-    Ok(())
+    conclude(&rt, is_made(rt.alloc()))
 }
 
-/// Whether a register is made in an empty store and not made there again, and its tables are then as they were.
-fn is_made_once(alloc: Global) -> Result<bool, Stop> {
+/// A store in which a register was made twice.
+fn made_twice(alloc: Global) -> Result<(u16, u16, Connection<MemStore>), Stop> {
     let (first, conn) = made(store(alloc, "")?);
-    let (second, again) = made(conn);
-    let mut conn = again;
-    if first == 501 || second == 501 {
-        return Err(Stop::Memory);
-    }
-    let wrong = first_wrong(alloc, &mut conn, NEW)?;
-    Ok(first == 0 && second == 502 && wrong.is_none())
+    let (second, conn) = made(conn);
+    Ok((first, second, conn))
+}
+
+/// A register is made in an empty store and not made there again, and its tables are then as they were.
+fn is_made_once(alloc: Global) -> Result<(), Stop> {
+    let (first, second, back) = made_twice(alloc)?;
+    let mut conn = back;
+    expect_fault(first, 0, "made", 0)?;
+    expect_fault(second, 502, "made again", 0)?;
+    look_at(alloc, &mut conn, NEW)
 }
 
 #[test]
 fn a_register_is_made_once(rt: HostRuntime) -> Result<(), Fail> {
-    assert!(rt; is_made_once(rt.alloc())?);
-    Ok(())
+    conclude(&rt, is_made_once(rt.alloc()))
 }

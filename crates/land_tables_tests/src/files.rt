@@ -1,11 +1,10 @@
 //! Registers in files, which are in memory here.
-use crate::acts::request;
-use crate::looks::{LOOKS, first_wrong};
-use crate::playing::{after, created, taken};
-use crate::scenario::{FIRST, STEPS};
-use crate::stop::Stop;
-use land_keep::machine::answer;
-use land_keep::reply::Reply;
+use crate::conclusion::conclude;
+use crate::playing::{created, taken, with_more, with_steps};
+use land_core::ask::Request;
+use land_scenario::first::{first_fault, first_request};
+use land_scenario::looks::{look_at_more, look_at_steps};
+use land_scenario::stop::{Stop, expect};
 use land_tables::table_keeper::TableKeeper;
 use land_tables::tables::Tables;
 use sqlite::{Alter, Connection, FileStore, Files, Options};
@@ -19,7 +18,7 @@ fn opened<D: Disk + Drop>(
     files: Files<D>,
 ) -> Result<Connection<FileStore<D>>, Stop> {
     if !files.may_be_used() {
-        return Err(Stop::Unlike);
+        return Err(Stop::Call);
     }
     match Connection::open_files(alloc, files, Options::new(1)) {
         Ok(conn) => Ok(conn),
@@ -35,6 +34,23 @@ fn closed<D: Disk + Drop>(conn: Connection<FileStore<D>>) -> Result<Files<D>, St
     }
 }
 
+/// The tables of a register in files, which are opened again.
+fn reopened<D: Disk + Drop>(alloc: Global, files: Files<D>) -> Result<Tables<FileStore<D>>, Stop> {
+    taken(alloc, opened(alloc, files)?)
+}
+
+/// Files after the scenario, which begins in them.
+fn after_steps<D: Disk + Drop>(alloc: Global, files: Files<D>) -> Result<Files<D>, Stop> {
+    let new = created(opened(alloc, files)?)?;
+    closed(with_steps(alloc, new)?.into_connection())
+}
+
+/// Files that are opened again have the rows of the scenario.
+fn have_steps<D: Disk + Drop>(alloc: Global, files: Files<D>) -> Result<(), Stop> {
+    let mut conn = reopened(alloc, after_steps(alloc, files)?)?.into_connection();
+    look_at_steps(alloc, &mut conn)
+}
+
 fn new_files(alloc: Global) -> Files<Memory> {
     Files {
         log: Memory::new(alloc),
@@ -42,26 +58,30 @@ fn new_files(alloc: Global) -> Files<Memory> {
     }
 }
 
-/// The place of the first look at a store that shows other rows, if any.
-fn wrong_in(alloc: Global, files: Files<Memory>) -> Result<Option<usize>, Stop> {
-    let tables = taken(alloc, opened(alloc, files)?)?;
-    let mut conn = tables.into_connection();
-    first_wrong(alloc, &mut conn, LOOKS)
+#[test]
+fn files_are_opened_again(rt: HostRuntime) -> Result<(), Fail> {
+    conclude(&rt, have_steps(rt.alloc(), new_files(rt.alloc())))
+}
+
+/// Files after what comes after the scenario, opened between the two.
+fn after_more<D: Disk + Drop>(alloc: Global, files: Files<D>) -> Result<Files<D>, Stop> {
+    let tables = reopened(alloc, after_steps(alloc, files)?)?;
+    closed(with_more(alloc, tables)?.into_connection())
+}
+
+/// They have the rows of what comes after the scenario, once they are opened again.
+fn have_more<D: Disk + Drop>(alloc: Global, files: Files<D>) -> Result<(), Stop> {
+    let mut conn = reopened(alloc, after_more(alloc, files)?)?.into_connection();
+    look_at_more(alloc, &mut conn)
 }
 
 #[test]
-fn files_are_opened_again(rt: HostRuntime) -> Result<(), Fail> {
-    let new = created(opened(rt.alloc(), new_files(rt.alloc()))?)?;
-    let tables = after(&rt, rt.alloc(), new, STEPS)?;
-    let files = closed(tables.into_connection())?;
-    match wrong_in(rt.alloc(), files)? {
-        Some(place) => panic!(rt; "look {place}"),
-        None => Ok(()),
-    }
+fn files_go_on_where_they_were_closed(rt: HostRuntime) -> Result<(), Fail> {
+    conclude(&rt, have_more(rt.alloc(), new_files(rt.alloc())))
 }
 
 /// What becomes of the first step where the disk stops.
-#[derive(Clone, Copy, PartialEq, Eq)]
+#[derive(Clone, Copy)]
 enum Ending {
     /// There is no register yet.
     Before,
@@ -73,31 +93,22 @@ enum Ending {
     Other,
 }
 
-/// What the number of a reply is, 0 where the step is done.
-fn number_of(reply: &Reply) -> u16 {
-    match reply {
-        Reply::Done(_) => 0,
-        Reply::Store(number) => *number,
-        _ => 1,
-    }
-}
-
 /// What the caller of the first step is told over some tables, and the tables then.
-fn told<S: Alter + Drop>(alloc: Global, tables: Tables<S>) -> Result<(u16, Tables<S>), Stop> {
-    let request = request(alloc, FIRST.caller, FIRST.word, FIRST.body)?;
-    if !request.is_well_formed() {
-        return Err(Stop::Unlike);
-    }
+fn told<S: Alter>(alloc: Global, tables: Tables<S>, request: &Request) -> (u16, Tables<S>) {
     let mut keeper = TableKeeper::new(tables);
-    let number = number_of(&answer(alloc, &mut keeper, 1000, &request));
-    Ok((number, keeper.into_tables()))
+    let fault = first_fault(alloc, &mut keeper, request);
+    (fault, keeper.into_tables())
 }
 
 /// What becomes of the first step, and of the same step again.
-fn ending_of<S: Alter + Drop>(alloc: Global, tables: Tables<S>) -> Result<Ending, Stop> {
-    let (first, tables) = told(alloc, tables)?;
+fn ending_of<S: Alter + Drop>(
+    alloc: Global,
+    tables: Tables<S>,
+    request: &Request,
+) -> Result<Ending, Stop> {
+    let (first, tables) = told(alloc, tables, request);
     let was_closed = tables.is_closed();
-    let (again, tables) = told(alloc, tables)?;
+    let (again, tables) = told(alloc, tables, request);
     let is_closed = tables.is_closed();
     match (first, was_closed, again, is_closed) {
         (0, false, _, _) => Ok(Ending::Done),
@@ -107,28 +118,46 @@ fn ending_of<S: Alter + Drop>(alloc: Global, tables: Tables<S>) -> Result<Ending
     }
 }
 
+/// What becomes of the first step in files in which a register is to be made.
+fn ending_in<D: Disk + Drop>(
+    alloc: Global,
+    files: Files<D>,
+    request: &Request,
+) -> Result<Ending, Stop> {
+    match opened(alloc, files) {
+        Ok(conn) => ending_from(alloc, conn, request),
+        Err(Stop::Memory) => Err(Stop::Memory),
+        Err(_) => Ok(Ending::Before),
+    }
+}
+
+/// The same in a store.
+fn ending_from<S: Alter + Drop>(
+    alloc: Global,
+    conn: Connection<S>,
+    request: &Request,
+) -> Result<Ending, Stop> {
+    match created(conn) {
+        Ok(tables) => ending_of(alloc, tables, request),
+        Err(Stop::Memory) => Err(Stop::Memory),
+        Err(_) => Ok(Ending::Before),
+    }
+}
+
 /// What becomes of the first step where the disk of the log stops after so many calls.
-fn ending_after(alloc: Global, calls: u64) -> Result<Ending, Stop> {
+fn ending_after(alloc: Global, calls: u64, request: &Request) -> Result<Ending, Stop> {
     let files = Files {
         log: Fuse::new(Memory::new(alloc), calls),
         db: Fuse::new(Memory::new(alloc), 1000),
     };
-    match opened(alloc, files) {
-        Ok(conn) => match created(conn) {
-            Ok(tables) => ending_of(alloc, tables),
-            Err(Stop::Memory) => Err(Stop::Memory),
-            Err(Stop::Unlike) => Ok(Ending::Before),
-        },
-        Err(Stop::Memory) => Err(Stop::Memory),
-        Err(Stop::Unlike) => Ok(Ending::Before),
-    }
+    ending_in(alloc, files, request)
 }
 
 /// How often a step closes the keeper, until the disk lasts for it; none where something else becomes of it.
-fn count_closed(alloc: Global) -> Result<Option<u64>, Stop> {
+fn count_closed(alloc: Global, request: &Request) -> Result<Option<u64>, Stop> {
     let mut closed = 0u64;
     for calls in 0..1000 {
-        match ending_after(alloc, calls)? {
+        match ending_after(alloc, calls, request)? {
             Ending::Before => {}
             Ending::Closed => closed = closed.saturating_add(1),
             Ending::Done => return Ok(Some(closed)),
@@ -138,8 +167,13 @@ fn count_closed(alloc: Global) -> Result<Option<u64>, Stop> {
     Ok(None)
 }
 
+/// A keeper whose disk stops is closed.
+fn is_closed_by_its_disk(alloc: Global) -> Result<(), Stop> {
+    let request = first_request(alloc)?;
+    expect(count_closed(alloc, &request)? > Some(0), "closed", 0)
+}
+
 #[test]
 fn a_keeper_whose_disk_stops_is_closed(rt: HostRuntime) -> Result<(), Fail> {
-    assert!(rt; count_closed(rt.alloc())? > Some(0));
-    Ok(())
+    conclude(&rt, is_closed_by_its_disk(rt.alloc()))
 }

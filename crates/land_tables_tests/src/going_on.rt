@@ -1,23 +1,30 @@
 //! A new register that is taken as a store, and goes on: each allocation of this may be refused in turn.
-use crate::playing::{created, plays, taken};
-use crate::scenario::FIRST;
-use crate::stop::Stop;
+use crate::conclusion::conclude;
+use crate::playing::{new_tables, taken};
+use land_scenario::playing::play_first;
+use land_scenario::stop::{Stop, expect};
 use land_tables::table_keeper::TableKeeper;
-use sqlite::Connection;
+use land_tables::tables::Tables;
+use sqlite::MemStore;
 use std::alloc::Global;
 use std::test::Fail;
 
-/// Whether a new register that is taken shows its last stamp and its next number, and goes on.
-fn goes_on(alloc: Global) -> Result<bool, Stop> {
-    let new = created(Connection::open_in_memory(alloc)?)?;
-    let tables = taken(alloc, new.into_connection())?;
+/// The tables of a new register, as they are taken.
+fn new_taken(alloc: Global) -> Result<Tables<MemStore>, Stop> {
+    let conn = new_tables(alloc)?.into_connection();
+    taken(alloc, conn)
+}
+
+/// A new register that is taken shows its last stamp and its next number, and goes on.
+fn goes_on(alloc: Global) -> Result<(), Stop> {
+    let tables = new_taken(alloc)?;
     let is_new = tables.last() == 0 && tables.next() == 2;
     let mut keeper = TableKeeper::new(tables);
-    Ok(is_new && plays(alloc, &mut keeper, &FIRST)?)
+    expect(is_new, "a new register", 0)?;
+    play_first(alloc, &mut keeper)
 }
 
 #[test]
 fn a_new_register_goes_on(rt: HostRuntime) -> Result<(), Fail> {
-    assert!(rt; goes_on(rt.alloc())?);
-    Ok(())
+    conclude(&rt, goes_on(rt.alloc()))
 }

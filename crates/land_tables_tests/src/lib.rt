@@ -3,14 +3,16 @@
 //!
 //! The tests hold what no clause says: that the calls succeed over the kit's sqlite in memory, that the rows are those that the program
 //! `sqlite3` would show (docs/TABLES.md), and which damage has which fault. Want of memory ends a test with an `Err`, so that it fails
-//! unless an allocation was refused. `.ci/refusals` runs these tests with each allocation refused in turn: a test may then end so, and no
-//! assertion may fail.
+//! unless an allocation was refused; all else that is wrong fails an assertion. `.ci/refusals` runs these tests with each allocation refused
+//! in turn: a test may then end for want of memory, and no assertion may fail.
 #![tactic(auto)]
 
 #[cfg(test)]
-mod acts;
-#[cfg(test)]
 mod adopting;
+#[cfg(test)]
+mod again;
+#[cfg(test)]
+mod conclusion;
 #[cfg(test)]
 mod creating;
 #[cfg(test)]
@@ -18,18 +20,10 @@ mod files;
 #[cfg(test)]
 mod going_on;
 #[cfg(test)]
-mod lines;
-#[cfg(test)]
-mod looks;
-#[cfg(test)]
 mod playing;
 #[cfg(test)]
 mod replies;
 #[cfg(test)]
 mod rows;
 #[cfg(test)]
-mod scenario;
-#[cfg(test)]
 mod stamps;
-#[cfg(test)]
-mod stop;

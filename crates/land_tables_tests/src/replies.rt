@@ -1,15 +1,15 @@
 //! What callers are told over tables, as over the plain keeper.
-use crate::playing::{play, played_tables};
-use crate::scenario::STEPS;
-use crate::stop::Stop;
+use crate::conclusion::conclude;
+use crate::playing::played;
 use land_core::ask::{Ask, Request};
 use land_core::caller::Caller;
 use land_core::kind::Kind;
 use land_core::role::Role;
 use land_keep::keeper::Keeper;
 use land_keep::machine::answer;
-use land_keep::plain_keeper::PlainKeeper;
 use land_keep::reply::Reply;
+use land_scenario::playing::plain;
+use land_scenario::stop::{Stop, expect};
 use land_tables::table_keeper::TableKeeper;
 use std::alloc::Global;
 use std::test::Fail;
@@ -38,16 +38,54 @@ const KINDS: &[Kind] = &[
 /// Moments that are asked for: none, past ones, and one that is still to come.
 const MOMENTS: &[Option<i64>] = &[None, Some(1009), Some(1011), Some(1015), Some(5000)];
 
-/// Whether two replies to a list are one. Want of memory stops the test.
+/// Whether a reply tells of want of memory.
+fn wants_memory(reply: &Reply) -> bool {
+    match reply {
+        Reply::Store(number) => *number == 501,
+        _ => false,
+    }
+}
+
+/// Whether a reply is this list.
+fn lists(reply: &Reply, numbers: &[u64]) -> bool {
+    match reply {
+        Reply::Numbers(found) => found.as_slice() == numbers,
+        _ => false,
+    }
+}
+
+/// Whether a reply denies by this rule.
+fn denies(reply: &Reply, rule: u8) -> bool {
+    match reply {
+        Reply::Denied(found) => *found == rule,
+        _ => false,
+    }
+}
+
+/// Whether a reply tells this fault of the request.
+fn tells_fault(reply: &Reply, number: u16) -> bool {
+    match reply {
+        Reply::Fault(found) => *found == number,
+        _ => false,
+    }
+}
+
+/// Whether a reply to a list is what another is.
+fn is_alike(reply: &Reply, other: &Reply) -> bool {
+    match other {
+        Reply::Numbers(numbers) => lists(reply, numbers.as_slice()),
+        Reply::Denied(rule) => denies(reply, *rule),
+        Reply::Fault(number) => tells_fault(reply, *number),
+        _ => false,
+    }
+}
+
+/// The same, where want of memory stops the test.
 fn is_one(reply: &Reply, other: &Reply) -> Result<bool, Stop> {
-    match (reply, other) {
-        (Reply::Numbers(found), Reply::Numbers(wanted)) => {
-            Ok(found.as_slice() == wanted.as_slice())
-        }
-        (Reply::Denied(found), Reply::Denied(wanted)) => Ok(*found == *wanted),
-        (Reply::Fault(found), Reply::Fault(wanted)) => Ok(*found == *wanted),
-        (Reply::Store(501), _) | (_, Reply::Store(501)) => Err(Stop::Memory),
-        _ => Ok(false),
+    if wants_memory(reply) || wants_memory(other) {
+        Err(Stop::Memory)
+    } else {
+        Ok(is_alike(reply, other))
     }
 }
 
@@ -101,16 +139,26 @@ fn tell_same<K: Keeper, L: Keeper>(
     Ok(true)
 }
 
-#[test]
-fn callers_are_told_what_the_plain_keeper_tells(rt: HostRuntime) -> Result<(), Fail> {
-    let mut plain = PlainKeeper::new(rt.alloc())?;
-    play(&rt, rt.alloc(), &mut plain, STEPS)?;
-    let mut keeper = TableKeeper::new(played_tables(&rt, rt.alloc())?);
+/// All callers are told the same.
+fn tell_all<K: Keeper, L: Keeper>(
+    alloc: Global,
+    keeper: &mut K,
+    other: &mut L,
+) -> Result<(), Stop> {
     for (place, caller) in CALLERS.iter().enumerate() {
-        assert!(rt;
-            tell_same(rt.alloc(), &mut keeper, &mut plain, caller)?,
-            "caller {place}"
-        );
+        expect(tell_same(alloc, keeper, other, caller)?, "caller", place)?;
     }
     Ok(())
+}
+
+/// Callers are told by the tables what the plain keeper tells them.
+fn tables_tell_the_same(alloc: Global) -> Result<(), Stop> {
+    let mut plain = plain(alloc)?;
+    let mut keeper = TableKeeper::new(played(alloc)?);
+    tell_all(alloc, &mut keeper, &mut plain)
+}
+
+#[test]
+fn callers_are_told_what_the_plain_keeper_tells(rt: HostRuntime) -> Result<(), Fail> {
+    conclude(&rt, tables_tell_the_same(rt.alloc()))
 }

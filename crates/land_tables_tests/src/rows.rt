@@ -1,36 +1,32 @@
 //! The rows of the tables after the scenario.
-use crate::looks::{LOOKS, Look, MORE_LOOKS, first_wrong};
+use crate::conclusion::conclude;
+use crate::creating::{expect_fault, made};
 use crate::playing::{played, played_more};
-use crate::stop::Stop;
-use sqlite::{Connection, MemStore};
+use land_scenario::looks::{look_at_more, look_at_steps};
+use land_scenario::stop::Stop;
 use std::alloc::Global;
-use std::process::Abort;
 use std::test::Fail;
 
-/// The rows of a store are those of some looks.
-fn assert_looks(
-    rt: &impl Abort,
-    alloc: Global,
-    conn: Connection<MemStore>,
-    looks: &[Look],
-) -> Result<(), Stop> {
+/// The tables have the rows of the scenario, once no register was made in them.
+fn has_steps(alloc: Global) -> Result<(), Stop> {
+    let (fault, conn) = made(played(alloc)?.into_connection());
     let mut conn = conn;
-    match first_wrong(alloc, &mut conn, looks)? {
-        Some(place) => panic!(rt; "look {place}"),
-        None => Ok(()),
-    }
+    expect_fault(fault, 502, "made again", 0)?;
+    look_at_steps(alloc, &mut conn)
 }
 
 #[test]
 fn tables_rows(rt: HostRuntime) -> Result<(), Fail> {
-    let conn = played(&rt, rt.alloc())?;
-    assert_looks(&rt, rt.alloc(), conn, LOOKS)?;
-    Ok(())
+    conclude(&rt, has_steps(rt.alloc()))
+}
+
+/// They have the rows of what comes after it.
+fn has_more(alloc: Global) -> Result<(), Stop> {
+    let mut conn = played_more(alloc)?.into_connection();
+    look_at_more(alloc, &mut conn)
 }
 
 #[test]
 fn tables_rows_after_more(rt: HostRuntime) -> Result<(), Fail> {
-    let tables = played_more(&rt, rt.alloc())?;
-    assert_looks(&rt, rt.alloc(), tables.into_connection(), MORE_LOOKS)?;
-    Ok(())
+    conclude(&rt, has_more(rt.alloc()))
 }

@@ -1,12 +1,13 @@
 //! The register at each stamp, as the plain keeper has it.
-use crate::playing::{play, played_more};
-use crate::scenario::{MORE, STEPS};
-use crate::stop::Stop;
+use crate::conclusion::conclude;
+use crate::playing::played_more;
 use land_core::kind::Kind;
 use land_core::object::Object;
 use land_core::register::Register;
 use land_keep::keeper::Keeper;
 use land_keep::plain_keeper::PlainKeeper;
+use land_scenario::playing::plain_more;
+use land_scenario::stop::{Stop, expect};
 use land_tables::tables::Tables;
 use land_texts::object::object_value;
 use sqlite::Alter;
@@ -68,14 +69,21 @@ fn text_of(alloc: Global, object: &Option<Object>) -> Result<String, AllocError>
     }
 }
 
-/// Whether two objects are shown alike.
-fn are_alike(
+/// What stands under a number in a register, as it is shown.
+fn text_in(alloc: Global, register: &Register, what: (Kind, u64)) -> Result<String, Stop> {
+    let object = register.object(alloc, what.0, what.1)?;
+    Ok(text_of(alloc, &object)?)
+}
+
+/// What the plain keeper has under it at a moment.
+fn text_at(
     alloc: Global,
-    object: &Option<Object>,
-    other: &Option<Object>,
-) -> Result<bool, AllocError> {
-    let text = text_of(alloc, object)?;
-    Ok(text.as_str() == text_of(alloc, other)?.as_str())
+    plain: &mut PlainKeeper,
+    what: (Kind, u64),
+    at: i64,
+) -> Result<String, Stop> {
+    let object = plain.object(alloc, what.0, what.1, at)?;
+    Ok(text_of(alloc, &object)?)
 }
 
 /// Whether what stands under a number in a register is what the plain keeper has at a moment.
@@ -86,9 +94,8 @@ fn is_same(
     what: (Kind, u64),
     at: i64,
 ) -> Result<bool, Stop> {
-    let object = register.object(alloc, what.0, what.1)?;
-    let other = plain.object(alloc, what.0, what.1, at)?;
-    Ok(are_alike(alloc, &object, &other)?)
+    let text = text_in(alloc, register, what)?;
+    Ok(text.as_str() == text_at(alloc, plain, what, at)?.as_str())
 }
 
 /// The same of all objects of a kind.
@@ -150,28 +157,26 @@ fn is_as_said<S: Alter>(
     )
 }
 
-/// The place of the first moment at which the tables have another register, if any.
-fn first_unlike<S: Alter>(
+/// The tables have the plain keeper's register at each moment.
+fn are_as_said<S: Alter>(
     alloc: Global,
     tables: &mut Tables<S>,
     plain: &mut PlainKeeper,
-) -> Result<Option<usize>, Stop> {
+) -> Result<(), Stop> {
     for (place, at) in AT.iter().enumerate() {
-        if !is_as_said(alloc, tables, plain, at)? {
-            return Ok(Some(place));
-        }
+        expect(is_as_said(alloc, tables, plain, at)?, "moment", place)?;
     }
-    Ok(None)
+    Ok(())
+}
+
+/// After the scenario and what comes after it the tables have the registers of the plain keeper.
+fn have_the_registers(alloc: Global) -> Result<(), Stop> {
+    let mut plain = plain_more(alloc)?;
+    let mut tables = played_more(alloc)?;
+    are_as_said(alloc, &mut tables, &mut plain)
 }
 
 #[test]
 fn tables_have_the_registers_of_the_plain_keeper(rt: HostRuntime) -> Result<(), Fail> {
-    let mut plain = PlainKeeper::new(rt.alloc())?;
-    play(&rt, rt.alloc(), &mut plain, STEPS)?;
-    play(&rt, rt.alloc(), &mut plain, MORE)?;
-    let mut tables = played_more(&rt, rt.alloc())?;
-    match first_unlike(rt.alloc(), &mut tables, &mut plain)? {
-        Some(place) => panic!(rt; "moment {place}"),
-        None => Ok(()),
-    }
+    conclude(&rt, have_the_registers(rt.alloc()))
 }

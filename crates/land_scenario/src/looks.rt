@@ -1,13 +1,13 @@
 //! What the tables have after the scenario, as the program `sqlite3` would show it.
 use crate::lines::lines;
-use crate::stop::Stop;
+use crate::stop::{Stop, expect};
 use sqlite::{Alter, Connection};
 use std::alloc::Global;
 
 /// A query, and the rows that it gives, as lines.
 pub struct Look(pub &'static str, pub &'static str);
 
-pub const LOOKS: &[Look] = &[
+const LOOKS: &[Look] = &[
     Look("SELECT id, version FROM edition", "1|1|\n"),
     Look(
         "SELECT stamp, next FROM moments ORDER BY stamp",
@@ -135,7 +135,7 @@ pub const LOOKS: &[Look] = &[
 ];
 
 /// What changes after that.
-pub const MORE_LOOKS: &[Look] = &[
+const MORE_LOOKS: &[Look] = &[
     Look(
         "SELECT stamp, next FROM moments WHERE stamp > 1016 ORDER BY stamp",
         "1017|30|\n\
@@ -207,16 +207,24 @@ fn gives<S: Alter>(alloc: Global, conn: &mut Connection<S>, look: &Look) -> Resu
     Ok(found.as_str() == look.1)
 }
 
-/// The place of the first of some queries that gives other rows, if any.
-pub fn first_wrong<S: Alter>(
+/// Looks at the rows of a store: each query gives its rows.
+pub fn look_at<S: Alter>(
     alloc: Global,
     conn: &mut Connection<S>,
     looks: &[Look],
-) -> Result<Option<usize>, Stop> {
+) -> Result<(), Stop> {
     for (place, look) in looks.iter().enumerate() {
-        if !gives(alloc, conn, look)? {
-            return Ok(Some(place));
-        }
+        expect(gives(alloc, conn, look)?, "look", place)?;
     }
-    Ok(None)
+    Ok(())
+}
+
+/// Looks at the rows after the scenario.
+pub fn look_at_steps<S: Alter>(alloc: Global, conn: &mut Connection<S>) -> Result<(), Stop> {
+    look_at(alloc, conn, LOOKS)
+}
+
+/// Looks at what has changed after what comes after the scenario.
+pub fn look_at_more<S: Alter>(alloc: Global, conn: &mut Connection<S>) -> Result<(), Stop> {
+    look_at(alloc, conn, MORE_LOOKS)
 }

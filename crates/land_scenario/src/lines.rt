@@ -11,9 +11,9 @@ fn write_cell(text: &mut String, cell: ValueRef<'_>) -> Result<(), Stop> {
         ValueRef::Int(number) => write!(text, "{number}")?,
         ValueRef::Text(bytes) => match std::str::from_utf8(bytes) {
             Ok(words) => text.push_str(words)?,
-            Err(_) => return Err(Stop::Unlike),
+            Err(_) => return Err(Stop::Call),
         },
-        ValueRef::Real(_) | ValueRef::Blob(_) => return Err(Stop::Unlike),
+        ValueRef::Real(_) | ValueRef::Blob(_) => return Err(Stop::Call),
     }
     Ok(())
 }

@@ -1,0 +1,73 @@
+//! A reader, a writer and a clock that a test sets.
+use land_keep::clock::Clock;
+use std::io;
+use std::io::{Read, Write};
+
+/// A reader that gives at most `piece` bytes at a time, and fails once it has been asked `reads` times.
+#[derive(Drop)]
+pub struct Pieces<'a> {
+    pub left: &'a [u8],
+    pub piece: usize,
+    pub reads: u64,
+}
+
+impl Read for Pieces<'_> {
+    fn read(&mut self, buf: &mut [u8]) -> io::Result<usize> {
+        if self.reads == 0 {
+            return Err(io::Error::from(io::ErrorKind::TimedOut));
+        }
+        self.reads -= 1;
+        let count = self.piece.min(buf.len()).min(self.left.len());
+        let (piece, left) = self.left.split_at(count);
+        buf[..count].copy_from_slice(piece);
+        self.left = left;
+        Ok(count)
+    }
+}
+
+/// A writer that takes at most 3 bytes at a time, `writes` times, and then fails or takes none.
+#[derive(Drop)]
+pub struct Sink {
+    pub taken: Vec<u8>,
+    pub writes: usize,
+    pub fails: bool,
+}
+
+impl Write for Sink {
+    fn write(&mut self, buf: &[u8]) -> io::Result<usize> {
+        if self.writes == 0 {
+            if self.fails {
+                return Err(io::Error::from(io::ErrorKind::BrokenPipe));
+            }
+            return Ok(0);
+        }
+        self.writes -= 1;
+        let count = buf.len().min(3);
+        self.taken.extend_from_slice(&buf[..count])?;
+        Ok(count)
+    }
+
+    fn flush(&mut self) -> io::Result<()> {
+        Ok(())
+    }
+}
+
+/// A clock that reads these moments in turn, and then 1000 each time.
+#[derive(Clone, Copy)]
+pub struct Readings {
+    pub left: &'static [i64],
+}
+
+impl Clock for Readings {
+    ghost reads = { λ _ _ _. Unit {0} };
+
+    fn read(&mut self) -> i64 {
+        match self.left.split_first() {
+            Some((reading, left)) => {
+                self.left = left;
+                *reading
+            }
+            None => 1000,
+        }
+    }
+}

@@ -1,0 +1,44 @@
+//! The first step of the scenario, as it is asked.
+use land_core::act::{Act, Enrol};
+use land_core::ask::{Ask, Request};
+use land_core::caller::Caller;
+use land_core::change::Done;
+use land_core::kind::PartyKind;
+use land_core::role::Role;
+use land_core::text::Text;
+use land_keep::keeper::Keeper;
+use land_keep::machine::answer;
+use land_keep::reply::Reply;
+use std::alloc::{AllocError, Global};
+
+const OFFICE: Caller = Caller {
+    party: 1,
+    role: Role::StateAdministrator,
+};
+
+/// The office enrols Anna.
+pub fn first_request(alloc: Global) -> Result<Request, AllocError> {
+    let name = Text::new(String::from_str(alloc, "Anna")?);
+    let kind = PartyKind::NaturalPerson;
+    Ok(Request {
+        caller: OFFICE,
+        ask: Ask::Do(Act::Enrol(Enrol { kind, name })),
+    })
+}
+
+/// Whether she is party 2 from 1000 on.
+fn is_first(done: &Done) -> bool {
+    done.number == 2 && done.stamp == 1000 && done.made.as_slice() == [2u64].as_slice()
+}
+
+/// The store fault that the caller of the first step is told, 0 where Anna is enrolled as the scenario has it, 1 where anything else is told.
+pub fn first_fault<K: Keeper>(alloc: Global, keeper: &mut K, request: &Request) -> u16 {
+    if !request.is_well_formed() {
+        return 1;
+    }
+    match answer(alloc, keeper, 1000, request) {
+        Reply::Done(done) => { if is_first(&done) { 0 } else { 1 } }
+        Reply::Store(number) => number,
+        _ => 1,
+    }
+}

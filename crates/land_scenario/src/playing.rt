@@ -1,0 +1,119 @@
+//! Requests that are played over a keeper.
+use crate::doubles::{Pieces, Readings, Sink};
+use crate::scenario::{MORE, STEPS};
+use crate::stop::Stop;
+use crate::talk::{Row, Talk, common};
+use land_desk::serve::{DeskFault, Served, serve};
+use land_keep::keeper::Keeper;
+use land_keep::plain_keeper::PlainKeeper;
+use std::alloc::{AllocError, Global};
+
+/// How the reply that tells of want of memory begins, after its first 9 bytes.
+const NO_ROOM: &[u8] =
+    b"503 Service Unavailable\r\nContent-Type: application/json\r\nContent-Length: 13\r\n\r\n{\"store\":501}";
+
+/// The same, where the connection ends after it.
+const LAST_NO_ROOM: &[u8] =
+    b"503 Service Unavailable\r\nContent-Type: application/json\r\nContent-Length: 13\r\nConnection: close\r\n\r\n{\"store\":501}";
+
+/// Whether serving came to an end for want of memory, or the first reply that is not as it was to be tells of it.
+fn is_want_of_memory(served: &Result<Served, DeskFault>, taken: &[u8], wanted: &[u8]) -> bool {
+    if *served == Err(DeskFault::NoMemory) {
+        return true;
+    }
+    let same = common(taken, wanted);
+    if taken.len() < same {
+        return false;
+    }
+    let rest = &taken[same..];
+    rest.starts_with(NO_ROOM) || rest.starts_with(LAST_NO_ROOM)
+}
+
+/// A writer that takes all it is given, and has room for a reply more than is wanted.
+pub fn open_sink(alloc: Global, wanted: usize) -> Result<Sink, AllocError> {
+    Ok(Sink {
+        taken: Vec::with_capacity(alloc, wanted.saturating_add(2048))?,
+        writes: usize::MAX,
+        fails: false,
+    })
+}
+
+/// Serves a stream over a keeper.
+fn served<K: Keeper>(
+    alloc: Global,
+    keeper: &mut K,
+    clock: &mut Readings,
+    input: &[u8],
+    sink: &mut Sink,
+) -> Result<Served, DeskFault> {
+    let mut reader = Pieces {
+        left: input,
+        piece: 4096,
+        reads: u64::MAX,
+    };
+    serve(alloc, &mut reader, sink, keeper, clock)
+}
+
+/// Plays a talk over a keeper: each reply is as it says. The clock reads these moments in turn, and then 1000 each time.
+pub fn play<K: Keeper>(
+    alloc: Global,
+    keeper: &mut K,
+    clock: &'static [i64],
+    talk: &Talk,
+) -> Result<(), Stop> {
+    let mut clock = Readings { left: clock };
+    let mut sink = open_sink(alloc, talk.output.len())?;
+    let served = served(alloc, keeper, &mut clock, &talk.input, &mut sink);
+    if is_want_of_memory(&served, &sink.taken, talk.output.as_bytes()) {
+        return Err(Stop::Memory);
+    }
+    match talk.first_wrong(&served, &sink.taken) {
+        Some((name, place)) => Err(Stop::Unlike(name, place)),
+        None => Ok(()),
+    }
+}
+
+/// Plays rows over a keeper, where the clock reads 1000 each time.
+fn play_rows<K: Keeper>(
+    alloc: Global,
+    keeper: &mut K,
+    name: &'static str,
+    rows: &[Row],
+) -> Result<(), Stop> {
+    let mut talk = Talk::new(alloc)?;
+    talk.ask_all(name, rows)?;
+    play(alloc, keeper, &[], &talk)
+}
+
+/// Plays the scenario over a keeper.
+pub fn play_steps<K: Keeper>(alloc: Global, keeper: &mut K) -> Result<(), Stop> {
+    play_rows(alloc, keeper, "the scenario", STEPS)
+}
+
+/// Plays what comes after the scenario.
+pub fn play_more<K: Keeper>(alloc: Global, keeper: &mut K) -> Result<(), Stop> {
+    play_rows(alloc, keeper, "after the scenario", MORE)
+}
+
+/// Plays the first step of the scenario.
+pub fn play_first<K: Keeper>(alloc: Global, keeper: &mut K) -> Result<(), Stop> {
+    let mut talk = Talk::new(alloc)?;
+    if let Some(step) = STEPS.first() {
+        talk.ask("the scenario", 0, step)?;
+    }
+    play(alloc, keeper, &[], &talk)
+}
+
+/// The plain keeper after the scenario.
+pub fn plain(alloc: Global) -> Result<PlainKeeper, Stop> {
+    let mut keeper = PlainKeeper::new(alloc)?;
+    play_steps(alloc, &mut keeper)?;
+    Ok(keeper)
+}
+
+/// The plain keeper after what comes after the scenario, too.
+pub fn plain_more(alloc: Global) -> Result<PlainKeeper, Stop> {
+    let mut keeper = plain(alloc)?;
+    play_more(alloc, &mut keeper)?;
+    Ok(keeper)
+}

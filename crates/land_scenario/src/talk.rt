@@ -1,0 +1,204 @@
+//! Requests as one stream, and what is to be told of them as another.
+use land_desk::serve::{DeskFault, Served};
+use std::alloc::{AllocError, Global};
+use std::fmt::Write;
+
+/// The fields that name the office as the caller.
+pub const OFFICE: &str = "Register-Party: 1\r\nRegister-Role: stateAdministrator\r\n";
+
+/// The fields that name Anna, Ben, Nora and Sam as callers.
+pub const ANNA: &str = "Register-Party: 2\r\nRegister-Role: citizen\r\n";
+
+pub const BEN: &str = "Register-Party: 3\r\nRegister-Role: citizen\r\n";
+
+pub const NORA: &str = "Register-Party: 5\r\nRegister-Role: citizen\r\n";
+
+pub const SAM: &str = "Register-Party: 6\r\nRegister-Role: citizen\r\n";
+
+/// The bank, Nora as notary, and Sam as certified surveyor.
+pub const BANK: &str = "Register-Party: 4\r\nRegister-Role: bank\r\n";
+
+pub const NOTARY: &str = "Register-Party: 5\r\nRegister-Role: notary\r\n";
+
+pub const SURVEYOR: &str = "Register-Party: 6\r\nRegister-Role: certifiedSurveyor\r\n";
+
+/// The body that enrols Anna.
+pub const ENROL: &[u8] = br#"{"kind":"naturalPerson","name":"Anna"}"#;
+
+const JSON: &str = "application/json";
+
+const PLAIN: &str = "text/plain; charset=utf-8";
+
+/// What a caller is told.
+#[derive(Clone, Copy)]
+pub enum Told {
+    /// What was asked for, or what was done.
+    Shown(&'static str),
+    /// A title sheet.
+    Sheet(&'static str),
+    /// The rule that denies.
+    Denied(u16),
+    /// The refusal of an act.
+    Refused(u16),
+    /// What is wrong with the request.
+    Fault(u16),
+    /// A fault of a HEAD: the same without its text, which has this length.
+    Unsaid(usize),
+}
+
+/// A request, and what is told of it: its line without the version, the fields of its caller, its body.
+pub struct Row(
+    pub &'static str,
+    pub &'static str,
+    pub &'static [u8],
+    pub Told,
+);
+
+/// A row of a talk: what it belongs to and its place there, and where it ends in the input and in the output.
+#[derive(Clone, Copy)]
+pub struct Mark {
+    name: &'static str,
+    place: usize,
+    pub asked: usize,
+    pub told: usize,
+}
+
+/// Requests as one stream, and what is to be told of them as another.
+#[derive(Drop)]
+pub struct Talk {
+    pub input: Vec<u8>,
+    pub output: String,
+    pub marks: Vec<Mark>,
+    /// Room for a line or a text.
+    line: String,
+}
+
+/// How many bytes two texts have in common at their front.
+pub fn common(first: &[u8], second: &[u8]) -> usize {
+    let most = first.len().min(second.len());
+    for place in 0..most {
+        if first[place] != second[place] {
+            return place;
+        }
+    }
+    most
+}
+
+impl Talk {
+    /// No request yet.
+    pub fn new(alloc: Global) -> Result<Talk, AllocError> {
+        Ok(Talk {
+            input: Vec::with_capacity(alloc, 65536)?,
+            output: String::with_capacity(alloc, 65536)?,
+            marks: Vec::with_capacity(alloc, 256)?,
+            line: String::with_capacity(alloc, 256)?,
+        })
+    }
+
+    /// The requests of these rows come next.
+    pub fn ask_all(&mut self, name: &'static str, rows: &[Row]) -> Result<(), AllocError> {
+        for (place, row) in rows.iter().enumerate() {
+            self.ask(name, place, row)?;
+        }
+        Ok(())
+    }
+
+    /// The request of a row comes next.
+    pub fn ask(&mut self, name: &'static str, place: usize, row: &Row) -> Result<(), AllocError> {
+        self.push_request(row.0, row.1, row.2)?;
+        self.tell(row.3, false)?;
+        self.marks.push(Mark {
+            name,
+            place,
+            asked: self.input.len(),
+            told: self.output.len(),
+        })?;
+        Ok(())
+    }
+
+    fn push_request(&mut self, line: &str, fields: &str, body: &[u8]) -> Result<(), AllocError> {
+        let length = body.len();
+        self.line.clear();
+        write!(
+            self.line,
+            "{line} HTTP/1.1\r\n{fields}Content-Length: {length}\r\n\r\n"
+        )?;
+        self.input.extend_from_slice(self.line.as_bytes())?;
+        self.input.extend_from_slice(body)
+    }
+
+    /// This is to be told next, and the connection ends after it or not.
+    pub fn tell(&mut self, told: Told, ends: bool) -> Result<(), AllocError> {
+        match told {
+            Told::Shown(text) => write_reply(&mut self.output, "200 OK", JSON, ends, text),
+            Told::Sheet(text) => write_reply(&mut self.output, "200 OK", PLAIN, ends, text),
+            Told::Denied(number) => self.tell_number("403 Forbidden", "denied", number, ends),
+            Told::Refused(number) => self.tell_number("409 Conflict", "refused", number, ends),
+            Told::Fault(number) => self.tell_number("400 Bad Request", "fault", number, ends),
+            Told::Unsaid(length) => {
+                write_head(&mut self.output, "400 Bad Request", JSON, ends, length)
+            }
+        }
+    }
+
+    /// What was asked for is shown next, and the connection goes on.
+    pub fn tell_text(&mut self, text: &str) -> Result<(), AllocError> {
+        write_reply(&mut self.output, "200 OK", JSON, false, text)
+    }
+
+    fn tell_number(
+        &mut self,
+        status: &str,
+        word: &str,
+        number: u16,
+        ends: bool,
+    ) -> Result<(), AllocError> {
+        self.line.clear();
+        write!(self.line, "{{\"{word}\":{number}}}")?;
+        write_reply(&mut self.output, status, JSON, ends, self.line.as_str())
+    }
+
+    /// The name and the place of the first row that is not answered as it says, if any.
+    pub fn first_wrong(
+        &self,
+        served: &Result<Served, DeskFault>,
+        taken: &[u8],
+    ) -> Option<(&'static str, usize)> {
+        let right = common(taken, self.output.as_bytes());
+        for mark in &self.marks {
+            if right < mark.told {
+                return Some((mark.name, mark.place));
+            }
+        }
+        let replies = self.marks.len() as u64;
+        if *served == Ok(Served { replies }) && taken.len() == self.output.len() {
+            return None;
+        }
+        Some(("the end", 0))
+    }
+}
+
+fn write_reply(
+    output: &mut String,
+    status: &str,
+    medium: &str,
+    ends: bool,
+    text: &str,
+) -> Result<(), AllocError> {
+    write_head(output, status, medium, ends, text.len())?;
+    output.push_str(text)
+}
+
+fn write_head(
+    output: &mut String,
+    status: &str,
+    medium: &str,
+    ends: bool,
+    length: usize,
+) -> Result<(), AllocError> {
+    let close = if ends { "Connection: close\r\n" } else { "" };
+    write!(
+        output,
+        "HTTP/1.1 {status}\r\nContent-Type: {medium}\r\nContent-Length: {length}\r\n{close}\r\n"
+    )
+}
