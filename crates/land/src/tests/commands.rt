@@ -26,7 +26,7 @@ struct Ending {
 }
 
 /// Does a command on the machine that the tests run on. Want of memory ends the test.
-fn ending(rt: &HostRuntime, command: Command<'_>) -> Result<Ending, Fail> {
+fn ended(rt: &HostRuntime, command: Command<'_>) -> Result<Ending, Fail> {
     let mut input = Pieces {
         left: b"",
         piece: 1,
@@ -56,7 +56,7 @@ fn ending(rt: &HostRuntime, command: Command<'_>) -> Result<Ending, Fail> {
 
 /// Whether a command ends well and says this.
 fn says(rt: &HostRuntime, command: Command<'_>, said: &str) -> Result<bool, Fail> {
-    let end = ending(rt, command)?;
+    let end = ended(rt, command)?;
     Ok(
         end.status == 0
             && end.output.taken.as_slice() == said.as_bytes()
@@ -66,7 +66,7 @@ fn says(rt: &HostRuntime, command: Command<'_>, said: &str) -> Result<bool, Fail
 
 /// Whether a command ends with this fault, and says nothing else.
 fn fails(rt: &HostRuntime, command: Command<'_>, fault: ProgramFault) -> Result<bool, Fail> {
-    let end = ending(rt, command)?;
+    let end = ended(rt, command)?;
     Ok(
         end.status == 1
             && end.output.taken.is_empty()
