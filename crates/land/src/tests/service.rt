@@ -1,18 +1,12 @@
 //! Connections that are served one after another.
-use crate::host::Host;
-use crate::program_fault::ProgramFault;
-use crate::run::run_command;
 use crate::set_clock::SetClock;
-use crate::tests::doubles::{Pieces, Readings, Sink};
+use crate::tests::doubles::{Pieces, Sink};
 use crate::tests::office::{common, open_sink};
 use land_keep::clock::Clock;
 use land_keep::plain_keeper::PlainKeeper;
 use land_service::connections::Connections;
 use land_service::machine_clock::MachineClock;
 use land_service::service::{ServiceFault, serve_connections};
-use land_tables::tables::Tables;
-use land_words::command::Command;
-use sqlite::{Connection, MemStore};
 use std::alloc::{AllocError, Global};
 use std::io;
 use std::io::{Read, Write};
@@ -185,114 +179,4 @@ fn the_machine_has_a_clock(rt: HostRuntime) {
     let mut clock = MachineClock { machine: &rt };
     let reading = clock.read();
     assert!(rt; 1_577_836_800_000 < reading && reading < 4_102_444_800_000);
-}
-
-/// A machine with a register in memory under every name, and with connections that a test makes.
-#[derive(Drop)]
-struct Town<'a> {
-    alloc: Global,
-    calls: Option<Calls<'a>>,
-}
-
-impl<'a> Host for Town<'a> {
-    type Store = MemStore;
-
-    type Listener = Calls<'a>;
-
-    ghost holds = { λ _ _. Unit {0} };
-
-    fn alloc(&self) -> Global {
-        self.alloc
-    }
-
-    fn open_new(&mut self, _file: &str) -> Result<Connection<MemStore>, ProgramFault> {
-        Ok(Connection::open_in_memory(self.alloc)?)
-    }
-
-    fn open_found(&mut self, file: &str) -> Result<Connection<MemStore>, ProgramFault> {
-        let conn = self.open_new(file)?;
-        match Tables::create(conn) {
-            Ok(tables) => Ok(tables.into_connection()),
-            Err((_, fault)) => Err(ProgramFault::from(fault)),
-        }
-    }
-
-    fn close(_left: &mut Option<Connection<MemStore>>) -> Result<(), ProgramFault>
-        ensures { Unit {0} }
-    {
-        Ok(())
-    }
-
-    fn listen(&mut self, _port: u16) -> io::Result<Calls<'a>> {
-        match self.calls.take() {
-            Some(calls) => Ok(calls),
-            None => Err(io::Error::from(io::ErrorKind::AddrInUse)),
-        }
-    }
-}
-
-/// The status of a service of so many connections, and what it said on the output and on that of errors.
-fn service(
-    alloc: Global,
-    calls: Calls<'_>,
-    connections: u32,
-) -> Result<(u8, Sink, Sink), AllocError> {
-    let mut output = open_sink(alloc, 0)?;
-    let mut errors = open_sink(alloc, 64)?;
-    let command = Command::Serve {
-        file: "town.land",
-        port: 8080,
-        connections,
-    };
-    let mut town = Town {
-        alloc,
-        calls: Some(calls),
-    };
-    let mut input: &[u8] = b"";
-    let mut clock = Readings { left: &[] };
-    let status = run_command(
-        &mut town,
-        command,
-        &mut input,
-        &mut output,
-        &mut errors,
-        &mut clock,
-    );
-    Ok((status, output, errors))
-}
-
-/// Whether a service of so many of the connections ends with this status and line, and each connection is told what it is to be.
-fn is_service(
-    alloc: Global,
-    calls: &'static [Call],
-    connections: u32,
-    status: u8,
-    line: &[u8],
-) -> Result<bool, Fail> {
-    let mut sinks = sinks(alloc, calls)?;
-    let ended = service(
-        alloc,
-        Calls {
-            calls,
-            sinks: sinks.iter_mut(),
-        },
-        connections,
-    )?;
-    if ended.2.taken.as_slice() == b"land: fault 501\n".as_slice() {
-        return Err("no memory")?;
-    }
-    for (call, sink) in calls.iter().zip(sinks.iter()) {
-        if !is_told(&sink.taken, call.told)? {
-            return Ok(false);
-        }
-    }
-    Ok(ended.0 == status && ended.1.taken.is_empty() && ended.2.taken.as_slice() == line)
-}
-
-#[test]
-fn a_command_serves_connections(rt: HostRuntime) -> Result<(), Fail> {
-    assert!(rt; is_service(rt.alloc(), CALLS, 5, 0, b"")?);
-    let failed = b"land: input or output failed\n";
-    assert!(rt; is_service(rt.alloc(), &CALLS[..1], 2, 1, failed)?);
-    Ok(())
 }
