@@ -16,6 +16,7 @@ pub mod Numbers
 pub mod Parcels
 pub mod Parties
 pub mod Puts
+pub mod Refusals
 pub mod Rewrites
 pub mod Roles
 pub mod Rrrs

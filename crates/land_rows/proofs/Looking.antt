@@ -1,5 +1,5 @@
 -- Looks at a store, one after another.
-use Rattle.std.proofs.Common.{◌≡◌, inl, inr, Ok, Err, Result, IfOk, IsErr, OnErr, OnOk, IsTrue, refl, ◌∙◌, arith}
+use Rattle.std.proofs.Common.{◌≡◌, inl, inr, Ok, Err, Result, IfOk, IsErr, IsTrue, refl, ◌∙◌, arith}
 use Rattle.land_rows.specs.Looks.{IsLeft, IsLook}
 use Rattle.sqlite.proofs.StateLemmas.{survives_then}
 use Rattle.sqlite.specs.State.{HasCleanDisk, IsUnchanged, State, Survives}

@@ -3,13 +3,17 @@ ghost use Rattle.std.specs.Prelude.{◌≡◌, false, IsTrue};
 ghost use Rattle.sqlite.specs.Held.{state};
 ghost use Rattle.sqlite.specs.State.{HasCleanDisk, IsUnchanged, Survives};
 
-use sqlite::{Alter, Connection};
+use sqlite::{Alter, Connection, Error};
 
-/// Whether a store takes the empty text: then it is open, and as it was. Once it has taken it, this needs no memory.
+/// Whether a store looks at a text, which is none that it takes: then it is open, and as it was. To refuse it takes no memory.
 pub fn is_open<S: Alter>(conn: &mut Connection<S>) -> bool
     ensures same { HasCleanDisk (state S.Store conn.new) → IsTrue result → IsUnchanged (state S.Store conn.old) (state S.Store conn.new) }
     ensures survives { Survives (state S.Store conn.old) (state S.Store conn.new) (λ _. ⊥) }
     ensures mode { conn.old.in_transaction ≡ false → conn.new.in_transaction ≡ false }
 {
-    conn.prepare("").is_ok()
+    match conn.prepare("!") {
+        Ok(_) => true,
+        Err(Error::SqlInputError(_)) => true,
+        Err(_) => false,
+    }
 }

@@ -7,6 +7,8 @@
 #![tactic(auto)]
 
 #[cfg(test)]
+mod openness;
+#[cfg(test)]
 mod register;
 #[cfg(test)]
 mod table;

@@ -1,0 +1,27 @@
+-- Texts that a store refuses to read.
+use Rattle.std.proofs.Common.{◌≡◌, ◌∙◌, inl, inr, sym, ℕ, List, []}
+use Rattle.sqlite.specs.State.{IsNotRun, IsUnchanged, State, store_error}
+use Rattle.sqlite.specs.declared.error.Error.{Error}
+use Rattle.sqlite.specs.declared.error.Error.TheVariants.{SqlInputError}
+use Rattle.sqlite_resolve.specs.declared.error.CompileError.{CompileError}
+use Rattle.sqlite_trees.specs.declared.error.StoreError.{StoreError}
+use Rattle.sqlite_trees.specs.declared.error.StoreError.TheVariants.{OutOfMemory, Io, Corrupt, Full, Broken, Unstorable}
+use Rattle.sqlite_value.specs.Order.{Row}
+
+-- no failure of a store is told as a fault of the text
+not_the_text : (cause : StoreError) (fault : CompileError) → SqlInputError fault ≡ store_error cause → ⊥
+not_the_text OutOfMemory fault same = cc
+not_the_text Io fault same = cc
+not_the_text Corrupt fault same = cc
+not_the_text Full fault same = cc
+not_the_text Broken fault same = cc
+not_the_text Unstorable fault same = cc
+
+-- a store that refuses a text for what it says is as it was
+pub refused_unchanged : (old new : State) (sql : List ℕ) (e : Error) (fault : CompileError) → e ≡ SqlInputError fault
+    → ((params : Row) → IsNotRun old new sql params e) → IsUnchanged old new
+unfolding IsNotRun
+refused_unchanged old new sql e fault is h = elim (h []) [
+  | inl refused ↦ refused.1
+  | inr failed ↦ absurd (not_the_text failed.0 fault (sym is ∙ failed.1))
+]
