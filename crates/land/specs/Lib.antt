@@ -1,4 +1,6 @@
 -- Definitions of the program.
+pub mod Extracting
 pub mod Filed
 pub mod Program
 pub mod ProgramFaults
+pub mod Refusals

@@ -7,16 +7,20 @@ use Rattle.land_desk.specs.Serving.{IsServing}
 use Rattle.land_desk.specs.declared.serve.DeskFault.{DeskFault}
 use Rattle.land_desk.specs.declared.serve.Served.{Served}
 use Rattle.land_words.specs.Names.{IsReading}
-use Rattle.land_words.specs.Orders.{Order, to_talk, to_make, to_serve, to_check, order_of}
+use Rattle.land_words.specs.Orders.{Order, to_talk, to_make, to_serve, to_check, to_extract, order_of}
 use Rattle.land_words.specs.declared.command.Command.{Command}
 use Rattle.land_words.specs.declared.words_fault.WordsFault.{WordsFault}
 use Rattle.land_words.specs.declared.words_fault.WordsFault.TheVariants as words
 use Rattle.sqlite.specs.State.{State}
 use Rattle.sqlite.specs.Store.{Ghosts}
+use Rattle.land.specs.Extracting.{IsExtracting, wanted_of}
 use Rattle.land.specs.Filed.{IsChecking, IsFileService, IsMaking}
 use Rattle.land.specs.ProgramFaults.{fault_of, line_of, status_of}
+use Rattle.land.specs.Refusals.{denied_text}
 use Rattle.land.specs.declared.program_fault.ProgramFault.{ProgramFault}
 use Rattle.land.specs.declared.program_fault.ProgramFault.TheVariants.{NoMemory}
+use Rattle.land.specs.declared.refusal.Refusal.{Refusal}
+use Rattle.land.specs.declared.refusal.Refusal.TheVariants as refusal
 use Rattle.land.specs.declared.set_clock.SetClock.{SetClock}
 
 -- a clock that is set reads what it is set to, each time
@@ -45,6 +49,16 @@ abbrev pub IsSettled : {T : Type 0} → Result T ProgramFault → (old new : Opt
 IsSettled (Ok done) old new status = (status ≡ 0) × Appends old new []
 IsSettled (Err fault) old new status = (status ≡ status_of fault) × IsSaid (line_of fault) old new
 
+-- a denial is told, and the status is 1; where there is no memory for the line, that is told
+abbrev pub IsDenied : (rule : ℕ) → (old new : Option (List ℕ)) → (status : ℕ) → Type 0
+IsDenied rule old new status = (status ≡ 1) × (IsSaid (denied_text rule) old new ⊎ IsSaid (line_of NoMemory) old new)
+
+-- the status after a command of which the policy decides is 0, and nothing is told; what refuses it is told
+abbrev pub IsTold : {T : Type 0} → Result T Refusal → (old new : Option (List ℕ)) → (status : ℕ) → Type 0
+IsTold (Ok done) old new status = (status ≡ 0) × Appends old new []
+IsTold (Err (refusal.Denied rule)) old new status = IsDenied rule old new status
+IsTold (Err (refusal.Fault fault)) old new status = (status ≡ status_of fault) × IsSaid (line_of fault) old new
+
 -- what is done over files whose stores may be found to hold this, by a clock
 module _ {S C : Type 0} (g : Ghosts S) (holds : List ℕ → State → Type 0) (reads : C → ℤ → C → Type 0) where
   -- a command, by what it writes on the output and on that of errors, and its status
@@ -59,6 +73,9 @@ module _ {S C : Type 0} (g : Ghosts S) (holds : List ℕ → State → Type 0) (
       × IsSettled done old_errors new_errors status
   IsRun (to_check file) input clock clock_after old new old_errors new_errors status =
       (done : Result (Unit {0}) ProgramFault) × IsChecking g (holds file) old new done × IsSettled done old_errors new_errors status
+  IsRun (to_extract file reading party role kind at) input clock clock_after old new old_errors new_errors status =
+      (done : Result (Unit {0}) Refusal) × IsExtracting g (holds file) (wanted_of reading party role kind at) old new done
+      × IsTold done old_errors new_errors status
 
   -- what is done for what the words are read as: refused words write nothing but what `clap` says of them, and their status is 2
   abbrev pub IsDone : Result Command WordsFault → (input : Option (List ℕ)) → (clock clock_after : C) → (old new : Option (List ℕ))

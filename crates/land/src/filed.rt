@@ -35,7 +35,7 @@ fn close<H: Host>(conn: Connection<H::Store>) -> Result<(), ProgramFault>
 }
 
 /// The register in a file, which is left as it is.
-fn found<H: Host>(host: &mut H, file: &str) -> Result<Tables<H::Store>, ProgramFault>
+pub(crate) fn found<H: Host>(host: &mut H, file: &str) -> Result<Tables<H::Store>, ProgramFault>
     ensures { IsFinding H.Store.Store (H.holds file.now) result }
 {
     let conn = host.open_found(file)?;

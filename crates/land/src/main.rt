@@ -4,10 +4,12 @@
 ghost use Rattle.std.specs.Prelude.{map, string_bytes};
 ghost use Rattle.land.specs.Program.{IsObeyed};
 
+mod extracting;
 mod filed;
 mod host;
 mod local_host;
 mod program_fault;
+mod refusal;
 mod run;
 mod set_clock;
 #[cfg(test)]

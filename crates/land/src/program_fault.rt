@@ -23,6 +23,8 @@ pub enum ProgramFault {
     Open,
     /// A port could not be listened on.
     Listen,
+    /// 135: the asked moment is still to come.
+    ToCome,
     /// 502: a call of the store failed, or a register was to be made where there is one.
     Closed,
     /// 520: the file has not the tables of a register, or a value that cannot be read as its field.
@@ -43,7 +45,8 @@ impl ProgramFault {
         match self {
             ProgramFault::Words => 2,
             ProgramFault::Stream | ProgramFault::NoMemory | ProgramFault::Open => 1,
-            ProgramFault::Listen | ProgramFault::Closed | ProgramFault::NotOurs => 1,
+            ProgramFault::Listen | ProgramFault::ToCome => 1,
+            ProgramFault::Closed | ProgramFault::NotOurs => 1,
             ProgramFault::Interval | ProgramFault::Unsound | ProgramFault::Version => 1,
         }
     }
@@ -58,6 +61,7 @@ impl ProgramFault {
             ProgramFault::NoMemory => "land: fault 501\n",
             ProgramFault::Open => "land: cannot open\n",
             ProgramFault::Listen => "land: cannot listen\n",
+            ProgramFault::ToCome => "land: fault 135\n",
             ProgramFault::Closed => "land: fault 502\n",
             ProgramFault::NotOurs => "land: fault 520\n",
             ProgramFault::Interval => "land: fault 521\n",

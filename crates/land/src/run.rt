@@ -1,15 +1,18 @@
 //! The commands of the program.
-ghost use Rattle.std.specs.Prelude.{◌≡◌, [], IfOk, IfSome};
+ghost use Rattle.std.specs.Prelude.{◌≡◌, [], string_bytes, IfOk, IfSome};
 ghost use Rattle.std.specs.Io.KnownBytes.{Appends};
-ghost use Rattle.land.specs.Program.{IsEnding, IsRun, IsSaid, IsSettled, IsTalk};
+ghost use Rattle.land.specs.Program.{IsDenied, IsEnding, IsRun, IsSaid, IsSettled, IsTalk, IsTold};
 ghost use Rattle.land.specs.ProgramFaults.{line_of, status_of};
+ghost use Rattle.land.specs.Refusals.{denied_text};
 ghost use Rattle.land_tables.specs.Office.{IsCreated};
 ghost use Rattle.land_words.specs.Orders.{order_of};
 ghost use Rattle.sqlite.specs.Steps.{over_memory};
 
+use crate::extracting::{Wanted, extract};
 use crate::filed::{check, make, serve_file};
 use crate::host::Host;
 use crate::program_fault::ProgramFault;
+use crate::refusal::Refusal;
 use crate::set_clock::SetClock;
 use land_desk::send::send;
 use land_desk::serve::{DeskFault, Served, serve};
@@ -46,6 +49,22 @@ pub fn run_command<H: Host, I: Read, O: Write, E: Write, C: Clock>(
             connections,
         } => settle(errors, serve_file(host, file, port, connections, clock)),
         Command::Check { file } => settle(errors, check(host, file, output)),
+        Command::Extract {
+            file,
+            clock,
+            caller,
+            kind,
+            at,
+        } => {
+            let wanted = Wanted {
+                clock,
+                caller,
+                kind,
+                at,
+            };
+            let done = extract(host, file, wanted, output);
+            tell(host.alloc(), errors, done)
+        }
     }
 }
 
@@ -95,6 +114,37 @@ fn settle<E: Write>(errors: &mut E, done: Result<(), ProgramFault>) -> u8
         Ok(()) => 0,
         Err(fault) => complain(errors, fault),
     }
+}
+
+/// The status after a command of which the policy decides. What refuses it is told.
+fn tell<E: Write>(alloc: Global, errors: &mut E, done: Result<(), Refusal>) -> u8
+    ensures { IsTold done (E.contents errors.old) (E.contents errors.new) result }
+{
+    match done {
+        Ok(()) => 0,
+        Err(Refusal::Denied(rule)) => deny(alloc, errors, rule),
+        Err(Refusal::Fault(fault)) => complain(errors, fault),
+    }
+}
+
+/// Tells the rule that denies, and gives the status 1.
+fn deny<E: Write>(alloc: Global, errors: &mut E, rule: u8) -> u8
+    ensures { IsDenied rule (E.contents errors.old) (E.contents errors.new) result }
+{
+    match denied_line(alloc, rule) {
+        Ok(line) => {
+            say(errors, line.as_str());
+            1
+        }
+        Err(_) => complain(errors, ProgramFault::NoMemory),
+    }
+}
+
+/// What is told of a denial.
+fn denied_line(alloc: Global, rule: u8) -> Result<String, AllocError>
+    ensures { IfOk result (λ text. string_bytes text ≡ denied_text rule) }
+{
+    format!(in alloc; "land: denied {rule}\n")
 }
 
 /// Tells a fault, and gives its status.

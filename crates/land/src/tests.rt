@@ -1,20 +1,17 @@
 //! What no clause says, of the program and of the crates that it joins: that the calls succeed, and that the
 //! definitions mean what they should. `.ci/refusals` runs these tests with each allocation refused in turn: a test may
 //! then end for want of memory, and no assertion may fail.
-mod desk_rows;
-mod doubles;
+mod commands;
+mod conclusion;
 mod exchanges;
 mod failures;
 mod long_requests;
 mod long_streams;
-mod looks;
 mod office;
 mod readings;
 mod replies;
-mod requests;
-mod scenario;
 mod service;
 mod streams;
-mod talk;
-mod turns;
 mod words;
+
+use land_scenario::{doubles, scenario, talk};

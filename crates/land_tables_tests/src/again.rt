@@ -31,12 +31,31 @@ const ONCE: &[Look] = &[
     ),
 ];
 
+/// The tables of a new register in a store in which none could be made for want of memory.
+fn created_after(conn: Connection<MemStore>, fault: StoreFault) -> Result<Tables<MemStore>, Stop> {
+    match fault {
+        StoreFault::NoMemory => created(conn),
+        _ => Err(Stop::Call),
+    }
+}
+
 /// The tables of a new register in a store, made again where there was no memory.
 fn created_at_last(conn: Connection<MemStore>) -> Result<Tables<MemStore>, Stop> {
     match Tables::create(conn) {
         Ok(tables) => Ok(tables),
-        Err((conn, StoreFault::NoMemory)) => created(conn),
-        Err(_) => Err(Stop::Call),
+        Err((conn, fault)) => created_after(conn, fault),
+    }
+}
+
+/// The tables of a store that was not taken for want of memory.
+fn taken_after(
+    alloc: Global,
+    conn: Connection<MemStore>,
+    fault: AdoptFault,
+) -> Result<Tables<MemStore>, Stop> {
+    match fault {
+        AdoptFault::NoMemory => taken(alloc, conn),
+        _ => Err(Stop::Call),
     }
 }
 
@@ -44,8 +63,7 @@ fn created_at_last(conn: Connection<MemStore>) -> Result<Tables<MemStore>, Stop>
 fn taken_at_last(alloc: Global, conn: Connection<MemStore>) -> Result<Tables<MemStore>, Stop> {
     match Tables::adopt(alloc, conn) {
         Ok(tables) => Ok(tables),
-        Err((conn, AdoptFault::NoMemory)) => taken(alloc, conn),
-        Err(_) => Err(Stop::Call),
+        Err((conn, fault)) => taken_after(alloc, conn, fault),
     }
 }
 

@@ -16,8 +16,6 @@ mod conclusion;
 #[cfg(test)]
 mod creating;
 #[cfg(test)]
-mod files;
-#[cfg(test)]
 mod going_on;
 #[cfg(test)]
 mod playing;
@@ -27,3 +25,5 @@ mod replies;
 mod rows;
 #[cfg(test)]
 mod stamps;
+#[cfg(test)]
+mod stops;

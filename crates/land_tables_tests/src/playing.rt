@@ -15,24 +15,31 @@ pub fn created<S: Alter + Drop>(conn: Connection<S>) -> Result<Tables<S>, Stop> 
     }
 }
 
+/// Why a test stops where a store is not taken.
+fn stop_of(fault: AdoptFault) -> Stop {
+    match fault {
+        AdoptFault::NoMemory => Stop::Memory,
+        _ => Stop::Call,
+    }
+}
+
 /// The tables of a store.
 pub fn taken<S: Alter + Drop>(alloc: Global, conn: Connection<S>) -> Result<Tables<S>, Stop> {
     match Tables::adopt(alloc, conn) {
         Ok(tables) => Ok(tables),
-        Err((_, AdoptFault::NoMemory)) => Err(Stop::Memory),
-        Err(_) => Err(Stop::Call),
+        Err((_, fault)) => Err(stop_of(fault)),
     }
 }
 
 /// The tables after the scenario.
-pub fn with_steps<S: Alter + Drop>(alloc: Global, tables: Tables<S>) -> Result<Tables<S>, Stop> {
+fn with_steps<S: Alter + Drop>(alloc: Global, tables: Tables<S>) -> Result<Tables<S>, Stop> {
     let mut keeper = TableKeeper::new(tables);
     play_steps(alloc, &mut keeper)?;
     Ok(keeper.into_tables())
 }
 
 /// The tables after what comes after the scenario.
-pub fn with_more<S: Alter + Drop>(alloc: Global, tables: Tables<S>) -> Result<Tables<S>, Stop> {
+fn with_more<S: Alter + Drop>(alloc: Global, tables: Tables<S>) -> Result<Tables<S>, Stop> {
     let mut keeper = TableKeeper::new(tables);
     play_more(alloc, &mut keeper)?;
     Ok(keeper.into_tables())

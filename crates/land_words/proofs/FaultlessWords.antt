@@ -1,37 +1,22 @@
--- Words in which `clap` finds no fault name a command. Each further command has such a lemma of its own.
-use Rattle.std.proofs.Common.{◌≡◌, refl, ℕ, ℤ, pos, negsuc, Bool, true, false, List, [], ◌∷◌, ◌++◌, Option, Some, None, cond, is_some, option_map, codes}
-use Rattle.std.specs.Prelude.{◌≤ℤ◌}
+-- Words in which `clap` finds no fault name a command. Each command has such a lemma of its own.
+use Rattle.std.proofs.Common.{◌≡◌, refl, Bool, true, false, List, [], Option, Some, None, cond, is_some, option_map, codes}
 use Rattle.std.specs.Option.{option_map_or}
 use Rattle.std.specs.Str.Parse.{signed_digits_value}
 use Rattle.clap.specs.Faults.{check_fault, defaults_fault, entered_fault, fault_of, level_fault, settle_fault, walk_fault}
-use Rattle.clap.specs.Simple.{Shape, argument_words, built, entered, filled_from, help_rule, label_of, names_of, new_shape, rows_at}
+use Rattle.clap.specs.Simple.{Shape, argument_words, built, entered, label_of, names_of, rows_at}
 use Rattle.clap.specs.Values.{Accepts}
-use Rattle.clap.specs.Walk.{Row, Rule, Text, answers_to, finished, first_of, nothing_held, rows_after, settled, stop_after, walk, walk_from}
+use Rattle.clap.specs.Walk.{Row, Text, answers_to, finished, first_of, nothing_held, rows_after, settled, stop_after, walk, walk_from}
 use Rattle.clap.specs.declared.builder.value_parser.ValueParser.TheVariants as parser
 use Rattle.land_words.specs.Commands.{land_app}
-use Rattle.land_words.specs.Names.{IsFoundAs, Names}
-use Rattle.land_words.specs.Options.{connections_rule, counts, file_rule, moment_rule, moments, port_rule, ports}
+use Rattle.land_words.specs.Choices.{AreSpelled}
+use Rattle.land_words.specs.Names.{IsFoundAs, NamesBy}
+use Rattle.land_words.specs.Options.{counts, moments, ports}
 use Rattle.land_words.specs.Orders.{Order, to_talk, to_make, to_serve, to_check}
+use Rattle.land_words.specs.declared.choices.Choices.{Choices}
+use Rattle.land_words.proofs.BuiltCommands.{extract_built, file_built, serve_built, talk_built}
+use Rattle.land_words.proofs.FaultlessExtract.{counted, extract_named}
 use Rattle.land_words.proofs.GivenOptions.{Each, HasNoDefault, given_passes, help_keeps, option_keeps, required_given}
 use Rattle.land_words.proofs.WalkKeeps.{both_none}
-
--- a command with these options, as `clap` builds it
-abbrev pub built_of : (name : Text) → List Rule → Shape
-built_of name options = record (new_shape name) {
-  rules = filled_from 1 (options ++ help_rule ∷ []);
-  is_built = true;
-  disable_help_subcommand = true;
-}
-
-abbrev pub talk_built : Shape
-talk_built = built_of (codes "talk") (moment_rule (codes "clock") true ∷ [])
-
--- a command with a file alone
-abbrev pub file_built : Text → Shape
-file_built name = built_of name (file_rule ∷ [])
-
-abbrev pub serve_built : Shape
-serve_built = built_of (codes "serve") (file_rule ∷ port_rule ∷ connections_rule ∷ [])
 
 -- words of `talk` without a fault have a moment for its clock
 talk_named : (words : List Text) → level_fault talk_built [] nothing_held words false [] ≡ []
@@ -54,11 +39,6 @@ file_named name words e =
     let file = given_passes (file_built name) none words e (codes "file") (Accepts false parser.String)
     (option_keeps (codes "file") (Accepts false parser.String) (codes "file") true parser.String (λ same text h. h), (help_keeps _, tt)) (given.0 refl) in
     (file.0, file.1)
-
--- a number that is not below 1 is that of a count
-counted : (z : ℤ) → pos 1 ≤ℤ z → (n : ℕ) × (z ≡ pos n)
-counted (pos n) h = (n, refl)
-counted (negsuc n) h = absurd h.le
 
 -- words of `serve` without a fault have a file, a port and how many connections to serve
 serve_named : (words : List Text) → level_fault serve_built [] nothing_held words false [] ≡ []
@@ -101,49 +81,53 @@ serve_named words e =
       ),
     )
 
--- where a command is wanted, one is there
-command_wanted : (rows : List Row) (has : Bool) → check_fault (built land_app).top rows has ≡ [] → has ≡ true
-command_wanted rows true e = refl
-command_wanted rows false e = cc
+module _ (choices : Choices) (spelled : AreSpelled choices) where
+  -- where a command is wanted, one is there
+  command_wanted : (rows : List Row) (has : Bool) → check_fault (built (land_app choices)).top rows has ≡ [] → has ≡ true
+  command_wanted rows true e = refl
+  command_wanted rows false e = cc
 
--- the command whose word this is
-abbrev picked : (talk make serve check : Bool) → Option Shape
-picked talk make serve check =
-    cond talk (Some talk_built)
-    (cond make (Some (file_built (codes "new"))) (cond serve (Some serve_built) (cond check (Some (file_built (codes "check"))) None)))
+  -- the command whose word this is
+  abbrev picked : (talk make serve check extract : Bool) → Option Shape
+  picked talk make serve check extract =
+      cond talk (Some talk_built)
+      (cond make (Some (file_built (codes "new")))
+      (cond serve (Some serve_built) (cond check (Some (file_built (codes "check"))) (cond extract (Some (extract_built choices)) None))))
 
-picked_named : (words : List Text) (talk make serve check : Bool)
-    → is_some (option_map (λ s. rows_at s words) (picked talk make serve check)) ≡ true
-    → option_map_or (λ s. level_fault s [] nothing_held words false []) (picked talk make serve check) [] ≡ []
-    → (order : Order) × IsFoundAs (option_map (λ s. rows_at s words) (picked talk make serve check)) order
-picked_named words true make serve check has e = talk_named words e
-picked_named words false true serve check has e =
-    let file = file_named (codes "new") words e in
-    (to_make file.0, (rows_after (file_built (codes "new")).rules [] words, refl, file.1))
-picked_named words false false true check has e = serve_named words e
-picked_named words false false false true has e =
-    let file = file_named (codes "check") words e in
-    (to_check file.0, (rows_after (file_built (codes "check")).rules [] words, refl, file.1))
-picked_named words false false false false has e = cc
+  picked_named : (words : List Text) (talk make serve check extract : Bool)
+      → is_some (option_map (λ s. rows_at s words) (picked talk make serve check extract)) ≡ true
+      → option_map_or (λ s. level_fault s [] nothing_held words false []) (picked talk make serve check extract) [] ≡ []
+      → (order : Order) × IsFoundAs (option_map (λ s. rows_at s words) (picked talk make serve check extract)) order
+  picked_named words true make serve check extract has e = talk_named words e
+  picked_named words false true serve check extract has e =
+      let file = file_named (codes "new") words e in
+      (to_make file.0, (rows_after (file_built (codes "new")).rules [] words, refl, file.1))
+  picked_named words false false true check extract has e = serve_named words e
+  picked_named words false false false true extract has e =
+      let file = file_named (codes "check") words e in
+      (to_check file.0, (rows_after (file_built (codes "check")).rules [] words, refl, file.1))
+  picked_named words false false false false true has e = extract_named choices spelled words e
+  picked_named words false false false false false has e = cc
 
--- the command at which the walk over the words stops
-command_named : (stop : Option (Text × List Text)) → is_some (entered (built land_app) stop) ≡ true → entered_fault (built land_app) stop ≡ []
-    → (order : Order) × IsFoundAs (entered (built land_app) stop) order
-command_named None has e = cc
-command_named (Some q) has e =
-    picked_named q.1 (answers_to q.0 (label_of talk_built)) (answers_to q.0 (label_of (file_built (codes "new"))))
-    (answers_to q.0 (label_of serve_built)) (answers_to q.0 (label_of (file_built (codes "check")))) has e
+  -- the command at which the walk over the words stops
+  command_named : (stop : Option (Text × List Text)) → is_some (entered (built (land_app choices)) stop) ≡ true
+      → entered_fault (built (land_app choices)) stop ≡ [] → (order : Order) × IsFoundAs (entered (built (land_app choices)) stop) order
+  command_named None has e = cc
+  command_named (Some q) has e =
+      picked_named q.1 (answers_to q.0 (label_of talk_built)) (answers_to q.0 (label_of (file_built (codes "new"))))
+      (answers_to q.0 (label_of serve_built)) (answers_to q.0 (label_of (file_built (codes "check"))))
+      (answers_to q.0 (label_of (extract_built choices))) has e
 
--- words without a fault name a command
-pub named_by_words : (words : List Text) → fault_of land_app words ≡ [] → (order : Order) × Names words order
-named_by_words words e =
-    let a = built land_app in
-    let given = argument_words land_app words in
-    let end = (walk a.top.rules (names_of a) nothing_held given).held in
-    let stop = stop_after a.top.rules (names_of a) given in
-    let below = (both_none (walk_fault a.top (names_of a) (walk_from nothing_held) given) _ e).1 in
-    let entry = both_none (entered_fault a stop) _ below in
-    let settles = (both_none (settle_fault a.top.rules false end) _ entry.1).1 in
-    let checks = (both_none (defaults_fault (settled a.top.rules end).rows a.top.rules) _ settles).1 in
-    let command = command_named stop (command_wanted (finished a.top.rules end) (is_some (entered a stop)) checks) entry.0 in
-    (command.0, record { faultless = e; found = command.1 })
+  -- words without a fault name a command
+  pub named_by_words : (words : List Text) → fault_of (land_app choices) words ≡ [] → (order : Order) × NamesBy choices words order
+  named_by_words words e =
+      let a = built (land_app choices) in
+      let given = argument_words (land_app choices) words in
+      let end = (walk a.top.rules (names_of a) nothing_held given).held in
+      let stop = stop_after a.top.rules (names_of a) given in
+      let below = (both_none (walk_fault a.top (names_of a) (walk_from nothing_held) given) _ e).1 in
+      let entry = both_none (entered_fault a stop) _ below in
+      let settles = (both_none (settle_fault a.top.rules false end) _ entry.1).1 in
+      let checks = (both_none (defaults_fault (settled a.top.rules end).rows a.top.rules) _ settles).1 in
+      let command = command_named stop (command_wanted (finished a.top.rules end) (is_some (entered a stop)) checks) entry.0 in
+      (command.0, record { faultless = e; found = command.1 })

@@ -1,5 +1,5 @@
 -- Options over words without a fault: those that are required are given, and their first values pass.
-use Rattle.std.proofs.Common.{◌≡◌, ◌∙◌, ◌&&◌, ◌||◌, not, ap, refl, sym, subst, Bool, true, false, List, [], ◌∷◌, Some, cond, length}
+use Rattle.std.proofs.Common.{◌≡◌, ◌∙◌, ◌⊎◌, ◌&&◌, ◌||◌, not, ap, refl, sym, subst, Bool, true, false, List, [], ◌∷◌, Some, None, cond, length}
 use Rattle.std.specs.Prelude.{find, fold}
 use Rattle.std.specs.List.{list_any}
 use Rattle.std.specs.Str.{bytes_eq}
@@ -12,7 +12,7 @@ use Rattle.clap.specs.Walk.{Row, Rule, Text, finished, first_of, nothing_held, r
 use Rattle.clap.specs.declared.builder.value_parser.ValueParser.{ValueParser}
 use Rattle.clap.specs.declared.parser.matches.ValueSource.TheVariants.{CommandLine}
 use Rattle.land_words.specs.Options.{option_rule}
-use Rattle.land_words.proofs.NumberRows.{AllPass, given_first, no_default, no_kind_accepted, set_pass}
+use Rattle.land_words.proofs.NumberRows.{AllPass, first_if_any, given_first, no_default, no_kind_accepted, set_pass}
 use Rattle.land_words.proofs.WalkKeeps.{both_none, settle_keeps, walk_keeps}
 
 -- something holds of each of these arguments
@@ -63,7 +63,7 @@ undefaulted : (rules : List Rule) (rows : List Row) → Each HasNoDefault rules 
 undefaulted [] rows none = refl
 undefaulted (a ∷ rules) rows none = ap (λ r. fold with_default r rules) (no_default rows a none.0) ∙ undefaulted rules rows none.1
 
-neither : (a b : Bool) → (a || b) ≡ false → (a ≡ false) × (b ≡ false)
+pub neither : (a b : Bool) → (a || b) ≡ false → (a ≡ false) × (b ≡ false)
 neither false b e = (refl, e)
 neither true b e = cc
 
@@ -95,17 +95,26 @@ module _ (s : Shape) (none : Each HasNoDefault s.rules) (words : List Text) (fau
       let checks = (both_none (defaults_fault (settled s.rules end).rows s.rules) _ settles.1).1 in
       each_given (finished s.rules end) s.rules (none_wanted _ _ s.subcommand_negates_reqs _ checks)
 
-  -- an option that is given has a first value, and this passes
-  pub given_passes : (name : Text) (Passes : Text → Type 0) → Each (Keeps (AllPass name Passes)) s.rules → is_given name (rows_after s.rules [] words) ≡ true
-      → (text : Text) × (first_of name (rows_after s.rules [] words) ≡ Some text) × Passes text
-  given_passes name Passes each given =
+  -- the first values of an option pass
+  all_pass : (name : Text) (Passes : Text → Type 0) → Each (Keeps (AllPass name Passes)) s.rules → AllPass name Passes (rows_after s.rules [] words)
+  all_pass name Passes each =
       let end = (walk s.rules [] nothing_held words).held in
       let walked = both_none (walk_fault s [] (walk_from nothing_held) words) _ faultless in
       let settles = both_none (settle_fault s.rules s.args_override_self end) _ walked.1 in
       let kept = walk_keeps s (AllPass name Passes) keeps [] (walk_from nothing_held) words walked.0 tt in
       let settled_kept = settle_keeps s (AllPass name Passes) keeps s.args_override_self end settles.0 kept in
-      given_first name Passes (rows_after s.rules [] words)
-      (subst (AllPass name Passes) (sym (undefaulted s.rules (settled s.rules end).rows none)) settled_kept) given
+      subst (AllPass name Passes) (sym (undefaulted s.rules (settled s.rules end).rows none)) settled_kept
     where
       keeps : (p : Rule → Bool) (a : Rule) → find p s.rules ≡ Some a → Keeps (AllPass name Passes) a
       keeps p a found = each_found (Keeps (AllPass name Passes)) p s.rules a each found
+
+  -- an option that is given has a first value, and this passes
+  pub given_passes : (name : Text) (Passes : Text → Type 0) → Each (Keeps (AllPass name Passes)) s.rules → is_given name (rows_after s.rules [] words) ≡ true
+      → (text : Text) × (first_of name (rows_after s.rules [] words) ≡ Some text) × Passes text
+  given_passes name Passes each given = given_first name Passes (rows_after s.rules [] words) (all_pass name Passes each) given
+
+  -- an option has no value, or its first value passes
+  pub passes_if_any : (name : Text) (Passes : Text → Type 0) → Each (Keeps (AllPass name Passes)) s.rules
+      → (first_of name (rows_after s.rules [] words) ≡ None)
+      ⊎ ((text : Text) × (first_of name (rows_after s.rules [] words) ≡ Some text) × Passes text)
+  passes_if_any name Passes each = first_if_any name Passes (rows_after s.rules [] words) (all_pass name Passes each)

@@ -1,5 +1,5 @@
 -- The rows of an option whose first values pass a test, over words without a fault.
-use Rattle.std.proofs.Common.{◌≡◌, refl, subst, Bool, true, false, List, [], ◌∷◌, ◌++◌, Option, Some, None, if◌then◌else◌}
+use Rattle.std.proofs.Common.{◌≡◌, ◌⊎◌, inl, inr, refl, subst, Bool, true, false, List, [], ◌∷◌, ◌++◌, Option, Some, None, if◌then◌else◌}
 use Rattle.std.specs.Prelude.{find, option_and_then, slice_get}
 use Rattle.std.specs.Option.{option_map_or}
 use Rattle.std.specs.Str.{bytes_eq}
@@ -73,6 +73,15 @@ module _ (id : Text) (Passes : Text → Type 0) where
           → (text : Text) × (option_and_then (λ r. slice_get r.values 0) o ≡ Some text) × Passes text
       go None e given = cc
       go (Some r) e given = first_text r.values (found_first rows r h e)
+
+  -- the option has no row, or its first row has its text
+  pub first_if_any : (rows : List Row) → AllPass rows → (first_of id rows ≡ None) ⊎ ((text : Text) × (first_of id rows ≡ Some text) × Passes text)
+  first_if_any rows h = go (find (λ r. bytes_eq r.id id) rows) refl
+    where
+      go : (o : Option Row) → find (λ r. bytes_eq r.id id) rows ≡ o
+          → (option_and_then (λ r. slice_get r.values 0) o ≡ None) ⊎ ((text : Text) × (option_and_then (λ r. slice_get r.values 0) o ≡ Some text) × Passes text)
+      go None e = inl refl
+      go (Some r) e = inr (first_text r.values (found_first rows r h e))
 
 -- an argument with no defaults gets none
 pub no_default : (rows : List Row) (a : Rule) → a.defaults ≡ [] → with_default rows a ≡ rows

@@ -18,17 +18,18 @@ use Rattle.clap.proofs.OnLiterals.{clap_on_literals}
 use Rattle.clap.proofs.ValueTestLemmas.{Accepts-accepts}
 use Rattle.land_words.specs.Commands.{land_app}
 use Rattle.land_words.specs.Laws.{IsPlainText, Writes}
-use Rattle.land_words.specs.Names.{Names}
+use Rattle.land_words.specs.Names.{NamesBy}
 use Rattle.land_words.specs.Options.{counts, moments, ports}
 use Rattle.land_words.specs.Orders.{to_talk, to_make, to_serve, to_check}
-use Rattle.land_words.proofs.FaultlessWords.{file_built, serve_built, talk_built}
+use Rattle.land_words.specs.declared.choices.Choices.{Choices}
+use Rattle.land_words.proofs.BuiltCommands.{file_built, serve_built, talk_built}
 
-none_of_both : (a b : Kinds) → a ≡ [] → b ≡ [] → or_else a b ≡ []
+pub none_of_both : (a b : Kinds) → a ≡ [] → b ≡ [] → or_else a b ≡ []
 none_of_both [] b e f = f
 none_of_both (k ∷ ks) b e f = cc
 
 -- behind the name of an option, its value is waited for
-abbrev asked : List Row → Text → Walk
+abbrev pub asked : List Row → Text → Walk
 asked rows name = record {
   held = record { rows = rows; pending = Some (name, []); skip = 0 };
   waiting = option name;
@@ -38,7 +39,7 @@ asked rows name = record {
 }
 
 -- and then it is there
-abbrev answered : List Row → Text → Text → Walk
+abbrev pub answered : List Row → Text → Text → Walk
 answered rows name value = record {
   held = record { rows = rows; pending = Some (name, value ∷ []); skip = 0 };
   waiting = idle;
@@ -47,7 +48,7 @@ answered rows name value = record {
   stopped = None;
 }
 
-abbrev row_with : Text → Reading → Text → Row
+abbrev pub row_with : Text → Reading → Text → Row
 row_with name how value = record {
   id = name;
   values = value ∷ [];
@@ -56,10 +57,10 @@ row_with name how value = record {
   reading = how;
 }
 
-abbrev clock_row : Text → Row
+abbrev pub clock_row : Text → Row
 clock_row = row_with (codes "clock") reading.WithoutMinus
 
-abbrev file_row : Text → Row
+abbrev pub file_row : Text → Row
 file_row = row_with (codes "file") reading.AsWritten
 
 abbrev port_row : Text → Row
@@ -71,15 +72,15 @@ count_row = row_with (codes "connections") reading.WithoutMinus
 -- ---- walks
 
 -- words without a fault lead from one place of a walk to another
-record Leads (s : Shape) (from : Walk) (words : List Text) (end : Walk) : Type 0 where
-  well : walk_fault s [] from words ≡ []
-  ends : fold (walked s.rules []) from words ≡ end
+pub record Leads (s : Shape) (from : Walk) (words : List Text) (end : Walk) : Type 0 where
+  pub well : walk_fault s [] from words ≡ []
+  pub ends : fold (walked s.rules []) from words ≡ end
 
-nowhere : (s : Shape) (from : Walk) → Leads s from [] from
+pub nowhere : (s : Shape) (from : Walk) → Leads s from [] from
 unfolding walk_fault
 nowhere s from = record { well = refl; ends = refl }
 
-on_to : (s : Shape) (from next : Walk) (word : Text) (words : List Text) (end : Walk) → walked s.rules [] from word ≡ next → turn_fault s [] from word ≡ []
+pub on_to : (s : Shape) (from next : Walk) (word : Text) (words : List Text) (end : Walk) → walked s.rules [] from word ≡ next → turn_fault s [] from word ≡ []
     → Leads s next words end → Leads s from (word ∷ words) end
 unfolding walk_fault
 on_to s from next word words end is well rest = record {
@@ -88,13 +89,13 @@ on_to s from next word words end is well rest = record {
 }
 
 -- at the end of the walk nothing is missing or wrong
-record EndsWell (s : Shape) (end : Held) : Type 0 where
-  settles : settle_fault s.rules s.args_override_self end ≡ []
-  defaults : defaults_fault (settled s.rules end).rows s.rules ≡ []
-  checks : check_fault s (finished s.rules end) false ≡ []
+pub record EndsWell (s : Shape) (end : Held) : Type 0 where
+  pub settles : settle_fault s.rules s.args_override_self end ≡ []
+  pub defaults : defaults_fault (settled s.rules end).rows s.rules ≡ []
+  pub checks : check_fault s (finished s.rules end) false ≡ []
 
 module _ (s : Shape) (words : List Text) (end : Walk) (leads : Leads s (walk_from nothing_held) words end) where
-  level_well : EndsWell s end.held → level_fault s [] nothing_held words false [] ≡ []
+  pub level_well : EndsWell s end.held → level_fault s [] nothing_held words false [] ≡ []
   level_well well =
       let held = ap (λ (w : Walk). w.held) leads.ends in
       none_of_both _ _ leads.well
@@ -102,7 +103,7 @@ module _ (s : Shape) (words : List Text) (end : Walk) (leads : Leads s (walk_fro
       (none_of_both _ _ (ap (λ (h : Held). defaults_fault (settled s.rules h).rows s.rules) held ∙ well.defaults)
       (ap (λ (h : Held). check_fault s (finished s.rules h) false) held ∙ well.checks)))
 
-  rows_well : rows_after s.rules [] words ≡ finished s.rules end.held
+  pub rows_well : rows_after s.rules [] words ≡ finished s.rules end.held
   rows_well = ap (λ (w : Walk). finished s.rules w.held) leads.ends
 
 -- ---- texts and numbers
@@ -118,7 +119,7 @@ no_sign sign x other digit = go (x == sign) refl
         absurd (omega arith)
     go false e = refl
 
-no_hyphen : (x : ℕ) → x ≢ 45 → (x == 45) ≡ false
+pub no_hyphen : (x : ℕ) → x ≢ 45 → (x == 45) ≡ false
 no_hyphen x other = go (x == 45) refl
   where
     go : (t : Bool) → (x == 45) ≡ t → t ≡ false
@@ -126,15 +127,15 @@ no_hyphen x other = go (x == 45) refl
     go false e = refl
 
 -- such a number fits into 64 bits
-fits : (n : ℕ) → n ≤ 4102444799999 → FitsSigned w64 (pos n)
+fits : (n : ℕ) → n ≤ 9223372036854775807 → FitsSigned w64 (pos n)
 fits n most = omega arith
 
 -- digits that write a number begin with no hyphen, are in the range, and are read as that number
-abbrev IsRead : (digits : Text) (least most number : ℕ) → Type 0
+abbrev pub IsRead : (digits : Text) (least most number : ℕ) → Type 0
 IsRead digits least most number =
     IsPlainText digits × IsSignedIn (pos least) (pos most) digits × (signed_digits_value 10 digits ≡ pos number)
 
-written : (digits : Text) (least most number : ℕ) → most ≤ 4102444799999 → Writes digits least most number → IsRead digits least most number
+pub written : (digits : Text) (least most number : ℕ) → most ≤ 9223372036854775807 → Writes digits least most number → IsRead digits least most number
 written [] least most number small writes = absurd (omega arith)
 written (x ∷ xs) least most number small writes =
     let minus = no_sign 45 x (omega arith) writes.0.1.0 in
@@ -144,7 +145,7 @@ written (x ∷ xs) least most number small writes =
     let numeral : IsNumeral 10 (without_leading_sign (x ∷ xs)) = subst (IsNumeral 10) (sym unsigned) writes.0 in
     let low : pos least ≤ℤ pos number = search rules in
     let high : pos number ≤ℤ pos most = search rules in
-    let small_one : number ≤ 4102444799999 = omega (arith, small, writes.3) in
+    let small_one : number ≤ 9223372036854775807 = omega (arith, small, writes.3) in
     ((λ e. let bad : (x == 45) ≡ true = rw e refl in cc), (numeral, rw value (fits number small_one), rw value low, rw value high), value)
 
 -- ---- `talk`
@@ -176,28 +177,28 @@ unfolding clap_on_literals
 talk_ends digits accepted = record { settles = rw accepted refl; defaults = refl; checks = refl }
 
 -- the words of the program are those of `talk` behind its name
-talk_fault_below : (program digits : Text) → fault_of land_app (program ∷ codes "talk" ∷ codes "--clock" ∷ digits ∷ [])
+talk_fault_below : (choices : Choices) (program digits : Text) → fault_of (land_app choices) (program ∷ codes "talk" ∷ codes "--clock" ∷ digits ∷ [])
     ≡ or_else (level_fault talk_built [] nothing_held (codes "--clock" ∷ digits ∷ []) false []) []
 unfolding clap_on_literals
-talk_fault_below program digits = refl
+talk_fault_below choices program digits = refl
 
-talk_rows_below : (program digits : Text) → subcommand_of land_app (program ∷ codes "talk" ∷ codes "--clock" ∷ digits ∷ [])
+talk_rows_below : (choices : Choices) (program digits : Text) → subcommand_of (land_app choices) (program ∷ codes "talk" ∷ codes "--clock" ∷ digits ∷ [])
     ≡ Some (codes "talk", rows_after talk_built.rules [] (codes "--clock" ∷ digits ∷ []))
 unfolding clap_on_literals
-talk_rows_below program digits = refl
+talk_rows_below choices program digits = refl
 
-pub plain_talk : (program digits : Text) (moment : ℕ) → Writes digits 0 4102444799999 moment
-    → Names (program ∷ codes "talk" ∷ codes "--clock" ∷ digits ∷ []) (to_talk (pos moment))
-plain_talk program [] moment writes = absurd (omega arith)
-plain_talk program (x ∷ xs) moment writes =
+pub plain_talk : (choices : Choices) (program digits : Text) (moment : ℕ) → Writes digits 0 4102444799999 moment
+    → NamesBy choices (program ∷ codes "talk" ∷ codes "--clock" ∷ digits ∷ []) (to_talk (pos moment))
+plain_talk choices program [] moment writes = absurd (omega arith)
+plain_talk choices program (x ∷ xs) moment writes =
     let read = written (x ∷ xs) 0 4102444799999 moment (omega arith) writes in
     let leads = talk_leads x xs (no_hyphen x read.0) in
     let ends = talk_ends (x ∷ xs) (Accepts-accepts false moments (x ∷ xs) read.1) in
     record {
-      faultless = talk_fault_below program (x ∷ xs) ∙ none_of_both _ _ (level_well talk_built _ _ leads ends) refl;
+      faultless = talk_fault_below choices program (x ∷ xs) ∙ none_of_both _ _ (level_well talk_built _ _ leads ends) refl;
       found = (
         clock_row (x ∷ xs) ∷ [],
-        talk_rows_below program (x ∷ xs) ∙ ap (λ (rows : List Row). Some (codes "talk", rows)) (rows_well talk_built _ _ leads),
+        talk_rows_below choices program (x ∷ xs) ∙ ap (λ (rows : List Row). Some (codes "talk", rows)) (rows_well talk_built _ _ leads),
         record { text = x ∷ xs; found = refl; in_range = read.1; value = read.2 },
       );
     }
@@ -231,55 +232,55 @@ file_ends : (name file : Text) → EndsWell (file_built name) (answered [] (code
 unfolding clap_on_literals
 file_ends name file = record { settles = refl; defaults = refl; checks = refl }
 
-make_fault_below : (program file : Text) → fault_of land_app (program ∷ codes "new" ∷ codes "--file" ∷ file ∷ [])
+make_fault_below : (choices : Choices) (program file : Text) → fault_of (land_app choices) (program ∷ codes "new" ∷ codes "--file" ∷ file ∷ [])
     ≡ or_else (level_fault (file_built (codes "new")) [] nothing_held (codes "--file" ∷ file ∷ []) false []) []
 unfolding clap_on_literals
-make_fault_below program file = refl
+make_fault_below choices program file = refl
 
-make_rows_below : (program file : Text) → subcommand_of land_app (program ∷ codes "new" ∷ codes "--file" ∷ file ∷ [])
+make_rows_below : (choices : Choices) (program file : Text) → subcommand_of (land_app choices) (program ∷ codes "new" ∷ codes "--file" ∷ file ∷ [])
     ≡ Some (codes "new", rows_after (file_built (codes "new")).rules [] (codes "--file" ∷ file ∷ []))
 unfolding clap_on_literals
-make_rows_below program file = refl
+make_rows_below choices program file = refl
 
-check_fault_below : (program file : Text) → fault_of land_app (program ∷ codes "check" ∷ codes "--file" ∷ file ∷ [])
+check_fault_below : (choices : Choices) (program file : Text) → fault_of (land_app choices) (program ∷ codes "check" ∷ codes "--file" ∷ file ∷ [])
     ≡ or_else (level_fault (file_built (codes "check")) [] nothing_held (codes "--file" ∷ file ∷ []) false []) []
 unfolding clap_on_literals
-check_fault_below program file = refl
+check_fault_below choices program file = refl
 
-check_rows_below : (program file : Text) → subcommand_of land_app (program ∷ codes "check" ∷ codes "--file" ∷ file ∷ [])
+check_rows_below : (choices : Choices) (program file : Text) → subcommand_of (land_app choices) (program ∷ codes "check" ∷ codes "--file" ∷ file ∷ [])
     ≡ Some (codes "check", rows_after (file_built (codes "check")).rules [] (codes "--file" ∷ file ∷ []))
 unfolding clap_on_literals
-check_rows_below program file = refl
+check_rows_below choices program file = refl
 
-plain_make : (program : Text) (x : ℕ) (xs : Text) → (x == 45) ≡ false → Names (program ∷ codes "new" ∷ codes "--file" ∷ (x ∷ xs) ∷ []) (to_make (x ∷ xs))
-plain_make program x xs sign =
+plain_make : (choices : Choices) (program : Text) (x : ℕ) (xs : Text) → (x == 45) ≡ false → NamesBy choices (program ∷ codes "new" ∷ codes "--file" ∷ (x ∷ xs) ∷ []) (to_make (x ∷ xs))
+plain_make choices program x xs sign =
     let leads = file_leads (codes "new") x xs sign in
     record {
-      faultless = make_fault_below program (x ∷ xs) ∙ none_of_both _ _ (level_well (file_built (codes "new")) _ _ leads (file_ends (codes "new") (x ∷ xs))) refl;
+      faultless = make_fault_below choices program (x ∷ xs) ∙ none_of_both _ _ (level_well (file_built (codes "new")) _ _ leads (file_ends (codes "new") (x ∷ xs))) refl;
       found = (
         file_row (x ∷ xs) ∷ [],
-        make_rows_below program (x ∷ xs) ∙ ap (λ (rows : List Row). Some (codes "new", rows)) (rows_well (file_built (codes "new")) _ _ leads),
+        make_rows_below choices program (x ∷ xs) ∙ ap (λ (rows : List Row). Some (codes "new", rows)) (rows_well (file_built (codes "new")) _ _ leads),
         refl,
       );
     }
 
-plain_check : (program : Text) (x : ℕ) (xs : Text) → (x == 45) ≡ false → Names (program ∷ codes "check" ∷ codes "--file" ∷ (x ∷ xs) ∷ []) (to_check (x ∷ xs))
-plain_check program x xs sign =
+plain_check : (choices : Choices) (program : Text) (x : ℕ) (xs : Text) → (x == 45) ≡ false → NamesBy choices (program ∷ codes "check" ∷ codes "--file" ∷ (x ∷ xs) ∷ []) (to_check (x ∷ xs))
+plain_check choices program x xs sign =
     let leads = file_leads (codes "check") x xs sign in
     record {
-      faultless = check_fault_below program (x ∷ xs) ∙ none_of_both _ _ (level_well (file_built (codes "check")) _ _ leads (file_ends (codes "check") (x ∷ xs))) refl;
+      faultless = check_fault_below choices program (x ∷ xs) ∙ none_of_both _ _ (level_well (file_built (codes "check")) _ _ leads (file_ends (codes "check") (x ∷ xs))) refl;
       found = (
         file_row (x ∷ xs) ∷ [],
-        check_rows_below program (x ∷ xs) ∙ ap (λ (rows : List Row). Some (codes "check", rows)) (rows_well (file_built (codes "check")) _ _ leads),
+        check_rows_below choices program (x ∷ xs) ∙ ap (λ (rows : List Row). Some (codes "check", rows)) (rows_well (file_built (codes "check")) _ _ leads),
         refl,
       );
     }
 
-pub plain_files : (program file : Text) → IsPlainText file
-    → Names (program ∷ codes "new" ∷ codes "--file" ∷ file ∷ []) (to_make file)
-    × Names (program ∷ codes "check" ∷ codes "--file" ∷ file ∷ []) (to_check file)
-plain_files program [] plain = absurd plain
-plain_files program (x ∷ xs) plain = let sign = no_hyphen x plain in (plain_make program x xs sign, plain_check program x xs sign)
+pub plain_files : (choices : Choices) (program file : Text) → IsPlainText file
+    → NamesBy choices (program ∷ codes "new" ∷ codes "--file" ∷ file ∷ []) (to_make file)
+    × NamesBy choices (program ∷ codes "check" ∷ codes "--file" ∷ file ∷ []) (to_check file)
+plain_files choices program [] plain = absurd plain
+plain_files choices program (x ∷ xs) plain = let sign = no_hyphen x plain in (plain_make choices program x xs sign, plain_check choices program x xs sign)
 
 -- ---- `serve`
 
@@ -356,32 +357,32 @@ serve_ends : (file port_digits count_digits : Text) → accepts false counts cou
 unfolding clap_on_literals
 serve_ends file port_digits count_digits accepted = record { settles = rw accepted refl; defaults = refl; checks = refl }
 
-serve_fault_below : (program file port_digits count_digits : Text) → fault_of land_app (program ∷ codes "serve" ∷ service file port_digits count_digits)
+serve_fault_below : (choices : Choices) (program file port_digits count_digits : Text) → fault_of (land_app choices) (program ∷ codes "serve" ∷ service file port_digits count_digits)
     ≡ or_else (level_fault serve_built [] nothing_held (service file port_digits count_digits) false []) []
 unfolding clap_on_literals
-serve_fault_below program file port_digits count_digits = refl
+serve_fault_below choices program file port_digits count_digits = refl
 
-serve_rows_below : (program file port_digits count_digits : Text) → subcommand_of land_app (program ∷ codes "serve" ∷ service file port_digits count_digits)
+serve_rows_below : (choices : Choices) (program file port_digits count_digits : Text) → subcommand_of (land_app choices) (program ∷ codes "serve" ∷ service file port_digits count_digits)
     ≡ Some (codes "serve", rows_after serve_built.rules [] (service file port_digits count_digits))
 unfolding clap_on_literals
-serve_rows_below program file port_digits count_digits = refl
+serve_rows_below choices program file port_digits count_digits = refl
 
-pub plain_service : (program file port_digits count_digits : Text) (port connections : ℕ) → IsPlainText file
+pub plain_service : (choices : Choices) (program file port_digits count_digits : Text) (port connections : ℕ) → IsPlainText file
     → Writes port_digits 1 65535 port → Writes count_digits 1 1000000 connections
-    → Names (program ∷ codes "serve" ∷ service file port_digits count_digits) (to_serve file port connections)
-plain_service program [] port_digits count_digits port connections plain port_written count_written = absurd plain
-plain_service program (x ∷ xs) [] count_digits port connections plain port_written count_written = absurd (omega arith)
-plain_service program (x ∷ xs) (y ∷ ys) [] port connections plain port_written count_written = absurd (omega arith)
-plain_service program (x ∷ xs) (y ∷ ys) (z ∷ zs) port connections plain port_written count_written =
+    → NamesBy choices (program ∷ codes "serve" ∷ service file port_digits count_digits) (to_serve file port connections)
+plain_service choices program [] port_digits count_digits port connections plain port_written count_written = absurd plain
+plain_service choices program (x ∷ xs) [] count_digits port connections plain port_written count_written = absurd (omega arith)
+plain_service choices program (x ∷ xs) (y ∷ ys) [] port connections plain port_written count_written = absurd (omega arith)
+plain_service choices program (x ∷ xs) (y ∷ ys) (z ∷ zs) port connections plain port_written count_written =
     let at_port = written (y ∷ ys) 1 65535 port (omega arith) port_written in
     let in_all = written (z ∷ zs) 1 1000000 connections (omega arith) count_written in
     let leads = serve_leads x y z xs ys zs (no_hyphen x plain) (no_hyphen y at_port.0) (no_hyphen z in_all.0) (Accepts-accepts false ports (y ∷ ys) at_port.1) in
     let ends = serve_ends (x ∷ xs) (y ∷ ys) (z ∷ zs) (Accepts-accepts false counts (z ∷ zs) in_all.1) in
     record {
-      faultless = serve_fault_below program (x ∷ xs) (y ∷ ys) (z ∷ zs) ∙ none_of_both _ _ (level_well serve_built _ _ leads ends) refl;
+      faultless = serve_fault_below choices program (x ∷ xs) (y ∷ ys) (z ∷ zs) ∙ none_of_both _ _ (level_well serve_built _ _ leads ends) refl;
       found = (
         file_row (x ∷ xs) ∷ port_row (y ∷ ys) ∷ count_row (z ∷ zs) ∷ [],
-        serve_rows_below program (x ∷ xs) (y ∷ ys) (z ∷ zs) ∙ ap (λ (rows : List Row). Some (codes "serve", rows)) (rows_well serve_built _ _ leads),
+        serve_rows_below choices program (x ∷ xs) (y ∷ ys) (z ∷ zs) ∙ ap (λ (rows : List Row). Some (codes "serve", rows)) (rows_well serve_built _ _ leads),
         (
           refl,
           record { text = y ∷ ys; found = refl; in_range = at_port.1; value = at_port.2 },

@@ -1,4 +1,5 @@
 -- Definitions of the words of the command line.
+pub mod Choices
 pub mod Commands
 pub mod Laws
 pub mod Names

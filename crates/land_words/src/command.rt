@@ -1,5 +1,8 @@
 //! What the words of the command line ask for.
 
+use land_core::caller::Caller;
+use land_core::kind::Kind;
+
 /// What the words of the command line ask for. A file's name is kept where the words are.
 #[derive(Clone, Copy, Debug, PartialEq, Eq)]
 pub enum Command<'a> {
@@ -26,5 +29,18 @@ pub enum Command<'a> {
     Check {
         /// The file's name.
         file: &'a str,
+    },
+    /// `extract`: to print, as a table, what a caller sees of a kind in the register in a file.
+    Extract {
+        /// The file's name.
+        file: &'a str,
+        /// What the clock reads: a moment, in milliseconds since 1970 UTC.
+        clock: i64,
+        /// Who asks.
+        caller: Caller,
+        /// Of which kind the objects are.
+        kind: Kind,
+        /// The moment that is looked at, in milliseconds since 1970 UTC; if there is none, that of the clock.
+        at: Option<i64>,
     },
 }

@@ -2,10 +2,15 @@
 //! no proof has more than one of them in sight.
 ghost use Rattle.std.specs.Prelude.{IfOk};
 ghost use Rattle.clap.specs.Words.{App, Rule, new_app, with_rule, with_subcommand};
-ghost use Rattle.land_words.specs.Commands.{IsCommand, check_app, land_app, make_app, of_commands, serve_app, talk_app};
+ghost use Rattle.land_words.specs.Commands.{IsCommand, check_app, extract_app, land_app, make_app, of_commands, serve_app, talk_app};
+ghost use Rattle.land_words.specs.Commands.{with_caller, with_clock};
 ghost use Rattle.land_words.specs.Options.{IsOption};
 
-use crate::options::{connections_option, file_option, moment_option, port_option};
+use crate::choices::Choices;
+use crate::options::{
+    at_option, clock_option, connections_option, file_option, kind_option, party_option,
+    port_option, role_option,
+};
 use clap::{Arg, Command};
 use std::alloc::{AllocError, Global};
 
@@ -46,13 +51,7 @@ fn talk<'a>(alloc: Global) -> Result<Command<'a>, AllocError>
         "Answers the HTTP requests on standard input over a new register, which is kept in memory alone";
     let example = "Example: land talk --clock 1000 < requests.http";
     let talk = named(alloc, "talk", about, example);
-    let clock = moment_option(
-        alloc,
-        "clock",
-        "What the clock always reads, in milliseconds since 1970 UTC, 0 to 4102444799999",
-        true,
-    );
-    with_option(talk, clock)
+    with_option(talk, clock_option(alloc))
 }
 
 fn make<'a>(alloc: Global) -> Result<Command<'a>, AllocError>
@@ -94,9 +93,43 @@ fn check<'a>(alloc: Global) -> Result<Command<'a>, AllocError>
     with_option(check, file)
 }
 
-/// The program with all its commands.
-pub fn land<'a>(alloc: Global) -> Result<Command<'a>, AllocError>
-    ensures { IfOk result (IsCommand land_app) }
+/// A command over a file, at what a clock reads.
+fn with_clock<'a>(alloc: Global, command: Command<'a>) -> Result<Command<'a>, AllocError>
+    ensures { (app : App) → IsCommand app command.entry → IfOk result (IsCommand (with_clock app)) }
+{
+    let with_file = with_option(command, file_option(alloc, "The file of the register"))?;
+    with_option(with_file, clock_option(alloc))
+}
+
+/// A command that is told who asks: a party, and in which role.
+fn with_caller<'a>(
+    alloc: Global,
+    command: Command<'a>,
+    roles: &'a [&'a str],
+) -> Result<Command<'a>, AllocError>
+    ensures { (app : App) → IsCommand app command.entry → IfOk result (IsCommand (with_caller roles.entry app)) }
+{
+    let with_party = with_option(command, party_option(alloc))?;
+    with_option(with_party, role_option(alloc, roles))
+}
+
+fn extract<'a>(alloc: Global, choices: Choices<'a>) -> Result<Command<'a>, AllocError>
+    ensures { IfOk result (IsCommand (extract_app choices.entry)) }
+{
+    let about =
+        "Prints what a party sees of one kind in the register in a file, as CSV, and changes nothing";
+    let example =
+        "Example: land extract --file town.land --clock 1000 --party 3 --role citizen --kind rrr";
+    let extract = named(alloc, "extract", about, example);
+    let timed = with_clock(alloc, extract)?;
+    let asked = with_caller(alloc, timed, choices.roles)?;
+    let with_kind = with_option(asked, kind_option(alloc, choices.kinds))?;
+    with_option(with_kind, at_option(alloc))
+}
+
+/// The program with all its commands, which takes these words for roles and kinds.
+pub fn land<'a>(alloc: Global, choices: Choices<'a>) -> Result<Command<'a>, AllocError>
+    ensures { IfOk result (IsCommand (land_app choices.entry)) }
 {
     let about =
         "A land register: parties, their rights, restrictions and responsibilities, and the land that these are of";
@@ -105,5 +138,6 @@ pub fn land<'a>(alloc: Global) -> Result<Command<'a>, AllocError>
     let talking = with_command(land, talk(alloc)?)?;
     let making = with_command(talking, make(alloc)?)?;
     let serving = with_command(making, serve(alloc)?)?;
-    with_command(serving, check(alloc)?)
+    let checking = with_command(serving, check(alloc)?)?;
+    with_command(checking, extract(alloc, choices)?)
 }

@@ -1,5 +1,6 @@
 //! Laws, each stated over the definitions alone.
-ghost use Rattle.land_words.specs.Laws.{FaultlessWordsLaw, OneCommandLaw, PlainFileLaw, PlainServiceLaw, PlainTalkLaw};
+ghost use Rattle.land_words.specs.Laws.{FaultlessWordsLaw, OneCommandLaw, PlainExtractLaw, PlainFileLaw};
+ghost use Rattle.land_words.specs.Laws.{PlainServiceLaw, PlainTalkLaw};
 
 /// The same words name one command at most.
 pub fn words_name_one_command()
@@ -24,4 +25,10 @@ pub fn plain_files_are_read()
 /// `serve --file FILE --port PORT --connections COUNT` names that service, where PORT and COUNT are decimal digits.
 pub fn plain_services_are_read()
     ensures { PlainServiceLaw }
+{}
+
+/// `extract --file FILE --clock MS --party NUMBER --role ROLE --kind KIND` names that extract, where the numbers are decimal
+/// digits, and `--at MS` behind them says at which moment.
+pub fn plain_extracts_are_read()
+    ensures { PlainExtractLaw }
 {}

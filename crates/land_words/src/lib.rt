@@ -1,6 +1,7 @@
 //! The words of the command line, read by `clap`.
 #![tactic(auto)]
 
+pub mod choices;
 pub mod command;
 mod commands;
 pub mod laws;

@@ -5,16 +5,21 @@ ghost use Rattle.clap.specs.Words.{fault_of, first_of, found_of, rows_of, subcom
 ghost use Rattle.land_words.specs.Commands.{land_app};
 ghost use Rattle.land_words.specs.Names.{IsNumberOf};
 
+use crate::choices::Choices;
 use crate::commands::land;
 use clap::{ArgMatches, Error};
 use std::alloc::Global;
 
-/// What `clap` finds in the words, of which the first is the program's name.
-pub fn matches<'a>(alloc: Global, words: &'a [String]) -> Result<ArgMatches<'a>, Error>
-    ensures found { IfOk result (λ m. subcommand_rows_of m ≡ subcommand_of land_app (map string_bytes words.entry.now)) }
-    ensures kinds { FailsBy (fault_of land_app (map string_bytes words.entry.now)) result }
+/// What `clap` finds in the words, of which the first is the program's name, where it takes these words for roles and kinds.
+pub fn matches<'a>(
+    alloc: Global,
+    choices: Choices<'a>,
+    words: &'a [String],
+) -> Result<ArgMatches<'a>, Error>
+    ensures found { IfOk result (λ m. subcommand_rows_of m ≡ subcommand_of (land_app choices.entry) (map string_bytes words.entry.now)) }
+    ensures kinds { FailsBy (fault_of (land_app choices.entry) (map string_bytes words.entry.now)) result }
 {
-    let land = land(alloc)?;
+    let land = land(alloc, choices)?;
     land.try_get_matches_from(words)
 }
 

@@ -4,6 +4,8 @@ use crate::tests::talk::{Talk, Told};
 use land_desk::serve::{DeskFault, Served, serve};
 use land_keep::keeper::Keeper;
 use land_keep::plain_keeper::PlainKeeper;
+pub use land_scenario::playing::open_sink;
+pub use land_scenario::talk::common;
 use std::alloc::{AllocError, Global};
 use std::test::Fail;
 
@@ -84,17 +86,6 @@ impl Office {
     }
 }
 
-/// How many bytes two texts have in common at their front.
-pub fn common(first: &[u8], second: &[u8]) -> usize {
-    let most = first.len().min(second.len());
-    for place in 0..most {
-        if first[place] != second[place] {
-            return place;
-        }
-    }
-    most
-}
-
 /// Whether serving came to an end for want of memory, or the first reply that is not as it was to be has the status 503.
 pub fn is_want_of_memory(served: &Result<Served, DeskFault>, taken: &[u8], wanted: &[u8]) -> bool {
     if *served == Err(DeskFault::NoMemory) {
@@ -123,11 +114,7 @@ pub fn is_told(alloc: Global, input: &[u8], told: Told, ends: bool) -> Result<bo
     is_answered(alloc, input, 50, 1, talk.output.as_bytes())
 }
 
-/// A writer that takes all it is given, and has room for a reply more than is wanted.
-pub fn open_sink(alloc: Global, wanted: usize) -> Result<Sink, AllocError> {
-    Ok(Sink {
-        taken: Vec::with_capacity(alloc, wanted.saturating_add(2048))?,
-        writes: usize::MAX,
-        fails: false,
-    })
+/// Whether a command has said that there was no memory.
+pub fn lacked_memory(errors: &Sink) -> bool {
+    errors.taken.as_slice() == b"land: fault 501\n".as_slice()
 }

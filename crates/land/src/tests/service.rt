@@ -1,12 +1,22 @@
 //! Connections that are served one after another.
+ghost use Rattle.std.specs.Prelude.{IfErr};
+ghost use Rattle.land.specs.ProgramFaults.{IsFaultOfClosing};
+
+use crate::host::Host;
+use crate::program_fault::ProgramFault;
+use crate::run::run_command;
 use crate::set_clock::SetClock;
-use crate::tests::doubles::{Pieces, Sink};
-use crate::tests::office::{common, open_sink};
+use crate::tests::doubles::{Pieces, Readings, Sink};
+use crate::tests::office::{common, lacked_memory, open_sink};
 use land_keep::clock::Clock;
 use land_keep::plain_keeper::PlainKeeper;
+use land_keep::store_fault::StoreFault;
 use land_service::connections::Connections;
 use land_service::machine_clock::MachineClock;
 use land_service::service::{ServiceFault, serve_connections};
+use land_tables::tables::Tables;
+use land_words::command::Command;
+use sqlite::{Connection, MemStore};
 use std::alloc::{AllocError, Global};
 use std::io;
 use std::io::{Read, Write};
@@ -179,4 +189,125 @@ fn the_machine_has_a_clock(rt: HostRuntime) {
     let mut clock = MachineClock { machine: &rt };
     let reading = clock.read();
     assert!(rt; 1_577_836_800_000 < reading && reading < 4_102_444_800_000);
+}
+
+/// A machine with a register in memory under every name, and with connections that a test makes.
+#[derive(Drop)]
+struct TownHost<'a> {
+    alloc: Global,
+    calls: Option<Calls<'a>>,
+}
+
+impl<'a> Host for TownHost<'a> {
+    type Store = MemStore;
+
+    type Listener = Calls<'a>;
+
+    ghost holds = { λ _ _. Unit {0} };
+
+    fn alloc(&self) -> Global {
+        self.alloc
+    }
+
+    fn open_new(&mut self, _file: &str) -> Result<Connection<MemStore>, ProgramFault> {
+        Ok(Connection::open_in_memory(self.alloc)?)
+    }
+
+    fn open_found(&mut self, file: &str) -> Result<Connection<MemStore>, ProgramFault> {
+        match Tables::create(self.open_new(file)?) {
+            Ok(tables) => Ok(tables.into_connection()),
+            Err((_, StoreFault::NoMemory)) => Err(ProgramFault::NoMemory),
+            Err(_) => Err(ProgramFault::Open),
+        }
+    }
+
+    fn close(_left: &mut Option<Connection<MemStore>>) -> Result<(), ProgramFault>
+        ensures { IfErr result IsFaultOfClosing }
+    {
+        Ok(())
+    }
+
+    fn listen(&mut self, _port: u16) -> io::Result<Calls<'a>> {
+        match self.calls.take() {
+            Some(calls) => Ok(calls),
+            None => Err(io::Error::from(io::ErrorKind::AddrInUse)),
+        }
+    }
+}
+
+/// Does the command that serves so many connections, and gives its status.
+fn status(
+    alloc: Global,
+    calls: Calls<'_>,
+    connections: u32,
+    output: &mut Sink,
+    errors: &mut Sink,
+) -> u8 {
+    let command = Command::Serve {
+        file: "town.land",
+        port: 8080,
+        connections,
+    };
+    let mut town = TownHost {
+        alloc,
+        calls: Some(calls),
+    };
+    let mut input: &[u8] = b"";
+    let mut clock = Readings { left: &[] };
+    run_command(&mut town, command, &mut input, output, errors, &mut clock)
+}
+
+/// Connections that a command serves: how many, the status that it ends with, and what it says on the output of errors.
+#[derive(Clone, Copy)]
+struct Ending(u32, u8, &'static str);
+
+/// Whether a command has ended so, and has said nothing else. Want of memory ends the test.
+fn has_ended(ending: Ending, status: u8, output: &Sink, errors: &Sink) -> Result<bool, Fail> {
+    if lacked_memory(errors) {
+        return Err("no memory")?;
+    }
+    Ok(
+        status == ending.1
+            && output.taken.is_empty()
+            && errors.taken.as_slice() == ending.2.as_bytes(),
+    )
+}
+
+/// Whether the command that serves these connections ends so.
+fn ends(alloc: Global, calls: Calls<'_>, ending: Ending) -> Result<bool, Fail> {
+    let mut output = open_sink(alloc, 0)?;
+    let mut errors = open_sink(alloc, 64)?;
+    let status = status(alloc, calls, ending.0, &mut output, &mut errors);
+    has_ended(ending, status, &output, &errors)
+}
+
+/// Whether each connection is told what it is to be.
+fn are_told(calls: &[Call], sinks: &[Sink]) -> Result<bool, Fail> {
+    for (call, sink) in calls.iter().zip(sinks.iter()) {
+        if !is_told(&sink.taken, call.told)? {
+            return Ok(false);
+        }
+    }
+    Ok(true)
+}
+
+/// Whether the command that serves connections ends so, and each of them is told what it is to be.
+fn is_service(alloc: Global, calls: &'static [Call], ending: Ending) -> Result<bool, Fail> {
+    let mut sinks = sinks(alloc, calls)?;
+    let all = Calls {
+        calls,
+        sinks: sinks.iter_mut(),
+    };
+    match ends(alloc, all, ending) {
+        Ok(true) => are_told(calls, &sinks),
+        ended => ended,
+    }
+}
+
+#[test]
+fn a_command_serves_connections(rt: HostRuntime) -> Result<(), Fail> {
+    assert!(rt; is_service(rt.alloc(), CALLS, Ending(5, 0, ""))?);
+    let cut_off = Ending(2, 1, "land: input or output failed\n");
+    assert!(rt; is_service(rt.alloc(), &CALLS[..1], cut_off)?);
+    Ok(())
 }

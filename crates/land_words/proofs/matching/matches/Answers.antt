@@ -4,24 +4,25 @@ use Rattle.clap.specs.Words.{App, fault_of, is_simple, is_simple_and_free, subco
 use Rattle.clap.proofs.FaultLemmas.{fails_as}
 use Rattle.clap.proofs.OnLiterals.{clap_on_literals}
 use Rattle.land_words.specs.Commands.{land_app}
+use Rattle.land_words.specs.declared.choices.Choices.{Choices}
 use Rattle.land_words.proofs.matching.matches.Goals as goal
 
-simple : is_simple land_app ≡ true
+simple : (choices : Choices) → is_simple (land_app choices) ≡ true
 unfolding clap_on_literals
-simple = refl
+simple choices = refl
 
-free : is_simple_and_free land_app ≡ true
+free : (choices : Choices) → is_simple_and_free (land_app choices) ≡ true
 unfolding clap_on_literals
-free = refl
+free choices = refl
 
 pub returns-clause-found : goal.returns-clause-found
 returns-clause-found c =
     let land_is = c.in_ok-land.ensures.app_is in
     IfOk-weaker c.try_get_matches_from.result _ _
-    (λ m h. (h (ap is_simple land_is ∙ simple)).1 ∙ ap (λ (a : App). subcommand_of a (map string_bytes c.args.words.now)) land_is) c.try_get_matches_from.ensures.matches
+    (λ m h. (h (ap is_simple land_is ∙ simple c.args.choices)).1 ∙ ap (λ (a : App). subcommand_of a (map string_bytes c.args.words.now)) land_is) c.try_get_matches_from.ensures.matches
 
 pub returns-clause-kinds : goal.returns-clause-kinds
 returns-clause-kinds c =
     let land_is = c.in_ok-land.ensures.app_is in
     fails_as c.try_get_matches_from.result _ _ (ap (λ (a : App). fault_of a (map string_bytes c.args.words.now)) land_is)
-    (c.try_get_matches_from.ensures.kinds (ap is_simple_and_free land_is ∙ free))
+    (c.try_get_matches_from.ensures.kinds (ap is_simple_and_free land_is ∙ free c.args.choices))

@@ -1,0 +1,248 @@
+"""The service in Python: http.server and sqlite3 over a register's file, with the texts of the crates.
+
+    python3 bench/desk.py FILE PORT
+
+It answers lists, views and title sheets of citizens, banks, notaries and the office as the program does, by the same texts in the same
+order, and the acts enrol, register, transfer and approve with the checks that the requests of joins.py need, and no others: it
+writes the same rows in one commit each, synchronous to the disk.
+"""
+import datetime
+import http.server
+import json
+import re
+import sqlite3
+import sys
+import time
+
+from registers import OPEN, texts
+
+LOOK = texts("land_lookups/src/texts.rt")
+EVERY, OWN, HOLDER, GROUP, CREDITOR = (texts(f"land_joins/src/{name}.rt") for name in ("all", "own", "holder", "group", "creditor"))
+KINDS = {"parties": "PARTY", "units": "UNIT", "parcels": "PARCEL", "rrrs": "ENTRY"}
+ALL = {"PARTY": "PARTIES", "UNIT": "UNITS", "PARCEL": "PARCELS", "ENTRY": "ENTRIES"}
+SIGHT = {
+    ("citizen", "PARTY"): [OWN["ITSELF"], OWN["GROUPS"], HOLDER["PARTIES"], GROUP["PARTIES"]],
+    ("citizen", "UNIT"): [HOLDER["UNITS"], GROUP["UNITS"]],
+    ("citizen", "ENTRY"): [HOLDER["ENTRIES"], GROUP["ENTRIES"]],
+    ("bank", "PARTY"): [OWN["ITSELF"], CREDITOR["PARTIES"]],
+    ("bank", "UNIT"): [CREDITOR["UNITS"]],
+    ("bank", "ENTRY"): [CREDITOR["ENTRIES"]],
+}
+DENIED = {("citizen", "UNIT"): 11, ("citizen", "ENTRY"): 12, ("citizen", "PARTY"): 13,
+          ("bank", "UNIT"): 15, ("bank", "ENTRY"): 16, ("bank", "PARTY"): 17}
+
+
+class Denied(Exception):
+    """A rule denies what is asked: its number."""
+
+
+class Lost(Exception):
+    """The path names nothing."""
+
+
+def doubled_area(outline):
+    points = [tuple(map(int, point.split())) for point in outline[10:-2].split(",")]
+    return abs(sum(a * d - b * c for (a, b), (c, d) in zip(points, points[1:])))
+
+
+def share(row):
+    return f"{row[4]}/{row[5]}"
+
+
+def entry_object(row):
+    number, unit, party, kind, _, _, amount, currency, place, words, source = row[:11]
+    shown = {"class": kind, "number": number, "party": party, "source": source, "unit": unit}
+    if kind == "mortgage":
+        return {**shown, "amount": amount, "currency": currency, "rank": place}
+    return {**shown, "words": words} if words is not None else {**shown, "share": share(row)}
+
+
+def says(row):
+    if row[3] == "mortgage":
+        return f"rank {row[8]} {row[7]} {row[6]}"
+    return row[9] if row[9] is not None else share(row)
+
+
+def metres(doubled):
+    return f"{doubled * 5 // 10**7}.{doubled * 5 % 10**7:07}"
+
+
+class Register:
+    """What the service answers. `ask` runs a text, and may be exchanged for one that keeps them."""
+
+    def __init__(self, base):
+        self.base = base
+        self.ask = lambda text, *cells: base.execute(text, cells).fetchall()
+        self.last, self.next = base.execute("SELECT stamp, next FROM moments ORDER BY stamp DESC LIMIT 1").fetchone()
+
+    def stand(self, party, role):
+        found, roles = self.ask(LOOK["PARTY"], party, OPEN - 1), self.ask(LOOK["ROLES_OF_PARTY"], party, OPEN - 1)
+        if not found:
+            raise Denied(1)
+        if not any(row[1] == role for row in roles):
+            raise Denied(2)
+
+    def sight(self, party, role, kind, at):
+        found = SIGHT.get((role, kind), [EVERY[ALL[kind]]])
+        return sorted({number for text in found for number, in self.ask(text, party, at)})
+
+    @staticmethod
+    def sees_all(role, kind):
+        return (role, kind) not in SIGHT
+
+    def look(self, kind, number, at):
+        rows = self.ask(LOOK[kind], number, at)
+        if kind == "PARTY":
+            return rows and [(*rows[0], self.ask(LOOK["ROLES_OF_PARTY"], number, at), self.ask(LOOK["MEMBERS_OF_GROUP"], number, at))]
+        return rows
+
+    def judge(self, party, role, kind, number, at):
+        if self.sees_all(role, kind):
+            if not self.look(kind, number, at):
+                raise Denied(27)
+        elif number not in self.sight(party, role, kind, at):
+            raise Denied(DENIED[role, kind])
+
+    def object(self, kind, number, at):
+        row, = self.look(kind, number, at)
+        if kind == "PARTY":
+            members = [{"party": member[1], "share": f"{member[2]}/{member[3]}"} for member in row[6]]
+            return {"kind": row[2], "members": members, "name": row[1], "number": number, "roles": [held[1] for held in row[5]]}
+        if kind == "UNIT":
+            return {"checked": row[2] == 1, "name": row[1], "number": number}
+        if kind == "PARCEL":
+            return {"doubled": doubled_area(row[3]), "label": row[2], "number": number, "outline": row[3], "source": row[4], "unit": row[1]}
+        return entry_object(row)
+
+    def sheet(self, party, role, unit, at):
+        found, = self.ask(LOOK["UNIT"], unit, at)
+        parcels, entries = self.ask(LOOK["PARCELS_OF_UNIT"], unit, at), self.ask(LOOK["ENTRIES_OF_UNIT"], unit, at)
+        if not self.sees_all(role, "ENTRY"):
+            listed = self.sight(party, role, "ENTRY", at)
+            entries = [row for row in entries if row[0] in listed]
+        names = [self.ask(LOOK["PARTY"], row[2], at)[0][1] for row in entries]
+        areas = [doubled_area(row[3]) for row in parcels]
+        moment = datetime.datetime.fromtimestamp(at / 1000, datetime.timezone.utc)
+        lines = ["TITLE SHEET", f"Unit {unit} {found[1]}", f"At {moment:%Y-%m-%dT%H:%M:%S}.{at % 1000:03}Z",
+                 "Shares checked" if found[2] else "Shares unchecked", f"Area {metres(sum(areas))}", f"Parcels {len(parcels)}",
+                 *(f"{row[0]:>10}  {metres(area):>20}  {row[2]}" for row, area in zip(parcels, areas)), f"Entries {len(entries)}",
+                 *(f"{row[0]:>10}  {row[3]:<14}  {row[2]:>10} {name}: {says(row)}" for row, name in zip(entries, names)), "END", ""]
+        return "\n".join(lines)
+
+    def read(self, party, role, path):
+        """The value or the text that is shown under a path."""
+        word, *rest = path[1:].split("/")
+        if word not in KINDS:
+            raise Lost
+        self.stand(party, role)
+        at = max(time.time_ns() // 1000000, self.last)
+        kind = KINDS[word]
+        if not rest:
+            return {"numbers": self.sight(party, role, kind, at)}
+        number = int(rest[0])
+        self.judge(party, role, kind, number, at)
+        return self.sheet(party, role, number, at) if len(rest) == 2 else {"object": self.object(kind, number, at)}
+
+    def write(self, party, role, act, body):
+        self.stand(party, role)
+        stamp = max(time.time_ns() // 1000000, self.last + 1)
+        with self.base:
+            count, told = getattr(self, act)(party, body, self.next, stamp)
+            self.base.execute("INSERT INTO moments (stamp, next) VALUES (?, ?)", (stamp, self.next + count))
+        made = list(range(self.next, self.next + count))
+        self.last, self.next = stamp, self.next + count
+        return {"made": made, "number": told, "stamp": stamp}
+
+    def put(self, table, *cells):
+        self.base.execute(f"INSERT INTO {table} VALUES ({', '.join('?' * len(cells))})", cells)
+
+    def enrol(self, _, body, new, stamp):
+        self.put("party", new, body["name"], body["kind"], stamp, OPEN)
+        self.put("role", new, "citizen", stamp, OPEN)
+        return 1, new
+
+    def register(self, _, body, new, stamp):
+        rights, parcels = body["rights"], body["parcels"]
+        if not all(self.ask(LOOK["PARTY"], right["party"], stamp) for right in rights):
+            raise ValueError("a holder does not stand")
+        self.put("source", new, "administrative", body["document"], stamp, OPEN)
+        self.put("unit", new + 1, body["name"], int(body["checked"]), stamp, OPEN)
+        for place, parcel in enumerate(parcels, new + 2):
+            self.put("parcel", place, new + 1, parcel["label"], parcel["outline"], new, stamp, OPEN)
+        for place, right in enumerate(rights, new + 2 + len(parcels)):
+            num, den = map(int, right["share"].split("/"))
+            self.put("rrr", place, new + 1, right["party"], right["type"], num, den, None, None, None, None, new, stamp, OPEN)
+        return 2 + len(parcels) + len(rights), new + 1
+
+    def transfer(self, party, body, new, stamp):
+        if self.base.execute("SELECT 1 FROM mutation WHERE lodger = ? AND reference = ?", (party, body["reference"])).fetchone():
+            raise ValueError("the reference was used")
+        fields = {key: body[key] for key in ("receiver", "right", "share", "unit")}
+        content = json.dumps(fields, separators=(",", ":"))
+        self.put("source", new, "administrative", body["document"], stamp, OPEN)
+        self.put("mutation", new + 1, party, body["reference"], new, stamp, "transfer", content, "lodged", stamp, OPEN)
+        self.put("names", new + 1, body["unit"], stamp, OPEN)
+        return 2, new + 1
+
+    def approve(self, _, body, new, stamp):
+        """Approves the transfer of a whole right to a party that has none of its type in the unit."""
+        (number, lodger, reference, source, lodged, act, content, state, *_), = self.ask(LOOK["MUTATION"], body["mutation"], stamp)
+        asked = json.loads(content)
+        right, = self.ask(LOOK["ENTRY"], asked["right"], stamp)
+        entries = self.ask(LOOK["ENTRIES_OF_UNIT"], asked["unit"], stamp)
+        if state != "lodged" or share(right) != asked["share"] or any(row[2] == asked["receiver"] for row in entries):
+            raise ValueError("another approval than is known here")
+        if not self.ask(LOOK["PARTY"], asked["receiver"], stamp):
+            raise ValueError("the receiver does not stand")
+        close = "UPDATE {} SET until = ? WHERE number = ? AND until = ?"
+        self.base.execute(close.format("rrr"), (stamp, right[0], OPEN))
+        self.put("rrr", new, right[1], asked["receiver"], *right[3:10], source, stamp, OPEN)
+        self.base.execute(close.format("mutation"), (stamp, number, OPEN))
+        self.put("mutation", number, lodger, reference, source, lodged, act, content, "approved", stamp, OPEN)
+        return 1, number
+
+
+class Handler(http.server.BaseHTTPRequestHandler):
+    protocol_version = "HTTP/1.1"
+    wbufsize = -1
+
+    def answer(self, work):
+        try:
+            told, status = work(int(self.headers["Register-Party"]), self.headers["Register-Role"]), 200
+        except Denied as rule:
+            told, status = {"denied": rule.args[0]}, 403
+        except Lost:
+            told, status = {"fault": 136}, 400
+        is_text = isinstance(told, str)
+        body = (told if is_text else json.dumps(told, separators=(",", ":"), sort_keys=True)).encode()
+        self.send_response_only(status)
+        self.send_header("Content-Type", "text/plain; charset=utf-8" if is_text else "application/json")
+        self.send_header("Content-Length", str(len(body)))
+        self.end_headers()
+        self.wfile.write(body)
+
+    def do_GET(self):
+        self.answer(lambda party, role: self.server.register.read(party, role, self.path))
+
+    def do_POST(self):
+        body = json.loads(self.rfile.read(int(self.headers["Content-Length"])))
+        act = re.fullmatch("/acts/(enrol|register|transfer|approve)", self.path)[1]
+        self.answer(lambda party, role: self.server.register.write(party, role, act, body))
+
+    def log_message(self, *_):
+        pass
+
+
+def main():
+    file, port = sys.argv[1], int(sys.argv[2])
+    server = http.server.HTTPServer(("127.0.0.1", port), Handler)
+    base = sqlite3.connect(file)
+    base.execute("PRAGMA locking_mode = exclusive")
+    base.execute("PRAGMA journal_mode = wal")
+    base.execute("PRAGMA synchronous = full")
+    server.register = Register(base)
+    server.serve_forever()
+
+
+if __name__ == "__main__":
+    main()

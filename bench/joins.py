@@ -1,0 +1,494 @@
+#!/usr/bin/env python3
+"""The time of each request over registers of several sizes: the service over a file, beside C SQLite, PostgreSQL and Python.
+
+    bench/joins.py [ENTRIES..]           (1000 10000; 100000 takes minutes more)
+    LAND=PROGRAM bench/joins.py ..       another program than crates/land/out/land
+
+For each number of entries a register is written (registers.py), taken by `land check`, and asked by an owner of one unit, a bank with one
+mortgage and a notary. What stands beside each other:
+
+    land        `land serve`: HTTP over one kept connection on loopback, one request after another, each awaited
+    at once     the same, 32 requests sent before their replies are read, which the client acknowledges at once
+    SQLite      the texts that the request runs, in their order, by C SQLite through Python's sqlite3 with statements that it keeps and
+                the file locked once: no HTTP, no reply, nobody decides. `land` is told as a multiple of it, and so is `land` less the time
+                of a path that names nothing, which is that of HTTP alone
+    PostgreSQL  one statement (of a sheet four) under policies of row-level security, by pgbench: prepared, over a socket of Unix, the
+                caller set once for the connection; no HTTP, no JSON, and nobody asks whether the caller still holds its role
+    Python      http.server with sqlite3 and the same texts (desk.py), as `land`
+
+The replies of `land` and of Python are compared before they are timed. Each figure is the least of the medians of five short runs, taken in
+turns; what takes more than 10 milliseconds is not asked at once. Then the acts, in milliseconds each, the median and the mean time that the
+service has a processor, over one kept connection and over one connection a request: what is written is synchronous to the disk on both
+sides, and both files are taken by `land check` afterwards. PostgreSQL is left out where it is not installed.
+"""
+import glob
+import json
+import os
+import re
+import shutil
+import signal
+import socket
+import sqlite3
+import statistics
+import subprocess
+import sys
+import tempfile
+import time
+
+import registers
+from desk import Denied, Lost, Register
+from registers import BANK, BUSY, CALM, NOTARY, OFFICE, OPEN, PROGRAM, SMALL_BANK, TOP
+
+RUNS, SECONDS, AT_ONCE, ACTS = 5, 0.04, 32, 60
+
+
+def head(method, path, party, role, body=None):
+    """The bytes of a request."""
+    text = "" if body is None else json.dumps(body)
+    length = f"Content-Length: {len(text)}\r\n" if text else ""
+    return f"{method} {path} HTTP/1.1\r\nRegister-Party: {party}\r\nRegister-Role: {role}\r\n{length}\r\n{text}".encode()
+
+
+class Client:
+    """One connection, on which replies are read by their Content-Length."""
+
+    def __init__(self, port):
+        self.socket = socket.create_connection(("127.0.0.1", port))
+        self.socket.setsockopt(socket.IPPROTO_TCP, socket.TCP_NODELAY, 1)
+        self.rest = b""
+        self.acknowledges = False
+
+    def reply(self):
+        told = self.rest
+        while (end := told.find(b"\r\n\r\n")) < 0:
+            told += self.more()
+        place = told.index(b"Content-Length: ") + 16
+        whole = end + 4 + int(told[place:told.index(b"\r", place)])
+        if len(told) < whole:
+            parts, size = [told], len(told)
+            while size < whole:
+                parts.append(self.more())
+                size += len(parts[-1])
+            told = b"".join(parts)
+        self.rest = told[whole:]
+        return int(told[9:12]), told[end + 4:whole]
+
+    def more(self):
+        if self.acknowledges:
+            self.socket.setsockopt(socket.IPPROTO_TCP, socket.TCP_QUICKACK, 1)
+        some = self.socket.recv(1 << 18)
+        if not some:
+            raise SystemExit("a service has ended its connection")
+        return some
+
+    def ask(self, request):
+        self.socket.sendall(request)
+        return self.reply()
+
+    def ask_at_once(self, requests, count):
+        self.acknowledges = True
+        self.socket.sendall(requests)
+        for _ in range(count):
+            self.reply()
+        self.acknowledges = False
+
+    def close(self):
+        self.socket.close()
+
+
+def free_port():
+    with socket.socket() as it:
+        it.bind(("127.0.0.1", 0))
+        return it.getsockname()[1]
+
+
+class Service:
+    """A service that was started, once it answers."""
+
+    running = []
+
+    def __init__(self, words):
+        self.port = free_port()
+        self.process = subprocess.Popen([word.format(port=self.port) for word in words])
+        self.running.append(self)
+        while True:
+            try:
+                Client(self.port).close()
+                return
+            except ConnectionRefusedError:
+                if self.process.poll() is not None:
+                    raise SystemExit(f"a service ends with {self.process.returncode}")
+                time.sleep(0.02)
+
+    def processor(self):
+        """The seconds that it has had of a processor."""
+        with open(f"/proc/{self.process.pid}/schedstat", encoding="ascii") as it:
+            return int(it.read().split()[0]) / 1e9
+
+    def stop(self):
+        self.process.kill()
+        self.process.wait()
+        self.running.remove(self)
+
+
+def land(file):
+    return Service([PROGRAM, "serve", "--file", file, "--port", "{port}", "--connections", "1000000"])
+
+
+def python(file):
+    return Service([sys.executable, str(TOP / "bench" / "desk.py"), file, "{port}"])
+
+
+def check(file):
+    begin = time.perf_counter()
+    ran = subprocess.run([PROGRAM, "check", "--file", file], capture_output=True, text=True)
+    if not ran.stdout.startswith("sound: "):
+        raise SystemExit(f"{file}: check: status {ran.returncode}: {ran.stdout}{ran.stderr}")
+    return time.perf_counter() - begin
+
+
+def median(work):
+    """The seconds that a piece of work takes: the median of a run."""
+    times, end = [], time.perf_counter() + SECONDS
+    while len(times) < 3 or time.perf_counter() < end:
+        begin = time.perf_counter()
+        work()
+        times.append(time.perf_counter() - begin)
+    return statistics.median(times)
+
+
+POLICIES = """
+CREATE VIEW my_groups AS SELECT grp FROM member WHERE party = (SELECT ME) AND STANDS;
+CREATE VIEW held AS
+  SELECT unit, class FROM rrr WHERE party = (SELECT ME) AND class IN ('ownership', 'lease', 'usufruct') AND STANDS
+  UNION ALL
+  SELECT unit, class FROM my_groups JOIN rrr ON rrr.party = my_groups.grp WHERE class IN ('ownership', 'lease', 'usufruct') AND STANDS;
+CREATE VIEW credited AS SELECT unit FROM rrr WHERE party = (SELECT ME) AND class = 'mortgage' AND STANDS;
+CREATE VIEW citizen_parties AS
+  SELECT ME AS number UNION ALL SELECT grp FROM my_groups UNION ALL
+  SELECT rrr.party FROM held JOIN rrr ON rrr.unit = held.unit WHERE (rrr.class <> 'mortgage' OR held.class = 'ownership') AND STANDS;
+CREATE VIEW bank_parties AS
+  SELECT ME AS number UNION ALL
+  SELECT rrr.party FROM credited JOIN rrr ON rrr.unit = credited.unit WHERE (rrr.class <> 'mortgage' OR rrr.party = (SELECT ME)) AND STANDS;
+CREATE ROLE citizen; CREATE ROLE bank; CREATE ROLE notary;
+GRANT SELECT ON ALL TABLES IN SCHEMA public TO citizen, bank, notary;
+ALTER TABLE party ENABLE ROW LEVEL SECURITY;
+ALTER TABLE unit ENABLE ROW LEVEL SECURITY;
+ALTER TABLE parcel ENABLE ROW LEVEL SECURITY;
+ALTER TABLE rrr ENABLE ROW LEVEL SECURITY;
+CREATE POLICY everybody ON parcel FOR SELECT USING (STANDS);
+CREATE POLICY notaries ON party FOR SELECT TO notary USING (STANDS);
+CREATE POLICY notaries ON unit FOR SELECT TO notary USING (STANDS);
+CREATE POLICY notaries ON rrr FOR SELECT TO notary USING (STANDS);
+CREATE POLICY citizens ON party FOR SELECT TO citizen USING (STANDS AND number = ANY (ARRAY(SELECT number FROM citizen_parties)));
+CREATE POLICY citizens ON unit FOR SELECT TO citizen USING (STANDS AND number = ANY (ARRAY(SELECT unit FROM held)));
+CREATE POLICY citizens ON rrr FOR SELECT TO citizen USING (STANDS AND unit = ANY (ARRAY(SELECT unit FROM held))
+  AND (class <> 'mortgage' OR unit = ANY (ARRAY(SELECT unit FROM held WHERE class = 'ownership'))));
+CREATE POLICY banks ON party FOR SELECT TO bank USING (STANDS AND number = ANY (ARRAY(SELECT number FROM bank_parties)));
+CREATE POLICY banks ON unit FOR SELECT TO bank USING (STANDS AND number = ANY (ARRAY(SELECT unit FROM credited)));
+CREATE POLICY banks ON rrr FOR SELECT TO bank USING (STANDS AND unit = ANY (ARRAY(SELECT unit FROM credited))
+  AND (class <> 'mortgage' OR party = (SELECT ME)));
+"""
+MOMENT = "(SELECT current_setting('land.at')::bigint)"
+POLICIES = re.sub(r"\bME\b", "current_setting('land.party')::bigint", POLICIES.replace("STANDS", f"since <= {MOMENT} AND {MOMENT} < until"))
+
+
+class Postgres:
+    """A server of its own in a folder, with a register's rows, which are loaded again for each register."""
+
+    def __init__(self, folder):
+        self.folder = os.path.join(folder, "postgres")
+        self.bin = sorted(glob.glob("/usr/lib/postgresql/*/bin"))[-1]
+        os.mkdir(self.folder)
+        self.user = None
+        if os.geteuid() == 0:
+            self.user = "nobody"
+            os.chmod(folder, 0o755)
+            shutil.chown(self.folder, self.user)
+        self.data = os.path.join(self.folder, "data")
+        self.run("initdb", "-D", self.data, "-U", "office", "-A", "trust", "--locale=C", "-E", "UTF8")
+        with open(os.path.join(self.data, "postgresql.conf"), "a", encoding="ascii") as it:
+            it.write(f"listen_addresses = ''\nunix_socket_directories = '{self.folder}'\nautovacuum = off\n")
+        self.run("pg_ctl", "-D", self.data, "-l", os.path.join(self.folder, "log"), "-w", "start")
+
+    def run(self, program, *words, caller="", given=None):
+        settings = {"PATH": os.environ["PATH"], "PGHOST": self.folder, "PGUSER": "office", "PGDATABASE": "postgres", "PGOPTIONS": caller, "LC_ALL": "C"}
+        ran = subprocess.run([os.path.join(self.bin, program), *words], input=given, capture_output=True, text=True, env=settings,
+                             user=self.user, cwd=self.folder)
+        if ran.returncode != 0:
+            raise SystemExit(f"{program}: {ran.stdout}{ran.stderr}")
+        return ran.stdout
+
+    def load(self, file):
+        """The schema with the same keys and indexes, all rows, the policies."""
+        schema = registers.schema().replace(") STRICT", ")").replace("INTEGER", "BIGINT")
+        lines = ["DROP SCHEMA public CASCADE; CREATE SCHEMA public; GRANT USAGE ON SCHEMA public TO PUBLIC;",
+                 "DROP ROLE IF EXISTS citizen; DROP ROLE IF EXISTS bank; DROP ROLE IF EXISTS notary;", schema]
+        base = sqlite3.connect(file)
+        for table in re.findall(r"CREATE TABLE (\w+)", schema):
+            lines.append(f"COPY {table} FROM STDIN;")
+            lines += ["\t".join("\\N" if cell is None else str(cell) for cell in row) for row in base.execute(f"SELECT * FROM {table}")]
+            lines.append("\\.")
+        base.close()
+        self.run("psql", "-q", "-v", "ON_ERROR_STOP=1", given="\n".join([*lines, POLICIES, "VACUUM ANALYZE;", ""]))
+
+    def caller(self, party, role):
+        return f"-c role={role} -c land.party={party} -c land.at={time.time_ns() // 1000000}"
+
+    def rows(self, statement, party, role):
+        return self.run("psql", "-qAt", "-c", statement, caller=self.caller(party, role)).splitlines()
+
+    def seconds(self, statements, party, role, count):
+        script = os.path.join(self.folder, "script")
+        with open(script, "w", encoding="ascii") as it:
+            it.write("".join(f"{statement};\n" for statement in statements))
+        os.chmod(script, 0o644)
+        told = self.run("pgbench", "-n", "-M", "prepared", "-f", script, "-t", str(count), "-l", "--log-prefix", os.path.join(self.folder, "times"),
+                 caller=self.caller(party, role))
+        log, = glob.glob(os.path.join(self.folder, "times.*"))
+        with open(log, encoding="ascii") as it:
+            times = [spent for spent in (int(line.split()[2]) for line in it) if spent > 0]
+        os.remove(log)
+        return statistics.median(times) / 1e6 if times else float(re.search(r"latency average = ([0-9.]+) ms", told)[1]) / 1000
+
+    def stop(self):
+        self.run("pg_ctl", "-D", self.data, "-m", "immediate", "stop")
+
+
+TABLES = {"parties": "party", "units": "unit", "parcels": "parcel", "rrrs": "rrr"}
+
+
+def statements(path):
+    """What PostgreSQL is asked for a path."""
+    word, *rest = path[1:].split("/")
+    table = TABLES[word]
+    if not rest:
+        return [f"SELECT number FROM {table} ORDER BY number"]
+    view = [f"SELECT * FROM {table} WHERE number = {rest[0]}"]
+    if len(rest) == 1:
+        return view
+    return [*view, f"SELECT * FROM parcel WHERE unit = {rest[0]} ORDER BY number",
+            f"SELECT * FROM rrr WHERE unit = {rest[0]} ORDER BY number",
+            f"SELECT number, name FROM party WHERE number = ANY (ARRAY(SELECT party FROM rrr WHERE unit = {rest[0]}))"]
+
+
+def asked(known):
+    """Who asks, in which role, what that is called, and the path."""
+    owner, unit, other = known["owner"], known["unit"], known["entries"][0]
+    citizen, bank, notary = (owner, "citizen"), (SMALL_BANK, "bank"), (NOTARY, "notary")
+    return [
+        (*citizen, "a path that names nothing", "/nothing"),
+        (*citizen, "its units", "/units"),
+        (*citizen, "the entries in its sight", "/rrrs"),
+        (*citizen, "the parties in its sight", "/parties"),
+        (*citizen, "an entry in its sight", f"/rrrs/{known['entry']}"),
+        (*citizen, "an entry that is denied", f"/rrrs/{other}"),
+        (*citizen, "a parcel", f"/parcels/{known['parcel']}"),
+        (*citizen, "its title sheet", f"/units/{unit}/sheet"),
+        (*citizen, "a title sheet that is denied", f"/units/{known['units'][0]}/sheet"),
+        (*bank, "the units in its sight", "/units"),
+        (*bank, "the entries in its sight", "/rrrs"),
+        (*bank, "its mortgage", f"/rrrs/{known['mortgage']}"),
+        (*bank, "an entry that is denied", f"/rrrs/{other}"),
+        (*bank, "the title sheet", f"/units/{unit}/sheet"),
+        (BANK, "bank", "an entry, where it has a mortgage on all other units", f"/rrrs/{other}"),
+        (*notary, "an entry", f"/rrrs/{other}"),
+        (*notary, "an entry that is not there", "/rrrs/999999999"),
+        (*notary, "a title sheet", f"/units/{unit}/sheet"),
+        (*notary, "all units", "/units"),
+        (*citizen, "all parcels", "/parcels"),
+    ]
+
+
+def masked(reply):
+    """A reply without the moment of a sheet."""
+    return reply[0], re.sub(rb"(?m)^At .*", b"At T", reply[1])
+
+
+def same_answers(ask, desk, postgres, base, requests):
+    """That both services answer the same, and PostgreSQL as many rows; the texts of each request with what they are asked."""
+    run = []
+    for party, role, name, path in requests:
+        request = head("GET", path, party, role)
+        mine, theirs = masked(ask.ask(request)), masked(desk.ask(request))
+        if mine != theirs:
+            raise SystemExit(f"{role}, {name}: {mine}, and Python: {theirs}")
+        kept = []
+        register = Register(base)
+        register.ask = lambda text, *cells: kept.append((text, cells)) or base.execute(text, cells).fetchall()
+        try:
+            register.read(party, role, path)
+        except (Denied, Lost):
+            pass
+        run.append((mine[0], kept))
+        if postgres and kept:
+            rows = len(postgres.rows(statements(path)[0], party, role))
+            wanted = 0 if mine[0] == 403 else len(json.loads(mine[1])["numbers"]) if path.count("/") == 1 else 1
+            if rows != wanted:
+                raise SystemExit(f"{role}, {name}: {rows} rows of PostgreSQL, not {wanted}")
+    return run
+
+
+def run_texts(base, texts):
+    for text, cells in texts:
+        base.execute(text, cells).fetchall()
+
+
+def micros(seconds):
+    return "-" if seconds is None else f"{seconds * 1e6:,.0f}"
+
+
+def reads(file, known, postgres):
+    """The table of reads; of each request its name and the seconds of the service."""
+    requests = asked(known)
+    mine, theirs = land(file), python(shutil.copy(file, file + ".python"))
+    ask, desk = Client(mine.port), Client(theirs.port)
+    base = sqlite3.connect(shutil.copy(file, file + ".sqlite"))
+    base.execute("PRAGMA locking_mode = exclusive")
+    runs = same_answers(ask, desk, postgres, base, requests)
+    print("| caller | request | told | `land` | at once | SQLite | to SQLite: `land`, and without HTTP | PostgreSQL | Python |\n|---|---|---|---|---|---|---|---|---|")
+    served, alone = [], None
+    for (party, role, name, path), (status, texts) in zip(requests, runs):
+        request, figures = head("GET", path, party, role), []
+        counts = 20
+        for _ in range(RUNS):
+            one = median(lambda: ask.ask(request))
+            row = median(lambda: ask.ask_at_once(request * AT_ONCE, AT_ONCE)) / AT_ONCE if one < 0.01 else None
+            lite = median(lambda: run_texts(base, texts))
+            other = median(lambda: desk.ask(request))
+            rows = None
+            if postgres and texts:
+                rows = postgres.seconds(statements(path), party, role, counts)
+                counts = max(20, min(5000, int(2 * SECONDS / rows)))
+            figures.append((one, row, lite, rows, other))
+        one, row, lite, rows, other = (min((some for some in figure if some is not None), default=None) for figure in zip(*figures))
+        served.append((role, name, one))
+        if texts:
+            ratio = f"{one / lite:.1f}, {(one - alone) / lite:.1f}"
+        else:
+            alone, lite, ratio = one, None, "-"
+        print(f"| {role} | {name} | {status} | {micros(one)} | {micros(row)} | {micros(lite)} | {ratio} | {micros(rows)} | {micros(other)} |", flush=True)
+    for it in (ask, desk, base):
+        it.close()
+    mine.stop()
+    theirs.stop()
+    return served
+
+
+def act(word, party, role, body):
+    return head("POST", f"/acts/{word}", party, role, body)
+
+
+def enrolments(_, count, tag):
+    return [act("enrol", OFFICE, "stateAdministrator", {"kind": "naturalPerson", "name": f"{tag} {n}"}) for n in range(count)]
+
+
+def registrations(known, count, tag):
+    owner = known["owner"]
+    return [act("register", OFFICE, "stateAdministrator", {
+        "name": f"{tag} {n}", "checked": True, "document": "Deed", "parcels": [{"label": "1", "outline": registers.square(900000 + n)}],
+        "rights": [{"party": owner, "type": "ownership", "share": "1/1"}]}) for n in range(count)]
+
+
+def lodgings(known, count, tag, lodgers):
+    """Transfers to the notary, by these lodgers in turns, each of the right that was named the longest ago."""
+    for n in range(count):
+        unit, right = known["rights"].pop()
+        known["rights"].insert(0, (unit, right))
+        yield act("transfer", lodgers[n % len(lodgers)], "conveyancer", {
+            "reference": f"{tag} {n}", "document": "Deed", "unit": unit, "right": right, "receiver": NOTARY, "share": "1/2"})
+
+
+def approvals(lodged):
+    return [act("approve", OFFICE, "stateAdministrator", {"mutation": number}) for number in lodged]
+
+
+def played(service, requests, is_kept):
+    """The median of the seconds that requests take, the mean of those on the service's processor, and the numbers that are told."""
+    told, times, port, before = [], [], service.port, service.processor()
+    client = Client(port) if is_kept else None
+    for request in requests:
+        begin = time.perf_counter()
+        one = client or Client(port)
+        status, body = one.ask(request)
+        if not client:
+            one.close()
+        times.append(time.perf_counter() - begin)
+        if status != 200:
+            raise SystemExit(f"{request}: {status}: {body}")
+        told.append(json.loads(body)["number"])
+    if client:
+        client.close()
+    return statistics.median(times), (service.processor() - before) / len(times), told
+
+
+def settled(file):
+    """A file that C SQLite wrote, without its log."""
+    base = sqlite3.connect(file)
+    base.execute("PRAGMA journal_mode = delete")
+    base.close()
+    return file
+
+
+def acts(file, known):
+    """The table of acts, which changes the files."""
+    files = [file, file + ".python"]
+    services = [land(files[0]), python(files[1])]
+    print("\n| act | connection | `land` | of it on the processor | Python | of it on the processor |\n|---|---|---|---|---|---|")
+    figures = []
+    for is_kept, way in ((True, "kept"), (False, "one a request")):
+        for name, make in (
+                ("an enrolment", lambda: enrolments(known, ACTS, f"Act {way}")),
+                ("a registration", lambda: registrations(known, ACTS, f"Act {way}")),
+                ("a lodging, of 20 lodgers", lambda: list(lodgings(known, ACTS, f"L {way}", CALM))),
+                ("an approval", lambda: approvals),
+                ("a lodging, of one with all earlier ones", lambda: list(lodgings(known, ACTS, f"B {way}", [BUSY])))):
+            requests = make()
+            both = []
+            for place, service in enumerate(services):
+                if requests is approvals:
+                    some = approvals(lodged[place])
+                else:
+                    some = requests
+                both.append(played(service, some, is_kept))
+            lodged = [told for _, _, told in both]
+            print(f"| {name} | {way} | {' | '.join(f'{seconds * 1e3:.2f}' for figure in both for seconds in figure[:2])} |", flush=True)
+            figures.append((name, way, both[0][0], both[0][1]))
+    for service in services:
+        service.stop()
+    check(files[0])
+    check(settled(files[1]))
+    return figures
+
+
+def main():
+    signal.signal(signal.SIGTERM, lambda *_: sys.exit(1))
+    sizes = [int(word) for word in sys.argv[1:]] or [1000, 10000]
+    grown, acted = [], []
+    with tempfile.TemporaryDirectory() as folder:
+        has_postgres = bool(glob.glob("/usr/lib/postgresql/*/bin/postgres"))
+        postgres = Postgres(folder) if has_postgres else None
+        try:
+            for entries in sizes:
+                file = os.path.join(folder, f"{entries}.land")
+                known = registers.of_entries(file, entries)
+                print(f"\n## {entries:,} entries, {len(known['units']):,} units; taken by `land check` in {check(file):.2f} s; a read, in µs\n", flush=True)
+                if postgres:
+                    postgres.load(file)
+                grown.append(reads(file, known, postgres))
+                acted.append(acts(file, known))
+        finally:
+            for service in [*Service.running]:
+                service.stop()
+            if postgres:
+                postgres.stop()
+    heads = "|".join(f" {size:,} " for size in sizes)
+    print(f"\n## `land` by the number of entries\n\n| request |{heads}|\n|---{'|---' * len(sizes)}|")
+    for row in zip(*grown):
+        print(f"| {row[0][0]}: {row[0][1]}, µs | {' | '.join(micros(seconds) for _, _, seconds in row)} |")
+    for row in zip(*acted):
+        print(f"| {row[0][0]}, {row[0][1]}, ms (on the processor) | {' | '.join(f'{all_in * 1e3:.2f} ({alone * 1e3:.2f})' for _, _, all_in, alone in row)} |")
+
+
+if __name__ == "__main__":
+    main()

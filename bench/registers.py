@@ -1,0 +1,124 @@
+"""Registers for measuring, written as files of sqlite by the schema of docs/TABLES.md, and the texts that the crates run over them."""
+import math
+import os
+import re
+import sqlite3
+from pathlib import Path
+
+TOP = Path(__file__).resolve().parents[1]
+PROGRAM = os.environ.get("LAND", str(TOP / "crates" / "land" / "out" / "land"))
+OPEN = 4102444800000
+OFFICE, NOTARY, BANK, SMALL_BANK, BUSY, TOWN = range(1, 7)
+CALM = range(7, 27)
+FIRST = 27
+
+
+def schema():
+    page = (TOP / "docs" / "TABLES.md").read_text()
+    return re.search(r"```sql\n(.*?)```", page, re.S).group(1)
+
+
+def texts(file):
+    """The texts that stand in a source as constants, by their names."""
+    found = re.findall(r'const (\w+): &str =\s*"((?:[^"\\]|\\.)*)"', (TOP / "crates" / file).read_text(), re.S)
+    return {name: re.sub(r"\\\n\s*", "", text) for name, text in found}
+
+
+def opened(path):
+    """A new file with the tables and the first row of each register."""
+    base = sqlite3.connect(path)
+    base.executescript(schema())
+    base.execute("INSERT INTO edition VALUES (1, 1)")
+    base.execute("INSERT INTO moments VALUES (0, 2)")
+    base.execute("INSERT INTO party VALUES (1, 'Land Office', 'nonNaturalPerson', 0, ?)", (OPEN,))
+    base.execute("INSERT INTO role VALUES (1, 'stateAdministrator', 0, ?)", (OPEN,))
+    return base
+
+
+def put(base, table, rows):
+    if rows:
+        base.executemany(f"INSERT INTO {table} VALUES ({', '.join('?' * len(rows[0]))})", rows)
+
+
+def square(place):
+    west, south = 20000 * (place % 1000), 20000 * (place // 1000)
+    east, north = west + 10000, south + 10000
+    return f"POLYGON (({west} {south}, {east} {south}, {east} {north}, {west} {north}, {west} {south}))"
+
+
+def of_entries(path, entries):
+    """A register of so many entries, four for each unit, at the stamps 1000 and 2000; who asks, and what for.
+
+    A unit has a parcel, a restriction of the town, a mortgage of a bank and two owners that own nothing else; the owners of each
+    tenth unit hold it as a group, and one of them leases it. One unit is mortgaged to a small bank. For each tenth unit a transfer was
+    lodged by one conveyancer, at 1000, and refused at 2000.
+    """
+    units = entries // 4
+    middle = units // 2 // 10 * 10 + 5
+    base = opened(path)
+    people = [(NOTARY, "Notary", "notary"), (BANK, "Bank", "bank"), (SMALL_BANK, "Small Bank", "bank"),
+              (BUSY, "Busy", "conveyancer"), (TOWN, "Town", "citizen"), *((n, f"Calm {n}", "conveyancer") for n in CALM)]
+    parties = [(number, name, "nonNaturalPerson", 1000, OPEN) for number, name, _ in people]
+    roles = [(number, role, 1000, OPEN) for number, _, role in people]
+    members, sources, estates, parcels, rrrs, mutations, names = [], [], [], [], [], [], []
+    known, number = {"units": [], "rights": [], "entries": []}, FIRST
+    for place in range(units):
+        shared = place % 10 == 0
+        anna, ben, group, deed, unit, parcel, first, mutation = (number + step for step in (0, 1, 2, 3, 4, 5, 6, 10))
+        number += 11
+        for person in (anna, ben):
+            parties.append((person, f"Owner {person}", "naturalPerson", 1000, OPEN))
+            roles.append((person, "citizen", 1000, OPEN))
+        sources.append((deed, "administrative", f"Deed {deed}", 1000, OPEN))
+        estates.append((unit, f"Unit {unit}", 1, 1000, OPEN))
+        parcels.append((parcel, unit, f"P{parcel}", square(place), deed, 1000, OPEN))
+        if shared:
+            parties.append((group, f"Group {group}", "group", 1000, OPEN))
+            members += [(group, person, 1, 2, 1000, OPEN) for person in (anna, ben)]
+            rights = [(group, "ownership", 1, 1), (anna, "lease", 1, 1)]
+            content = f'{{"receiver":{ben},"right":{first},"share":"1/2","unit":{unit}}}'
+            common = (mutation, BUSY, f"R{mutation}", deed, 1000, "transfer", content)
+            mutations += [(*common, "lodged", 1000, 2000), (*common, "refused", 2000, OPEN)]
+            names.append((mutation, unit, 1000, OPEN))
+        else:
+            rights = [(anna, "ownership", 1, 2), (ben, "ownership", 1, 2)]
+        rrrs += [(first + step, unit, *right, None, None, None, None, deed, 1000, OPEN) for step, right in enumerate(rights)]
+        rrrs.append((first + 2, unit, TOWN, "restriction", None, None, None, None, None, "No well", deed, 1000, OPEN))
+        creditor = SMALL_BANK if place == middle else BANK
+        rrrs.append((first + 3, unit, creditor, "mortgage", None, None, 2500000, "EUR", 1, None, deed, 1000, OPEN))
+        known["units"].append(unit)
+        known["entries"].append(first)
+        if not shared:
+            known["rights"].append((unit, first))
+        if place == middle:
+            known.update(owner=anna, unit=unit, entry=first, mortgage=first + 3, parcel=parcel)
+    for table, rows in (("party", parties), ("role", roles), ("member", members), ("source", sources), ("unit", estates),
+                        ("parcel", parcels), ("rrr", rrrs), ("mutation", mutations), ("names", names)):
+        put(base, table, rows)
+    put(base, "moments", [(1000, number), (2000, number)])
+    base.commit()
+    base.close()
+    return known
+
+
+def of_changes(path, changes):
+    """A register of so many changes: in turns one enrols a party, and one registers a unit with a parcel, a document and that party's right."""
+    base = opened(path)
+    rows = {table: [] for table in ("party", "role", "moments", "source", "unit", "parcel", "rrr")}
+    number = 2
+    for cycle in range(math.ceil(changes / 2)):
+        since = 1000 + 2 * cycle
+        party, deed, unit, parcel, entry = range(number, number + 5)
+        rows["party"].append((party, f"Party {party}", "naturalPerson", since, OPEN))
+        rows["role"].append((party, "citizen", since, OPEN))
+        rows["moments"].append((since, number + 1))
+        rows["source"].append((deed, "administrative", f"Deed {deed}", since + 1, OPEN))
+        rows["unit"].append((unit, f"Unit {unit}", 1, since + 1, OPEN))
+        rows["parcel"].append((parcel, unit, f"P{parcel}", square(cycle), deed, since + 1, OPEN))
+        rows["rrr"].append((entry, unit, party, "ownership", 1, 1, None, None, None, None, deed, since + 1, OPEN))
+        number += 5
+        rows["moments"].append((since + 1, number))
+    for table, some in rows.items():
+        put(base, table, some)
+    base.commit()
+    base.close()

@@ -1,0 +1,2 @@
+-- Lemmas of what is put of an extract.
+pub mod Puts

@@ -1,0 +1,3 @@
+-- Definitions of extracts, and of what is written of them.
+pub mod Extracts
+pub mod Writing
