@@ -3,6 +3,7 @@
 //! Nothing here has a contract: it says what an office is asked and told, and is for tests alone.
 #![tactic(auto)]
 
+pub mod calls;
 pub mod doubles;
 pub mod first;
 pub mod lines;

@@ -8,13 +8,25 @@ use land_keep::keeper::Keeper;
 use land_keep::plain_keeper::PlainKeeper;
 use std::alloc::{AllocError, Global};
 
-/// How the reply that tells of want of memory begins, after its first 9 bytes.
+/// The head of the reply that tells of want of memory, after its first 9 bytes.
 const NO_ROOM: &[u8] =
-    b"503 Service Unavailable\r\nContent-Type: application/json\r\nContent-Length: 13\r\n\r\n{\"store\":501}";
+    b"503 Service Unavailable\r\nContent-Type: application/json\r\nContent-Length: 13\r\n\r\n";
 
 /// The same, where the connection ends after it.
 const LAST_NO_ROOM: &[u8] =
-    b"503 Service Unavailable\r\nContent-Type: application/json\r\nContent-Length: 13\r\nConnection: close\r\n\r\n{\"store\":501}";
+    b"503 Service Unavailable\r\nContent-Type: application/json\r\nContent-Length: 13\r\nConnection: close\r\n\r\n";
+
+/// Whether this begins with such a head and its text, or, as a HEAD is told, the head alone.
+fn begins_with_no_room(rest: &[u8], head: &[u8]) -> bool {
+    match rest.strip_prefix(head) {
+        Some(text) => {
+            text.is_empty()
+                || text.starts_with(b"{\"store\":501}")
+                || text.starts_with(b"HTTP/1.1 ")
+        }
+        None => false,
+    }
+}
 
 /// Whether serving came to an end for want of memory, or the first reply that is not as it was to be tells of it.
 fn is_want_of_memory(served: &Result<Served, DeskFault>, taken: &[u8], wanted: &[u8]) -> bool {
@@ -26,7 +38,7 @@ fn is_want_of_memory(served: &Result<Served, DeskFault>, taken: &[u8], wanted: &
         return false;
     }
     let rest = &taken[same..];
-    rest.starts_with(NO_ROOM) || rest.starts_with(LAST_NO_ROOM)
+    begins_with_no_room(rest, NO_ROOM) || begins_with_no_room(rest, LAST_NO_ROOM)
 }
 
 /// A writer that takes all it is given, and has room for a reply more than is wanted.

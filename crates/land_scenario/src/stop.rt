@@ -2,6 +2,7 @@
 use land_keep::store_fault::StoreFault;
 use sqlite::{Error, ErrorCode};
 use std::alloc::AllocError;
+use std::io;
 
 /// Why a test stops.
 #[derive(Clone, Copy)]
@@ -33,6 +34,15 @@ impl From<StoreFault> for Stop {
     fn from(fault: StoreFault) -> Stop {
         match fault {
             StoreFault::NoMemory => Stop::Memory,
+            _ => Stop::Call,
+        }
+    }
+}
+
+impl From<io::Error> for Stop {
+    fn from(error: io::Error) -> Stop {
+        match error.kind() {
+            io::ErrorKind::OutOfMemory => Stop::Memory,
             _ => Stop::Call,
         }
     }

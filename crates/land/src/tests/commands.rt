@@ -2,21 +2,20 @@
 use crate::local_host::LocalHost;
 use crate::run::run_command;
 use crate::tests::conclusion::conclude;
-use crate::tests::doubles::{Readings, Sink};
-use crate::tests::office::{lacked_memory, open_sink};
 use land_core::caller::Caller;
 use land_core::kind::Kind;
 use land_core::role::Role;
-use land_scenario::playing::play_steps;
+use land_scenario::doubles::{Readings, Sink};
+use land_scenario::playing::{open_sink, play_steps};
 use land_scenario::stop::{Stop, expect};
 use land_select::sql_keeper::SqlKeeper;
 use land_tables::tables::Tables;
 use land_words::command::Command;
 use sqlite::{Connection, File, FileStore};
+use std::fs;
 use std::net::TcpListener;
 use std::rt::HostRuntime;
 use std::test::Fail;
-use std::{fs, io};
 
 /// A file of a test, and the log beside it.
 #[derive(Clone, Copy)]
@@ -80,6 +79,11 @@ fn status(rt: &HostRuntime, command: Command<'_>, output: &mut Sink, errors: &mu
     run_command(&mut host, command, &mut input, output, errors, &mut clock)
 }
 
+/// Whether a command has said that there was no memory.
+pub fn lacked_memory(errors: &Sink) -> bool {
+    errors.taken.as_slice() == b"land: fault 501\n".as_slice()
+}
+
 /// A command has ended as a step says. Want of memory stops the test.
 fn expect_end(
     file: &'static str,
@@ -130,24 +134,16 @@ fn clear(rt: &HostRuntime, place: Place) {
     let _ = fs::remove_file(rt, place.1);
 }
 
-/// Why a test stops where a call of the system failed.
-fn stop_of(error: io::Error) -> Stop {
-    match error.kind() {
-        io::ErrorKind::OutOfMemory => Stop::Memory,
-        _ => Stop::Call,
-    }
-}
-
 /// Writes these bytes to a new file.
 fn write(rt: &HostRuntime, place: Place, bytes: &[u8]) -> Result<(), Stop> {
     clear(rt, place);
-    fs::write(rt, place.0, bytes).map_err(stop_of)
+    Ok(fs::write(rt, place.0, bytes)?)
 }
 
 /// A file still has these bytes, and no log beside it.
 fn expect_untouched(rt: &HostRuntime, place: Place, bytes: &[u8]) -> Result<(), Stop> {
-    let has_log = fs::exists(rt, place.1).map_err(stop_of)?;
-    let read = fs::read(rt, place.0).map_err(stop_of)?;
+    let has_log = fs::exists(rt, place.1)?;
+    let read = fs::read(rt, place.0)?;
     expect(read.as_slice() == bytes && !has_log, place.0, usize::MAX)
 }
 
@@ -262,8 +258,8 @@ const UNMADE: &[Step] = &[Step(Deed::New, 1, "", CANNOT_OPEN)];
 fn missing_is_not_made(rt: &HostRuntime) -> Result<(), Stop> {
     clear(rt, MISSING);
     take_all(rt, MISSING.0, UNOPENED)?;
-    let is_there = fs::exists(rt, MISSING.0).map_err(stop_of)?;
-    let has_log = fs::exists(rt, MISSING.1).map_err(stop_of)?;
+    let is_there = fs::exists(rt, MISSING.0)?;
+    let has_log = fs::exists(rt, MISSING.1)?;
     expect(!is_there && !has_log, MISSING.0, usize::MAX)
 }
 
@@ -408,13 +404,13 @@ fn serve_on(rt: &HostRuntime, port: u16) -> Result<(), Stop> {
 
 /// The same on the port of a listener.
 fn serve_beside(rt: &HostRuntime, listener: &TcpListener) -> Result<(), Stop> {
-    let at = listener.local_addr().map_err(stop_of)?;
+    let at = listener.local_addr()?;
     serve_on(rt, at.port())
 }
 
 /// A port that is taken cannot be listened on.
 fn taken_is_refused(rt: &HostRuntime) -> Result<(), Stop> {
-    let listener = TcpListener::bind(rt, "127.0.0.1:0").map_err(stop_of)?;
+    let listener = TcpListener::bind(rt, "127.0.0.1:0")?;
     serve_beside(rt, &listener)
 }
 

@@ -1,7 +1,7 @@
 //! A stream of a thousand requests in one input, and one whose bytes come one by one.
-use crate::tests::office::{Office, is_answered};
-use crate::tests::scenario::STEPS;
-use crate::tests::talk::{Talk, Told};
+use crate::office::{Office, is_answered};
+use land_scenario::scenario::STEPS;
+use land_scenario::talk::{Talk, Told};
 use std::alloc::{AllocError, Global};
 use std::fmt::Write;
 use std::test::Fail;

@@ -1,10 +1,8 @@
 //! Streams, and the items that stand in them, worked out by hand.
 ghost use Rattle.land_desk.specs.Items.{IsRequestIn};
 
-use crate::tests::doubles::Pieces;
-use crate::tests::long_requests::joined;
-use crate::tests::office::is_told;
-use crate::tests::talk::Told;
+use crate::long_requests::joined;
+use crate::office::is_told;
 use httparse::spans::{EMPTY_HEADER_SPAN, HeaderSpan, RequestSpans};
 use land_desk::buffer::drop_front;
 use land_desk::connection::{ends, is_head};
@@ -13,6 +11,8 @@ use land_desk::frame_fault::ReadFault;
 use land_desk::head::FIELD_ROOM;
 use land_desk::item::{Front, read_item};
 use land_desk::listing::item_count;
+use land_scenario::doubles::Pieces;
+use land_scenario::talk::Told;
 use std::alloc::{AllocError, Global};
 use std::test::Fail;
 

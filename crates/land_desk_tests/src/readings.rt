@@ -1,10 +1,10 @@
 //! Requests as they are read, where a reply does not show it.
-use crate::tests::talk::ENROL;
 use http_header::HeaderMap;
 use land_core::act::Act;
 use land_core::ask::{Ask, Request};
 use land_core::kind::{Kind, PartyKind};
 use land_core::role::Role;
+use land_scenario::talk::ENROL;
 use land_wire::fields::append_field;
 use land_wire::reading::read_request;
 use std::alloc::Global;

@@ -1,5 +1,5 @@
 //! Requests and replies as bytes, over a new register.
-use crate::tests::office::is_answered;
+use crate::office::is_answered;
 use std::test::Fail;
 
 /// How many items are answered, the input, and the output.

@@ -1,11 +1,11 @@
 //! An office that answers streams in tests.
-use crate::tests::doubles::{Pieces, Readings, Sink};
-use crate::tests::talk::{Talk, Told};
 use land_desk::serve::{DeskFault, Served, serve};
 use land_keep::keeper::Keeper;
 use land_keep::plain_keeper::PlainKeeper;
+use land_scenario::doubles::{Pieces, Readings, Sink};
 pub use land_scenario::playing::open_sink;
 pub use land_scenario::talk::common;
+use land_scenario::talk::{Talk, Told};
 use std::alloc::{AllocError, Global};
 use std::test::Fail;
 
@@ -112,9 +112,4 @@ pub fn is_told(alloc: Global, input: &[u8], told: Told, ends: bool) -> Result<bo
     let mut talk = Talk::new(alloc)?;
     talk.tell(told, ends)?;
     is_answered(alloc, input, 50, 1, talk.output.as_bytes())
-}
-
-/// Whether a command has said that there was no memory.
-pub fn lacked_memory(errors: &Sink) -> bool {
-    errors.taken.as_slice() == b"land: fault 501\n".as_slice()
 }

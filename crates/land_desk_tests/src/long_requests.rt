@@ -1,6 +1,6 @@
 //! Requests at the limits of their sizes, over a new register.
-use crate::tests::office::is_told;
-use crate::tests::talk::Told;
+use crate::office::is_told;
+use land_scenario::talk::Told;
 use std::alloc::{AllocError, Global};
 use std::test::Fail;
 

@@ -1,11 +1,11 @@
 //! Readers and writers that fail at each place of a small stream.
-use crate::tests::doubles::{Pieces, Sink};
-use crate::tests::office::{Office, common, is_want_of_memory, open_sink};
-use crate::tests::talk::Told::{Fault, Shown};
-use crate::tests::talk::{ENROL, OFFICE, Row, Talk};
+use crate::office::{Office, common, is_want_of_memory, open_sink};
 use land_desk::send::send;
 use land_desk::serve::{DeskFault, Served};
 use land_keep::keeper::Keeper;
+use land_scenario::doubles::{Pieces, Sink};
+use land_scenario::talk::Told::{Fault, Shown};
+use land_scenario::talk::{ENROL, OFFICE, Row, Talk};
 use std::alloc::Global;
 use std::test::Fail;
 
