@@ -55,14 +55,22 @@ fn a_connection_that_cannot_be_had_is_told(rt: HostRuntime) -> Result<(), Fail> 
     conclude(&rt, outcome)
 }
 
+/// All that comes to a client. Want of memory may end its connection with the request unread, which resets it.
+fn told_to(client: &mut TcpStream, alloc: Global) -> Result<Vec<u8>, Stop> {
+    let mut told = Vec::new(alloc);
+    match client.read_to_end(&mut told) {
+        Ok(_) => Ok(told),
+        Err(_) => Err(Stop::Memory),
+    }
+}
+
 /// A client of this process asks, is served, and is told.
 fn exchange(rt: &HostRuntime, listener: &mut TcpListener) -> Result<(), Stop> {
     let mut client = TcpStream::connect(rt, listener.local_addr()?)?;
     client.write_all(ENROL)?;
     let served = served(rt.alloc(), listener, 1)?;
     expect(served == Ok(()), "the ending", 0)?;
-    let mut told = Vec::new(rt.alloc());
-    client.read_to_end(&mut told)?;
+    let told = told_to(&mut client, rt.alloc())?;
     expect_told(0, &told, ENROLLED)
 }
 

@@ -8,10 +8,11 @@ use crate::run::run_command;
 use crate::tests::commands::lacked_memory;
 use crate::tests::conclusion::conclude;
 use land_keep::store_fault::StoreFault;
-use land_scenario::calls::{CALLS, Call, Calls, expect_all_told, sinks};
-use land_scenario::doubles::{Readings, Sink};
+use land_scenario::calls::{CALLS, Call};
+use land_scenario::doubles::{Pieces, Readings, Sink};
 use land_scenario::playing::open_sink;
 use land_scenario::stop::{Stop, expect};
+use land_service::connections::Connections;
 use land_tables::tables::Tables;
 use land_words::command::Command;
 use sqlite::{Connection, MemStore};
@@ -19,17 +20,48 @@ use std::alloc::Global;
 use std::io;
 use std::test::Fail;
 
-/// A machine with a register in memory under every name, and with connections that a test makes.
+/// Connections that a test makes; what is told on them is let go.
 #[derive(Drop)]
-struct TownHost<'a> {
+struct Visits {
     alloc: Global,
-    calls: Option<Calls<'a>>,
+    left: &'static [Call],
 }
 
-impl<'a> Host for TownHost<'a> {
+impl Connections for Visits {
+    type Reader = Pieces<'static>;
+
+    type Writer = Sink;
+
+    fn next_connection(&mut self) -> io::Result<(Pieces<'static>, Sink)> {
+        let Some((call, left)) = self.left.split_first() else {
+            return Err(io::Error::from(io::ErrorKind::ConnectionAborted));
+        };
+        self.left = left;
+        let reader = Pieces {
+            left: call.brings,
+            piece: 50,
+            reads: call.reads,
+        };
+        let writer = Sink {
+            taken: Vec::new(self.alloc),
+            writes: call.writes,
+            fails: false,
+        };
+        Ok((reader, writer))
+    }
+}
+
+/// A machine with a register in memory under every name, and with connections that a test makes.
+#[derive(Drop)]
+struct TownHost {
+    alloc: Global,
+    visits: Option<Visits>,
+}
+
+impl Host for TownHost {
     type Store = MemStore;
 
-    type Listener = Calls<'a>;
+    type Listener = Visits;
 
     ghost holds = { λ _ _. Unit {0} };
 
@@ -55,18 +87,18 @@ impl<'a> Host for TownHost<'a> {
         Ok(())
     }
 
-    fn listen(&mut self, _port: u16) -> io::Result<Calls<'a>> {
-        match self.calls.take() {
-            Some(calls) => Ok(calls),
+    fn listen(&mut self, _port: u16) -> io::Result<Visits> {
+        match self.visits.take() {
+            Some(visits) => Ok(visits),
             None => Err(io::Error::from(io::ErrorKind::AddrInUse)),
         }
     }
 }
 
-/// Does the command that serves so many connections, and gives its status.
+/// Does the command that serves so many of these connections, and gives its status.
 fn status(
     alloc: Global,
-    calls: Calls<'_>,
+    calls: &'static [Call],
     connections: u32,
     output: &mut Sink,
     errors: &mut Sink,
@@ -76,9 +108,10 @@ fn status(
         port: 8080,
         connections,
     };
+    let visits = Visits { alloc, left: calls };
     let mut town = TownHost {
         alloc,
-        calls: Some(calls),
+        visits: Some(visits),
     };
     let mut input: &[u8] = b"";
     let mut clock = Readings { left: &[] };
@@ -99,22 +132,11 @@ fn expect_ending(ending: Ending, status: u8, output: &Sink, errors: &Sink) -> Re
 }
 
 /// The command that serves these connections ends so.
-fn expect_end(alloc: Global, calls: Calls<'_>, ending: Ending) -> Result<(), Stop> {
+fn expect_service(alloc: Global, calls: &'static [Call], ending: Ending) -> Result<(), Stop> {
     let mut output = open_sink(alloc, 0)?;
     let mut errors = open_sink(alloc, 64)?;
     let status = status(alloc, calls, ending.0, &mut output, &mut errors);
     expect_ending(ending, status, &output, &errors)
-}
-
-/// The command that serves connections ends so, and on each of them is told what it is to be.
-fn expect_service(alloc: Global, calls: &'static [Call], ending: Ending) -> Result<(), Stop> {
-    let mut sinks = sinks(alloc, calls)?;
-    let all = Calls {
-        calls,
-        sinks: sinks.iter_mut(),
-    };
-    expect_end(alloc, all, ending)?;
-    expect_all_told(calls, &sinks)
 }
 
 #[test]
