@@ -96,6 +96,10 @@ mutation_lodger_indexed : Makes (so_far 11 14) mutation.INDEX_LODGER.now (so_far
 unfolding understood everything
 mutation_lodger_indexed = record { made_is = refl; definition = record { plain = (refl, refl); whole = refl; defining = tt } }
 
+role_role_indexed : Makes (so_far 11 15) role.INDEX_ROLE.now (so_far 11 16)
+unfolding understood everything
+role_role_indexed = record { made_is = refl; definition = record { plain = (refl, refl); whole = refl; defining = tt } }
+
 -- from one schema on, texts are CREATEs that make the schema of a new register
 record Finish (s : Schema) (texts : List (List ℕ)) : Type 0 where
   definitions : AreDefinitions s texts
@@ -107,13 +111,13 @@ one_more {s} {next} {text} {texts} one rest = record {
   made_is = ap (λ x. made x texts) one.made_is ∙ rest.made_is;
 }
 
-done : Finish (so_far 11 15) []
+done : Finish (so_far 11 16) []
 done = record { definitions = tt; made_is = refl }
 
 indexes_finish : Finish (so_far 11 9) (drop 11 land_texts)
 indexes_finish =
     one_more rrr_party_indexed (one_more rrr_unit_indexed (one_more parcel_unit_indexed (one_more member_party_indexed
-    (one_more names_unit_indexed (one_more mutation_lodger_indexed done)))))
+    (one_more names_unit_indexed (one_more mutation_lodger_indexed (one_more role_role_indexed done))))))
 
 finish : Finish no_schema land_texts
 finish =

@@ -42,8 +42,8 @@ key_indexes =
     ∷ an_index (codes "sqlite_autoindex_names_1") 19 18 (1 ∷ 2 ∷ 3 ∷ []) true
     ∷ []
 
--- the indexes by which joins find rows: the party and the unit of an entry, the unit of a parcel, the party of a member, the unit of a pair
--- of names, the lodger of a mutation
+-- the indexes by which joins and look-ups find rows: the party and the unit of an entry, the unit of a parcel, the party of a member, the unit
+-- of a pair of names, the lodger of a mutation, the role of a party
 abbrev pub join_indexes : List Index
 join_indexes =
     an_index (codes "rrr_party") 20 12 (3 ∷ []) false
@@ -51,7 +51,8 @@ join_indexes =
     ∷ an_index (codes "parcel_unit") 22 10 (2 ∷ []) false
     ∷ an_index (codes "member_party") 23 6 (2 ∷ []) false
     ∷ an_index (codes "names_unit") 24 18 (2 ∷ []) false
-    ∷ an_index (codes "mutation_lodger") 25 16 (2 ∷ []) false
+    ∷ an_index (codes "mutation_lodger") 25 16 (2 ∷ 3 ∷ []) false
+    ∷ an_index (codes "role_role") 26 4 (2 ∷ []) false
     ∷ []
 
 -- the schema of a new register

@@ -35,7 +35,7 @@ const TABLES: &[TableShape<'static>] = &[
 
 /// The texts that make them, and then the plain indexes by which joins find rows. Run one after another over an empty store they make the
 /// whole schema.
-pub const TEXTS: [&str; 17] = [
+pub const TEXTS: [&str; 18] = [
     edition::CREATE,
     moments::CREATE,
     party::CREATE,
@@ -53,6 +53,7 @@ pub const TEXTS: [&str; 17] = [
     member::INDEX_PARTY,
     names::INDEX_UNIT,
     mutation::INDEX_LODGER,
+    role::INDEX_ROLE,
 ];
 
 /// The shapes of the tables, in the order in which they are made.

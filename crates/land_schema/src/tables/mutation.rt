@@ -51,5 +51,5 @@ pub const CREATE: &str = "CREATE TABLE mutation (\
     PRIMARY KEY (number, since), \
     CHECK (since < until)) STRICT";
 
-/// The text that makes the index by which what a party has lodged are found.
-pub const INDEX_LODGER: &str = "CREATE INDEX mutation_lodger ON mutation (lodger)";
+/// The text that makes the index by which what a party has lodged, and what it lodged under a reference, are found.
+pub const INDEX_LODGER: &str = "CREATE INDEX mutation_lodger ON mutation (lodger, reference)";

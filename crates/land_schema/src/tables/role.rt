@@ -32,3 +32,6 @@ pub const CREATE: &str = "CREATE TABLE role (\
     until INTEGER NOT NULL, \
     PRIMARY KEY (party, role, since), \
     CHECK (since < until)) STRICT";
+
+/// The text that makes the index by which those who hold a role are found.
+pub const INDEX_ROLE: &str = "CREATE INDEX role_role ON role (role)";
