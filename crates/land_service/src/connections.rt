@@ -27,7 +27,8 @@ pub trait Connections {
 }
 
 /// A socket's connection is read and written through two handles of it, and ends where both are let go. One that brings nothing or
-/// takes nothing for `PATIENCE` seconds has failed to, so that it does not keep the next one waiting for ever.
+/// takes nothing for `PATIENCE` seconds has failed to, so that it does not keep the next one waiting for ever. Each reply is sent as soon as it
+/// is written (`TCP_NODELAY`), whether or not the one before was acknowledged.
 impl Connections for TcpListener {
     type Reader = TcpStream;
 
@@ -37,6 +38,7 @@ impl Connections for TcpListener {
         let (writer, _) = self.accept()?;
         writer.set_read_timeout(Some(Duration::from_secs(PATIENCE)))?;
         writer.set_write_timeout(Some(Duration::from_secs(PATIENCE)))?;
+        writer.set_nodelay(true)?;
         let reader = writer.try_clone()?;
         Ok((reader, writer))
     }
