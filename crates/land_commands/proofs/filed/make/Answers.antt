@@ -1,0 +1,25 @@
+use Rattle.std.proofs.Common.{inl, inr}
+use Rattle.land_commands.proofs.Filings.{made_and_closed}
+use Rattle.land_commands.proofs.filed.make.Goals as goal
+
+-- the register was made, and its file is closed or is not
+pub returns-in-Ok : goal.returns-in-Ok
+returns-in-Ok g c =
+    made_and_closed g.H.Store.Store (g.H.Host.holds c.args.file.now) c.in-Ok.tables c.close.result (record {
+      was = c.in_ok-conn.conn;
+      shows = c.in_ok-conn.ensures.shows;
+      created = c.in-Ok.ensures.created;
+      survives = c.in-Ok.ensures.crash_after;
+    }) c.close.ensures
+
+-- the store was opened, and no register was made in it
+pub returns : goal.returns
+returns g c =
+    inr (inl (record {
+      was = c.in_ok-conn.conn;
+      left = c.in-Err.field-0-0;
+      why = c.in-Err.fault;
+      shows = c.in_ok-conn.ensures.shows;
+      kept = c.in-Err.ensures.kept;
+      told = c.from.ensures;
+    }))

@@ -1,0 +1,20 @@
+use Rattle.std.proofs.Common.{ℤ, Result, of_z, rules, subst, sym, to_z, w64, ◌≡◌}
+use Rattle.land_words.specs.Orders.{order_of}
+use Rattle.land_words.specs.declared.command.Command.{Command}
+use Rattle.land_commands.specs.Extracting.{IsExtracting, wanted_of}
+use Rattle.land_commands.specs.Program.{IsRun}
+use Rattle.land_commands.proofs.run.run_command.Goals as goal
+
+-- the extract is written, or it is told why it is not
+pub returns-in-Extract : goal.returns-in-Extract
+returns-in-Extract g c =
+    let S = g.H.Store.Store in
+    let it = c.in-Extract in
+    let old = g.O.Write.contents c.args.output.now in
+    let new = g.O.Write.contents c.extract-done.new.output in
+    let alike : to_z w64 (of_z w64 it.clock) ≡ it.clock = search rules in
+    let done = subst (λ (clock : ℤ). IsExtracting S (g.H.Host.holds it.file.now) (wanted_of clock it.caller.party it.caller.role it.kind it.at) old new c.extract-done.result)
+    alike c.extract-done.ensures in
+    subst (λ (command : Command). IsRun S g.H.Host.holds g.C.Clock.reads (order_of command) (g.I.Read.remaining c.args.input.now) c.args.clock.now c.args.clock.now old new
+    (g.E.Write.contents c.args.errors.now) (g.E.Write.contents c.tell.new.errors) c.tell.result)
+    (sym it.is) (c.extract-done.result, done, c.tell.ensures)

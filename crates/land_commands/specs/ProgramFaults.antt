@@ -1,0 +1,85 @@
+-- Why the program ends without success.
+use Rattle.std.specs.Prelude.{◌≡◌, ◌≢◌, ◌⊎◌, ℕ, List, codes}
+use Rattle.std.specs.declared.io.ErrorKind.{ErrorKind}
+use Rattle.std.specs.declared.io.ErrorKind.TheVariants.{OutOfMemory}
+use Rattle.land_desk.specs.declared.serve.DeskFault.{DeskFault}
+use Rattle.land_desk.specs.declared.serve.DeskFault.TheVariants as desk
+use Rattle.land_keep.specs.declared.store_fault.StoreFault.{StoreFault}
+use Rattle.land_keep.specs.declared.store_fault.StoreFault.TheVariants as store
+use Rattle.land_service.specs.declared.service.ServiceFault.{ServiceFault}
+use Rattle.land_service.specs.declared.service.ServiceFault.TheVariants as service
+use Rattle.land_tables.specs.declared.fault.AdoptFault.{AdoptFault}
+use Rattle.land_tables.specs.declared.fault.AdoptFault.TheVariants as adopt
+use Rattle.land_commands.specs.declared.program_fault.ProgramFault.{ProgramFault}
+use Rattle.land_commands.specs.declared.program_fault.ProgramFault.TheVariants as program
+
+-- what is said of a stream that could not be served
+abbrev pub fault_of : DeskFault → ProgramFault
+fault_of desk.Read = program.Stream
+fault_of desk.Write = program.Stream
+fault_of desk.NoMemory = program.NoMemory
+
+-- what is said of a file in which no register could be made; a store that failed is closed
+abbrev pub fault_of_making : StoreFault → ProgramFault
+fault_of_making store.NoMemory = program.NoMemory
+fault_of_making store.Store = program.Closed
+fault_of_making store.Closed = program.Closed
+
+-- what is said of a file that was not taken for a register's
+abbrev pub fault_of_adopting : AdoptFault → ProgramFault
+fault_of_adopting adopt.NotOurs = program.NotOurs
+fault_of_adopting adopt.Interval = program.Interval
+fault_of_adopting adopt.Unsound = program.Unsound
+fault_of_adopting adopt.Version = program.Version
+fault_of_adopting adopt.NoMemory = program.NoMemory
+fault_of_adopting adopt.Store = program.Closed
+
+-- what is said of a service that ended early
+abbrev pub fault_of_service : ServiceFault → ProgramFault
+fault_of_service service.Closed = program.Closed
+fault_of_service service.Accept = program.Stream
+
+-- the system's words could not be had: for want of memory, or because one is no text
+abbrev pub IsFaultOfWords : ErrorKind → ProgramFault → Type 0
+IsFaultOfWords kind fault =
+    ((kind ≡ OutOfMemory) × (fault ≡ program.NoMemory)) ⊎ ((kind ≢ OutOfMemory) × (fault ≡ program.Words))
+
+-- a file could not be opened: for want of memory, or for another cause
+abbrev pub IsFaultOfOpening : ProgramFault → Type 0
+IsFaultOfOpening fault = (fault ≡ program.NoMemory) ⊎ (fault ≡ program.Open)
+
+-- a register's file could not be opened; an empty file is no register's
+abbrev pub IsFaultOfFinding : ProgramFault → Type 0
+IsFaultOfFinding fault = IsFaultOfOpening fault ⊎ (fault ≡ program.NotOurs)
+
+-- a file could not be closed: for want of memory, or because its store failed
+abbrev pub IsFaultOfClosing : ProgramFault → Type 0
+IsFaultOfClosing fault = (fault ≡ program.NoMemory) ⊎ (fault ≡ program.Closed)
+
+-- 2 for words that are no text, as for other words, and 1 for a fault
+abbrev pub status_of : ProgramFault → ℕ
+status_of program.Words = 2
+status_of program.Stream = 1
+status_of program.NoMemory = 1
+status_of program.Open = 1
+status_of program.Listen = 1
+status_of program.ToCome = 1
+status_of program.Closed = 1
+status_of program.NotOurs = 1
+status_of program.Interval = 1
+status_of program.Unsound = 1
+status_of program.Version = 1
+
+-- the line that is told of it
+abbrev pub line_of : ProgramFault → List ℕ
+line_of program.Words = codes "land: a word of the command line is no text\n"
+line_of program.Stream = codes "land: input or output failed\n"
+line_of program.NoMemory = codes "land: fault 501\n"
+line_of program.Open = codes "land: cannot open\n"
+line_of program.Listen = codes "land: cannot listen\n"
+line_of program.ToCome = codes "land: fault 135\n"
+line_of program.Closed = codes "land: fault 502\n"
+line_of program.NotOurs = codes "land: fault 520\n"
+line_of program.Interval = codes "land: fault 521\n"
+line_of program.Unsound = codes "land: fault 522\n"
+line_of program.Version = codes "land: fault 523\n"

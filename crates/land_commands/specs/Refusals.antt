@@ -1,0 +1,19 @@
+-- Why a command is refused of which the policy decides.
+use Rattle.std.specs.Prelude.{ℕ, List, ◌++◌, codes, decimal}
+use Rattle.land_extracts.specs.declared.fault.ExtractFault.{ExtractFault}
+use Rattle.land_extracts.specs.declared.fault.ExtractFault.TheVariants as extract
+use Rattle.land_commands.specs.ProgramFaults.{fault_of_making}
+use Rattle.land_commands.specs.declared.program_fault.ProgramFault.TheVariants as program
+use Rattle.land_commands.specs.declared.refusal.Refusal.{Refusal}
+use Rattle.land_commands.specs.declared.refusal.Refusal.TheVariants.{Denied, Fault}
+
+-- what is said of an extract that was not written to its end
+abbrev pub refusal_of : ExtractFault → Refusal
+refusal_of (extract.Denied rule) = Denied rule
+refusal_of (extract.Fault number) = Fault program.ToCome
+refusal_of (extract.Write written) = Fault program.Stream
+refusal_of (extract.Store fault written) = Fault (fault_of_making fault)
+
+-- the line that is told of a denial
+abbrev pub denied_text : (rule : ℕ) → List ℕ
+denied_text rule = codes "land: denied " ++ (decimal rule ++ codes "\n")

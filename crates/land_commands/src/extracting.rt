@@ -1,0 +1,65 @@
+//! Extracts of the register in a file.
+ghost use Rattle.land_commands.specs.Extracting.{IsExtractedOver, IsExtracting};
+
+use crate::filed::found;
+use crate::host::Host;
+use crate::refusal::Refusal;
+use land_core::caller::Caller;
+use land_core::kind::Kind;
+use land_extracts::extract::extract_to;
+use land_extracts::fault::ExtractFault;
+use land_select::sql_keeper::SqlKeeper;
+use land_tables::tables::Tables;
+use sqlite::Alter;
+use std::alloc::Global;
+use std::io::Write;
+
+/// What an extract is asked for.
+#[derive(Clone, Copy, Debug)]
+pub struct Wanted {
+    /// What the clock reads, in milliseconds since 1970 UTC.
+    pub clock: i64,
+    /// Who asks, in which role.
+    pub caller: Caller,
+    /// Of which kind the objects are.
+    pub kind: Kind,
+    /// The moment, in milliseconds since 1970 UTC, or now.
+    pub at: Option<i64>,
+}
+
+/// Writes the extract of a kind from the register in a file, which is left as it is.
+pub fn extract<H: Host, O: Write>(
+    host: &mut H,
+    file: &str,
+    wanted: Wanted,
+    output: &mut O,
+) -> Result<(), Refusal>
+    ensures { IsExtracting H.Store.Store (H.holds file.now) wanted (O.contents output.old) (O.contents output.new) result }
+{
+    let tables = found(host, file)?;
+    let (done, _left) = extract_tables(host.alloc(), tables, wanted, output);
+    match done {
+        Ok(_written) => Ok(()),
+        Err(fault) => Err(Refusal::from(fault)),
+    }
+}
+
+/// Writes the extract of a kind from tables, and hands the tables back.
+fn extract_tables<S: Alter, O: Write>(
+    alloc: Global,
+    tables: Tables<S>,
+    wanted: Wanted,
+    output: &mut O,
+) -> (Result<u64, ExtractFault>, Tables<S>)
+    ensures { IsExtractedOver S.Store tables wanted result.1 (O.contents output.old) (O.contents output.new) result.0 }
+{
+    let Wanted {
+        clock,
+        caller,
+        kind,
+        at,
+    } = wanted;
+    let mut keeper = SqlKeeper::new(tables);
+    let done = extract_to(alloc, &mut keeper, clock, caller, kind, at, output);
+    (done, keeper.into_tables())
+}

@@ -1,0 +1,105 @@
+//! Commands over files.
+ghost use Rattle.std.specs.Prelude.{◌≡◌, string_bytes, IfErr, IfOk};
+ghost use Rattle.land_commands.specs.Filed.{IsChecking, IsFileService, IsFinding, IsMaking, IsServedOver, sound_text};
+ghost use Rattle.land_commands.specs.ProgramFaults.{IsFaultOfClosing};
+
+use crate::host::Host;
+use crate::program_fault::ProgramFault;
+use land_desk::send::send;
+use land_keep::clock::Clock;
+use land_select::sql_keeper::SqlKeeper;
+use land_service::connections::Connections;
+use land_service::service::{ServiceFault, serve_connections};
+use land_tables::tables::Tables;
+use sqlite::{Alter, Connection};
+use std::alloc::{AllocError, Global};
+use std::io::Write;
+
+/// Makes a new register in a file, which is made where it is not there. A file that has tables is left as it is.
+pub fn make<H: Host>(host: &mut H, file: &str) -> Result<(), ProgramFault>
+    ensures { IsMaking H.Store.Store (H.holds file.now) result }
+{
+    let conn = host.open_new(file)?;
+    match Tables::create(conn) {
+        Ok(tables) => close::<H>(tables.into_connection()),
+        Err((_, fault)) => Err(ProgramFault::from(fault)),
+    }
+}
+
+/// Closes a file, in which all that was committed stands then.
+fn close<H: Host>(conn: Connection<H::Store>) -> Result<(), ProgramFault>
+    ensures { IfErr result IsFaultOfClosing }
+{
+    let mut left = Some(conn);
+    H::close(&mut left)
+}
+
+/// The register in a file, which is left as it is.
+pub(crate) fn found<H: Host>(host: &mut H, file: &str) -> Result<Tables<H::Store>, ProgramFault>
+    ensures { IsFinding H.Store.Store (H.holds file.now) result }
+{
+    let conn = host.open_found(file)?;
+    match Tables::adopt(host.alloc(), conn) {
+        Ok(tables) => Ok(tables),
+        Err((_, refusal)) => Err(ProgramFault::from(refusal)),
+    }
+}
+
+/// Says of a file that it holds a sound register, with the moment of its last change and its next number.
+pub fn check<H: Host, O: Write>(
+    host: &mut H,
+    file: &str,
+    output: &mut O,
+) -> Result<(), ProgramFault>
+    ensures { IsChecking H.Store.Store (H.holds file.now) (O.contents output.old) (O.contents output.new) result }
+{
+    let tables = found(host, file)?;
+    let line = sound_line(host.alloc(), tables.last(), tables.next())?;
+    match send(output, line.as_bytes()) {
+        Ok(()) => Ok(()),
+        Err(_) => Err(ProgramFault::Stream),
+    }
+}
+
+/// What is said of a sound register.
+fn sound_line(alloc: Global, last: i64, next: u64) -> Result<String, AllocError>
+    ensures { IfOk result (λ text. string_bytes text ≡ sound_text last next) }
+{
+    format!(in alloc; "sound: last {last}, next {next}\n")
+}
+
+/// Serves so many connections on a port, one after another, over the register in a file.
+pub fn serve_file<H: Host, C: Clock>(
+    host: &mut H,
+    file: &str,
+    port: u16,
+    connections: u32,
+    clock: &mut C,
+) -> Result<(), ProgramFault>
+    ensures { IsFileService H.Store.Store (H.holds file.now) C.reads connections clock.old clock.new result }
+{
+    let tables = found(host, file)?;
+    let Ok(mut listener) = host.listen(port) else {
+        return Err(ProgramFault::Listen);
+    };
+    let (served, tables) = serve_tables(host.alloc(), tables, &mut listener, connections, clock);
+    match served {
+        Ok(()) => close::<H>(tables.into_connection()),
+        Err(fault) => Err(ProgramFault::from(fault)),
+    }
+}
+
+/// Serves so many connections over tables, and hands the tables back.
+fn serve_tables<S: Alter, L: Connections, C: Clock>(
+    alloc: Global,
+    tables: Tables<S>,
+    listener: &mut L,
+    connections: u32,
+    clock: &mut C,
+) -> (Result<(), ServiceFault>, Tables<S>)
+    ensures { IsServedOver S.Store C.reads connections tables clock.old result.1 clock.new result.0 }
+{
+    let mut keeper = SqlKeeper::new(tables);
+    let served = serve_connections(alloc, listener, connections, &mut keeper, clock);
+    (served, keeper.into_tables())
+}

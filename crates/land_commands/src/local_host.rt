@@ -1,0 +1,146 @@
+//! The machine that the program runs on.
+ghost use Rattle.std.specs.Prelude.{◌≡◌, IfErr, IfOk};
+ghost use Rattle.land_commands.specs.ProgramFaults.{IsFaultOfClosing, IsFaultOfOpening};
+ghost use Rattle.sqlite.specs.Files.{file_state};
+ghost use Rattle.sqlite.specs.Start.{FindsIn};
+ghost use Rattle.sqlite.specs.State.{HasCleanDisk};
+ghost use Rattle.sqlite_wal.specs.Files.{image_at};
+
+use crate::host::Host;
+use crate::program_fault::ProgramFault;
+use sqlite::{Connection, Error, ErrorCode, FileFrom, FileStore, Start, Unknown};
+use std::alloc::Global;
+use std::fs::File;
+use std::io::Read;
+use std::net::{Ipv4Addr, TcpListener};
+use std::rt::HostRuntime;
+use std::{fs, io};
+
+/// What the first bytes of every store are.
+const MAGIC: &[u8] = b"SQLite format 3\0";
+
+/// The machine that the program runs on. Of what its files held before they are opened nothing is said (`Unknown`).
+#[derive(Drop)]
+pub struct LocalHost {
+    rt: HostRuntime,
+}
+
+impl LocalHost {
+    /// The machine, with no file opened yet.
+    pub fn new(rt: &HostRuntime) -> LocalHost {
+        LocalHost { rt: *rt }
+    }
+}
+
+/// What stands under a name.
+#[derive(Clone, Copy, Debug, PartialEq, Eq)]
+enum Standing {
+    /// Nothing, as far as can be seen.
+    Nothing,
+    /// An empty file.
+    Empty,
+    /// A file that begins as a store does.
+    Store,
+    /// Anything else.
+    Other,
+}
+
+/// What stands under a name. It is not opened for writing.
+fn look_at(rt: &HostRuntime, file: &str) -> Standing {
+    let Ok(stands) = fs::metadata(rt, file) else {
+        return Standing::Nothing;
+    };
+    if !stands.is_file() {
+        return Standing::Other;
+    }
+    if stands.len() == 0 {
+        return Standing::Empty;
+    }
+    match begins_as_store(rt, file) {
+        Ok(true) => Standing::Store,
+        Ok(false) | Err(_) => Standing::Other,
+    }
+}
+
+/// Whether a file begins as a store does.
+fn begins_as_store(rt: &HostRuntime, file: &str) -> io::Result<bool> {
+    let mut opened = File::open(rt, file)?;
+    let mut front = [0; 16];
+    opened.read_exact(&mut front)?;
+    Ok(front.as_slice() == MAGIC)
+}
+
+/// Opens a file as a store, or makes it. What it held is `S`, which no code reads.
+fn open_store<S: Start>(
+    rt: &HostRuntime,
+    file: &str,
+    start: S,
+) -> Result<Connection<FileStore<FileFrom<S>>>, ProgramFault>
+    ensures shows { IfOk result (λ c. HasCleanDisk (file_state c) → FindsIn (image_at S.Start) (file_state c)) }
+    ensures fault { IfErr result IsFaultOfOpening }
+{
+    match Connection::open_from(rt, file, false, start) {
+        Ok(conn) => Ok(conn),
+        Err((Error::SqliteFailure(ErrorCode::OutOfMemory), _)) => Err(ProgramFault::NoMemory),
+        Err(_) => Err(ProgramFault::Open),
+    }
+}
+
+/// Closes a store's file, which has then all that its log had.
+fn close_store<S: Start>(conn: Connection<FileStore<FileFrom<S>>>) -> Result<(), ProgramFault>
+    ensures { IfErr result IsFaultOfClosing }
+{
+    match conn.close() {
+        Ok(()) => Ok(()),
+        Err(Error::SqliteFailure(ErrorCode::OutOfMemory)) => Err(ProgramFault::NoMemory),
+        Err(_) => Err(ProgramFault::Closed),
+    }
+}
+
+impl Host for LocalHost {
+    type Store = FileStore<FileFrom<Unknown>>;
+
+    type Listener = TcpListener;
+
+    ghost holds = { λ _ s. FindsIn (image_at ⟦<Unknown as Start>⟧) s };
+
+    fn alloc(&self) -> Global {
+        self.rt.alloc()
+    }
+
+    fn open_new(
+        &mut self,
+        file: &str,
+    ) -> Result<Connection<FileStore<FileFrom<Unknown>>>, ProgramFault> {
+        match look_at(&self.rt, file) {
+            Standing::Other => Err(ProgramFault::Open),
+            _ => open_store(&self.rt, file, Unknown),
+        }
+    }
+
+    fn open_found(
+        &mut self,
+        file: &str,
+    ) -> Result<Connection<FileStore<FileFrom<Unknown>>>, ProgramFault> {
+        match look_at(&self.rt, file) {
+            Standing::Nothing | Standing::Other => Err(ProgramFault::Open),
+            Standing::Empty => Err(ProgramFault::NotOurs),
+            Standing::Store => open_store(&self.rt, file, Unknown),
+        }
+    }
+
+    fn close(
+        left: &mut Option<Connection<FileStore<FileFrom<Unknown>>>>,
+    ) -> Result<(), ProgramFault>
+        ensures { IfErr result IsFaultOfClosing }
+    {
+        match left.take() {
+            Some(conn) => close_store(conn),
+            None => Ok(()),
+        }
+    }
+
+    fn listen(&mut self, port: u16) -> io::Result<TcpListener> {
+        TcpListener::bind(&self.rt, (Ipv4Addr::LOCALHOST, port))
+    }
+}

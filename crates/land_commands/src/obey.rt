@@ -1,0 +1,34 @@
+//! The words of the command line, and what is done for them.
+ghost use Rattle.std.specs.Prelude.{map, string_bytes};
+ghost use Rattle.land_commands.specs.Program.{IsObeyed};
+
+use crate::host::Host;
+use crate::program_fault::ProgramFault;
+use crate::run::{complain, run_command, say};
+use land_keep::clock::Clock;
+use land_words::read_words;
+use land_words::words_fault::WordsFault;
+use std::io::{Read, Write};
+
+/// Does what these words ask for, of which the first is the program's name, over the streams and the machine's clock that are handed in, and
+/// gives the status: 0, or 1 for a fault, which is told on `errors`; 2 where the words are refused, which `clap` tells on `errors`.
+pub fn obey<H: Host, I: Read, O: Write, E: Write, C: Clock>(
+    host: &mut H,
+    words: &[String],
+    input: &mut I,
+    output: &mut O,
+    errors: &mut E,
+    clock: &mut C,
+) -> u8
+    ensures { IsObeyed H.Store.Store H.holds C.reads (map string_bytes words.now) (I.remaining input.old) clock.old clock.new
+        (O.contents output.old) (O.contents output.new) (E.contents errors.old) (E.contents errors.new) result }
+{
+    match read_words(host.alloc(), words) {
+        Ok(command) => run_command(host, command, input, output, errors, clock),
+        Err(WordsFault::Refused(text)) => {
+            say(errors, text.as_str());
+            2
+        }
+        Err(WordsFault::NoMemory) => complain(errors, ProgramFault::NoMemory),
+    }
+}

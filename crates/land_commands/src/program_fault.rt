@@ -1,0 +1,146 @@
+//! Why the program ends without success.
+ghost use Rattle.std.specs.Prelude.{◌≡◌};
+ghost use Rattle.std.specs.IoError.{error_kind};
+ghost use Rattle.land_commands.specs.ProgramFaults.{fault_of, fault_of_adopting, fault_of_making, fault_of_service, IsFaultOfWords, line_of, status_of};
+
+use land_desk::serve::DeskFault;
+use land_keep::store_fault::StoreFault;
+use land_service::service::ServiceFault;
+use land_tables::fault::AdoptFault;
+use std::alloc::AllocError;
+use std::io;
+
+/// Why the program ends without success.
+#[derive(Clone, Copy, Debug, PartialEq, Eq)]
+pub enum ProgramFault {
+    /// A word of the command line is no text.
+    Words,
+    /// A read or a write failed, or the next connection could not be had.
+    Stream,
+    /// 501: there was no memory.
+    NoMemory,
+    /// A file could not be opened.
+    Open,
+    /// A port could not be listened on.
+    Listen,
+    /// 135: the asked moment is still to come.
+    ToCome,
+    /// 502: a call of the store failed, or a register was to be made where there is one.
+    Closed,
+    /// 520: the file has not the tables of a register, or a value that cannot be read as its field.
+    NotOurs,
+    /// 521: the lifespans of its rows do not go together.
+    Interval,
+    /// 522: the register at some stamp is not sound.
+    Unsound,
+    /// 523: its tables were made by another version of their shapes.
+    Version,
+}
+
+impl ProgramFault {
+    /// The status that the program ends with: 2 for the words, 1 for any other fault.
+    pub fn status(self) -> u8
+        ensures { result ≡ status_of self }
+    {
+        match self {
+            ProgramFault::Words => 2,
+            ProgramFault::Stream | ProgramFault::NoMemory | ProgramFault::Open => 1,
+            ProgramFault::Listen | ProgramFault::ToCome => 1,
+            ProgramFault::Closed | ProgramFault::NotOurs => 1,
+            ProgramFault::Interval | ProgramFault::Unsound | ProgramFault::Version => 1,
+        }
+    }
+
+    /// The line that is told of it on standard error.
+    pub fn line(self) -> &'static str
+        ensures { result.now ≡ line_of self }
+    {
+        match self {
+            ProgramFault::Words => "land: a word of the command line is no text\n",
+            ProgramFault::Stream => "land: input or output failed\n",
+            ProgramFault::NoMemory => "land: fault 501\n",
+            ProgramFault::Open => "land: cannot open\n",
+            ProgramFault::Listen => "land: cannot listen\n",
+            ProgramFault::ToCome => "land: fault 135\n",
+            ProgramFault::Closed => "land: fault 502\n",
+            ProgramFault::NotOurs => "land: fault 520\n",
+            ProgramFault::Interval => "land: fault 521\n",
+            ProgramFault::Unsound => "land: fault 522\n",
+            ProgramFault::Version => "land: fault 523\n",
+        }
+    }
+}
+
+impl From<DeskFault> for ProgramFault {
+    ghost from_gives = { λ from to. to ≡ fault_of from };
+
+    fn from(fault: DeskFault) -> ProgramFault {
+        match fault {
+            DeskFault::Read | DeskFault::Write => ProgramFault::Stream,
+            DeskFault::NoMemory => ProgramFault::NoMemory,
+        }
+    }
+}
+
+/// From a store in which no register could be made.
+impl From<StoreFault> for ProgramFault {
+    ghost from_gives = { λ from to. to ≡ fault_of_making from };
+
+    fn from(fault: StoreFault) -> ProgramFault {
+        match fault {
+            StoreFault::NoMemory => ProgramFault::NoMemory,
+            StoreFault::Store | StoreFault::Closed => ProgramFault::Closed,
+        }
+    }
+}
+
+/// From a store that was not taken for a register's.
+impl From<AdoptFault> for ProgramFault {
+    ghost from_gives = { λ from to. to ≡ fault_of_adopting from };
+
+    fn from(fault: AdoptFault) -> ProgramFault {
+        match fault {
+            AdoptFault::NotOurs => ProgramFault::NotOurs,
+            AdoptFault::Interval => ProgramFault::Interval,
+            AdoptFault::Unsound => ProgramFault::Unsound,
+            AdoptFault::Version => ProgramFault::Version,
+            AdoptFault::NoMemory => ProgramFault::NoMemory,
+            AdoptFault::Store => ProgramFault::Closed,
+        }
+    }
+}
+
+/// From a service that ended early.
+impl From<ServiceFault> for ProgramFault {
+    ghost from_gives = { λ from to. to ≡ fault_of_service from };
+
+    fn from(fault: ServiceFault) -> ProgramFault {
+        match fault {
+            ServiceFault::Closed => ProgramFault::Closed,
+            ServiceFault::Accept => ProgramFault::Stream,
+        }
+    }
+}
+
+impl From<AllocError> for ProgramFault {
+    ghost use Rattle.land_commands.specs.declared.program_fault.ProgramFault.TheVariants.{NoMemory};
+
+    ghost from_gives = { λ _ fault. fault ≡ NoMemory };
+
+    fn from(_error: AllocError) -> ProgramFault {
+        ProgramFault::NoMemory
+    }
+}
+
+/// From the system's words, which may be no text.
+impl From<io::Error> for ProgramFault {
+    ghost from_gives = { λ error fault. IsFaultOfWords (error_kind error) fault };
+
+    fn from(error: io::Error) -> ProgramFault {
+        if error.kind() == io::ErrorKind::OutOfMemory {
+            ProgramFault::NoMemory
+        } else {
+            ProgramFault::Words
+        }
+    }
+}
