@@ -27,7 +27,7 @@ use sqlite::Alter;
 use std::alloc::Global;
 
 /// A keeper over tables, whatever their store: what a caller sees of a kind is selected by joins, objects and title sheets are looked up by
-/// their numbers, and so is what is judged. Slices are read from whole tables.
+/// their numbers, and so are what is judged and the slices of acts.
 pub struct SqlKeeper<S: Alter> {
     /// The keeper over whole tables.
     whole: TableKeeper<S>,
