@@ -10,7 +10,5 @@ pub mod plain_keeper;
 pub mod prepared;
 pub mod reply;
 pub mod store_fault;
-#[cfg(test)]
-mod tests;
 pub mod timeline;
 pub mod view;
