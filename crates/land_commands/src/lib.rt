@@ -10,4 +10,3 @@ pub mod program_fault;
 pub mod refusal;
 pub mod run;
 pub mod set_clock;
-

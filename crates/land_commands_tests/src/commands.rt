@@ -1,7 +1,7 @@
 //! Commands over files, in the folder in which the tests run.
+use crate::conclusion::conclude;
 use land_commands::local_host::LocalHost;
 use land_commands::run::run_command;
-use crate::conclusion::conclude;
 use land_core::caller::Caller;
 use land_core::kind::Kind;
 use land_core::role::Role;

@@ -2,11 +2,11 @@
 ghost use Rattle.std.specs.Prelude.{IfErr};
 ghost use Rattle.land_commands.specs.ProgramFaults.{IsFaultOfClosing};
 
+use crate::commands::lacked_memory;
+use crate::conclusion::conclude;
 use land_commands::host::Host;
 use land_commands::program_fault::ProgramFault;
 use land_commands::run::run_command;
-use crate::commands::lacked_memory;
-use crate::conclusion::conclude;
 use land_keep::store_fault::StoreFault;
 use land_scenario::calls::{CALLS, Call};
 use land_scenario::doubles::{Pieces, Readings, Sink};

@@ -1,3 +1,5 @@
--- Definitions of extracts, and of what is written of them.
+-- Definitions of extracts, of their rows one at a time, and of what is written of them.
 pub mod Extracts
+pub mod Left
+pub mod Seeing
 pub mod Writing

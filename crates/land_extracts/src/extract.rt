@@ -1,19 +1,25 @@
 //! Extracts, written row by row.
 ghost use Rattle.std.specs.Prelude.{◌≡◌, false, unwrap_or};
 ghost use Rattle.land_extracts.specs.Extracts.{extract_of, list_reply, rows_at};
+ghost use Rattle.land_extracts.specs.Left.{left_of};
+ghost use Rattle.land_extracts.specs.Seeing.{AllStand};
 ghost use Rattle.land_extracts.specs.Writing.{IsExtracted, IsPut, of_store};
 ghost use Rattle.land_keep.specs.Keeping.{Closes, IsLive};
 ghost use Rattle.land_keep.specs.Machine.{now_of};
 ghost use Rattle.land_keep.specs.Timeline.{register_at};
+ghost use Rattle.land_sheet.specs.Rows.{object_row};
 
+use crate::extract_row::ExtractRow;
 use crate::fault::ExtractFault;
 use crate::list::list;
-use crate::row::row_of;
+use crate::seen::Seen;
 use land_core::caller::Caller;
 use land_core::kind::Kind;
+use land_core::sequence::NumberList;
 use land_keep::keeper::Keeper;
+use land_keep::store_fault::StoreFault;
 use land_sending::put::put;
-use land_sheet::rows::csv_header;
+use land_sheet::rows::{csv_header, csv_row};
 use std::alloc::Global;
 use std::io::Write;
 
@@ -39,41 +45,86 @@ pub fn extract_to<K: Keeper, W: Write>(
     let listed = list(alloc, keeper, clock, caller, kind, at)?;
     let header = csv_header(alloc, kind)?;
     match put(writer, 0, header.as_slice()) {
-        Ok(written) => {
-            let numbers = listed.numbers.as_slice();
-            write_rows(alloc, keeper, kind, listed.at, numbers, writer, written)
-        },
+        Ok(written) => write_seen(
+            alloc,
+            keeper,
+            kind,
+            listed.at,
+            listed.numbers,
+            writer,
+            written,
+        ),
         Err(written) => Err(ExtractFault::Write { written }),
     }
 }
 
-/// Writes the rows of some objects at a moment behind so many bytes, and says how many are written then.
-fn write_rows<K: Keeper, W: Write>(
+/// Writes the rows of objects at a moment, all of which stand, behind so many bytes, and says how many are written then.
+fn write_seen<K: Keeper, W: Write>(
     alloc: Global,
     keeper: &mut K,
     kind: Kind,
     at: i64,
-    numbers: &[u64],
+    numbers: NumberList,
     writer: &mut W,
     before: u64,
 ) -> Result<u64, ExtractFault>
     requires { K.closed keeper.old ≡ false }
-    ensures put { K.honest keeper.new → IsPut (rows_at (register_at (K.timeline keeper.old) at) kind numbers.now) before
-        (W.contents writer.old) (W.contents writer.new) result }
+    ensures put { K.honest keeper.new → AllStand (register_at (K.timeline keeper.old) at) kind numbers
+        → IsPut (rows_at (register_at (K.timeline keeper.old) at) kind numbers) before (W.contents writer.old) (W.contents writer.new) result }
     ensures was { K.honest keeper.new → K.honest keeper.old }
     ensures same { IsLive (K.honest keeper.new) (K.closed keeper.new) → K.timeline keeper.new ≡ K.timeline keeper.old }
     ensures closes { Closes (K.closed keeper.old) (K.closed keeper.new) (of_store result) }
 {
+    let mut seen = Seen::new(alloc, keeper, numbers, kind, at);
+    let told = write_rows(alloc, &mut seen, writer, before);
+    let _keeper = seen.into_keeper();
+    told
+}
+
+/// Writes the rows that are left of what is seen behind so many bytes, and says how many are written then.
+fn write_rows<K: Keeper, W: Write>(
+    alloc: Global,
+    seen: &mut Seen<'_, K>,
+    writer: &mut W,
+    before: u64,
+) -> Result<u64, ExtractFault>
+    requires { K.closed seen.old.keeper.now ≡ false }
+    ensures put { K.honest seen.new.keeper.now → AllStand (register_at (K.timeline seen.old.keeper.now) seen.old.at) seen.old.kind (left_of seen.old)
+        → IsPut (rows_at (register_at (K.timeline seen.old.keeper.now) seen.old.at) seen.old.kind (left_of seen.old)) before
+        (W.contents writer.old) (W.contents writer.new) result }
+    ensures was { K.honest seen.new.keeper.now → K.honest seen.old.keeper.now }
+    ensures same { IsLive (K.honest seen.new.keeper.now) (K.closed seen.new.keeper.now) → K.timeline seen.new.keeper.now ≡ K.timeline seen.old.keeper.now }
+    ensures closes { Closes (K.closed seen.old.keeper.now) (K.closed seen.new.keeper.now) (of_store result) }
+    ensures same_reference { seen.new.keeper.ghost_name ≡ seen.old.keeper.ghost_name }
+{
     let mut written = before;
-    for number in numbers {
-        let row = match row_of(alloc, keeper, kind, *number, at) {
-            Ok(row) => row,
+    'rows: loop {
+        match seen.next() {
+            Ok(Some(row)) => written = write_row(alloc, &row, writer, written)?,
+            Ok(None) => return Ok(written),
             Err(fault) => return Err(ExtractFault::Store { fault, written }),
-        };
-        match put(writer, written, row.as_slice()) {
-            Ok(more) => written = more,
-            Err(written) => return Err(ExtractFault::Write { written }),
         }
     }
-    Ok(written)
+}
+
+/// Writes a row behind so many bytes, made whole first, and says how many are written then.
+fn write_row<W: Write>(
+    alloc: Global,
+    row: &ExtractRow,
+    writer: &mut W,
+    before: u64,
+) -> Result<u64, ExtractFault>
+    ensures put { IsPut (object_row row.now.object row.now.name) before (W.contents writer.old) (W.contents writer.new) result }
+    ensures closes { Closes false false (of_store result) }
+{
+    match csv_row(alloc, &row.object, row.name.as_str()) {
+        Ok(line) => match put(writer, before, line.as_slice()) {
+            Ok(after) => Ok(after),
+            Err(after) => Err(ExtractFault::Write { written: after }),
+        },
+        Err(_) => Err(ExtractFault::Store {
+            fault: StoreFault::NoMemory,
+            written: before,
+        }),
+    }
 }

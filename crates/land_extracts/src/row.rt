@@ -1,16 +1,17 @@
 //! The row of an object.
 ghost use Rattle.std.specs.Prelude.{◌≡◌, false, IfOk};
-ghost use Rattle.land_extracts.specs.Extracts.{called_of, name_in, row_at};
+ghost use Rattle.land_extracts.specs.Extracts.{called_of, name_in};
+ghost use Rattle.land_extracts.specs.Seeing.{told_at};
 ghost use Rattle.land_keep.specs.Keeping.{Closes, IsLive};
 ghost use Rattle.land_keep.specs.Sheets.{name_at};
 ghost use Rattle.land_keep.specs.Timeline.{register_at};
 
+use crate::extract_row::ExtractRow;
 use land_core::kind::Kind;
 use land_core::object::Object;
 use land_core::text::Text;
 use land_keep::keeper::Keeper;
 use land_keep::store_fault::StoreFault;
-use land_sheet::rows::csv_row;
 use std::alloc::Global;
 
 /// What a party is called; nothing else is called anything.
@@ -61,15 +62,15 @@ fn name_of<K: Keeper>(
     }
 }
 
-/// The row of the object that stands under a number at a moment, made whole; no bytes where none stands.
+/// The row of the object that stands under a number at a moment, or `None` where none stands.
 pub(crate) fn row_of<K: Keeper>(
     alloc: Global,
     keeper: &mut K,
     kind: Kind,
     number: u64,
     at: i64,
-) -> Result<Vec<u8>, StoreFault>
-    ensures value { K.honest keeper.new → IfOk result (λ row. row.items ≡ row_at (register_at (K.timeline keeper.old) at) kind number) }
+) -> Result<Option<ExtractRow>, StoreFault>
+    ensures value { K.honest keeper.new → IfOk result (λ row. row ≡ told_at (register_at (K.timeline keeper.old) at) kind number) }
     ensures was { K.honest keeper.new → K.honest keeper.old }
     ensures same { IsLive (K.honest keeper.new) (K.closed keeper.new) → K.timeline keeper.new ≡ K.timeline keeper.old }
     ensures closes { Closes (K.closed keeper.old) (K.closed keeper.new) result }
@@ -77,8 +78,8 @@ pub(crate) fn row_of<K: Keeper>(
     match keeper.object(alloc, kind, number, at)? {
         Some(object) => {
             let name = name_of(alloc, keeper, &object, at)?;
-            Ok(csv_row(alloc, &object, name.as_str())?)
+            Ok(Some(ExtractRow { object, name }))
         }
-        None => Ok(Vec::new(alloc)),
+        None => Ok(None),
     }
 }

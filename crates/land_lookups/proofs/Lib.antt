@@ -1,5 +1,6 @@
 -- Lemmas of what look-ups find.
 pub mod Chains
+pub mod Lodged
 pub mod Parts
 pub mod Passing
 pub mod Persons

@@ -1,5 +1,5 @@
 -- What a look-up finds is a part of the register that stands.
-use Rattle.std.proofs.Common.{◌≡◌, inl, inr, ℕ, ℤ, Bool, true, false, ◌&&◌, nat_eq, cond, List, [], ◌∷◌, filter, map, Option, Some, None, Ok, Err, IfErr, IfOk, IsErrAnd, Result, refl, sym, ap, subst, ◌∙◌, IsPermutation}
+use Rattle.std.proofs.Common.{◌≡◌, ◌≢◌, inl, inr, ℕ, ℤ, Bool, true, false, ◌&&◌, nat_eq, cond, List, [], ◌∷◌, filter, map, Option, Some, None, Ok, Err, IfErr, IfOk, IsErrAnd, Result, refl, sym, ap, subst, ◌∙◌, IsPermutation}
 use Rattle.std.proofs.lemmas.Bool.Decides.{Decides-eqb}
 use Rattle.std.proofs.lemmas.List.Sorted.{Contains-permutation, IsPermutation-map, IsPermutation-sym, IsPermutation-trans}
 use Rattle.std.specs.FinMap as finite
@@ -14,54 +14,58 @@ use Rattle.land_joins.specs.Meaning.{given}
 use Rattle.land_joins.specs.Running.{HoldsNone, asked_for}
 use Rattle.land_listing.proofs.Readings.{each_all}
 use Rattle.land_listing.proofs.Tellings.{same_values}
-use Rattle.land_listing.specs.Reading.{IsRead, Says}
+use Rattle.land_listing.specs.Reading.{IsRead, Listing, Says}
 use Rattle.land_listing.specs.declared.fault.ReadFault.TheVariants.{Unreadable}
 use Rattle.land_listing.specs.declared.fault.ReadFault.{ReadFault}
 use Rattle.land_lookups.proofs.Passing.{passing_said, some_said}
 use Rattle.land_lookups.proofs.Queries.{filter_of, project_of, query_of, shown, stored, tests}
-use Rattle.land_lookups.specs.Finding.{AreRowsOf, AreSaidOf, CannotBeSaid, Found, IsOneOf, is_meant, listing_of, wanted}
+use Rattle.land_lookups.specs.Finding.{AreRows, AreRowsOf, AreSaidOf, CannotBeSaid, Found, IsOneOf, is_meant, listing_of, wanted}
 use Rattle.land_lookups.specs.declared.look_up.LookUp.{LookUp}
-use Rattle.land_rows.proofs.Updates.{answer_is, passes}
+use Rattle.land_rows.proofs.Updates.{answer_is, passes, plainly}
 use Rattle.land_sights.proofs.Containing.{first_or_later, in_nothing, later, first, to_map}
 use Rattle.land_sights.proofs.Standing.{entry_found, entry_there}
 use Rattle.land_versions.specs.Readings.{each_of}
 use Rattle.sqlite.specs.Program.{overlay}
 use Rattle.sqlite.specs.Query.{IsAnswer}
-use Rattle.sqlite.specs.Term.{eval_all}
+use Rattle.sqlite.specs.Term.{Term, eval_all}
 use Rattle.sqlite_keyed.proofs.ListLemmas.{map-map}
 use Rattle.sqlite_trees.specs.Tree.{Trees}
 use Rattle.sqlite_value.specs.Order.{Row}
 
 -- ---- rows
 
-module _ (l : LookUp) (number : ℕ) (t : ℤ) (db : Trees) (rows : List Row) where
-  abbrev params : Row
-  params = given (asked_for number) t
-
+-- a query of one table shows the columns of a row that are read, and tests whether its version stands and is meant
+module _ {X : Type 0} (listing : Listing (Version X)) (terms columns : List Term) (params : Row) (meant : X → Bool) (t : ℤ) (db : Trees)
+    (same_rows : overlay db [] listing.table.tree ≡ db listing.table.tree) (same_cells : (r : Row) → eval_all columns (params ∷ r ∷ []) ≡ listing.shown r)
+    (tested : (r : Row) (v : Version X) → listing.said (listing.shown r) ≡ Ok v → passes terms params r ≡ (stands t v && meant v.what)) (rows : List Row) where
   abbrev passing : Row → Bool
-  passing r = passes (filter_of l) params r
+  passing r = passes terms params r
 
-  each_shown : (some : List Row) → map (λ r. eval_all (project_of l) (params ∷ r ∷ [])) some ≡ map (listing_of l).shown some
+  each_shown : (some : List Row) → map (λ r. eval_all columns (params ∷ r ∷ [])) some ≡ map listing.shown some
   each_shown [] = refl
-  each_shown (r ∷ more) = ap (λ a. a ∷ map (λ r. eval_all (project_of l) (params ∷ r ∷ [])) more) (shown l params r) ∙ ap (λ m. (listing_of l).shown r ∷ m) (each_shown more)
+  each_shown (r ∷ more) = ap (λ a. a ∷ map (λ r. eval_all columns (params ∷ r ∷ [])) more) (same_cells r) ∙ ap (λ m. listing.shown r ∷ m) (each_shown more)
 
-  answered : IsAnswer (query_of l) (overlay db []) params rows → IsPermutation (map (listing_of l).shown (filter passing (db (listing_of l).table.tree))) rows
+  answered : IsAnswer (plainly listing.table.tree terms columns) (overlay db []) params rows → IsPermutation (map listing.shown (filter passing (db listing.table.tree))) rows
   answered a =
-      subst (λ m. IsPermutation m rows) (each_shown (filter passing (db (listing_of l).table.tree)))
-      (subst (λ some. IsPermutation (map (λ r. eval_all (project_of l) (params ∷ r ∷ [])) (filter passing some)) rows) (stored l db)
-      (answer_is (listing_of l).table.tree (filter_of l) (project_of l) (overlay db []) params rows a))
+      subst (λ m. IsPermutation m rows) (each_shown (filter passing (db listing.table.tree)))
+      (subst (λ some. IsPermutation (map (λ r. eval_all columns (params ∷ r ∷ [])) (filter passing some)) rows) same_rows
+      (answer_is listing.table.tree terms columns (overlay db []) params rows a))
 
-  -- what the text of a look-up answers are the rows that it finds
-  pub are_rows_of : IsAnswer (query_of l) (overlay db []) params rows → AreRowsOf l number t db rows
-  are_rows_of a versions says =
-      let listing = listing_of l in
+  -- what it answers are the rows of what is wanted
+  pub are_rows : IsAnswer (plainly listing.table.tree terms columns) (overlay db []) params rows → AreRows listing meant t db rows
+  are_rows a versions says =
       let whole = db listing.table.tree in
-      let said_of : Row → Result (Version (Found l)) WireFault = λ r. listing.said (listing.shown r) in
+      let said_of : Row → Result (Version X) WireFault = λ r. listing.said (listing.shown r) in
       let answer : IsPermutation (map said_of (filter passing whole)) (map listing.said rows) =
       subst (λ m. IsPermutation m (map listing.said rows)) (map-map listing.said listing.shown (filter passing whole)) (IsPermutation-map listing.said (map listing.shown (filter passing whole)) rows (answered a)) in
-      IsPermutation-trans (map listing.said rows) (map said_of (filter passing whole)) (map (λ v. Ok v) (wanted l number t versions))
+      IsPermutation-trans (map listing.said rows) (map said_of (filter passing whole)) (map (λ v. Ok v) (wanted meant t versions))
       (IsPermutation-sym (map said_of (filter passing whole)) (map listing.said rows) answer)
-      (passing_said said_of passing (λ v. stands t v && is_meant l number v.what) (λ r v e. tests l r v e number t) whole versions says)
+      (passing_said said_of passing (λ v. stands t v && meant v.what) tested whole versions says)
+
+-- what the text of a look-up answers are the rows that it finds
+pub are_rows_of : (l : LookUp) (number : ℕ) (t : ℤ) (db : Trees) (rows : List Row) → IsAnswer (query_of l) (overlay db []) (given (asked_for number) t) rows → AreRowsOf l number t db rows
+are_rows_of l number t db rows answer =
+    are_rows (listing_of l) (filter_of l) (project_of l) (given (asked_for number) t) (is_meant l number) t db (stored l db) (shown l (given (asked_for number) t)) (λ r v e. tests l r v e number t) rows answer
 
 -- what is read of such rows
 module _ {X : Type 0} (said : Row → Result X WireFault) (l : LookUp) (number : ℕ) (t : ℤ) (db : Trees) (rows : List Row) (are : AreRowsOf l number t db rows) where
@@ -75,19 +79,28 @@ module _ {X : Type 0} (said : Row → Result X WireFault) (l : LookUp) (number :
 
 -- ---- versions
 
-module _ (l : LookUp) (number : ℕ) (t : ℤ) (db : Trees) (versions : List (Version (Found l))) (says : Says (listing_of l) db versions) where
-  -- the versions that are wanted are found, and no others
-  pub are_wanted : (found : List (Version (Found l))) → AreSaidOf (listing_of l).said l number t db found → IsPermutation found (wanted l number t versions)
-  are_wanted found said =
-      same_values found (wanted l number t versions)
-      (subst (λ m. IsPermutation m (map (λ v. Ok v) (wanted l number t versions))) (each_all (listing_of l).said said.0 found said.2) (said.1 versions says))
+module _ {X : Type 0} (listing : Listing (Version X)) (meant : X → Bool) (t : ℤ) (db : Trees) (versions : List (Version X)) (says : Says listing db versions)
+    (rows : List Row) (are : AreRows listing meant t db rows) where
+  -- the versions that are wanted are read, and no others
+  pub all_wanted : (found : List (Version X)) → each_of listing.said rows ≡ Ok found → IsPermutation found (wanted meant t versions)
+  all_wanted found said =
+      same_values found (wanted meant t versions)
+      (subst (λ m. IsPermutation m (map (λ v. Ok v) (wanted meant t versions))) (each_all listing.said rows found said) (are versions says))
 
   -- they can be read
+  pub can_be_read : ((found : List (Version X)) → each_of listing.said rows ≢ Ok found) → ⊥
+  can_be_read cannot =
+      let read = some_said listing.said rows (wanted meant t versions) (are versions says) in
+      cannot read.0 read.1
+
+module _ (l : LookUp) (number : ℕ) (t : ℤ) (db : Trees) (versions : List (Version (Found l))) (says : Says (listing_of l) db versions) where
+  pub are_wanted : (found : List (Version (Found l))) → AreSaidOf (listing_of l).said l number t db found → IsPermutation found (wanted (is_meant l number) t versions)
+  are_wanted found said = all_wanted (listing_of l) (is_meant l number) t db versions says said.0 said.1 found said.2
+
   pub can_be_said : (fault : ReadFault) → CannotBeSaid (listing_of l).said l number t db fault → fault ≡ Unreadable → ⊥
   can_be_said fault cannot is =
       let it = cannot is in
-      let read = some_said (listing_of l).said it.0 (wanted l number t versions) (it.1 versions says) in
-      it.2 read.0 read.1
+      can_be_read (listing_of l) (is_meant l number) t db versions says it.0 it.1 it.2
 
 -- so a fault that says that they cannot is told only where the tables hold no history
 pub none_held : {Y : Type 0} (db : Trees) (r : Result Y ReadFault) (fault : ReadFault) → IsErrAnd r (λ f. f ≡ fault) → HoldsNone db fault → IfErr r (HoldsNone db)

@@ -10,7 +10,7 @@ use Rattle.land_core.specs.declared.role.Role.{Role}
 use Rattle.land_core.specs.declared.role.Role.TheVariants.{Citizen, Conveyancer, Notary, Bank, CertifiedSurveyor, StateAdministrator}
 use Rattle.land_history.specs.declared.version.Version.{Version}
 use Rattle.land_joins.proofs.Places.{Place, What, reading, shape, shows}
-use Rattle.land_joins.proofs.Shapes.{AreShapes, SayAll, all_decided, are_known, is_shape, shape_itself}
+use Rattle.land_joins.proofs.Shapes.{Fits, SayAll, all_decided, are_known, is_shape, shape_itself}
 use Rattle.land_joins.specs.Meaning.{given}
 use Rattle.land_joins.specs.Running.{asked_for}
 use Rattle.land_rows.proofs.Updates.{passes}
@@ -19,13 +19,14 @@ use Rattle.land_texts.specs.Parties.{role_word}
 use Rattle.sqlite.specs.Term.{Term}
 use Rattle.sqlite_value.specs.Order.{Row}
 
+-- a row passes the tests that a shape of it passes
+pub decides_by : (filter : List Term) (params shape r : Row) → Fits shape 0 r → are_known filter (params ∷ shape ∷ []) ≡ true → Decides (passes filter params r) (SayAll filter (params ∷ shape ∷ []))
+decides_by filter params shape r fits known = all_decided filter (params ∷ shape ∷ []) (params ∷ r ∷ []) (shape_itself params, (is_shape shape r fits, tt)) known
+
 -- a row that says a version passes the tests that the shape of the version passes
 module _ (p : Place) (r : Row) (v : Version (What p)) (e : (reading p).said (columns_from 1 (reading p).width r) ≡ Ok v) (asked : ℕ) (t : ℤ) where
-  shapes : AreShapes (given asked t ∷ shape p v ∷ []) (given asked t ∷ r ∷ [])
-  shapes = (shape_itself (given asked t), (is_shape (shape p v) r (shows p r v e).0, tt))
-
   pub decides : (filter : List Term) → are_known filter (given asked t ∷ shape p v ∷ []) ≡ true → Decides (passes filter (given asked t) r) (SayAll filter (given asked t ∷ shape p v ∷ []))
-  decides filter known = all_decided filter (given asked t ∷ shape p v ∷ []) (given asked t ∷ r ∷ []) shapes known
+  decides filter known = decides_by filter (given asked t) (shape p v) r (shows p r v e).0 known
 
 -- a lifespan has the moment
 abbrev pub Lives : (t since until : ℤ) → Type 0
@@ -57,6 +58,14 @@ asked_is key number within = Decides-like (nat_eq key number) (λ is. is ∙ kep
 
 pub by_number : (b : Bool) (key number : ℕ) (t since until : ℤ) → is_number key ≡ true → Decides b ((key ≡ asked_for number) × Lives t since until) → b ≡ ((int_le since t && int_lt t until) && nat_eq key number)
 by_number b key number t since until within passes = meant_lives b (nat_eq key number) (key ≡ asked_for number) t since until (asked_is key number within) passes
+
+-- and a reference is the one that is given
+pub by_reference : (b : Bool) (key number : ℕ) (word reference : List ℕ) (t since until : ℤ) → is_number key ≡ true
+    → Decides b ((key ≡ asked_for number) × ((word ≡ reference) × Lives t since until)) → b ≡ ((int_le since t && int_lt t until) && (nat_eq key number && bytes_eq word reference))
+by_reference b key number word reference t since until within passes =
+    meant_lives b (nat_eq key number && bytes_eq word reference) ((key ≡ asked_for number) × (word ≡ reference)) t since until
+    (Decides-and (nat_eq key number) (bytes_eq word reference) (asked_is key number within) (bytes_eq-Decides word reference))
+    (Decides-like b (λ h. ((h.0, h.1.0), h.1.1)) (λ h. (h.0.0, (h.0.1, h.1))) passes)
 
 administrator_test : (r : Role) → is_role r StateAdministrator ≡ bytes_eq (role_word r) (codes "stateAdministrator")
 administrator_test Citizen = refl

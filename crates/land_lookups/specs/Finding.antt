@@ -2,6 +2,7 @@
 use Rattle.std.specs.List.{Contains}
 use Rattle.std.specs.Prelude.{◌≡◌, ◌≢◌, ℕ, ℤ, Bool, ◌&&◌, nat_eq, List, [], filter, map, IsPermutation, Option, Some, None, Result, Ok}
 use Rattle.land_bodies.specs.declared.wire_fault.WireFault.{WireFault}
+use Rattle.land_core.specs.Mutations.{is_lodged_as}
 use Rattle.land_core.specs.Role.{is_role}
 use Rattle.land_core.specs.declared.mutation.MutationRecord.{MutationRecord}
 use Rattle.land_core.specs.declared.parcel.ParcelRecord.{ParcelRecord}
@@ -71,14 +72,22 @@ is_meant look_up.MembersOfGroup number joined = nat_eq joined.group number
 is_meant look_up.MutationsOfLodger number mutation = nat_eq mutation.1.lodger number
 is_meant look_up.Administrators number grant = is_role grant.role StateAdministrator
 
--- of some versions, those that stand at a moment and are looked for
-abbrev pub wanted : (l : LookUp) → (number : ℕ) → (t : ℤ) → List (Version (Found l)) → List (Version (Found l))
-wanted l number t versions = filter (λ v. stands t v && is_meant l number v.what) versions
+-- of some versions, those that stand at a moment and are meant
+abbrev pub wanted : {X : Type 0} → (X → Bool) → (t : ℤ) → List (Version X) → List (Version X)
+wanted meant t versions = filter (λ v. stands t v && meant v.what) versions
 
--- where the rows of the table say some versions, these rows say those of them that are wanted, in whatever order
+-- where the rows of a table say some versions, these rows say those of them that are wanted, in whatever order
+abbrev pub AreRows : {X : Type 0} → Listing (Version X) → (X → Bool) → (t : ℤ) → Trees → List Row → Type 0
+AreRows {X} listing meant t db rows = (versions : List (Version X)) → Says listing db versions
+    → IsPermutation (map listing.said rows) (map (λ v. Ok v) (wanted meant t versions))
+
+-- the rows of what is looked for by a number
 abbrev pub AreRowsOf : LookUp → (number : ℕ) → (t : ℤ) → Trees → List Row → Type 0
-AreRowsOf l number t db rows = (versions : List (Version (Found l))) → Says (listing_of l) db versions
-    → IsPermutation (map (listing_of l).said rows) (map (λ v. Ok v) (wanted l number t versions))
+AreRowsOf l number t db rows = AreRows (listing_of l) (is_meant l number) t db rows
+
+-- the rows of what a party lodged under a reference
+abbrev pub AreRowsLodgedAs : (lodger : ℕ) → (reference : List ℕ) → (t : ℤ) → Trees → List Row → Type 0
+AreRowsLodgedAs lodger reference t db rows = AreRows mutations (λ mutation. is_lodged_as lodger reference mutation.1) t db rows
 
 -- this is what such rows say
 abbrev pub AreSaidOf : {X : Type 0} → (Row → Result X WireFault) → LookUp → (number : ℕ) → (t : ℤ) → Trees → List X → Type 0

@@ -2,17 +2,18 @@
 ghost use Rattle.std.specs.Prelude.{◌≡◌, false, IfErr};
 ghost use Rattle.land_joins.specs.Running.{HoldsNone};
 ghost use Rattle.land_listing.specs.Reading.{IsRead};
-ghost use Rattle.land_lookups.specs.Finding.{AreRowsOf, AreSaidOf, CannotBeSaid};
+ghost use Rattle.land_lookups.specs.Finding.{AreRowsLodgedAs, AreRowsOf, AreSaidOf, CannotBeSaid};
 ghost use Rattle.land_rows.specs.Looks.{IsLook};
 ghost use Rattle.land_schema.specs.Land.{IsLand};
 ghost use Rattle.sqlite.specs.Held.{state};
 ghost use Rattle.sqlite.specs.State.{HasCleanDisk};
 
 use crate::look_up::{LookUp, text_of};
+use crate::texts;
 use land_core::sequence::Sequence;
 use land_joins::running::asked_for;
 use land_listing::fault::ReadFault;
-use land_rows::cells::{of_moment, of_number};
+use land_rows::cells::{of_moment, of_number, of_text};
 use land_versions::from_row::{FromRow, read_all};
 use sqlite::{Alter, Connection, Error, Row};
 use std::alloc::Global;
@@ -34,8 +35,29 @@ fn rows_of<S: Alter>(
     )
 }
 
+/// The rows of what a party lodged under a reference, as it stands at a moment, in whatever order.
+pub(crate) fn rows_lodged_as<S: Alter>(
+    conn: &mut Connection<S>,
+    lodger: u64,
+    reference: &str,
+    at: i64,
+) -> Result<Vec<Row>, Error>
+    requires land { HasCleanDisk (state S.Store conn.old) → IsLand (state S.Store conn.old).now.schema }
+    ensures look { IsLook result (λ rows. AreRowsLodgedAs lodger reference.now at (state S.Store conn.old).now.trees rows.items) (state S.Store conn.old) (state S.Store conn.new) }
+    ensures mode { conn.old.in_transaction ≡ false → conn.new.in_transaction ≡ false }
+{
+    conn.query_all(
+        texts::MUTATION_LODGED_AS,
+        &[
+            of_number(asked_for(lodger)),
+            of_moment(at),
+            of_text(reference),
+        ],
+    )
+}
+
 /// What some rows say. 520: one of them cannot be read. 501: there was no memory.
-fn read<X: FromRow>(alloc: Global, rows: &[Row]) -> Result<Sequence<X>, ReadFault>
+pub(crate) fn read<X: FromRow>(alloc: Global, rows: &[Row]) -> Result<Sequence<X>, ReadFault>
     ensures { IsRead X.FromRow.said rows.now result }
 {
     Ok(read_all(alloc, rows)?)

@@ -1,7 +1,7 @@
 //! The text of each look-up.
 //!
-//! In each of them parameter 1 is the number that is given, and parameter 2 the moment in milliseconds since 1970 UTC. A row stands where
-//! the moment is not before its `since` and is before its `until`.
+//! In each of them parameter 1 is the number that is given, and parameter 2 the moment in milliseconds since 1970 UTC; parameter 3 is the
+//! reference, where one is given. A row stands where the moment is not before its `since` and is before its `until`.
 
 /// The party of a number.
 pub const PARTY: &str =
@@ -50,6 +50,10 @@ pub const MEMBERS_OF_GROUP: &str =
 /// The mutations that a party lodged, decided or not.
 pub const MUTATIONS_OF_LODGER: &str =
     "SELECT number, lodger, reference, source, lodged, act, content, state, since, until FROM mutation WHERE lodger = ?1 AND since <= ?2 AND ?2 < until";
+
+/// The mutation that a party lodged under a reference.
+pub const MUTATION_LODGED_AS: &str =
+    "SELECT number, lodger, reference, source, lodged, act, content, state, since, until FROM mutation WHERE lodger = ?1 AND reference = ?3 AND since <= ?2 AND ?2 < until";
 
 /// The state administrators. Parameter 1 is not looked at.
 pub const ADMINISTRATORS: &str =

@@ -58,9 +58,3 @@ module _ {K V : Type 0} {R : K → K → Ordering} (o : IsTotalOrder R) (same : 
   none_kept m = same_entries map.empty (only (λ k v. false) m)
       (λ k v is. absurd (let none = map.get-empty {X = V} R k in let both : None ≡ Some v = sym none ∙ is in cc))
       (λ k v is. absurd (false≢true (was_kept (λ k v. false) m k v is).1))
-
-  -- what a test keeps of what a weaker one keeps
-  pub kept_again : (p q : K → V → Bool) (m : FinMap R V) → ((k : K) (v : V) → p k v ≡ true → q k v ≡ true) → only p (only q m) ≡ only p m
-  kept_again p q m weaker = same_entries (only p (only q m)) (only p m)
-      (λ k v is. let it = was_kept p (only q m) k v is in is_kept p m k v (was_kept q m k v it.0).0 it.1)
-      (λ k v is. let it = was_kept p m k v is in is_kept p (only q m) k v (is_kept q m k v it.0 (weaker k v it.1)) it.1)

@@ -1,8 +1,7 @@
 //! The mutations that an act is about.
-ghost use Rattle.std.specs.Prelude.{◌≡◌, false, nat_eq, IfOk, IsTrue};
+ghost use Rattle.std.specs.Prelude.{◌≡◌, false, nat_eq, IsTrue};
 ghost use Rattle.land_acts.specs.Slices.{mutations_looked_at};
 ghost use Rattle.land_core.specs.Entries.{only};
-ghost use Rattle.land_core.specs.Mutations.{is_lodged_as};
 ghost use Rattle.land_lookups.specs.Parts.{IsPart};
 ghost use Rattle.land_rows.specs.Looks.{IsLook};
 ghost use Rattle.land_schema.specs.Land.{IsLand};
@@ -12,47 +11,12 @@ ghost use Rattle.sqlite.specs.State.{HasCleanDisk};
 use crate::people::put_one;
 use land_core::act::Act;
 use land_core::caller::Caller;
-use land_core::duplicate::Duplicate;
 use land_core::mutation::MutationRecord;
 use land_core::records::Records;
 use land_listing::fault::ReadFault;
 use land_lookups::{by_number, of_lodger};
 use sqlite::{Alter, Connection};
-use std::alloc::{AllocError, Global};
-
-/// Of some mutations, those that a party lodged under a reference.
-fn lodged_as(
-    alloc: Global,
-    mutations: &Records<MutationRecord>,
-    lodger: u64,
-    reference: &str,
-) -> Result<Records<MutationRecord>, AllocError>
-    ensures { IfOk result (λ it. it ≡ only (λ n m. is_lodged_as lodger reference.now m) mutations.now) }
-{
-    let mut kept = Records::new(alloc);
-    for (number, mutation) in mutations.iter() {
-        if mutation.is_lodged_as(lodger, reference) {
-            kept.insert(*number, mutation.copy(alloc)?)?;
-        }
-    }
-    Ok(kept)
-}
-
-/// The mutation that a party lodged under a reference, if any.
-fn lodged_before<S: Alter>(
-    alloc: Global,
-    conn: &mut Connection<S>,
-    lodger: u64,
-    reference: &str,
-    at: i64,
-) -> Result<Records<MutationRecord>, ReadFault>
-    requires land { HasCleanDisk (state S.Store conn.old) → IsLand (state S.Store conn.old).now.schema }
-    ensures look { IsLook result (λ it. IsPart (λ r. only (λ n m. is_lodged_as lodger reference.now m) r.mutations) at (state S.Store conn.old).now.trees it) (state S.Store conn.old) (state S.Store conn.new) }
-    ensures mode { conn.old.in_transaction ≡ false → conn.new.in_transaction ≡ false }
-{
-    let own = of_lodger::mutations(alloc, conn, lodger, at)?;
-    Ok(lodged_as(alloc, &own, lodger, reference)?)
-}
+use std::alloc::Global;
 
 /// The mutation at a number, if one stands there.
 fn at_number<S: Alter>(
@@ -84,7 +48,9 @@ pub(crate) fn mutations_of<S: Alter>(
     ensures mode { conn.old.in_transaction ≡ false → conn.new.in_transaction ≡ false }
 {
     match act {
-        Act::Lodge(it) => lodged_before(alloc, conn, caller.party, it.reference.as_str(), at),
+        Act::Lodge(it) => {
+            of_lodger::lodged_as(alloc, conn, caller.party, it.reference.as_str(), at)
+        }
         Act::Approve(it) | Act::Refuse(it) => at_number(alloc, conn, it.mutation, at),
         _ => Ok(Records::new(alloc)),
     }

@@ -1,55 +1,38 @@
-use Rattle.std.proofs.Common.{◌≡◌, ◌∙◌, ℕ, List, rules, subst, refl}
-use Rattle.std.specs.Int.{w64}
-use Rattle.std.specs.Prelude.{FitsSigned}
-use Rattle.std.proofs.lemmas.Int.{to_z-of_z}
-use Rattle.land_extracts.specs.Extracts.{row_at}
-use Rattle.land_keep.proofs.Steps.{opens}
+use Rattle.std.proofs.Common.{◌∙◌, Ok, Option, Some, subst}
+use Rattle.land_extracts.specs.declared.extract_row.ExtractRow.{ExtractRow}
+use Rattle.land_extracts.specs.Left.{left_of}
+use Rattle.land_extracts.specs.Seeing.{Gives, Leaves}
 use Rattle.land_keep.specs.Timeline.{register_at}
-use Rattle.land_sending.proofs.Fronts.{cut_row, next_row, stopped}
-use Rattle.land_sending.specs.Writing.{IsFront, IsWhole}
+use Rattle.land_extracts.proofs.Rows.{cut_told, gives_as, one_more, open_after}
 use Rattle.land_extracts.proofs.extract.write_rows.Goals as goal
 
--- the row could not be made
-pub returns-in-Err-clause-put : goal.returns-in-Err-clause-put
-returns-in-Err-clause-put g c honest =
-    let fit : FitsSigned w64 c.args.at = search rules in
-    let f = row_at (register_at (g.K.Keeper.timeline c.args.keeper.now) c.args.at) c.args.kind in
-    let so_far = simp to_z-of_z at (c.loop-number.invariant.so_far (c.in-Err.ensures.was honest)) in
-    stopped f c.args.numbers.now c.loop-number.number-index c.args.before c.loop-number.written (g.W.Write.contents c.args.writer.now) (g.W.Write.contents c.loop-number.writer) so_far
+-- a row is cut short
+pub returns-in_err-written-in-Ok-Some-clause-put : goal.returns-in_err-written-in-Ok-Some-clause-put
+returns-in_err-written-in-Ok-Some-clause-put g c honest stand =
+    let trust = c.in-Ok-Some.ensures.was honest in
+    let tl = g.K.Keeper.timeline c.args.seen.now.keeper.now in
+    let first = c.args.seen.now in
+    let it = c.rows.invariant.so_far trust stand in
+    let gives : Gives (register_at tl first.at) first.kind (left_of c.rows.seen) (Some c.in-Ok-Some.row) =
+    gives_as _ _ _ _ _ _ _ _ _ (c.rows.invariant.same trust) c.rows.invariant.at c.rows.invariant.kind c.in-Ok-Some.field-0-is (c.in-Ok-Some.ensures.gives honest) it.stand in
+    cut_told _ _ _ _ _ _ _ _ _ c.in-Ok-Some.row c.from_residual.result _ c.from_residual.ensures.1 gives c.in_err-written-in-Ok-Some.ensures.put it
 
--- the row is cut short
-pub returns-in-Err-put-clause-put : goal.returns-in-Err-put-clause-put
-returns-in-Err-put-clause-put g c honest =
-    let fit : FitsSigned w64 c.args.at = search rules in
-    let tl = g.K.Keeper.timeline c.args.keeper.now in
-    let f = row_at (register_at tl c.args.at) c.args.kind in
-    let trust = c.in-Ok.ensures.was honest in
-    let same : g.K.Keeper.timeline c.loop-number.keeper ≡ tl = c.loop-number.invariant.same trust in
-    let so_far = simp to_z-of_z at (c.loop-number.invariant.so_far trust) in
-    let row = c.as_slice.ensures.value ∙ rw (← same) (simp to_z-of_z at (c.in-Ok.ensures.value honest)) in
-    let a = g.W.Write.contents c.args.writer.now in
-    let b = g.W.Write.contents c.loop-number.writer in
-    let d = g.W.Write.contents c.put.new.writer in
-    cut_row f c.args.numbers.now c.loop-number.number-index _ c.args.before c.loop-number.written c.in-Err-put.written a b d c.loop-number-test.true refl so_far
-    (subst (λ (text : List ℕ). IsFront text c.loop-number.written c.in-Err-put.written b d) row c.in-Err-put.ensures.err)
-
--- the row is written
-pub loop-number-preserved : goal.loop-number-preserved
-loop-number-preserved g c = record {
-  is_open = (opens _ _ _ c.in-Ok.ensures.closes).1;
-  was = λ honest. c.loop-number.invariant.was (c.in-Ok.ensures.was honest);
-  same = λ honest. c.in-Ok.ensures.same (honest, (opens _ _ _ c.in-Ok.ensures.closes).1) ∙ c.loop-number.invariant.same (c.in-Ok.ensures.was honest);
-  so_far = λ honest.
-      let fit : FitsSigned w64 c.args.at = search rules in
-      let tl = g.K.Keeper.timeline c.args.keeper.now in
-      let f = row_at (register_at tl c.args.at) c.args.kind in
-      let trust = c.in-Ok.ensures.was honest in
-      let same : g.K.Keeper.timeline c.loop-number.keeper ≡ tl = c.loop-number.invariant.same trust in
-      let so_far = simp to_z-of_z at (c.loop-number.invariant.so_far trust) in
-      let row = c.as_slice.ensures.value ∙ rw (← same) (simp to_z-of_z at (c.in-Ok.ensures.value honest)) in
-      let a = g.W.Write.contents c.args.writer.now in
-      let b = g.W.Write.contents c.loop-number.writer in
-      let d = g.W.Write.contents c.put.new.writer in
-      simp to_z-of_z (next_row f c.args.numbers.now c.loop-number.number-index _ c.args.before c.loop-number.written c.in-Ok-put.more a b d c.loop-number-test.true refl so_far
-      (subst (λ (text : List ℕ). IsWhole text c.loop-number.written c.in-Ok-put.more b d) row c.in-Ok-put.ensures.ok));
-}
+-- a row is written
+pub rows-preserved : goal.rows-preserved
+rows-preserved g c =
+    let first = c.args.seen.now in
+    let ajar = open_after _ _ _ _ c.rows.invariant.is_open c.in-Ok-Some.ensures.closes in record {
+      is_open = ajar;
+      reference = c.in-Ok-Some.ensures.same_reference ∙ c.rows.invariant.reference;
+      kind = c.in-Ok-Some.ensures.asked.0 ∙ c.rows.invariant.kind;
+      at = c.in-Ok-Some.ensures.asked.1 ∙ c.rows.invariant.at;
+      was = λ honest. c.rows.invariant.was (c.in-Ok-Some.ensures.was honest);
+      same = λ honest. c.in-Ok-Some.ensures.same (honest, ajar) ∙ c.rows.invariant.same (c.in-Ok-Some.ensures.was honest);
+      so_far = λ honest stand.
+          let trust = c.in-Ok-Some.ensures.was honest in
+          let tl = g.K.Keeper.timeline first.keeper.now in
+          let it = c.rows.invariant.so_far trust stand in
+          let gives : Gives (register_at tl first.at) first.kind (left_of c.rows.seen) (Some c.in-Ok-Some.row) =
+          gives_as _ _ _ _ _ _ _ _ _ (c.rows.invariant.same trust) c.rows.invariant.at c.rows.invariant.kind c.in-Ok-Some.field-0-is (c.in-Ok-Some.ensures.gives honest) it.stand in
+          one_more _ _ _ _ _ _ _ _ _ _ _ c.in-Ok-Some.row gives (subst (λ (o : Option ExtractRow). Leaves (left_of c.rows.seen) (Ok o) (left_of c.next.new.self)) c.in-Ok-Some.field-0-is c.in-Ok-Some.ensures.leaves) c.in_ok-written-in-Ok-Some.ensures.put it;
+    }

@@ -6,7 +6,7 @@ use Rattle.land_slices.proofs.mutations.mutations_of.Goals as goal
 pub returns-in-Lodge-clause-look : goal.returns-in-Lodge-clause-look
 returns-in-Lodge-clause-look g c =
     let when : to_z w64 (of_z w64 c.args.at) ≡ c.args.at = search rules in
-    let look = rw (when, c.as_str.ensures) at c.lodged_before.ensures.look in
+    let look = rw (when, c.as_str.ensures) at c.lodged_as.ensures.look in
     rw c.in-Lodge.is look
 
 -- the one that is approved or refused
