@@ -73,16 +73,12 @@ pub fn text(alloc: Global, text: &str) -> Result<Text, AllocError> {
     Ok(Text::new(String::from_str(alloc, text)?))
 }
 
-pub fn share(n: u64, d: u64) -> Result<Fraction, Stop> {
-    Ok(Fraction::new(n, d)?)
-}
-
 fn members(alloc: Global, shares: &[Share]) -> Result<Sequence<Member>, Stop> {
     let mut members = Sequence::new(alloc);
     for (party, n, d) in shares {
         members.push(Member {
             party: *party,
-            share: share(*n, *d)?,
+            share: Fraction::new(*n, *d)?,
         })?;
     }
     Ok(members)
@@ -110,7 +106,7 @@ fn rights(alloc: Global, rows: &[Right]) -> Result<Sequence<NewRight>, Stop> {
         rights.push(NewRight {
             party: *party,
             right_type: *right_type,
-            share: share(*n, *d)?,
+            share: Fraction::new(*n, *d)?,
         })?;
     }
     Ok(rights)

@@ -1,5 +1,5 @@
 //! Mutations: what rows ask for, the lodgings made of it, and what is shown of them in one line.
-use crate::asked::{share, text};
+use crate::asked::text;
 use crate::stop::Stop;
 use land_core::act::{Lodging, NewParcel};
 use land_core::content::{Content, Discharge, Mortgage, Transfer};
@@ -8,6 +8,7 @@ use land_core::mutation::Mutation;
 use land_core::sequence::{NumberList, Sequence};
 use land_core::subdivision::{Part, Subdivision};
 use land_core::text::Text;
+use land_fraction::Fraction;
 use land_shape::{Ring, read_wkt};
 use std::alloc::{AllocError, Global};
 
@@ -36,7 +37,7 @@ fn transfer(unit: u64, right: u64, receiver: u64, n: u64, d: u64) -> Result<Cont
         unit,
         right,
         receiver,
-        share: share(n, d)?,
+        share: Fraction::new(n, d)?,
     }))
 }
 
