@@ -1,0 +1,105 @@
+#!/usr/bin/env python3
+"""The time of reading a whole register and of writing one change, beside Python's sqlite3 running the same statements in the same run.
+
+    bench/tables.py [RECORDS..]          (1000 10000)
+    TABLES=PROGRAM bench/tables.py ..    a program that was built before
+
+Registers of so many records that came by many changes are written (registers.py), and a copy for Python. The program of tables.txt is proved and
+built first, in a copy of the repository over the libraries that earlier checks left in crates/*/out: that takes minutes. It takes the file by `Tables::adopt`, reads it
+by `read_at` at the middle of its time and at its end, then prepares the enrolment of a party again and again over joins, and then makes it again and again. A write
+is the difference of the two, since what is read to plan a change is no part of it. Python lists all rows of all tables, and runs the statements of the same
+change in a transaction, synchronous to the disk as the program's are. In milliseconds, the least of three runs each.
+"""
+import os
+import re
+import shutil
+import sqlite3
+import subprocess
+import sys
+import tempfile
+import time
+from pathlib import Path
+
+import registers
+from registers import TOP, texts
+
+READS, WRITES, RUNS = 20, 200, 3
+
+
+def build(folder):
+    """The program, proved and built in a copy of the repository."""
+    copy = folder / "copy"
+    shutil.copytree(TOP, copy, symlinks=True, ignore=lambda path, names: [
+        name for name in names if name == ".git" or Path(path).name == "out" and name != "rlib"])
+    crate = copy / "crates" / "tables_bench"
+    (crate / "src").mkdir(parents=True)
+    shutil.copy(TOP / "bench" / "tables.txt", crate / "src" / "main.rt")
+    lines = (copy / "crates.txt").read_text().splitlines()
+    below = next(line for line in lines if line.startswith("land_commands:")).split(":")[1]
+    (copy / "crates.txt").write_text("\n".join([*lines, f"tables_bench:{below}"]) + "\n")
+    done = subprocess.run(["rt", "run"], cwd=crate, capture_output=True, text=True)
+    program = crate / "out" / "tables_bench"
+    if not program.exists():
+        sys.exit(done.stdout + done.stderr)
+    return program
+
+
+def ours(program, file):
+    said = subprocess.run([program, file], capture_output=True, text=True, check=True).stdout
+    return {line.split()[0]: int(line.split()[1]) / 1e6 for line in said.splitlines()}
+
+
+def timed(times, action):
+    start = time.perf_counter()
+    for place in range(times):
+        action(place)
+    return (time.perf_counter() - start) * 1000 / times
+
+
+def theirs(file):
+    """All rows of all tables, and the statements of changes that enrol a party."""
+    base = sqlite3.connect(file, isolation_level=None)
+    base.execute("PRAGMA journal_mode = WAL")
+    base.execute("PRAGMA synchronous = FULL")
+    tables = re.findall(r"CREATE TABLE (\w+)", registers.schema())
+    lists = [texts(f"land_rows/src/tables/{table}.rt")["ALL"] for table in tables]
+    party, role = (texts(f"land_rows/src/tables/{table}.rt") for table in ("party", "role"))
+    moment = texts("land_rows/src/tables/moments.rt")["INSERT"]
+    last, next_number = base.execute("SELECT max(stamp), max(next) FROM moments").fetchone()
+
+    def write(place):
+        stamp, number = last + 1 + place, next_number + place
+        base.execute("BEGIN")
+        base.execute(party["CLOSE"], (number, stamp))
+        base.execute(party["BEGIN"], (number, "Anna", "naturalPerson", stamp))
+        base.execute(role["CLOSE"], (number, "citizen", stamp))
+        base.execute(role["BEGIN"], (number, "citizen", stamp))
+        base.execute(moment, (stamp, number + 1))
+        base.execute("COMMIT")
+
+    read = timed(READS, lambda _: [base.execute(text).fetchall() for text in lists])
+    written = timed(WRITES, write)
+    base.close()
+    return read, written
+
+
+def main():
+    sizes = [int(word) for word in sys.argv[1:]] or [1000, 10000]
+    with tempfile.TemporaryDirectory() as room:
+        folder = Path(room)
+        program = os.environ.get("TABLES") or build(folder)
+        print("| records | `read_at` at the middle | at the end | rows listed by Python | a change written | by Python | planned |\n|---|---|---|---|---|---|---|", flush=True)
+        for size in sizes:
+            found = []
+            for _ in range(RUNS):
+                file = folder / "ours.land"
+                file.unlink(missing_ok=True)
+                registers.of_changes(file, size // 3)
+                other = shutil.copy(file, folder / "theirs.land")
+                found.append((ours(program, file), theirs(other)))
+            least = lambda of: min(map(of, found))
+            print(f"| {size:,} | {least(lambda it: it[0]['read_at_middle']):.2f} | {least(lambda it: it[0]['read_at_last']):.2f} | {least(lambda it: it[1][0]):.2f}"
+                  f" | {least(lambda it: it[0]['answer'] - it[0]['prepare']):.3f} | {least(lambda it: it[1][1]):.3f} | {least(lambda it: it[0]['prepare']):.3f} |", flush=True)
+
+
+main()
