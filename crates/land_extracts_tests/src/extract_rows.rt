@@ -209,7 +209,7 @@ fn over_plain(alloc: Global) -> Result<(), Stop> {
 }
 
 /// The tables of a new register.
-fn new_tables(alloc: Global) -> Result<Tables<MemStore>, Stop> {
+pub fn new_tables(alloc: Global) -> Result<Tables<MemStore>, Stop> {
     match Tables::create(Connection::open_in_memory(alloc)?) {
         Ok(tables) => Ok(tables),
         Err((_, fault)) => Err(Stop::from(fault)),
