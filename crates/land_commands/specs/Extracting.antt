@@ -6,7 +6,7 @@ use Rattle.land_core.specs.declared.role.Role.{Role}
 use Rattle.land_extracts.specs.Extracts.{extract_of, list_reply}
 use Rattle.land_extracts.specs.Writing.{IsExtracted, of_store}
 use Rattle.land_extracts.specs.declared.fault.ExtractFault.{ExtractFault}
-use Rattle.land_keep.specs.Keeping.{Closes}
+use Rattle.land_keep.specs.Keeping.{Closes, IsLive}
 use Rattle.land_keep.specs.Machine.{now_of}
 use Rattle.land_keep.specs.Timeline.{Timeline, register_at}
 use Rattle.land_tables.specs.Office.{IsHonest, Office, held}
@@ -29,10 +29,11 @@ Extracts tl wanted old new r =
     IsExtracted (list_reply wanted.clock wanted.caller wanted.kind wanted.at tl)
     (extract_of (register_at tl (unwrap_or wanted.at (now_of wanted.clock tl))) wanted.caller wanted.kind) old new r
 
--- what is wanted is extracted from tables, while their store is honest
+-- what is wanted is extracted from tables, while their store is honest; nothing in the register changes
 pub record IsExtractedOver {S : Type 0} (g : Ghosts S) (from : Office S) (wanted : Wanted) (to : Office S) (old new : Option (List ℕ))
     (r : Result ℕ ExtractFault) : Type 0 where
   pub was : IsHonest g to → IsHonest g from
+  pub same : IsLive (IsHonest g to) to.is_closed → held g to ≡ held g from
   pub closes : Closes from.is_closed to.is_closed (of_store r)
   pub extracts : IsHonest g to → Extracts (held g from) wanted old new r
 

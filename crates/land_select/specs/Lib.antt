@@ -1,3 +1,4 @@
--- Definitions of what the keeper over joins shows, and of how it judges.
+-- Definitions of what the keeper over joins shows, and of how it judges; the law on its texts.
+pub mod Laws
 pub mod Verdicts
 pub mod Views

@@ -2,6 +2,7 @@
 #![tactic(auto)]
 
 mod denial;
+pub mod laws;
 mod object;
 mod sight;
 pub mod sight_text;

@@ -3,6 +3,7 @@ ghost use Rattle.std.specs.Prelude.{◌≡◌, map};
 ghost use Rattle.land_core.specs.declared.kind.Kind.TheVariants as kinds;
 ghost use Rattle.land_core.specs.declared.role.Role.TheVariants as roles;
 ghost use Rattle.land_joins.specs.Texts.{text_of};
+ghost use Rattle.land_select.specs.Laws.{sight_texts};
 ghost use Rattle.land_sights.specs.Sights.{selections_of};
 
 use land_core::kind::Kind;
@@ -82,7 +83,7 @@ fn surveyor_texts(kind: Kind) -> &'static [&'static str]
 /// The texts whose numbers together are what a role sees of a kind: 0 to 4 of 23. Parameter 1 is the caller, parameter 2 the moment in
 /// milliseconds since 1970 UTC.
 pub fn sight_text(role: Role, kind: Kind) -> &'static [&'static str]
-    ensures { map (λ text. text.now) result.now ≡ map text_of (selections_of role kind) }
+    ensures { map (λ text. text.now) result.now ≡ sight_texts role kind }
 {
     match role {
         Role::Citizen => citizen_texts(kind),

@@ -12,7 +12,7 @@ use Rattle.std.specs.declared.cmp.Ordering.{Ordering}
 use Rattle.land_core.proofs.FiniteMaps.{get-lookup, is_equal}
 use Rattle.land_core.proofs.Reflection.{each_there, entries-only}
 use Rattle.land_core.specs.Entries.{only}
-use Rattle.land_slices.proofs.Passing.{kept_by_filter, passes_filter}
+use Rattle.land_lookups.proofs.Records.{kept_by_filter, passes_filter}
 
 -- what may be the same is the same
 same_options : {V : Type 0} (a b : Option V) → ((v : V) → a ≡ Some v → b ≡ Some v) → ((v : V) → b ≡ Some v → a ≡ Some v) → a ≡ b

@@ -3,5 +3,4 @@ pub mod Gathering
 pub mod Keeping
 pub mod Looks
 pub mod Naming
-pub mod Passing
 pub mod Slicing

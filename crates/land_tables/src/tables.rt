@@ -1,9 +1,11 @@
 //! Tables that hold the register's timeline.
-ghost use Rattle.std.specs.Prelude.{◌≡◌, ◌≢◌, ◌≤ℤ◌, false, IfErr, IfOk, OnErr, OnOk};
+ghost use Rattle.std.specs.Prelude.{◌≡◌, ◌≢◌, ◌≤ℤ◌, true, false, Err, IfErr, IfOk, OnErr, OnOk};
 ghost use Rattle.land_keep.specs.Keeping.{CanWrite, Closes, IsLive};
 ghost use Rattle.land_keep.specs.Machine.{written};
 ghost use Rattle.land_keep.specs.Moments.{last_moment};
 ghost use Rattle.land_keep.specs.Timeline.{IsSoundTimeline, last_register, last_stamp, new_timeline, register_at};
+ghost use Rattle.land_keep.specs.declared.store_fault.StoreFault.TheVariants as store;
+ghost use Rattle.land_schema.specs.Land.{no_schema};
 ghost use Rattle.land_tables.specs.Adopting.{HoldsNone, IsAdopted, IsRefused};
 ghost use Rattle.land_tables.specs.Calls.{IsSame};
 ghost use Rattle.land_tables.specs.Standing.{HoldsTimeline};
@@ -64,8 +66,10 @@ impl<S: Alter> Tables<S> {
     ghost use Rattle.land_tables.specs.Office.{IsAnswer, IsCreated, IsHonest, IsKept, held};
 
     /// Makes the tables of a new register in a store that has none, in one transaction. 502: the store has tables, or a transaction is
-    /// begun, or a call failed. 501: there was no memory. A store that is open after a fault is as it was.
+    /// begun, and then nothing is done; or a call failed. 501: there was no memory. A store that is open after a fault is as it was.
     pub fn create(conn: Connection<S>) -> Result<Tables<S>, (Connection<S>, StoreFault)>
+        ensures begun { conn.in_transaction ≡ true → result ≡ Err (conn, store.Store) }
+        ensures taken { (state S.Store conn).now.schema ≢ no_schema → result ≡ Err (conn, store.Store) }
         ensures created { IfOk result (IsCreated S.Store) }
         ensures kept { IfErr result (λ e. IsKept (state S.Store conn) (state S.Store e.0)) }
         ensures crash_after { IfOk result (λ t. Survives (state S.Store conn) (state S.Store t.conn) (λ db. HoldsTimeline db new_timeline)) }
@@ -95,6 +99,7 @@ impl<S: Alter> Tables<S> {
         alloc: Global,
         conn: Connection<S>,
     ) -> Result<Tables<S>, (Connection<S>, AdoptFault)>
+        ensures begun { conn.in_transaction ≡ true → result ≡ Err (conn, why.Store) }
         ensures adopted { IfOk result (IsAdopted S.Store conn) }
         ensures refused { IfErr result (λ e. HasCleanDisk (state S.Store e.0) → IsRefused e.1 (state S.Store conn).now) }
         ensures none { IfErr result (λ e. HasCleanDisk (state S.Store e.0) → HoldsNone e.1 (state S.Store conn).now) }

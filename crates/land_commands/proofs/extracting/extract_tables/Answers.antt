@@ -20,6 +20,7 @@ returns g c =
     let alike : to_z w64 (of_z w64 wanted.clock) ≡ wanted.clock = search rules in
     subst₂ (λ from to. IsExtractedOver S from wanted to old new call.result) c.new-keeper.ensures (sym c.into_tables.ensures) (record {
       was = call.ensures.was;
+      same = call.ensures.same;
       closes = call.ensures.closes;
       extracts = λ honest. subst
           (λ (clock : ℤ). IsExtracted (list_reply clock wanted.caller wanted.kind wanted.at tl)

@@ -1,0 +1,59 @@
+-- What the texts of a role's sight give together is what the rules let the caller see.
+use Rattle.std.proofs.Common.{◌≡◌, inl, inr, ℕ, ℤ, List, [], ◌∷◌, map, sym, subst}
+use Rattle.std.specs.List.{Contains}
+use Rattle.land_core.specs.declared.caller.Caller.{Caller}
+use Rattle.land_core.specs.declared.kind.Kind.{Kind}
+use Rattle.land_history.specs.declared.history.History.{History}
+use Rattle.land_history.specs.declared.moment.Moment.{Moment}
+use Rattle.land_joins.specs.Meaning.{TextsSelect}
+use Rattle.land_joins.specs.Texts.{text_of}
+use Rattle.land_keep.specs.Timeline.{register_at}
+use Rattle.land_select.proofs.Seen.{sound_or_nothing}
+use Rattle.land_select.specs.Laws.{AreAnswer, Asked, GiveTogether, SightTextsAreTheRules}
+use Rattle.land_sights.proofs.Containing.{first, first_or_later, in_nothing, later}
+use Rattle.land_sights.specs.Laws.{SelectionsAreTheRules}
+use Rattle.land_sights.specs.Sights.{AnySelects, selections_of}
+use Rattle.land_sights.specs.declared.selection.Selection.{Selection}
+use Rattle.land_writes.specs.History.{HoldsHistory}
+use Rattle.sqlite_rules.specs.Lists.{Has}
+use Rattle.sqlite_value.specs.Order.{Row}
+
+-- what the texts of selections give together is what some of the selections gives
+module _ (texts_select : TextsSelect) (it : Asked) (moments : List Moment) (history : History) (holds : HoldsHistory it.db moments history) where
+  together : (ss : List Selection) → GiveTogether (map text_of ss) it (AnySelects ss it.moment history it.caller)
+  together [] = record {
+    answered = λ text h. absurd (in_nothing text h);
+    none_more = λ text h rows answer row has. absurd (in_nothing text h);
+    none_missing = λ n w. absurd w;
+  }
+  together (s ∷ ss) =
+      let one = texts_select s it.indexes it.db moments history it.caller it.moment holds in
+      let rest = together ss in
+      record {
+        answered = λ text h. elim (first_or_later (text_of s) (map text_of ss) text h) [
+          | inl same ↦ subst (λ x. (rows : List Row) × AreAnswer it x rows) same (one.rows, one.answer)
+          | inr more ↦ rest.answered text more
+        ];
+        none_more = λ text h rows answer row has. elim (first_or_later (text_of s) (map text_of ss) text h) [
+          | inl same ↦
+              let are = one.each rows (subst (λ x. AreAnswer it x rows) (sym same) answer) in
+              let number = are.each row has in
+              (number.0, number.1, inl ((are.meant number.0).0 (subst (Has rows) number.1 has)))
+          | inr more ↦ let found = rest.none_more text more rows answer row has in (found.0, found.1, inr found.2)
+        ];
+        none_missing = λ n w. elim w [
+          | inl here ↦ (text_of s, first (text_of s) (map text_of ss), (λ rows answer. ((one.each rows answer).meant n).1 here))
+          | inr there ↦ let found = rest.none_missing n there in (found.0, later (text_of s) (map text_of ss) found.0 found.1, found.2)
+        ];
+      }
+
+pub texts_are_rules : TextsSelect → SelectionsAreTheRules → SightTextsAreTheRules
+texts_are_rules texts_select are_rules indexes db tl holds sound t moment caller k =
+    let it : Asked = record { indexes = indexes; db = db; caller = caller.party; moment = t } in
+    let selected = together texts_select it holds.listed holds.history holds.holds (selections_of caller.role k) in
+    let same = are_rules (register_at tl t) holds.history t (sound_or_nothing tl t sound) (holds.stands.stands t moment) caller k in
+    record {
+      answered = selected.answered;
+      none_more = λ text h rows answer row has. let found = selected.none_more text h rows answer row has in (found.0, found.1, (same found.0).0 found.2);
+      none_missing = λ n w. selected.none_missing n ((same n).1 w);
+    }
