@@ -1,12 +1,13 @@
 #!/usr/bin/env python3
-"""The time of `land check`, which reads a whole file and judges it, beside Python's sqlite3 reading all rows of all tables.
+"""The time of `land check`, which reads a whole file and judges it, beside Python's sqlite3 running the same SELECT texts.
 
     bench/check.py [CHANGES..]           (1000 10000; 3333 are 10,000 records)
     LAND=PROGRAM bench/check.py ..       another program than crates/land/out/land
 
-Registers of so many changes are written (registers.py: each other change enrols a party, and the next registers its unit), and one of 10,000
-records that came by two changes. Python reads the rows and judges nothing. The least of three runs each, the start of the program, which is
-that of `land --help`, among them.
+Registers of so many changes are written (registers.py: each other change enrols a party, and the next registers its unit), one of 10,000
+records that came by two changes, and one of 10,000 that came by a thousand (15 parcels in each unit). Python opens the file, runs the texts
+that list all rows and all rowids, has all rows, and judges nothing. The least of three runs each, the start of the program, which is that of
+`land --help`, among them.
 """
 import os
 import re
@@ -38,10 +39,17 @@ def check(file):
         raise SystemExit(f"{file}: check: status {ran.returncode}: {ran.stdout}{ran.stderr}")
 
 
-def read_all(file):
+def listing():
+    """The texts that list a whole register: all rows of all tables, and their rowids."""
+    tables = re.findall(r"CREATE TABLE (\w+)", registers.schema())
+    rowids = registers.texts("land_rowids/src/listing.rt")
+    return [*(registers.texts(f"land_rows/src/tables/{table}.rt")["ALL"] for table in tables), *rowids.values()]
+
+
+def read_all(file, texts):
     base = sqlite3.connect(file)
-    for table in re.findall(r"CREATE TABLE (\w+)", registers.schema()):
-        base.execute(f"SELECT * FROM {table}").fetchall()
+    for text in texts:
+        base.execute(text).fetchall()
     base.close()
 
 
@@ -55,17 +63,19 @@ def counts(file):
 
 def main():
     sizes = [int(word) for word in sys.argv[1:]] or [1000, 10000]
-    print("| changes | records | `land check`, s | rows read by Python's sqlite3, s |\n|---|---|---|---|", flush=True)
+    texts = listing()
+    print("| changes | records | `land check`, s | the same texts by Python's sqlite3, s |\n|---|---|---|---|", flush=True)
     with tempfile.TemporaryDirectory() as folder:
         files = []
-        for place, write in enumerate([lambda path: registers.of_entries(path, 3400), *(
-                lambda path, size=size: registers.of_changes(path, size) for size in sizes)]):
+        for place, write in enumerate([
+                lambda path: registers.of_entries(path, 3400), lambda path: registers.of_changes(path, 1000, parcels=15),
+                *(lambda path, size=size: registers.of_changes(path, size) for size in sizes)]):
             file = os.path.join(folder, f"{place}.land")
             write(file)
             files.append(file)
         for file in files:
             changes, records = counts(file)
-            print(f"| {changes:,} | {records:,} | {least(lambda: check(file)):.2f} | {least(lambda: read_all(file)):.3f} |", flush=True)
+            print(f"| {changes:,} | {records:,} | {least(lambda: check(file)):.2f} | {least(lambda: read_all(file, texts)):.3f} |", flush=True)
 
 
 main()

@@ -8,13 +8,14 @@ For each number of entries a register is written (registers.py), taken by `land 
 mortgage and a notary. What stands beside each other:
 
     land        `land serve`: HTTP over one kept connection on loopback, one request after another, each awaited
+    each new    the same, each request on a connection of its own: it is made, the request sent, the reply awaited, and it is closed
     at once     the same, 32 requests sent before their replies are read, which the client acknowledges at once
     SQLite      the texts that the request runs, in their order, by C SQLite through Python's sqlite3 with statements that it keeps and
                 the file locked once: no HTTP, no reply, nobody decides. `land` is told as a multiple of it, and so is `land` less the time
                 of a path that names nothing, which is that of HTTP alone
     PostgreSQL  one statement (of a sheet four) under policies of row-level security, by pgbench: prepared, over a socket of Unix, the
                 caller set once for the connection; no HTTP, no JSON, and nobody asks whether the caller still holds its role
-    Python      http.server with sqlite3 and the same texts (desk.py), as `land`
+    Python      http.server with sqlite3 and the same texts (desk.py), as `land`, and each new likewise
 
 The replies of `land` and of Python are compared before they are timed. Each figure is the least of the medians of five short runs, taken in
 turns; what takes more than 10 milliseconds is not asked at once. Then the acts, in milliseconds each, the median and the mean time that the
@@ -338,20 +339,32 @@ def micros(seconds):
     return "-" if seconds is None else f"{seconds * 1e6:,.0f}"
 
 
+def ask_alone(port, request):
+    """A request on a connection of its own."""
+    client = Client(port)
+    client.ask(request)
+    client.close()
+
+
 def reads(file, known, postgres):
-    """The table of reads; of each request its name and the seconds of the service."""
+    """The table of reads; of each request its name, and the seconds of the service over a kept connection and over one a request."""
     requests = asked(known)
     mine, theirs = land(file), python(shutil.copy(file, file + ".python"))
-    ask, desk = Client(mine.port), Client(theirs.port)
     base = sqlite3.connect(shutil.copy(file, file + ".sqlite"))
     base.execute("PRAGMA locking_mode = exclusive")
+    ask, desk = Client(mine.port), Client(theirs.port)
     runs = same_answers(ask, desk, postgres, base, requests)
-    print("| caller | request | told | `land` | at once | SQLite | to SQLite: `land`, and without HTTP | PostgreSQL | Python |\n|---|---|---|---|---|---|---|---|---|")
+    ask.close()
+    desk.close()
+    print("| caller | request | told | `land` | each new | at once | SQLite | to SQLite: `land`, and without HTTP | PostgreSQL | Python | each new |")
+    print("|---|---|---|---|---|---|---|---|---|---|---|")
     served, alone = [], None
     for (party, role, name, path), (status, texts) in zip(requests, runs):
         request, figures = head("GET", path, party, role), []
         counts = 20
         for _ in range(RUNS):
+            # Each service answers one connection at a time.
+            ask, desk = Client(mine.port), Client(theirs.port)
             one = median(lambda: ask.ask(request))
             row = median(lambda: ask.ask_at_once(request * AT_ONCE, AT_ONCE)) / AT_ONCE if one < 0.01 else None
             lite = median(lambda: run_texts(base, texts))
@@ -360,16 +373,20 @@ def reads(file, known, postgres):
             if postgres and texts:
                 rows = postgres.seconds(statements(path), party, role, counts)
                 counts = max(20, min(5000, int(2 * SECONDS / rows)))
-            figures.append((one, row, lite, rows, other))
-        one, row, lite, rows, other = (min((some for some in figure if some is not None), default=None) for figure in zip(*figures))
-        served.append((role, name, one))
+            ask.close()
+            desk.close()
+            new, other_new = (median(lambda: ask_alone(service.port, request)) for service in (mine, theirs))
+            figures.append((one, new, row, lite, rows, other, other_new))
+        one, new, row, lite, rows, other, other_new = (
+            min((some for some in figure if some is not None), default=None) for figure in zip(*figures))
+        served.append((role, name, one, new))
         if texts:
             ratio = f"{one / lite:.1f}, {(one - alone) / lite:.1f}"
         else:
             alone, lite, ratio = one, None, "-"
-        print(f"| {role} | {name} | {status} | {micros(one)} | {micros(row)} | {micros(lite)} | {ratio} | {micros(rows)} | {micros(other)} |", flush=True)
-    for it in (ask, desk, base):
-        it.close()
+        cells = (*(micros(it) for it in (one, new, row, lite)), ratio, *(micros(it) for it in (rows, other, other_new)))
+        print(f"| {role} | {name} | {status} | {' | '.join(cells)} |", flush=True)
+    base.close()
     mine.stop()
     theirs.stop()
     return served
@@ -485,7 +502,7 @@ def main():
     heads = "|".join(f" {size:,} " for size in sizes)
     print(f"\n## `land` by the number of entries\n\n| request |{heads}|\n|---{'|---' * len(sizes)}|")
     for row in zip(*grown):
-        print(f"| {row[0][0]}: {row[0][1]}, µs | {' | '.join(micros(seconds) for _, _, seconds in row)} |")
+        print(f"| {row[0][0]}: {row[0][1]}, µs (each new) | {' | '.join(f'{micros(kept)} ({micros(new)})' for _, _, kept, new in row)} |")
     for row in zip(*acted):
         print(f"| {row[0][0]}, {row[0][1]}, ms (on the processor) | {' | '.join(f'{all_in * 1e3:.2f} ({alone * 1e3:.2f})' for _, _, all_in, alone in row)} |")
 

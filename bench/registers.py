@@ -101,22 +101,26 @@ def of_entries(path, entries):
     return known
 
 
-def of_changes(path, changes):
-    """A register of so many changes: in turns one enrols a party, and one registers a unit with a parcel, a document and that party's right."""
+def of_changes(path, changes, parcels=1):
+    """A register of so many changes: in turns one enrols a party, and one registers a unit with so many parcels, a document and that party's
+    right."""
     base = opened(path)
     rows = {table: [] for table in ("party", "role", "moments", "source", "unit", "parcel", "rrr")}
     number = 2
     for cycle in range(math.ceil(changes / 2)):
         since = 1000 + 2 * cycle
-        party, deed, unit, parcel, entry = range(number, number + 5)
+        party, deed, unit = range(number, number + 3)
+        entry = number + 3 + parcels
         rows["party"].append((party, f"Party {party}", "naturalPerson", since, OPEN))
         rows["role"].append((party, "citizen", since, OPEN))
         rows["moments"].append((since, number + 1))
         rows["source"].append((deed, "administrative", f"Deed {deed}", since + 1, OPEN))
         rows["unit"].append((unit, f"Unit {unit}", 1, since + 1, OPEN))
-        rows["parcel"].append((parcel, unit, f"P{parcel}", square(cycle), deed, since + 1, OPEN))
+        for place in range(parcels):
+            parcel = number + 3 + place
+            rows["parcel"].append((parcel, unit, f"P{parcel}", square(parcels * cycle + place), deed, since + 1, OPEN))
         rows["rrr"].append((entry, unit, party, "ownership", 1, 1, None, None, None, None, deed, since + 1, OPEN))
-        number += 5
+        number = entry + 1
         rows["moments"].append((since + 1, number))
     for table, some in rows.items():
         put(base, table, some)

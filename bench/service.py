@@ -1,7 +1,7 @@
 #!/usr/bin/env python3
 """Requests a second of the service over a file, beside Python's http.server with sqlite3 over the same tables.
 
-    ./land --help            # builds the program where it is not built
+    ./land talk --clock 0 < /dev/null    # builds the program where it is not built
     bench/service.py [OBJECTS [SECONDS]]
 
 Makes a register of so many parties (1,000), and asks both services the same for so many seconds each (5), in turns: one

@@ -14,6 +14,24 @@ use crate::options::{
 use clap::{Arg, Command};
 use std::alloc::{AllocError, Global};
 
+/// What the help of the program says at its end: the options of each command, what their values are, and examples.
+const MORE: &str = "Options of the commands, of which --at alone may be left out:
+  talk     --clock <MS>
+  new      --file <FILE>
+  serve    --file <FILE> --port <PORT> --connections <COUNT>
+  check    --file <FILE>
+  extract  --file <FILE> --clock <MS> --party <NUMBER> --role <ROLE> --kind <KIND> [--at <MS>]
+
+MS counts milliseconds since 1970 UTC, 0 to 4102444799999. A fault is told on standard error, with status 1; so are this
+help and what is wrong with the words, with status 2.
+
+Examples:
+  land new --file town.land
+  land serve --file town.land --port 8080 --connections 1000
+  land extract --file town.land --clock 1000 --party 1 --role stateAdministrator --kind party
+
+More on a command, with an example: land COMMAND --help";
+
 /// A command with what help says of it: what it does, and at the end an example.
 fn named<'a>(alloc: Global, name: &'a str, about: &'a str, example: &'a str) -> Command<'a>
     ensures { IsCommand (new_app name.entry.now) result }
@@ -72,7 +90,8 @@ fn serve<'a>(alloc: Global) -> Result<Command<'a>, AllocError>
 {
     let about =
         "Answers HTTP connections on 127.0.0.1, one after another, over the register in a file";
-    let example = "Example: land serve --file town.land --port 8080 --connections 1000";
+    let example = "Example: land serve --file town.land --port 8080 --connections 1000
+While it runs: curl -H 'Register-Party: 1' -H 'Register-Role: stateAdministrator' http://127.0.0.1:8080/parties";
     let serve = named(alloc, "serve", about, example);
     let with_file = with_option(
         serve,
@@ -133,8 +152,7 @@ pub fn land<'a>(alloc: Global, choices: Choices<'a>) -> Result<Command<'a>, Allo
 {
     let about =
         "A land register: parties, their rights, restrictions and responsibilities, and the land that these are of";
-    let more = "More on a command, with an example: land COMMAND --help";
-    let land = of_commands(named(alloc, "land", about, more));
+    let land = of_commands(named(alloc, "land", about, MORE));
     let talking = with_command(land, talk(alloc)?)?;
     let making = with_command(talking, make(alloc)?)?;
     let serving = with_command(making, serve(alloc)?)?;
