@@ -2,3 +2,4 @@
 pub mod Enough
 pub mod LookedUp
 pub mod Telling
+pub mod Tied

@@ -1,7 +1,9 @@
 //! Laws, each stated over the definitions alone.
 ghost use Rattle.land_denials.specs.Sight.{AllThatStandsIsSeen, SightTellsVerdicts};
 ghost use Rattle.land_denials.specs.Standing.{FewAreEnough, LookedUpIsEnough};
+ghost use Rattle.land_denials.specs.Ties.{GroupsTellTies, TiesTellSight};
 
+use land_core::laws::soundness_by_look_ups;
 use land_rules::laws::denials_tell_sight;
 
 /// The standing rules look at the caller, the role that it names, the entry that it would discharge and the mutation that it would
@@ -25,4 +27,16 @@ pub fn all_that_stands_is_seen()
 /// The caller with its roles, and the entry and the mutation that an ask names, as they are looked up, are enough to judge who asks.
 pub fn looked_up_is_enough()
     ensures { LookedUpIsEnough }
+{}
+
+/// What a citizen or a bank sees of units and of their entries is what is shown by what ties it to these units.
+pub fn ties_tell_sight()
+    ensures { TiesTellSight }
+{
+    soundness_by_look_ups();
+}
+
+/// The groups of a citizen and the entries of a unit tell what ties the citizen to it.
+pub fn groups_tell_ties()
+    ensures { GroupsTellTies }
 {}

@@ -5,3 +5,4 @@ pub mod few;
 pub mod laws;
 pub mod sight;
 pub mod standing;
+pub mod ties;

@@ -63,7 +63,7 @@ one_named t db all n e rest entries it so_far is moments h held r have stands =
     append_assoc all (it ∷ []) (named_of r rest) ∙ ap (λ x. all ++ x ∷ named_of r rest) (is moments h held r have stands) ∙ so_far moments h held r have stands
 
 module _ {X : Type 0} where
-  twice : (p q : X → Bool) (xs : List X) → filter p (filter q xs) ≡ filter (λ x. q x && p x) xs
+  pub twice : (p q : X → Bool) (xs : List X) → filter p (filter q xs) ≡ filter (λ x. q x && p x) xs
   twice p q [] = refl
   twice p q (x ∷ xs) = go (q x) (twice p q xs)
     where
@@ -76,7 +76,7 @@ module _ {X : Type 0} where
   alike p q same (x ∷ xs) = ap₂ (λ b rest. cond b (x ∷ rest) rest) (same x) (alike p q same xs)
 
   -- so it is of tests that agree on what the list has
-  agreed : (p q : X → Bool) (xs : List X) → ((x : X) → Contains xs x → p x ≡ q x) → filter p xs ≡ filter q xs
+  pub agreed : (p q : X → Bool) (xs : List X) → ((x : X) → Contains xs x → p x ≡ q x) → filter p xs ≡ filter q xs
   agreed p q [] same = refl
   agreed p q (x ∷ xs) same = ap₂ (λ b rest. cond b (x ∷ rest) rest) (same x (first x xs)) (agreed p q xs (λ y among. same y (later x xs y among)))
 

@@ -5,6 +5,7 @@ use Rattle.std.specs.Ordering.{nat_cmp}
 use Rattle.land_core.specs.Entries.{only}
 use Rattle.land_core.specs.declared.caller.Caller.{Caller}
 use Rattle.land_core.specs.declared.kind.Kind.TheVariants.{Rrr}
+use Rattle.land_rules.specs.Relations.{is_member_of}
 use Rattle.land_rules.specs.Rules.{sees}
 use Rattle.std.specs.Option.{option_map, option_map_or}
 use Rattle.land_core.specs.declared.party.PartyRecord.{PartyRecord}
@@ -13,6 +14,7 @@ use Rattle.land_core.specs.declared.rrr.RrrRecord.{RrrRecord}
 use Rattle.land_history.specs.History.{StandsAt}
 use Rattle.land_joins.specs.Running.{OfHeld}
 use Rattle.land_core.specs.declared.unit.UnitRecord.{UnitRecord}
+use Rattle.land_denials.specs.Ties.{AreGroupsOf, Entries, shows_entry, tie_of}
 use Rattle.land_keep.specs.Sheets.{entries_seen, named_rrr, parcels_at}
 use Rattle.land_keep.specs.declared.view.View.{View}
 use Rattle.land_keep.specs.declared.view.NamedRrr.{NamedRrr}
@@ -37,6 +39,14 @@ with_name n e party = record {
 -- the entries of a unit that a caller sees
 abbrev pub in_sight : Register → Caller → (unit : ℕ) → FinMap nat_cmp RrrRecord
 in_sight r caller unit = only (λ n e. nat_eq e.unit unit && sees r caller Rrr n) r.rrrs
+
+-- where the tables hold a history that at the moment stands for a register, these are the groups of which a citizen is a member in it
+abbrev pub AreGroupsAt : Caller → (t : ℤ) → Trees → List ℕ → Type 0
+AreGroupsAt caller t db groups = OfHeld db (λ h. (r : Register) → StandsAt t h r → AreGroupsOf r caller groups)
+
+-- of the entries of a unit those that are shown to a caller by what ties it to the unit
+abbrev pub shown_of : Register → Caller → Entries → Entries
+shown_of r caller entries = only (λ n e. shows_entry (tie_of (is_member_of r caller.party) caller entries) caller.party e) entries
 
 -- a unit that stands, as a caller sees it
 abbrev pub view_from : Register → Caller → (unit : ℕ) → (moment : ℤ) → UnitRecord → View

@@ -9,5 +9,6 @@ pub mod sight_text;
 mod slicing;
 pub mod sql_keeper;
 mod standing;
+mod ties;
 mod view;
 mod viewing;

@@ -11,14 +11,16 @@ ghost use Rattle.land_select.specs.Views.{IsShown};
 ghost use Rattle.sqlite.specs.Held.{state};
 ghost use Rattle.sqlite.specs.State.{HasCleanDisk};
 
+use crate::ties::is_shown_by_tie;
 use crate::view::is_listed;
 use land_core::caller::Caller;
 use land_core::kind::Kind;
 use land_core::laws::soundness_by_look_ups;
 use land_core::mutation::MutationRecord;
 use land_core::records::Records;
-use land_denials::laws::all_that_stands_is_seen;
+use land_denials::laws::{all_that_stands_is_seen, ties_tell_sight};
 use land_denials::sight::{is_unit_of_conveyancer, sees_all, view_verdict};
+use land_denials::ties::sees_by_ties;
 use land_joins::sight::sight;
 use land_listing::fault::ReadFault;
 use land_lookups::objects::object;
@@ -29,8 +31,8 @@ use land_sights::laws::selections_tell_verdicts;
 use sqlite::{Alter, Connection};
 use std::alloc::Global;
 
-/// Whether a caller sees an object at a moment: one look by its number where the caller is shown all objects of the kind, else the list of
-/// those that it sees.
+/// Whether a caller sees an object at a moment: one look by its number where the caller is shown all objects of the kind; the entries of
+/// one unit, and a citizen's groups, where what ties the caller to a unit tells; else the list of those that it sees.
 fn is_in_sight<S: Alter>(
     alloc: Global,
     conn: &mut Connection<S>,
@@ -47,9 +49,13 @@ fn is_in_sight<S: Alter>(
     seen_is_exact();
     soundness_by_look_ups();
     all_that_stands_is_seen();
+    ties_tell_sight();
     if sees_all(caller.role, kind) {
         let found = object(alloc, conn, kind, number, at)?;
         return Ok(found.is_some());
+    }
+    if sees_by_ties(caller.role, kind) {
+        return is_shown_by_tie(alloc, conn, caller, kind, number, at);
     }
     let listed = sight(alloc, conn, caller, kind, at)?;
     Ok(is_listed(listed.as_slice(), number))

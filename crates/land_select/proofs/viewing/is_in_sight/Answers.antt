@@ -3,6 +3,7 @@ use Rattle.std.specs.List.{list_any}
 use Rattle.land_rows.proofs.Looking.{look_told}
 use Rattle.land_select.proofs.Judged.{object_stands}
 use Rattle.land_select.proofs.Viewed.{have_members}
+use Rattle.land_slices.proofs.Looks.{look_means}
 use Rattle.sqlite.specs.Held.{state}
 use Rattle.land_select.proofs.viewing.is_in_sight.Goals as goal
 
@@ -15,6 +16,15 @@ returns-then-sees_all-clause-look g c =
     (λ clean is moments h held r premise stands.
     c.is_some.ensures ∙ ap is_some (is moments h held r (have_members c.soundness_by_look_ups.ensures r premise) stands) ∙ object_stands r c.args.kind c.args.number
     ∙ sym (c.all_that_stands_is_seen.ensures r c.args.caller c.args.kind c.args.number all))
+
+pub returns-then-sees_by_ties-clause-look : goal.returns-then-sees_by_ties-clause-look
+returns-then-sees_by_ties-clause-look g c =
+    let when : to_z w64 (of_z w64 c.args.at) ≡ c.args.at = search rules in
+    let look = rw when at c.is_shown_by_tie.ensures.look in
+    let by = sym c.sees_by_ties.ensures ∙ c.if-sees_by_ties.true in
+    look_means (state g.S.Store c.args.conn.now) (state g.S.Store c.is_shown_by_tie.new.conn) c.is_shown_by_tie.result look
+    (λ it is moments h held r premise stands.
+    is moments h held r (have_members c.soundness_by_look_ups.ensures r premise) stands ∙ sym (c.ties_tell_sight.ensures r premise c.args.caller c.args.kind c.args.number by))
 
 pub returns-clause-look : goal.returns-clause-look
 returns-clause-look g c =

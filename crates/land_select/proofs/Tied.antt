@@ -1,0 +1,55 @@
+-- What a citizen or a bank is shown by what ties it to a unit.
+use Rattle.std.proofs.Common.{◌≡◌, ◌&&◌, ◌∙◌, ℕ, ℤ, Bool, true, false, nat_eq, List, filter, refl, sym, ap}
+use Rattle.std.specs.Cmp.{nat_cmp_total}
+use Rattle.std.specs.FinMap as map
+use Rattle.std.specs.FinMap.{nat_cmp-IsAntisymmetric}
+use Rattle.std.specs.List.{Contains}
+use Rattle.std.specs.Option.{option_map_or}
+use Rattle.std.specs.Ordering.{nat_cmp}
+use Rattle.std.proofs.lemmas.Bool.Decides.{Decides-eqb}
+use Rattle.land_core.proofs.Reflection.{entries-only}
+use Rattle.land_core.specs.Entries.{with_entries}
+use Rattle.land_core.specs.declared.caller.Caller.{Caller}
+use Rattle.land_core.specs.declared.kind.Kind.TheVariants.{Rrr}
+use Rattle.land_core.specs.declared.register.Register.{Register}
+use Rattle.land_core.specs.declared.rrr.RrrRecord.{RrrRecord}
+use Rattle.land_denials.specs.Ties.{AreGroupsOf, TiesTellSight, entries_of, sees_by_ties, shows_entry, tie_at}
+use Rattle.land_history.specs.History.{StandsAt}
+use Rattle.land_history.specs.declared.history.History.{History}
+use Rattle.land_joins.specs.Running.{AreAll}
+use Rattle.land_rules.specs.Rules.{sees}
+use Rattle.land_select.proofs.Viewed.{agreed, twice}
+use Rattle.land_select.specs.Views.{in_sight, shown_of}
+use Rattle.land_sights.proofs.Naming.{member_decides}
+use Rattle.land_sights.proofs.Standing.{entry_there}
+use Rattle.land_sights.specs.Laws.{IsSoundOrNothing}
+use Rattle.land_sights.specs.Selections.{selects}
+use Rattle.land_sights.specs.declared.selection.Selection.TheVariants.{ItsGroups}
+
+-- the groups that are selected are those of which the caller is a member
+pub groups_are : (r : Register) (t : ℤ) (h : History) → StandsAt t h r → (caller : Caller) (groups : List ℕ) → AreAll groups (selects ItsGroups t h caller.party) → AreGroupsOf r caller groups
+groups_are r t h is caller groups all citizen group =
+    let joins = member_decides r t h is group caller.party in (
+      (λ among. let it = (all group).0 among in joins.1 (it.0, it.1, it.3, it.2)),
+      (λ member. let it = joins.0 member in (all group).1 (it.0, it.1, it.3, it.2)),
+    )
+
+-- a test that is asked for only where another passes
+only_where : (a b c : Bool) → (a ≡ true → b ≡ c) → (a && b) ≡ (a && c)
+only_where true b c same = same refl
+only_where false b c same = refl
+
+-- of the entries of a unit, those that are shown by a tie are in sight
+pub tied_in_sight : TiesTellSight → (r : Register) (caller : Caller) (unit : ℕ) → IsSoundOrNothing r → sees_by_ties caller.role Rrr ≡ true → shown_of r caller (entries_of r unit) ≡ in_sight r caller unit
+tied_in_sight law r caller unit premise by =
+    ap (with_entries (map.empty {R = nat_cmp}))
+    (ap (filter (λ e. shows_entry (tie_at r caller unit) caller.party e.1)) (entries-only nat_cmp_total nat_cmp-IsAntisymmetric (λ n e. nat_eq e.unit unit) r.rrrs)
+    ∙ twice (λ e. shows_entry (tie_at r caller unit) caller.party e.1) (λ e. nat_eq e.1.unit unit) (map.entries r.rrrs)
+    ∙ agreed (λ e. nat_eq e.1.unit unit && shows_entry (tie_at r caller unit) caller.party e.1) (λ e. nat_eq e.1.unit unit && sees r caller Rrr e.0) (map.entries r.rrrs)
+    (λ e among. only_where (nat_eq e.1.unit unit) (shows_entry (tie_at r caller unit) caller.party e.1) (sees r caller Rrr e.0) (λ same. seen e among ((Decides-eqb e.1.unit unit).0 same))))
+  where
+    seen : (e : ℕ × RrrRecord) → Contains (map.entries r.rrrs) e → e.1.unit ≡ unit → shows_entry (tie_at r caller unit) caller.party e.1 ≡ sees r caller Rrr e.0
+    seen e among same =
+        ap (λ u. shows_entry (tie_at r caller u) caller.party e.1) (sym same)
+        ∙ sym (ap (λ o. option_map_or (λ (x : RrrRecord). shows_entry (tie_at r caller x.unit) caller.party x) o false) (entry_there r.rrrs e among))
+        ∙ sym (law r premise caller Rrr e.0 by)

@@ -1,0 +1,12 @@
+use Rattle.std.proofs.Common.{rules, ◌≡◌, ap, to_z, of_z, w64, ◌∙◌}
+use Rattle.land_denials.specs.Ties.{shows_entry}
+use Rattle.land_rows.proofs.Looking.{look_told}
+use Rattle.sqlite.specs.Held.{state}
+use Rattle.land_select.proofs.ties.is_entry_shown.Goals as goal
+
+pub returns-clause-look : goal.returns-clause-look
+returns-clause-look g c =
+    let when : to_z w64 (of_z w64 c.args.at) ≡ c.args.at = search rules in
+    let look = rw when at c.in_ok-tie.ensures.look in
+    look_told (state g.S.Store c.args.conn.now) (state g.S.Store c.tie_to.new.conn) _ look
+    (λ clean is moments h held r have stands. c.shows_entry.ensures ∙ ap (λ tie. shows_entry tie c.args.caller.party c.args.entry.now) (is moments h held r have stands))

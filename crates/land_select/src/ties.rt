@@ -1,0 +1,200 @@
+//! What ties a citizen or a bank to a unit at a moment, and what it is shown by that, by look-ups.
+ghost use Rattle.std.specs.Prelude.{◌≡◌, false, IfOk, IsTrue};
+ghost use Rattle.land_core.specs.Entries.{only};
+ghost use Rattle.land_core.specs.Role.{is_role};
+ghost use Rattle.land_core.specs.declared.kind.Kind.TheVariants as kinds;
+ghost use Rattle.land_core.specs.declared.role.Role.TheVariants as roles;
+ghost use Rattle.land_denials.specs.Ties.{is_shown_by_tie, shows_entry, shows_unit, tie_at, tie_of};
+ghost use Rattle.land_lookups.specs.Parts.{IsPart};
+ghost use Rattle.land_rows.specs.Looks.{IsLook};
+ghost use Rattle.land_rules.specs.Relations.{is_member_of};
+ghost use Rattle.land_schema.specs.Land.{IsLand};
+ghost use Rattle.land_select.specs.Views.{AreGroupsAt, shown_of};
+ghost use Rattle.sqlite.specs.Held.{state};
+ghost use Rattle.sqlite.specs.State.{HasCleanDisk};
+
+use land_core::caller::Caller;
+use land_core::duplicate::Duplicate;
+use land_core::kind::Kind;
+use land_core::records::Records;
+use land_core::role::Role;
+use land_core::rrr::RrrRecord;
+use land_core::sequence::{NumberList, Sequence};
+use land_denials::laws::groups_tell_ties;
+use land_denials::ties::{Tie, tie_of};
+use land_joins::running::numbers;
+use land_listing::fault::ReadFault;
+use land_lookups::{by_number, of_unit};
+use land_sights::selection::Selection;
+use sqlite::{Alter, Connection};
+use std::alloc::{AllocError, Global};
+
+fn is_citizen(role: Role) -> bool
+    ensures { result ≡ is_role role roles.Citizen }
+{
+    role == Role::Citizen
+}
+
+/// The groups of which a citizen is a member at a moment, in whatever order; for another role none is looked for.
+fn groups_of<S: Alter>(
+    alloc: Global,
+    conn: &mut Connection<S>,
+    caller: Caller,
+    at: i64,
+) -> Result<NumberList, ReadFault>
+    requires open { HasCleanDisk (state S.Store conn.old) → IsTrue (state S.Store conn.old).is_open }
+    requires land { HasCleanDisk (state S.Store conn.old) → IsLand (state S.Store conn.old).now.schema }
+    ensures look { IsLook result (λ it. AreGroupsAt caller at (state S.Store conn.old).now.trees it) (state S.Store conn.old) (state S.Store conn.new) }
+    ensures mode { conn.old.in_transaction ≡ false → conn.new.in_transaction ≡ false }
+{
+    if !is_citizen(caller.role) {
+        return Ok(Sequence::new(alloc));
+    }
+    numbers(alloc, conn, Selection::ItsGroups, caller.party, at)
+}
+
+/// What ties a caller at a moment to the unit of which these are the entries.
+fn tie_by<S: Alter>(
+    alloc: Global,
+    conn: &mut Connection<S>,
+    caller: Caller,
+    entries: &Records<RrrRecord>,
+    at: i64,
+) -> Result<Tie, ReadFault>
+    requires open { HasCleanDisk (state S.Store conn.old) → IsTrue (state S.Store conn.old).is_open }
+    requires land { HasCleanDisk (state S.Store conn.old) → IsLand (state S.Store conn.old).now.schema }
+    ensures look { IsLook result (λ it. IsPart (λ r. tie_of (is_member_of r caller.party) caller entries.now) at (state S.Store conn.old).now.trees it) (state S.Store conn.old) (state S.Store conn.new) }
+    ensures mode { conn.old.in_transaction ≡ false → conn.new.in_transaction ≡ false }
+{
+    groups_tell_ties();
+    let groups = groups_of(alloc, conn, caller, at)?;
+    Ok(tie_of(caller, groups.as_slice(), entries))
+}
+
+/// What ties a caller to a unit at a moment.
+fn tie_to<S: Alter>(
+    alloc: Global,
+    conn: &mut Connection<S>,
+    caller: Caller,
+    unit: u64,
+    at: i64,
+) -> Result<Tie, ReadFault>
+    requires open { HasCleanDisk (state S.Store conn.old) → IsTrue (state S.Store conn.old).is_open }
+    requires land { HasCleanDisk (state S.Store conn.old) → IsLand (state S.Store conn.old).now.schema }
+    ensures look { IsLook result (λ it. IsPart (λ r. tie_at r caller unit) at (state S.Store conn.old).now.trees it) (state S.Store conn.old) (state S.Store conn.new) }
+    ensures mode { conn.old.in_transaction ≡ false → conn.new.in_transaction ≡ false }
+{
+    let entries = of_unit::entries(alloc, conn, unit, at)?;
+    tie_by(alloc, conn, caller, &entries, at)
+}
+
+/// Whether a unit is shown to a caller at a moment by what ties it to that.
+fn is_unit_shown<S: Alter>(
+    alloc: Global,
+    conn: &mut Connection<S>,
+    caller: Caller,
+    unit: u64,
+    at: i64,
+) -> Result<bool, ReadFault>
+    requires open { HasCleanDisk (state S.Store conn.old) → IsTrue (state S.Store conn.old).is_open }
+    requires land { HasCleanDisk (state S.Store conn.old) → IsLand (state S.Store conn.old).now.schema }
+    ensures look { IsLook result (λ it. IsPart (λ r. shows_unit (tie_at r caller unit)) at (state S.Store conn.old).now.trees it) (state S.Store conn.old) (state S.Store conn.new) }
+    ensures mode { conn.old.in_transaction ≡ false → conn.new.in_transaction ≡ false }
+{
+    let tie = tie_to(alloc, conn, caller, unit, at)?;
+    Ok(tie.shows_unit())
+}
+
+/// Whether an entry is shown to a caller at a moment by what ties it to the unit of the entry.
+fn is_entry_shown<S: Alter>(
+    alloc: Global,
+    conn: &mut Connection<S>,
+    caller: Caller,
+    entry: &RrrRecord,
+    at: i64,
+) -> Result<bool, ReadFault>
+    requires open { HasCleanDisk (state S.Store conn.old) → IsTrue (state S.Store conn.old).is_open }
+    requires land { HasCleanDisk (state S.Store conn.old) → IsLand (state S.Store conn.old).now.schema }
+    ensures look { IsLook result (λ it. IsPart (λ r. shows_entry (tie_at r caller entry.now.unit) caller.party entry.now) at (state S.Store conn.old).now.trees it)
+        (state S.Store conn.old) (state S.Store conn.new) }
+    ensures mode { conn.old.in_transaction ≡ false → conn.new.in_transaction ≡ false }
+{
+    let tie = tie_to(alloc, conn, caller, entry.unit, at)?;
+    Ok(tie.shows_entry(caller.party, entry))
+}
+
+/// Whether the entry of a number stands at a moment and is shown to a caller by what ties it to the unit of the entry.
+fn is_number_shown<S: Alter>(
+    alloc: Global,
+    conn: &mut Connection<S>,
+    caller: Caller,
+    number: u64,
+    at: i64,
+) -> Result<bool, ReadFault>
+    requires open { HasCleanDisk (state S.Store conn.old) → IsTrue (state S.Store conn.old).is_open }
+    requires land { HasCleanDisk (state S.Store conn.old) → IsLand (state S.Store conn.old).now.schema }
+    ensures look { IsLook result (λ it. IsPart (λ r. is_shown_by_tie r caller kinds.Rrr number) at (state S.Store conn.old).now.trees it) (state S.Store conn.old) (state S.Store conn.new) }
+    ensures mode { conn.old.in_transaction ≡ false → conn.new.in_transaction ≡ false }
+{
+    let found = by_number::entry(alloc, conn, number, at)?;
+    match found {
+        Some(entry) => is_entry_shown(alloc, conn, caller, &entry, at),
+        None => Ok(false),
+    }
+}
+
+/// Whether an object is shown to a caller at a moment by what ties it to a unit: the one that is asked for, or that of the entry.
+pub(crate) fn is_shown_by_tie<S: Alter>(
+    alloc: Global,
+    conn: &mut Connection<S>,
+    caller: Caller,
+    kind: Kind,
+    number: u64,
+    at: i64,
+) -> Result<bool, ReadFault>
+    requires open { HasCleanDisk (state S.Store conn.old) → IsTrue (state S.Store conn.old).is_open }
+    requires land { HasCleanDisk (state S.Store conn.old) → IsLand (state S.Store conn.old).now.schema }
+    ensures look { IsLook result (λ it. IsPart (λ r. is_shown_by_tie r caller kind number) at (state S.Store conn.old).now.trees it) (state S.Store conn.old) (state S.Store conn.new) }
+    ensures mode { conn.old.in_transaction ≡ false → conn.new.in_transaction ≡ false }
+{
+    match kind {
+        Kind::Unit => is_unit_shown(alloc, conn, caller, number, at),
+        Kind::Rrr => is_number_shown(alloc, conn, caller, number, at),
+        Kind::Party | Kind::Parcel | Kind::Source | Kind::Mutation => Ok(false),
+    }
+}
+
+/// Of the entries of a unit those that are shown to a party by what ties it to the unit.
+fn shown_by(
+    alloc: Global,
+    tie: Tie,
+    party: u64,
+    entries: &Records<RrrRecord>,
+) -> Result<Records<RrrRecord>, AllocError>
+    ensures { IfOk result (λ it. it ≡ only (λ n e. shows_entry tie party e) entries.now) }
+{
+    let mut kept = Records::new(alloc);
+    for (number, entry) in entries.iter() {
+        if tie.shows_entry(party, entry) {
+            kept.insert(*number, entry.copy(alloc)?)?;
+        }
+    }
+    Ok(kept)
+}
+
+/// Of the entries of a unit those that are shown to a caller at a moment by what ties it to the unit.
+pub(crate) fn shown_of<S: Alter>(
+    alloc: Global,
+    conn: &mut Connection<S>,
+    caller: Caller,
+    entries: &Records<RrrRecord>,
+    at: i64,
+) -> Result<Records<RrrRecord>, ReadFault>
+    requires open { HasCleanDisk (state S.Store conn.old) → IsTrue (state S.Store conn.old).is_open }
+    requires land { HasCleanDisk (state S.Store conn.old) → IsLand (state S.Store conn.old).now.schema }
+    ensures look { IsLook result (λ it. IsPart (λ r. shown_of r caller entries.now) at (state S.Store conn.old).now.trees it) (state S.Store conn.old) (state S.Store conn.new) }
+    ensures mode { conn.old.in_transaction ≡ false → conn.new.in_transaction ≡ false }
+{
+    let tie = tie_by(alloc, conn, caller, entries, at)?;
+    Ok(shown_by(alloc, tie, caller.party, entries)?)
+}
