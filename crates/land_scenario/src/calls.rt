@@ -30,7 +30,7 @@ pub struct Call {
     pub told: &'static [u8],
 }
 
-/// A whole request, one that is cut in its head, one whose body is never read, one whose reply breaks off, and a whole one.
+/// A whole request, one that is cut in its head, one that breaks off in its body, one whose reply breaks off, and a whole one.
 pub const CALLS: &[Call] = &[
     Call {
         brings: ENROL,
@@ -46,7 +46,7 @@ pub const CALLS: &[Call] = &[
     },
     Call {
         brings: ENROL,
-        reads: 2,
+        reads: 3,
         writes: usize::MAX,
         told: b"",
     },
