@@ -8,8 +8,6 @@
 #[cfg(test)]
 mod conclusion;
 #[cfg(test)]
-mod desk_rows;
-#[cfg(test)]
 mod keepers;
 #[cfg(test)]
 mod looks;
@@ -19,3 +17,5 @@ mod requests;
 mod story;
 #[cfg(test)]
 mod turns;
+#[cfg(test)]
+mod two_keepers;

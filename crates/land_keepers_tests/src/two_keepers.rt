@@ -1,4 +1,5 @@
-//! Worked rows as bytes: the scenario with what is told beside it, and other turns that the register may take.
+//! Worked rows as bytes, over the two keepers of tables beside the one in memory: the scenario with what is told beside it, and other turns
+//! that the register may take.
 use crate::conclusion::conclude;
 use crate::keepers::play_over_each;
 use crate::looks::{FIRST_LOOKS, LAST_LOOKS};
