@@ -1,5 +1,7 @@
-//! Lists after the scenario, over tables and over joins.
+//! The texts of lists read less than whole tables: lists after the scenario, over tables and over joins.
 use crate::conclusion::conclude;
+use crate::marks::{mark, mark_end};
+use crate::registers::new_tables;
 use land_core::caller::Caller;
 use land_core::kind::Kind;
 use land_core::role::Role;
@@ -8,8 +10,6 @@ use land_scenario::playing::play_steps;
 use land_scenario::stop::{Stop, expect};
 use land_select::sql_keeper::SqlKeeper;
 use land_tables::table_keeper::TableKeeper;
-use land_tables::tables::Tables;
-use sqlite::{Connection, MemStore};
 use std::alloc::Global;
 use std::test::Fail;
 
@@ -82,14 +82,6 @@ const LISTS: &[List] = &[
 /// The moment of the last step.
 const LAST: i64 = 1017;
 
-/// The tables of a new register.
-fn new_tables(alloc: Global) -> Result<Tables<MemStore>, Stop> {
-    match Tables::create(Connection::open_in_memory(alloc)?) {
-        Ok(tables) => Ok(tables),
-        Err((_, fault)) => Err(Stop::from(fault)),
-    }
-}
-
 /// Whether a keeper tells a list as it is.
 fn is_told<K: Keeper>(alloc: Global, keeper: &mut K, list: &List) -> Result<bool, Stop> {
     let caller = Caller {
@@ -100,14 +92,6 @@ fn is_told<K: Keeper>(alloc: Global, keeper: &mut K, list: &List) -> Result<bool
     Ok(numbers.as_slice() == list.4)
 }
 
-/// Writes a line, before which and after which allocations are counted.
-fn mark(rt: &impl Print, line: &str) -> Result<(), Stop> {
-    match println!(rt; "{line}") {
-        Ok(()) => Ok(()),
-        Err(_) => Err(Stop::Call),
-    }
-}
-
 /// Plays the scenario, and then asks for each list. A line comes before each, and one after the last.
 fn are_told<K: Keeper>(rt: &impl Print, alloc: Global, keeper: &mut K) -> Result<(), Stop> {
     play_steps(alloc, keeper)?;
@@ -115,7 +99,7 @@ fn are_told<K: Keeper>(rt: &impl Print, alloc: Global, keeper: &mut K) -> Result
         mark(rt, list.0)?;
         expect(is_told(alloc, keeper, list)?, list.0, place)?;
     }
-    mark(rt, "the end")
+    mark_end(rt)
 }
 
 fn are_told_by_tables(rt: &impl Print, alloc: Global) -> Result<(), Stop> {
