@@ -220,7 +220,8 @@ pub fn new_tables(alloc: Global) -> Result<Tables<MemStore>, Stop> {
 fn over_joins(alloc: Global) -> Result<(), Stop> {
     let mut keeper = SqlKeeper::new(new_tables(alloc)?);
     play_steps(alloc, &mut keeper)?;
-    compare_all(alloc, &mut keeper)
+    compare_all(alloc, &mut keeper)?;
+    compare_cuts(alloc, &mut keeper)
 }
 
 #[test]
