@@ -15,6 +15,8 @@ pub struct Keepers {
     pub plain: PlainKeeper,
     pub tables: TableKeeper<MemStore>,
     pub joins: SqlKeeper<MemStore>,
+    /// How many lists were compared.
+    pub lists: usize,
 }
 
 /// The tables of a new register.
@@ -32,6 +34,7 @@ impl Keepers {
             plain: PlainKeeper::new(alloc)?,
             tables: TableKeeper::new(new_tables(alloc)?),
             joins: SqlKeeper::new(new_tables(alloc)?),
+            lists: 0,
         })
     }
 

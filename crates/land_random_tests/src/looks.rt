@@ -30,8 +30,16 @@ pub const KINDS: &[Kind] = &[
 /// Numbers that no party has: none can be below 1 or above 1_000_000_000, and 9 is a unit.
 const STRANGERS: &[u64] = &[0, 9, 1_000_000_001, 9_223_372_036_854_775_808];
 
-/// Moments: before the first stamp, at two changes, to come, and the last one that is drawn.
-const MOMENTS: &[i64] = &[-1, 1016, 1060, 4_102_444_799_999];
+/// A moment that is drawn: before the first stamp, the last one that there is, or that of a change, with the one before the first change
+/// among them.
+fn draw_moment(dice: &mut Dice, last: i64) -> i64 {
+    let count = u32::try_from(last.saturating_sub(998)).unwrap_or(1);
+    match dice.throw(10) {
+        0 => -1,
+        1 => 4_102_444_799_999,
+        _ => i64::from(dice.throw(count)).saturating_add(999),
+    }
+}
 
 /// A keeper shows a caller these numbers of a kind at a moment.
 fn expect_sight<K: Keeper>(
@@ -46,30 +54,33 @@ fn expect_sight<K: Keeper>(
     expect(numbers.as_slice() == wanted, "sight", wanted.len())
 }
 
-/// How many numbers of a kind a caller is shown at a moment, the same in memory and by joins, and by the tables read whole where they
-/// are looked at.
+/// How often a list is asked for over the tables read whole, too: once in so many, since they are read anew for each.
+const ONE_IN: u32 = 16;
+
+/// At how many moments that are drawn a list is asked for.
+const MOMENTS: u32 = 3;
+
+/// How many numbers of a kind a caller is shown at a moment, the same in memory and by joins, and where that is drawn by the tables read
+/// whole.
 fn shown_at(
     alloc: Global,
     keepers: &mut Keepers,
+    dice: &mut Dice,
     caller: Caller,
     kind: Kind,
     at: i64,
-    whole: bool,
 ) -> Result<usize, Stop> {
     let wanted = keepers.plain.sight(alloc, caller, kind, at)?;
     let wanted = wanted.as_slice();
-    if whole {
+    if dice.throw(ONE_IN) == 0 {
         expect_sight(alloc, &mut keepers.tables, caller, kind, at, wanted)?;
     }
     expect_sight(alloc, &mut keepers.joins, caller, kind, at, wanted)?;
+    keepers.lists = keepers.lists.saturating_add(1);
     Ok(wanted.len())
 }
 
-/// How often a list is asked for over the tables read whole, too: once in so many, since they are read anew for each.
-const ONE_IN: u32 = 4;
-
-/// How many numbers of a kind a caller is shown now and at a moment that is drawn, the same in memory and by joins, and some of those of the
-/// drawn moment by the tables read whole.
+/// How many numbers of a kind a caller is shown now and at moments that are drawn.
 fn shown(
     alloc: Global,
     keepers: &mut Keepers,
@@ -78,11 +89,12 @@ fn shown(
     kind: Kind,
 ) -> Result<usize, Stop> {
     let last = keepers.plain.last();
-    let at = MOMENTS.get(dice.throw(5) as usize).copied().unwrap_or(last);
-    let now = shown_at(alloc, keepers, caller, kind, last, false)?;
-    let whole = dice.throw(ONE_IN) == 0;
-    let then = shown_at(alloc, keepers, caller, kind, at, whole)?;
-    Ok(now.saturating_add(then))
+    let mut count = shown_at(alloc, keepers, dice, caller, kind, last)?;
+    for _ in 0..MOMENTS {
+        let at = draw_moment(dice, last);
+        count = count.saturating_add(shown_at(alloc, keepers, dice, caller, kind, at)?);
+    }
+    Ok(count)
 }
 
 /// How many numbers of a kind some callers are shown in a role.

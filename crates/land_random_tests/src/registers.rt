@@ -11,12 +11,14 @@ use std::alloc::Global;
 use std::test::Fail;
 
 /// How many requests are made.
-const REQUESTS: u32 = 120;
+const REQUESTS: u32 = 600;
 
-/// How many changes, and objects that stand, there are at least in the end.
-const CHANGES: i64 = 55;
+/// How many changes, and objects that stand, there are at least in the end, and how many lists are compared.
+const CHANGES: i64 = 190;
 
-const OBJECTS: usize = 90;
+const OBJECTS: usize = 390;
+
+const LISTS: usize = 3800;
 
 /// One request more, which now and then is the one before it again, is told alike.
 fn tell_one(
@@ -73,7 +75,8 @@ fn play(alloc: Global, keepers: &mut Keepers, seed: u64) -> Result<(), Stop> {
     expect(CHANGES <= changes, "changes", 0)?;
     let count = objects(alloc, keepers)?;
     expect(OBJECTS <= count, "objects", count)?;
-    look_around(alloc, keepers, &mut dice)
+    look_around(alloc, keepers, &mut dice)?;
+    expect(LISTS <= keepers.lists, "lists", keepers.lists)
 }
 
 fn are_alike(alloc: Global, seed: u64) -> Result<(), Stop> {
@@ -89,4 +92,9 @@ fn the_register_of_seed_1(rt: HostRuntime) -> Result<(), Fail> {
 #[test]
 fn the_register_of_seed_2(rt: HostRuntime) -> Result<(), Fail> {
     conclude(&rt, are_alike(rt.alloc(), 2))
+}
+
+#[test]
+fn the_register_of_seed_3(rt: HostRuntime) -> Result<(), Fail> {
+    conclude(&rt, are_alike(rt.alloc(), 3))
 }

@@ -32,8 +32,8 @@ impl Tally {
 
     /// Goes on where a good part of each was told.
     pub fn expect_enough(&self) -> Result<(), Stop> {
-        expect(45 <= self.done, "done", self.done)?;
-        expect(15 <= self.denied, "denied", self.denied)?;
-        expect(12 <= self.refused, "refused", self.refused)
+        expect(200 <= self.done, "done", self.done)?;
+        expect(150 <= self.denied, "denied", self.denied)?;
+        expect(50 <= self.refused, "refused", self.refused)
     }
 }
