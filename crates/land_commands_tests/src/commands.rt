@@ -1,17 +1,20 @@
-//! Commands over files, in the folder in which the tests run.
+//! Commands over files, in the folder in which the tests run. What is done is written over any machine, and done on this one by
+//! `land_local`.
 use crate::conclusion::conclude;
-use land_commands::local_host::LocalHost;
+use land_commands::host::Host;
+use land_commands::program_fault::ProgramFault;
 use land_commands::run::run_command;
 use land_core::caller::Caller;
 use land_core::kind::Kind;
 use land_core::role::Role;
+use land_local::machine::{Work, on_local_host};
 use land_scenario::doubles::{Readings, Sink};
 use land_scenario::playing::{open_sink, play_steps};
 use land_scenario::stop::{Stop, expect};
 use land_select::sql_keeper::SqlKeeper;
 use land_tables::tables::Tables;
 use land_words::command::Command;
-use sqlite::{Connection, File, FileStore};
+use sqlite::{Alter, Connection};
 use std::fs;
 use std::net::TcpListener;
 use std::rt::HostRuntime;
@@ -71,16 +74,15 @@ fn command(deed: Deed, file: &'static str) -> Command<'static> {
     }
 }
 
-/// Does a command on the machine that the tests run on, and gives its status.
-fn status(rt: &HostRuntime, command: Command<'_>, output: &mut Sink, errors: &mut Sink) -> u8 {
-    let mut host = LocalHost::new(rt);
+/// Does a command on a machine, and gives its status.
+fn status<H: Host>(host: &mut H, command: Command<'_>, output: &mut Sink, errors: &mut Sink) -> u8 {
     let mut input: &[u8] = b"";
     let mut clock = Readings { left: &[] };
-    run_command(&mut host, command, &mut input, output, errors, &mut clock)
+    run_command(host, command, &mut input, output, errors, &mut clock)
 }
 
 /// Whether a command has said that there was no memory.
-pub fn lacked_memory(errors: &Sink) -> bool {
+fn lacked_memory(errors: &Sink) -> bool {
     errors.taken.as_slice() == b"land: fault 501\n".as_slice()
 }
 
@@ -102,28 +104,28 @@ fn expect_end(
 }
 
 /// A step ends as it says, on this output.
-fn take_on(
-    rt: &HostRuntime,
+fn take_on<H: Host>(
+    host: &mut H,
     file: &'static str,
     place: usize,
     step: Step,
     output: &mut Sink,
 ) -> Result<(), Stop> {
-    let mut errors = open_sink(rt.alloc(), 64)?;
-    let status = status(rt, command(step.0, file), output, &mut errors);
+    let mut errors = open_sink(host.alloc(), 64)?;
+    let status = status(host, command(step.0, file), output, &mut errors);
     expect_end(file, place, step, status, output, &errors)
 }
 
 /// A step ends as it says.
-fn take(rt: &HostRuntime, file: &'static str, place: usize, step: Step) -> Result<(), Stop> {
-    let mut output = open_sink(rt.alloc(), 64)?;
-    take_on(rt, file, place, step, &mut output)
+fn take<H: Host>(host: &mut H, file: &'static str, place: usize, step: Step) -> Result<(), Stop> {
+    let mut output = open_sink(host.alloc(), 64)?;
+    take_on(host, file, place, step, &mut output)
 }
 
 /// Steps end one after another as they say.
-fn take_all(rt: &HostRuntime, file: &'static str, steps: &[Step]) -> Result<(), Stop> {
+fn take_all<H: Host>(host: &mut H, file: &'static str, steps: &[Step]) -> Result<(), Stop> {
     for (place, step) in steps.iter().enumerate() {
-        take(rt, file, place, *step)?;
+        take(host, file, place, *step)?;
     }
     Ok(())
 }
@@ -147,6 +149,50 @@ fn expect_untouched(rt: &HostRuntime, place: Place, bytes: &[u8]) -> Result<(), 
     expect(read.as_slice() == bytes && !has_log, place.0, usize::MAX)
 }
 
+/// What is tried over files.
+#[derive(Clone, Copy)]
+enum Case {
+    New,
+    Played,
+    Missing,
+    NoFile,
+    Empty,
+    Notes,
+    Foreign,
+    Held,
+    Taken,
+}
+
+/// A case, and what lets a test look at files by itself.
+#[derive(Clone, Copy)]
+struct Trial<'a> {
+    rt: &'a HostRuntime,
+    case: Case,
+}
+
+impl Work for Trial<'_> {
+    type Outcome = Result<(), Stop>;
+
+    fn done_on<H: Host>(self, host: &mut H) -> Result<(), Stop> {
+        match self.case {
+            Case::New => new_is_sound(self.rt, host),
+            Case::Played => played_is_sound(self.rt, host),
+            Case::Missing => missing_is_not_made(self.rt, host),
+            Case::NoFile => no_file_is_opened(host),
+            Case::Empty => empty_stays_empty(self.rt, host),
+            Case::Notes => notes_stay(self.rt, host),
+            Case::Foreign => foreign_is_refused(self.rt, host),
+            Case::Held => held_is_refused(self.rt, host),
+            Case::Taken => taken_is_refused(self.rt, host),
+        }
+    }
+}
+
+/// Tries a case on the machine that the tests run on.
+fn tried(rt: &HostRuntime, case: Case) -> Result<(), Stop> {
+    on_local_host(rt, Trial { rt, case })
+}
+
 const NEW: Place = Place("land_new.land", "land_new.land-wal");
 
 /// A register is made once.
@@ -158,36 +204,51 @@ const MADE: &[Step] = &[
 ];
 
 /// A register that is made is sound, and is not made again.
-fn new_is_sound(rt: &HostRuntime) -> Result<(), Stop> {
+fn new_is_sound<H: Host>(rt: &HostRuntime, host: &mut H) -> Result<(), Stop> {
     clear(rt, NEW);
-    take_all(rt, NEW.0, MADE)?;
+    take_all(host, NEW.0, MADE)?;
     clear(rt, NEW);
     Ok(())
 }
 
 #[test]
 fn a_new_register_is_sound(rt: HostRuntime) -> Result<(), Fail> {
-    conclude(&rt, new_is_sound(&rt))
+    conclude(&rt, tried(&rt, Case::New))
+}
+
+/// Why a test stops where a store cannot be opened.
+fn stop_of(fault: ProgramFault) -> Stop {
+    match fault {
+        ProgramFault::NoMemory => Stop::Memory,
+        _ => Stop::Call,
+    }
 }
 
 /// The store of a file, which is made.
-fn opened(rt: &HostRuntime, place: Place) -> Result<Connection<FileStore<File>>, Stop> {
+fn opened<H: Host>(
+    rt: &HostRuntime,
+    host: &mut H,
+    place: Place,
+) -> Result<Connection<H::Store>, Stop> {
     clear(rt, place);
-    Ok(Connection::open(rt, place.0)?)
+    match host.open_new(place.0) {
+        Ok(conn) => Ok(conn),
+        Err(fault) => Err(stop_of(fault)),
+    }
 }
 
 /// The tables of a new register in a file.
-fn made(rt: &HostRuntime, place: Place) -> Result<Tables<FileStore<File>>, Stop> {
-    match Tables::create(opened(rt, place)?) {
+fn made<H: Host>(rt: &HostRuntime, host: &mut H, place: Place) -> Result<Tables<H::Store>, Stop> {
+    match Tables::create(opened(rt, host, place)?) {
         Ok(tables) => Ok(tables),
         Err((_, fault)) => Err(Stop::from(fault)),
     }
 }
 
 /// Plays the scenario over a new register in a file.
-fn play(rt: &HostRuntime, place: Place) -> Result<(), Stop> {
-    let mut keeper = SqlKeeper::new(made(rt, place)?);
-    play_steps(rt.alloc(), &mut keeper)
+fn play<H: Host>(rt: &HostRuntime, host: &mut H, place: Place) -> Result<(), Stop> {
+    let mut keeper = SqlKeeper::new(made(rt, host, place)?);
+    play_steps(host.alloc(), &mut keeper)
 }
 
 const PLAYED: Place = Place("land_played.land", "land_played.land-wal");
@@ -230,16 +291,16 @@ const AFTER_STEPS: &[Step] = &[
 ];
 
 /// The register is sound after the scenario, and is extracted.
-fn played_is_sound(rt: &HostRuntime) -> Result<(), Stop> {
-    play(rt, PLAYED)?;
-    take_all(rt, PLAYED.0, AFTER_STEPS)?;
+fn played_is_sound<H: Host>(rt: &HostRuntime, host: &mut H) -> Result<(), Stop> {
+    play(rt, host, PLAYED)?;
+    take_all(host, PLAYED.0, AFTER_STEPS)?;
     clear(rt, PLAYED);
     Ok(())
 }
 
 #[test]
 fn the_scenario_leaves_a_sound_register(rt: HostRuntime) -> Result<(), Fail> {
-    conclude(&rt, played_is_sound(&rt))
+    conclude(&rt, tried(&rt, Case::Played))
 }
 
 const MISSING: Place = Place("land_missing.land", "land_missing.land-wal");
@@ -255,9 +316,9 @@ const UNOPENED: &[Step] = &[
 const UNMADE: &[Step] = &[Step(Deed::New, 1, "", CANNOT_OPEN)];
 
 /// A file that is missing stays so.
-fn missing_is_not_made(rt: &HostRuntime) -> Result<(), Stop> {
+fn missing_is_not_made<H: Host>(rt: &HostRuntime, host: &mut H) -> Result<(), Stop> {
     clear(rt, MISSING);
-    take_all(rt, MISSING.0, UNOPENED)?;
+    take_all(host, MISSING.0, UNOPENED)?;
     let is_there = fs::exists(rt, MISSING.0)?;
     let has_log = fs::exists(rt, MISSING.1)?;
     expect(!is_there && !has_log, MISSING.0, usize::MAX)
@@ -265,24 +326,24 @@ fn missing_is_not_made(rt: &HostRuntime) -> Result<(), Stop> {
 
 #[test]
 fn what_is_not_there_is_not_made(rt: HostRuntime) -> Result<(), Fail> {
-    conclude(&rt, missing_is_not_made(&rt))
+    conclude(&rt, tried(&rt, Case::Missing))
 }
 
 /// Names under which no file can be: a folder, none, one in a folder that is not there.
 const NO_FILES: &[&str] = &[".", "", "no/such/folder"];
 
 /// No register is found or made under such a name.
-fn no_file_is_opened(rt: &HostRuntime) -> Result<(), Stop> {
+fn no_file_is_opened<H: Host>(host: &mut H) -> Result<(), Stop> {
     for name in NO_FILES {
-        take_all(rt, name, UNOPENED)?;
-        take_all(rt, name, UNMADE)?;
+        take_all(host, name, UNOPENED)?;
+        take_all(host, name, UNMADE)?;
     }
     Ok(())
 }
 
 #[test]
 fn what_is_no_file_cannot_be_opened(rt: HostRuntime) -> Result<(), Fail> {
-    conclude(&rt, no_file_is_opened(&rt))
+    conclude(&rt, tried(&rt, Case::NoFile))
 }
 
 const EMPTY: Place = Place("land_empty.land", "land_empty.land-wal");
@@ -294,18 +355,18 @@ const UNOWNED: &[Step] = &[
 ];
 
 /// An empty file is no register and stays empty, until one is made in it.
-fn empty_stays_empty(rt: &HostRuntime) -> Result<(), Stop> {
+fn empty_stays_empty<H: Host>(rt: &HostRuntime, host: &mut H) -> Result<(), Stop> {
     write(rt, EMPTY, b"")?;
-    take_all(rt, EMPTY.0, UNOWNED)?;
+    take_all(host, EMPTY.0, UNOWNED)?;
     expect_untouched(rt, EMPTY, b"")?;
-    take_all(rt, EMPTY.0, MADE)?;
+    take_all(host, EMPTY.0, MADE)?;
     clear(rt, EMPTY);
     Ok(())
 }
 
 #[test]
 fn an_empty_file_is_no_register_and_stays_empty(rt: HostRuntime) -> Result<(), Fail> {
-    conclude(&rt, empty_stays_empty(&rt))
+    conclude(&rt, tried(&rt, Case::Empty))
 }
 
 const NOTES: Place = Place("land_notes.txt", "land_notes.txt-wal");
@@ -314,10 +375,10 @@ const NOTES: Place = Place("land_notes.txt", "land_notes.txt-wal");
 const NOTE: &[u8] = b"SQLite format 3, and no more\n";
 
 /// A file that is no store is left as it is.
-fn notes_stay(rt: &HostRuntime) -> Result<(), Stop> {
+fn notes_stay<H: Host>(rt: &HostRuntime, host: &mut H) -> Result<(), Stop> {
     write(rt, NOTES, NOTE)?;
-    take_all(rt, NOTES.0, UNOPENED)?;
-    take_all(rt, NOTES.0, UNMADE)?;
+    take_all(host, NOTES.0, UNOPENED)?;
+    take_all(host, NOTES.0, UNMADE)?;
     expect_untouched(rt, NOTES, NOTE)?;
     clear(rt, NOTES);
     Ok(())
@@ -325,20 +386,20 @@ fn notes_stay(rt: &HostRuntime) -> Result<(), Stop> {
 
 #[test]
 fn another_file_is_left_as_it_is(rt: HostRuntime) -> Result<(), Fail> {
-    conclude(&rt, notes_stay(&rt))
+    conclude(&rt, tried(&rt, Case::Notes))
 }
 
 const FOREIGN: Place = Place("land_foreign.db", "land_foreign.db-wal");
 
 /// Runs a text on a store.
-fn run(conn: &mut Connection<FileStore<File>>, text: &str) -> Result<(), Stop> {
+fn run<S: Alter>(conn: &mut Connection<S>, text: &str) -> Result<(), Stop> {
     conn.execute_batch(text)?;
     Ok(())
 }
 
 /// Makes a store of another application.
-fn make_foreign(rt: &HostRuntime) -> Result<(), Stop> {
-    let mut conn = opened(rt, FOREIGN)?;
+fn make_foreign<H: Host>(rt: &HostRuntime, host: &mut H) -> Result<(), Stop> {
+    let mut conn = opened(rt, host, FOREIGN)?;
     run(&mut conn, "CREATE TABLE note (title TEXT)")
 }
 
@@ -346,26 +407,26 @@ fn make_foreign(rt: &HostRuntime) -> Result<(), Stop> {
 const OWNED_ELSEWHERE: &[Step] = &[Step(Deed::New, 1, "", HAS_TABLES)];
 
 /// A store of another application is no register, and none is made in it.
-fn foreign_is_refused(rt: &HostRuntime) -> Result<(), Stop> {
-    make_foreign(rt)?;
-    take_all(rt, FOREIGN.0, UNOWNED)?;
-    take_all(rt, FOREIGN.0, OWNED_ELSEWHERE)?;
-    take_all(rt, FOREIGN.0, UNOWNED)?;
+fn foreign_is_refused<H: Host>(rt: &HostRuntime, host: &mut H) -> Result<(), Stop> {
+    make_foreign(rt, host)?;
+    take_all(host, FOREIGN.0, UNOWNED)?;
+    take_all(host, FOREIGN.0, OWNED_ELSEWHERE)?;
+    take_all(host, FOREIGN.0, UNOWNED)?;
     clear(rt, FOREIGN);
     Ok(())
 }
 
 #[test]
 fn a_store_of_another_application_is_refused(rt: HostRuntime) -> Result<(), Fail> {
-    conclude(&rt, foreign_is_refused(&rt))
+    conclude(&rt, tried(&rt, Case::Foreign))
 }
 
 const HELD: Place = Place("land_held.land", "land_held.land-wal");
 
 /// A file cannot be opened while its tables are in other hands, which then let them go.
-fn take_while_held(rt: &HostRuntime, tables: Tables<FileStore<File>>) -> Result<(), Stop> {
-    let found = take_all(rt, HELD.0, UNOPENED);
-    let made = take_all(rt, HELD.0, UNMADE);
+fn take_while_held<H: Host>(host: &mut H, tables: Tables<H::Store>) -> Result<(), Stop> {
+    let found = take_all(host, HELD.0, UNOPENED);
+    let made = take_all(host, HELD.0, UNMADE);
     drop(tables);
     found.and(made)
 }
@@ -374,26 +435,27 @@ fn take_while_held(rt: &HostRuntime, tables: Tables<FileStore<File>>) -> Result<
 const LET_GO: &[Step] = &[Step(Deed::Check, 0, NEW_IS_SOUND, "")];
 
 /// A file that is held elsewhere is refused until it is let go.
-fn held_is_refused(rt: &HostRuntime) -> Result<(), Stop> {
-    take_while_held(rt, made(rt, HELD)?)?;
-    take_all(rt, HELD.0, LET_GO)?;
+fn held_is_refused<H: Host>(rt: &HostRuntime, host: &mut H) -> Result<(), Stop> {
+    let tables = made(rt, host, HELD)?;
+    take_while_held(host, tables)?;
+    take_all(host, HELD.0, LET_GO)?;
     clear(rt, HELD);
     Ok(())
 }
 
 #[test]
 fn a_file_that_is_held_elsewhere_cannot_be_opened(rt: HostRuntime) -> Result<(), Fail> {
-    conclude(&rt, held_is_refused(&rt))
+    conclude(&rt, tried(&rt, Case::Held))
 }
 
 const TAKEN: Place = Place("land_taken.land", "land_taken.land-wal");
 
 /// A register that is to be served on a port that is taken.
-fn serve_on(rt: &HostRuntime, port: u16) -> Result<(), Stop> {
+fn serve_on<H: Host>(rt: &HostRuntime, host: &mut H, port: u16) -> Result<(), Stop> {
     clear(rt, TAKEN);
-    take(rt, TAKEN.0, 0, Step(Deed::New, 0, "", ""))?;
+    take(host, TAKEN.0, 0, Step(Deed::New, 0, "", ""))?;
     take(
-        rt,
+        host,
         TAKEN.0,
         1,
         Step(Deed::Serve(port), 1, "", CANNOT_LISTEN),
@@ -403,18 +465,22 @@ fn serve_on(rt: &HostRuntime, port: u16) -> Result<(), Stop> {
 }
 
 /// The same on the port of a listener.
-fn serve_beside(rt: &HostRuntime, listener: &TcpListener) -> Result<(), Stop> {
+fn serve_beside<H: Host>(
+    rt: &HostRuntime,
+    host: &mut H,
+    listener: &TcpListener,
+) -> Result<(), Stop> {
     let at = listener.local_addr()?;
-    serve_on(rt, at.port())
+    serve_on(rt, host, at.port())
 }
 
 /// A port that is taken cannot be listened on.
-fn taken_is_refused(rt: &HostRuntime) -> Result<(), Stop> {
+fn taken_is_refused<H: Host>(rt: &HostRuntime, host: &mut H) -> Result<(), Stop> {
     let listener = TcpListener::bind(rt, "127.0.0.1:0")?;
-    serve_beside(rt, &listener)
+    serve_beside(rt, host, &listener)
 }
 
 #[test]
 fn a_port_that_is_taken_cannot_be_listened_on(rt: HostRuntime) -> Result<(), Fail> {
-    conclude(&rt, taken_is_refused(&rt))
+    conclude(&rt, tried(&rt, Case::Taken))
 }

@@ -9,5 +9,3 @@
 mod commands;
 #[cfg(test)]
 mod conclusion;
-#[cfg(test)]
-mod town;

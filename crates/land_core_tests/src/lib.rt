@@ -7,8 +7,4 @@
 #![tactic(auto)]
 
 #[cfg(test)]
-mod facts;
-#[cfg(test)]
-mod lodged;
-#[cfg(test)]
 mod records;

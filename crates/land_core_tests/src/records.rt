@@ -10,9 +10,12 @@ mod right_faults;
 mod unit_faults;
 
 use self::garden::{GARDEN, LODGED, RECORDS, WITH_ORCHARD, WITHOUT_RIGHTS};
-use super::facts::{Fact, Share, fault, register_of};
 use land_core::kind::PartyKind::{Group, NaturalPerson};
+use land_core::register::Register;
 use land_core::soundness::Unsound;
+use land_facts::facts::{Fact, Share};
+use land_facts::registers::{fault, tell_all};
+use land_facts::stop::Stop;
 use std::alloc::Global;
 use std::process::Abort;
 use std::test::Fail;
@@ -77,6 +80,30 @@ pub(super) fn facts_of(part: &Part) -> &'static [Fact] {
     }
 }
 
+/// The new register, which is told the facts of all parts and then these.
+fn register_of(alloc: Global, parts: &[Part], facts: &[Fact]) -> Result<Register, Stop> {
+    let mut register = Register::new(alloc)?;
+    tell_parts(alloc, &mut register, parts, facts)?;
+    Ok(register)
+}
+
+/// The new register, which is told the facts of all parts.
+fn register_with(alloc: Global, parts: &[Part]) -> Result<Register, Stop> {
+    register_of(alloc, parts, &[])
+}
+
+fn tell_parts(
+    alloc: Global,
+    register: &mut Register,
+    parts: &[Part],
+    facts: &[Fact],
+) -> Result<(), Stop> {
+    for part in parts {
+        tell_all(alloc, register, facts_of(part))?;
+    }
+    tell_all(alloc, register, facts)
+}
+
 /// What registers begin with, beside the office: nothing, the persons, and so on.
 const OFFICE_ALONE: &[Part] = &[];
 
@@ -98,7 +125,7 @@ struct Case(&'static [Fact], Option<Unsound>);
 const REFERENCE: Option<Unsound> = Some(Unsound::Reference);
 
 /// The fault of a register that is told facts.
-fn fault_of(alloc: Global, base: &[Part], facts: &[Fact]) -> Result<Option<Unsound>, Fail> {
+fn fault_of(alloc: Global, base: &[Part], facts: &[Fact]) -> Result<Option<Unsound>, Stop> {
     let register = register_of(alloc, base, facts)?;
     fault(alloc, &register)
 }

@@ -1,15 +1,11 @@
-//! Tests of what stands between the wire and the keeper: requests and replies as bytes (`land_wire`), streams of them (`land_desk`),
-//! connections (`land_service`), and the words of the command line (`land_words`). There is nothing else here: a crate that has tests
-//! is proved twice, so those crates have none of their own, and this one has nothing to prove.
+//! Tests of what stands between the wire and the keeper: requests and replies as bytes (`land_wire`), and streams of them (`land_desk`).
+//! There is nothing else here: a crate that has tests is proved twice, so those crates have none of their own, and this one has nothing
+//! to prove.
 //!
 //! Want of memory ends a test with an `Err`, so that it fails unless an allocation was refused. `.ci/refusals` runs these tests with
 //! each allocation refused in turn: a test may then end so, and no assertion may fail.
 #![tactic(auto)]
 
-#[cfg(test)]
-mod conclusion;
-#[cfg(test)]
-mod connections;
 #[cfg(test)]
 mod exchanges;
 #[cfg(test)]
@@ -26,5 +22,3 @@ mod readings;
 mod replies;
 #[cfg(test)]
 mod streams;
-#[cfg(test)]
-mod words;

@@ -20,11 +20,24 @@ fn office_fields(alloc: Global) -> Result<HeaderMap, Fail> {
     Ok(fields)
 }
 
+/// The request that has these fields.
+fn read_with(
+    alloc: Global,
+    fields: &HeaderMap,
+    method: &[u8],
+    target: &str,
+    body: &[u8],
+) -> Result<Request, Fail> {
+    match read_request(alloc, method, target, fields, body) {
+        Ok(request) => Ok(request),
+        Err(_) => Err("no memory, or no request")?,
+    }
+}
+
 /// The request that the office puts with this method, target and body.
 fn read(alloc: Global, method: &[u8], target: &str, body: &[u8]) -> Result<Request, Fail> {
     let fields = office_fields(alloc)?;
-    let request = read_request(alloc, method, target, &fields, body);
-    Ok(request.map_err(|_| "no memory, or no request")?)
+    read_with(alloc, &fields, method, target, body)
 }
 
 fn is_by_the_office(request: &Request) -> bool {
@@ -61,23 +74,49 @@ fn is_enrolment_of_anna(request: &Request) -> bool {
     }
 }
 
+/// What the office may ask for.
+#[derive(Clone, Copy)]
+enum Asked {
+    List,
+    View,
+    Enrolment,
+}
+
+fn is_asked(request: &Request, asked: Asked) -> bool {
+    match asked {
+        Asked::List => is_list(request),
+        Asked::View => is_view_of_9(request),
+        Asked::Enrolment => is_enrolment_of_anna(request),
+    }
+}
+
+/// Whether the request that the office puts with this method, target and body is read so.
+fn is_read(
+    alloc: Global,
+    method: &[u8],
+    target: &str,
+    body: &[u8],
+    asked: Asked,
+) -> Result<bool, Fail> {
+    let request = read(alloc, method, target, body)?;
+    Ok(is_by_the_office(&request) && is_asked(&request, asked))
+}
+
 #[test]
 fn a_list_is_read(rt: HostRuntime) -> Result<(), Fail> {
-    let request = read(rt.alloc(), b"GET", "/parties?", b"\xff{")?;
-    assert!(rt; is_by_the_office(&request) && is_list(&request));
+    assert!(rt; is_read(rt.alloc(), b"GET", "/parties?", b"\xff{", Asked::List)?);
     Ok(())
 }
 
 #[test]
 fn a_view_is_read(rt: HostRuntime) -> Result<(), Fail> {
-    let request = read(rt.alloc(), b"GET", "/parties/0000000000009", b"")?;
-    assert!(rt; is_by_the_office(&request) && is_view_of_9(&request));
+    let target = "/parties/0000000000009";
+    assert!(rt; is_read(rt.alloc(), b"GET", target, b"", Asked::View)?);
     Ok(())
 }
 
 #[test]
 fn an_enrolment_is_read(rt: HostRuntime) -> Result<(), Fail> {
-    let request = read(rt.alloc(), b"POST", "/acts/enrol", ENROL)?;
-    assert!(rt; is_by_the_office(&request) && is_enrolment_of_anna(&request));
+    assert!(rt; is_read(rt.alloc(), b"POST", "/acts/enrol", ENROL, Asked::Enrolment)?);
     Ok(())
 }

@@ -6,7 +6,6 @@ mod parcels;
 mod standing;
 mod views;
 
-use super::facts::{Fact, Held, Share, fault, register_of};
 use land_core::ask::Ask;
 use land_core::caller::Caller;
 use land_core::kind::PartyKind::{Group, NaturalPerson, NonNaturalPerson};
@@ -14,6 +13,9 @@ use land_core::register::Register;
 use land_core::role::Role;
 use land_core::rrr::RightType::{Lease, Ownership};
 use land_core::soundness::Unsound;
+use land_facts::facts::{Fact, Held, Share};
+use land_facts::registers::{fault, tell_all};
+use land_facts::stop::Stop;
 use land_rules::rules::verdict;
 use land_rules::verdict::Verdict;
 use std::alloc::Global;
@@ -116,18 +118,37 @@ fn verdict_on(now: &Register, at: &Register, caller: Caller, ask: Ask, past: boo
     verdict(now, at, caller, &ask, past)
 }
 
+fn tell_parts(
+    alloc: Global,
+    register: &mut Register,
+    parts: &[&[Fact]],
+    facts: &[Fact],
+) -> Result<(), Stop> {
+    for part in parts {
+        tell_all(alloc, register, part)?;
+    }
+    tell_all(alloc, register, facts)
+}
+
+/// The new register, which is told the facts of all parts and then these.
+fn register_of(alloc: Global, parts: &[&[Fact]], facts: &[Fact]) -> Result<Register, Stop> {
+    let mut register = Register::new(alloc)?;
+    tell_parts(alloc, &mut register, parts, facts)?;
+    Ok(register)
+}
+
 /// A register with the farm and the house, which is then told these facts. It alone names all parts: a function is the dearer
 /// to prove for each row of a constant that it names.
-fn farm_and_house_with(alloc: Global, facts: &[Fact]) -> Result<Register, Fail> {
+fn farm_and_house_with(alloc: Global, facts: &[Fact]) -> Result<Register, Stop> {
     register_of(alloc, ALL, facts)
 }
 
 /// A register with the farm and the house.
-fn farm_and_house(alloc: Global) -> Result<Register, Fail> {
+fn farm_and_house(alloc: Global) -> Result<Register, Stop> {
     farm_and_house_with(alloc, &[])
 }
 
-fn fault_of_all(alloc: Global) -> Result<Option<Unsound>, Fail> {
+fn fault_of_all(alloc: Global) -> Result<Option<Unsound>, Stop> {
     let register = farm_and_house(alloc)?;
     fault(alloc, &register)
 }

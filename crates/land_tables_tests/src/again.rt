@@ -1,7 +1,6 @@
 //! Calls that lack memory and are made again. `.ci/refusals` refuses each of their allocations in turn: then nothing has changed, and the
 //! same call succeeds.
 use crate::conclusion::conclude;
-use crate::playing::{created, taken};
 use land_core::ask::Request;
 use land_keep::keeper::Keeper;
 use land_keep::store_fault::StoreFault;
@@ -11,6 +10,7 @@ use land_scenario::stop::{Stop, expect};
 use land_tables::fault::AdoptFault;
 use land_tables::table_keeper::TableKeeper;
 use land_tables::tables::Tables;
+use land_tables_cases::playing::{created, taken};
 use sqlite::{Connection, MemStore};
 use std::alloc::Global;
 use std::test::Fail;

@@ -1,8 +1,8 @@
 //! A new register in a store, and stores in which none is made.
 use crate::conclusion::conclude;
 use land_scenario::looks::{Look, look_at};
-use land_scenario::stop::{Stop, expect};
-use land_tables::tables::Tables;
+use land_scenario::stop::Stop;
+use land_tables_cases::stores::{expect_fault, made, store};
 use sqlite::{Connection, MemStore};
 use std::alloc::Global;
 use std::test::Fail;
@@ -27,38 +27,6 @@ const NEW: &[Look] = &[
     Look("SELECT * FROM mutation", ""),
     Look("SELECT * FROM names", ""),
 ];
-
-/// The number of the fault with which a store is given back, 0 where a register was made in it.
-pub fn made(conn: Connection<MemStore>) -> (u16, Connection<MemStore>) {
-    match Tables::create(conn) {
-        Ok(tables) => {
-            let is_new = tables.last() == 0 && tables.next() == 2 && !tables.is_closed();
-            (if is_new { 0 } else { 1 }, tables.into_connection())
-        }
-        Err((conn, fault)) => (fault.number(), conn),
-    }
-}
-
-/// Runs a text on a store.
-pub fn run(conn: &mut Connection<MemStore>, text: &str) -> Result<(), Stop> {
-    conn.execute_batch(text)?;
-    Ok(())
-}
-
-/// A store on which a text was run.
-pub fn store(alloc: Global, text: &str) -> Result<Connection<MemStore>, Stop> {
-    let mut conn = Connection::open_in_memory(alloc)?;
-    run(&mut conn, text)?;
-    Ok(conn)
-}
-
-/// Goes on where a fault is the one that is to be. Want of memory stops the test.
-pub fn expect_fault(fault: u16, wanted: u16, name: &'static str, place: usize) -> Result<(), Stop> {
-    if fault == 501 {
-        return Err(Stop::Memory);
-    }
-    expect(fault == wanted, name, place)
-}
 
 /// A text that is run on an empty store, and the fault that `create` has then, 0 where it makes a register.
 struct Begin(&'static str, u16);

@@ -1,10 +1,10 @@
 //! A new register that is taken as a store, and goes on: each allocation of this may be refused in turn.
 use crate::conclusion::conclude;
-use crate::playing::{new_tables, taken};
 use land_scenario::playing::play_first;
 use land_scenario::stop::{Stop, expect};
 use land_tables::table_keeper::TableKeeper;
 use land_tables::tables::Tables;
+use land_tables_cases::playing::{new_tables, taken};
 use sqlite::MemStore;
 use std::alloc::Global;
 use std::test::Fail;

@@ -1,6 +1,5 @@
 //! What callers are told over tables, as over the plain keeper.
 use crate::conclusion::conclude;
-use crate::playing::played;
 use land_core::ask::{Ask, Request};
 use land_core::caller::Caller;
 use land_core::kind::Kind;
@@ -11,6 +10,7 @@ use land_keep::reply::Reply;
 use land_scenario::playing::plain;
 use land_scenario::stop::{Stop, expect};
 use land_tables::table_keeper::TableKeeper;
+use land_tables_cases::playing::played;
 use std::alloc::Global;
 use std::test::Fail;
 

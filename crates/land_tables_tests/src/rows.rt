@@ -1,9 +1,9 @@
 //! The rows of the tables after the scenario.
 use crate::conclusion::conclude;
-use crate::creating::{expect_fault, made};
-use crate::playing::{played, played_more};
 use land_scenario::looks::{look_at_more, look_at_steps};
 use land_scenario::stop::Stop;
+use land_tables_cases::playing::{played, played_more};
+use land_tables_cases::stores::{expect_fault, made};
 use std::alloc::Global;
 use std::test::Fail;
 

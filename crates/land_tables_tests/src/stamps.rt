@@ -1,6 +1,5 @@
 //! The register at each stamp, as the plain keeper has it.
 use crate::conclusion::conclude;
-use crate::playing::played_more;
 use land_core::kind::Kind;
 use land_core::object::Object;
 use land_core::register::Register;
@@ -9,6 +8,7 @@ use land_keep::plain_keeper::PlainKeeper;
 use land_scenario::playing::plain_more;
 use land_scenario::stop::{Stop, expect};
 use land_tables::tables::Tables;
+use land_tables_cases::playing::played_more;
 use land_texts::object::object_value;
 use sqlite::Alter;
 use std::alloc::{AllocError, Global};

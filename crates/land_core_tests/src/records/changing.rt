@@ -1,17 +1,21 @@
 //! Changes, and what a refused allocation leaves of the register that was to be changed.
+use super::copies::fields;
 use super::garden::{
     ALL, ANNA, ANNAS, BEN, BENS, DEED, GARDEN, HEDGE, LAWN, LEASE, LETTER, LOAN, LOAN_LODGED, PATH,
     POND, SHARE,
 };
 use super::objects::{Look, Shown, shown_rows};
-use super::{OFFICE_ALONE, Part, WITH_GARDEN, WITH_GROUP, WITH_LODGED};
-use crate::facts::{Fact, SQUARE, Share, change_all, fault, fields, register_with};
+use super::{OFFICE_ALONE, Part, WITH_GARDEN, WITH_GROUP, WITH_LODGED, register_with};
 use land_core::change::Change;
 use land_core::kind::Kind;
 use land_core::kind::PartyKind::{Group, NaturalPerson};
 use land_core::records::Records;
 use land_core::register::{Register, apply};
 use land_core::role::Role;
+use land_facts::changes::change_all;
+use land_facts::facts::{Fact, SQUARE, Share};
+use land_facts::registers::fault;
+use land_facts::stop::Stop;
 use std::alloc::{AllocError, Global};
 use std::test::Fail;
 
@@ -101,7 +105,7 @@ struct Changing {
 }
 
 /// Whether what stands in a register and some of its objects are as expected, and the register is sound.
-fn is_changed(alloc: Global, register: &Register, it: &Changing) -> Result<bool, Fail> {
+fn is_changed(alloc: Global, register: &Register, it: &Changing) -> Result<bool, Stop> {
     Ok(
         register.next == it.next
             && stands(register, &it.standing)
@@ -115,19 +119,19 @@ fn make_by(
     register: &mut Register,
     change: &mut Change,
     facts: &[Fact],
-) -> Result<Made, Fail> {
+) -> Result<Made, Stop> {
     change_all(alloc, change, facts)?;
     Ok(make(alloc, register, change)?)
 }
 
-fn change(alloc: Global, register: &mut Register, it: &Changing) -> Result<Made, Fail> {
+fn change(alloc: Global, register: &mut Register, it: &Changing) -> Result<Made, Stop> {
     let mut change = Change::nothing(alloc, it.next);
     make_by(alloc, register, &mut change, it.facts)
 }
 
 /// Whether a change was made well, where what it left is good or not. One that was made late ends in want of memory, for
 /// memory was refused.
-fn is_well_made(made: Made, good: bool) -> Result<bool, Fail> {
+fn is_well_made(made: Made, good: bool) -> Result<bool, Stop> {
     match made {
         Made::AtOnce => Ok(good),
         Made::Late if good => Err(AllocError.into()),
@@ -136,13 +140,13 @@ fn is_well_made(made: Made, good: bool) -> Result<bool, Fail> {
 }
 
 /// Makes a change, and answers whether it leaves what is expected.
-fn change_well(alloc: Global, register: &mut Register, it: &Changing) -> Result<bool, Fail> {
+fn change_well(alloc: Global, register: &mut Register, it: &Changing) -> Result<bool, Stop> {
     let made = change(alloc, register, it)?;
     is_well_made(made, is_changed(alloc, register, it)?)
 }
 
 /// Whether a change leaves what is expected.
-fn changes(alloc: Global, it: &Changing) -> Result<bool, Fail> {
+fn changes(alloc: Global, it: &Changing) -> Result<bool, Stop> {
     let mut register = register_with(alloc, it.base)?;
     change_well(alloc, &mut register, it)
 }
@@ -208,7 +212,7 @@ fn change_members(
     alloc: Global,
     register: &mut Register,
     it: &Changing,
-) -> Result<Membership, Fail> {
+) -> Result<Membership, Stop> {
     match change(alloc, register, it)? {
         Made::AtOnce => Ok(members_of(register)),
         _ => Err(AllocError.into()),
@@ -216,7 +220,7 @@ fn change_members(
 }
 
 /// The members after a change.
-fn members_after(alloc: Global, it: &Changing) -> Result<Membership, Fail> {
+fn members_after(alloc: Global, it: &Changing) -> Result<Membership, Stop> {
     let mut register = register_with(alloc, it.base)?;
     change_members(alloc, &mut register, it)
 }

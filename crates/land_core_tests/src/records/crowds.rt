@@ -1,9 +1,10 @@
 //! How many members a group has, and how many parcels and entries a unit: at the limit, and just above it.
 use super::garden::{DEED, GARDEN, SAM};
 use super::{Part, WITH_GARDEN, fault_of};
-use crate::facts::{Fact, Held};
 use land_core::kind::PartyKind::NaturalPerson;
 use land_core::soundness::Unsound;
+use land_facts::facts::{Fact, Held};
+use land_facts::stop::Stop;
 use std::alloc::{AllocError, Global};
 use std::test::Fail;
 
@@ -45,7 +46,7 @@ fn crowded(
     base: &[Part],
     crowd: Crowd,
     count: u64,
-) -> Result<Option<Unsound>, Fail> {
+) -> Result<Option<Unsound>, Stop> {
     let facts = crowd_of(alloc, crowd, count)?;
     fault_of(alloc, base, facts.as_slice())
 }

@@ -2,10 +2,10 @@
 use super::{
     ANNA_A_THIRD, Case, OFFICE_ALONE, Part, REFERENCE, WITH_GROUP, WITH_PERSONS, assert_faults,
 };
-use crate::facts::{Fact, Share};
 use land_core::kind::PartyKind::NaturalPerson;
 use land_core::role::Role;
 use land_core::soundness::Unsound;
+use land_facts::facts::{Fact, Share};
 use std::test::Fail;
 
 const TWO: Fact = Fact::Party(2, NaturalPerson, "Anna");

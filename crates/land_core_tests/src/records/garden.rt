@@ -1,9 +1,9 @@
 //! A register with one unit, its two parcels, its entries and the source of all of them.
-use crate::facts::{Fact, Held};
-use crate::lodged::{Asked, Lodged};
 use land_core::kind::Kind;
 use land_core::mutation::MutationState;
 use land_core::rrr::RightType::{Lease, Ownership};
+use land_facts::facts::{Fact, Held};
+use land_facts::lodged::{Asked, Lodged};
 
 pub(super) const ANNA: u64 = 2;
 

@@ -1,11 +1,11 @@
 //! Each fault of mutations, and what lies just beside it.
 use super::garden::{ANNA, ANNAS, BEN, DEED, GARDEN, LAWN, LEASE, LOAN, NOBODY, SAM};
 use super::{Case, Part, REFERENCE, assert_faults};
-use crate::facts::Fact::{self, Mutation};
-use crate::lodged::Asked::{self, Discharge, Mortgage, Transfer};
-use crate::lodged::Lodged;
 use land_core::mutation::MutationState::{Approved, Lodged as Open, Refused};
 use land_core::soundness::Unsound;
+use land_facts::facts::Fact::{self, Mutation};
+use land_facts::lodged::Asked::{self, Discharge, Mortgage, Transfer};
+use land_facts::lodged::Lodged;
 use std::test::Fail;
 
 /// The garden, and numbers up to 19.

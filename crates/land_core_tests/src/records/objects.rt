@@ -3,9 +3,7 @@ use super::garden::{
     ANNA, ANNAS, BEN, DEED, GARDEN, HALF, HEDGE, LAWN, LEASE, LETTER, LOAN, LOAN_LODGED, NOBODY,
     PATH, POND, SAM, SHARE,
 };
-use super::{ANNA_A_THIRD, Part, WITH_ALL, WITH_GARDEN};
-use crate::facts::{Fact, Held, SQUARE, Share, register_with};
-use crate::lodged::{Lodged, MOMENT, is_asked};
+use super::{ANNA_A_THIRD, Part, WITH_ALL, WITH_GARDEN, register_with};
 use land_core::kind::Kind;
 use land_core::kind::PartyKind::{self, Group, NaturalPerson, NonNaturalPerson};
 use land_core::member::Member;
@@ -19,6 +17,9 @@ use land_core::rrr::RightType::{self, Lease};
 use land_core::rrr::{Class, Rrr};
 use land_core::source::{Source, SourceKind};
 use land_core::unit::Unit;
+use land_facts::facts::{Held, SQUARE, Share};
+use land_facts::lodged::{Lodged, MOMENT, is_asked};
+use land_facts::stop::Stop;
 use land_fraction::Fraction;
 use std::alloc::{AllocError, Global};
 use std::process::Abort;
@@ -179,7 +180,7 @@ pub(super) fn shown_rows(
     alloc: Global,
     register: &Register,
     rows: &[Shown],
-) -> Result<usize, Fail> {
+) -> Result<usize, Stop> {
     for (place, row) in rows.iter().enumerate() {
         if !is_shown(alloc, register, row)? {
             return Ok(place);
@@ -189,7 +190,7 @@ pub(super) fn shown_rows(
 }
 
 /// How many rows a register of these facts shows before the first that it does not.
-fn rows_of(alloc: Global, base: &[Part], rows: &[Shown]) -> Result<usize, Fail> {
+fn rows_of(alloc: Global, base: &[Part], rows: &[Shown]) -> Result<usize, Stop> {
     let register = register_with(alloc, base)?;
     shown_rows(alloc, &register, rows)
 }

@@ -1,9 +1,10 @@
 //! Each fault of rights and mortgages, and what lies just beside it.
 use super::garden::{ANNA, BEN, DEED, GARDEN, ORCHARD, SAM};
 use super::{Case, Part, WITH_TWO_UNITS, assert_faults, fault_of};
-use crate::facts::{Fact, Held, Right};
 use land_core::rrr::RightType::{Lease, Ownership, Usufruct};
 use land_core::soundness::Unsound;
+use land_facts::facts::{Fact, Held, Right};
+use land_facts::stop::Stop;
 use std::alloc::{AllocError, Global};
 use std::process::Abort;
 use std::test::Fail;
@@ -31,7 +32,7 @@ const UNCHECKED_BARE: &[Part] = &[
 ];
 
 /// The fault of the garden with these rights and no others.
-fn held(alloc: Global, base: &[Part], rights: &[Right]) -> Result<Option<Unsound>, Fail> {
+fn held(alloc: Global, base: &[Part], rights: &[Right]) -> Result<Option<Unsound>, Stop> {
     let facts = rights_of(alloc, rights)?;
     fault_of(alloc, base, facts.as_slice())
 }
@@ -40,7 +41,7 @@ fn held(alloc: Global, base: &[Part], rights: &[Right]) -> Result<Option<Unsound
 struct Holding(&'static [Right], Option<Unsound>, Option<Unsound>);
 
 /// Whether the garden has the faults of its rights, checked and unchecked.
-fn has_faults(alloc: Global, it: &Holding) -> Result<bool, Fail> {
+fn has_faults(alloc: Global, it: &Holding) -> Result<bool, Stop> {
     let checked = held(alloc, CHECKED_BARE, it.0)?;
     Ok(checked == it.1 && held(alloc, UNCHECKED_BARE, it.0)? == it.2)
 }

@@ -3,10 +3,10 @@ use super::garden::{
     ALL, ANNA, ANNAS, BEN, BENS, DEED, GARDEN, LAWN, LEASE, NOBODY, PATH, POND, SAM, WITH_ORCHARD,
 };
 use super::{Case, REFERENCE, WITH_GARDEN, WITH_TWO_UNITS, assert_faults};
-use crate::facts::{Fact, Held};
 use land_core::kind::Kind;
 use land_core::kind::PartyKind::NaturalPerson;
 use land_core::soundness::Unsound;
+use land_facts::facts::{Fact, Held};
 use std::test::Fail;
 
 const PARCELS: &[Case] = &[

@@ -5,6 +5,7 @@ use land_core::register::Register;
 use land_core::role::Role::{
     self, Bank, CertifiedSurveyor, Citizen, Conveyancer, Notary, StateAdministrator,
 };
+use land_facts::stop::Stop;
 use land_rules::rules::seen;
 use std::alloc::{AllocError, Global};
 use std::process::Abort;
@@ -19,7 +20,7 @@ fn is_shown(alloc: Global, at: &Register, row: &Row) -> Result<bool, AllocError>
 }
 
 /// How many rows are shown as expected before the first that is not.
-pub(super) fn shown_rows(alloc: Global, at: &Register, rows: &[Row]) -> Result<usize, Fail> {
+pub(super) fn shown_rows(alloc: Global, at: &Register, rows: &[Row]) -> Result<usize, Stop> {
     for (place, row) in rows.iter().enumerate() {
         if !is_shown(alloc, at, row)? {
             return Ok(place);
@@ -29,7 +30,7 @@ pub(super) fn shown_rows(alloc: Global, at: &Register, rows: &[Row]) -> Result<u
 }
 
 /// The rows that are shown of the farm and the house.
-fn rows_of_all(alloc: Global, rows: &[Row]) -> Result<usize, Fail> {
+fn rows_of_all(alloc: Global, rows: &[Row]) -> Result<usize, Stop> {
     let at = farm_and_house(alloc)?;
     shown_rows(alloc, &at, rows)
 }
@@ -126,7 +127,7 @@ const NOTHING: &[Row] = &[
 ];
 
 /// The rows that are shown before the office began.
-fn rows_of_nothing(alloc: Global, rows: &[Row]) -> Result<usize, Fail> {
+fn rows_of_nothing(alloc: Global, rows: &[Row]) -> Result<usize, Stop> {
     let at = Register::nothing(alloc);
     shown_rows(alloc, &at, rows)
 }

@@ -4,8 +4,6 @@ use super::standing::{Row, told_of};
 use super::{
     ABSENT, ANNA, DEED, FARM, HOUSE, LENA, NORA, NORTH, OFFICE, SAM, SOUTH, farm_and_house_with,
 };
-use crate::facts::{Fact, fault, text};
-use crate::lodged::{Asked, Lodged, content};
 use land_core::act::{Act, Decision, Lodging};
 use land_core::ask::Ask;
 use land_core::kind::Kind::{Mutation, Party, Rrr, Unit};
@@ -15,6 +13,11 @@ use land_core::role::Role::{
     Bank, CertifiedSurveyor, Citizen, Conveyancer, Notary, StateAdministrator,
 };
 use land_core::soundness::Unsound;
+use land_facts::facts::Fact;
+use land_facts::lodged::{Asked, Lodged, content};
+use land_facts::making::text;
+use land_facts::registers::fault;
+use land_facts::stop::Stop;
 use std::alloc::Global;
 use std::process::Abort;
 use std::test::Fail;
@@ -103,11 +106,11 @@ const SEEN: &[Shown] = &[
 ];
 
 /// The register with the farm, the house and their mutations.
-fn with_mutations(alloc: Global) -> Result<Register, Fail> {
+fn with_mutations(alloc: Global) -> Result<Register, Stop> {
     farm_and_house_with(alloc, MUTATIONS)
 }
 
-fn fault_of_all(alloc: Global) -> Result<Option<Unsound>, Fail> {
+fn fault_of_all(alloc: Global) -> Result<Option<Unsound>, Stop> {
     let register = with_mutations(alloc)?;
     fault(alloc, &register)
 }
@@ -118,7 +121,7 @@ fn the_mutations_are_soundly_registered(rt: HostRuntime) -> Result<(), Fail> {
     Ok(())
 }
 
-fn seen_of_all(alloc: Global, rows: &[Shown]) -> Result<usize, Fail> {
+fn seen_of_all(alloc: Global, rows: &[Shown]) -> Result<usize, Stop> {
     let at = with_mutations(alloc)?;
     shown_rows(alloc, &at, rows)
 }
@@ -134,7 +137,7 @@ fn lodgers_and_holders_see_mutations(rt: HostRuntime) -> Result<(), Fail> {
     assert_seen(&rt, rt.alloc(), SEEN)
 }
 
-fn lodging(alloc: Global, it: &Asked) -> Result<Ask, Fail> {
+fn lodging(alloc: Global, it: &Asked) -> Result<Ask, Stop> {
     Ok(Ask::Do(Act::Lodge(Lodging {
         reference: text(alloc, "X1")?,
         document: text(alloc, "Deed 2")?,
@@ -143,12 +146,12 @@ fn lodging(alloc: Global, it: &Asked) -> Result<Ask, Fail> {
 }
 
 /// How many callers are told as expected of an ask over the farm and the house with their mutations.
-fn told_rows(alloc: Global, ask: &Ask, rows: &[Row]) -> Result<usize, Fail> {
+fn told_rows(alloc: Global, ask: &Ask, rows: &[Row]) -> Result<usize, Stop> {
     let register = with_mutations(alloc)?;
     Ok(told_of(&register, ask, false, rows))
 }
 
-fn told_of_lodging(alloc: Global, it: &Asked, rows: &[Row]) -> Result<usize, Fail> {
+fn told_of_lodging(alloc: Global, it: &Asked, rows: &[Row]) -> Result<usize, Stop> {
     let ask = lodging(alloc, it)?;
     told_rows(alloc, &ask, rows)
 }
@@ -233,12 +236,12 @@ const DECIDERS: &[Deciders] = &[
 ];
 
 /// How many callers are told as expected of a decision.
-fn told_of_deciding(alloc: Global, act: Act, rows: &[Row]) -> Result<usize, Fail> {
+fn told_of_deciding(alloc: Global, act: Act, rows: &[Row]) -> Result<usize, Stop> {
     told_rows(alloc, &Ask::Do(act), rows)
 }
 
 /// Whether callers are told as expected of an approval, and of a refusal.
-fn are_told(alloc: Global, it: &Deciders) -> Result<bool, Fail> {
+fn are_told(alloc: Global, it: &Deciders) -> Result<bool, Stop> {
     let decision = Decision { mutation: it.0 };
     let approving = told_of_deciding(alloc, Act::Approve(decision), it.1)?;
     let refusing = told_of_deciding(alloc, Act::Refuse(decision), it.1)?;

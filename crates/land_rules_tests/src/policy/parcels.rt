@@ -4,8 +4,6 @@ use super::standing::{Row, told_of};
 use super::{
     ANNA, DEED, FARM, HOUSE, LENA, NORA, NORTH, OFFICE, SAM, farm_and_house, farm_and_house_with,
 };
-use crate::facts::{Fact, SQUARE, fault, text};
-use crate::lodged::MOMENT;
 use land_core::act::{Act, Lodging, NewParcel};
 use land_core::ask::Ask;
 use land_core::content::Content;
@@ -18,6 +16,11 @@ use land_core::role::Role::{
 };
 use land_core::sequence::{NumberList, Sequence};
 use land_core::subdivision::{Part, Subdivision};
+use land_facts::facts::{Fact, SQUARE};
+use land_facts::lodged::MOMENT;
+use land_facts::making::text;
+use land_facts::registers::fault;
+use land_facts::stop::Stop;
 use land_shape::read_wkt;
 use std::alloc::{AllocError, Global};
 use std::process::Abort;
@@ -31,14 +34,14 @@ enum Surveyed {
     Merger(u64, &'static [u64], &'static [u64]),
 }
 
-fn first(alloc: Global) -> Result<NewParcel, Fail> {
+fn first(alloc: Global) -> Result<NewParcel, Stop> {
     Ok(NewParcel {
         label: text(alloc, "1/1a")?,
         outline: read_wkt(alloc, SQUARE)?,
     })
 }
 
-fn part(alloc: Global) -> Result<Part, Fail> {
+fn part(alloc: Global) -> Result<Part, Stop> {
     Ok(Part {
         label: text(alloc, "1/1b")?,
         outline: read_wkt(alloc, SQUARE)?,
@@ -46,7 +49,7 @@ fn part(alloc: Global) -> Result<Part, Fail> {
     })
 }
 
-fn subdivision(alloc: Global, unit: u64, parcel: u64) -> Result<Subdivision, Fail> {
+fn subdivision(alloc: Global, unit: u64, parcel: u64) -> Result<Subdivision, Stop> {
     Ok(Subdivision {
         unit,
         parcel,
@@ -63,7 +66,7 @@ fn numbers(alloc: Global, numbers: &[u64]) -> Result<NumberList, AllocError> {
     Ok(list)
 }
 
-fn merger(alloc: Global, unit: u64, others: &[u64], parcels: &[u64]) -> Result<Merger, Fail> {
+fn merger(alloc: Global, unit: u64, others: &[u64], parcels: &[u64]) -> Result<Merger, Stop> {
     Ok(Merger {
         unit,
         others: numbers(alloc, others)?,
@@ -73,7 +76,7 @@ fn merger(alloc: Global, unit: u64, others: &[u64], parcels: &[u64]) -> Result<M
     })
 }
 
-fn content(alloc: Global, it: &Surveyed) -> Result<Content, Fail> {
+fn content(alloc: Global, it: &Surveyed) -> Result<Content, Stop> {
     Ok(match it {
         Surveyed::Subdivision(unit, parcel) => {
             Content::Subdivision(subdivision(alloc, *unit, *parcel)?)
@@ -86,7 +89,7 @@ fn content(alloc: Global, it: &Surveyed) -> Result<Content, Fail> {
 
 // ---- who lodges
 
-fn lodging(alloc: Global, it: &Surveyed) -> Result<Ask, Fail> {
+fn lodging(alloc: Global, it: &Surveyed) -> Result<Ask, Stop> {
     Ok(Ask::Do(Act::Lodge(Lodging {
         reference: text(alloc, "S1")?,
         document: text(alloc, "Plan 1")?,
@@ -109,12 +112,12 @@ const LODGERS: &[Row] = &[
 ];
 
 /// How many callers are told as expected of an ask over the farm and the house.
-fn told_rows(alloc: Global, ask: &Ask, rows: &[Row]) -> Result<usize, Fail> {
+fn told_rows(alloc: Global, ask: &Ask, rows: &[Row]) -> Result<usize, Stop> {
     let register = farm_and_house(alloc)?;
     Ok(told_of(&register, ask, false, rows))
 }
 
-fn told_of_lodging(alloc: Global, it: &Surveyed, rows: &[Row]) -> Result<usize, Fail> {
+fn told_of_lodging(alloc: Global, it: &Surveyed, rows: &[Row]) -> Result<usize, Stop> {
     let ask = lodging(alloc, it)?;
     told_rows(alloc, &ask, rows)
 }
@@ -147,7 +150,7 @@ const SURVEYED: &[(u64, &str, Surveyed)] = &[
     (23, "S3", Surveyed::Merger(HOUSE, &[], &[FARM, 13])),
 ];
 
-fn mutation(alloc: Global, reference: &str, it: &Surveyed) -> Result<MutationRecord, Fail> {
+fn mutation(alloc: Global, reference: &str, it: &Surveyed) -> Result<MutationRecord, Stop> {
     Ok(MutationRecord {
         lodger: SAM,
         reference: text(alloc, reference)?,
@@ -158,7 +161,7 @@ fn mutation(alloc: Global, reference: &str, it: &Surveyed) -> Result<MutationRec
     })
 }
 
-fn lodge_all(alloc: Global, register: &mut Register) -> Result<(), Fail> {
+fn lodge_all(alloc: Global, register: &mut Register) -> Result<(), Stop> {
     for (number, reference, it) in SURVEYED {
         register
             .mutations
@@ -168,13 +171,13 @@ fn lodge_all(alloc: Global, register: &mut Register) -> Result<(), Fail> {
 }
 
 /// The farm and the house, with what Sam lodged.
-fn farm_and_house_surveyed(alloc: Global) -> Result<Register, Fail> {
+fn farm_and_house_surveyed(alloc: Global) -> Result<Register, Stop> {
     let mut register = farm_and_house_with(alloc, &[Fact::Next(24)])?;
     lodge_all(alloc, &mut register)?;
     Ok(register)
 }
 
-fn is_sound(alloc: Global) -> Result<bool, Fail> {
+fn is_sound(alloc: Global) -> Result<bool, Stop> {
     let register = farm_and_house_surveyed(alloc)?;
     Ok(fault(alloc, &register)? == None)
 }
@@ -201,7 +204,7 @@ const SEEN: &[Shown] = &[
     Shown(NORA, Notary, Mutation, &[21, 22, 23]),
 ];
 
-fn seen_of_all(alloc: Global, rows: &[Shown]) -> Result<usize, Fail> {
+fn seen_of_all(alloc: Global, rows: &[Shown]) -> Result<usize, Stop> {
     let at = farm_and_house_surveyed(alloc)?;
     shown_rows(alloc, &at, rows)
 }
@@ -256,7 +259,7 @@ fn are_told(register: &Register, number: u64, rows: &[Row]) -> bool {
     told_of(register, &ask, false, rows) == rows.len()
 }
 
-fn all_are_told(alloc: Global) -> Result<bool, Fail> {
+fn all_are_told(alloc: Global) -> Result<bool, Stop> {
     let register = farm_and_house_surveyed(alloc)?;
     Ok(TOLD.iter().all(|it| are_told(&register, it.0, it.1)))
 }

@@ -2,7 +2,6 @@
 use super::{
     ABSENT, ANNA, FARM, LENA, NORA, NORTH, OFFICE, SAM, caller, farm_and_house, told, verdict_on,
 };
-use crate::facts::text;
 use land_core::act::{Act, Burden, BurdenClass, Lift};
 use land_core::ask::Ask;
 use land_core::kind::Kind;
@@ -10,6 +9,8 @@ use land_core::register::Register;
 use land_core::role::Role::{
     self, Bank, CertifiedSurveyor, Citizen, Conveyancer, Notary, StateAdministrator,
 };
+use land_facts::making::text;
+use land_facts::stop::Stop;
 use land_rules::rules::verdict;
 use std::alloc::{AllocError, Global};
 use std::process::Abort;
@@ -35,13 +36,13 @@ pub(super) fn told_of(register: &Register, ask: &Ask, past: bool, rows: &[Row]) 
 }
 
 /// How many callers are told as expected of an ask over the farm and the house.
-fn told_rows(alloc: Global, ask: &Ask, past: bool, rows: &[Row]) -> Result<usize, Fail> {
+fn told_rows(alloc: Global, ask: &Ask, past: bool, rows: &[Row]) -> Result<usize, Stop> {
     let register = farm_and_house(alloc)?;
     Ok(told_of(&register, ask, past, rows))
 }
 
 /// The same, where nothing else needs the ask.
-fn told_at_last(alloc: Global, ask: Ask, past: bool, rows: &[Row]) -> Result<usize, Fail> {
+fn told_at_last(alloc: Global, ask: Ask, past: bool, rows: &[Row]) -> Result<usize, Stop> {
     told_rows(alloc, &ask, past, rows)
 }
 
@@ -101,7 +102,7 @@ fn burden(alloc: Global) -> Result<Ask, AllocError> {
 }
 
 /// How many callers are told as expected of a burden.
-fn told_burden(alloc: Global) -> Result<usize, Fail> {
+fn told_burden(alloc: Global) -> Result<usize, Stop> {
     told_at_last(alloc, burden(alloc)?, false, OFFICE_ACTS)
 }
 
@@ -136,7 +137,7 @@ fn is_apart_from_nothing(alloc: Global, register: &Register) -> bool {
     are_read_apart(register, &nothing)
 }
 
-fn is_read_apart(alloc: Global) -> Result<bool, Fail> {
+fn is_read_apart(alloc: Global) -> Result<bool, Stop> {
     let register = farm_and_house(alloc)?;
     Ok(is_apart_from_nothing(alloc, &register))
 }

@@ -9,6 +9,7 @@ use land_core::register::Register;
 use land_core::role::Role::{
     self, Bank, CertifiedSurveyor, Citizen, Conveyancer, Notary, StateAdministrator,
 };
+use land_facts::stop::Stop;
 use std::alloc::Global;
 use std::process::Abort;
 use std::test::Fail;
@@ -35,7 +36,7 @@ fn told_of(register: &Register, rows: &[Row]) -> usize {
     rows.len()
 }
 
-fn told_rows(alloc: Global, rows: &[Row]) -> Result<usize, Fail> {
+fn told_rows(alloc: Global, rows: &[Row]) -> Result<usize, Stop> {
     let register = farm_and_house(alloc)?;
     Ok(told_of(&register, rows))
 }
@@ -169,7 +170,7 @@ fn sheets_of(register: &Register, rows: &[Sheet]) -> usize {
     rows.len()
 }
 
-fn told_sheets(alloc: Global, rows: &[Sheet]) -> Result<usize, Fail> {
+fn told_sheets(alloc: Global, rows: &[Sheet]) -> Result<usize, Stop> {
     let register = farm_and_house(alloc)?;
     Ok(sheets_of(&register, rows))
 }

@@ -1,6 +1,5 @@
 //! Connections that are served one after another.
 use crate::conclusion::conclude;
-use land_keep::clock::Clock;
 use land_keep::plain_keeper::PlainKeeper;
 use land_scenario::calls::{
     CALLS, Call, Calls, ENROL, ENROLLED, expect_all_told, expect_told, sinks,
@@ -8,7 +7,6 @@ use land_scenario::calls::{
 use land_scenario::doubles::Readings;
 use land_scenario::stop::{Stop, expect};
 use land_service::connections::Connections;
-use land_service::machine_clock::MachineClock;
 use land_service::service::{ServiceFault, serve_connections};
 use std::alloc::Global;
 use std::io::{Read, Write};
@@ -83,12 +81,4 @@ fn loopback(rt: &HostRuntime) -> Result<(), Stop> {
 #[test]
 fn loopback_one_process(rt: HostRuntime) -> Result<(), Fail> {
     conclude(&rt, loopback(&rt))
-}
-
-/// Between the years 2020 and 2100.
-#[test]
-fn the_machine_has_a_clock(rt: HostRuntime) {
-    let mut clock = MachineClock { machine: &rt };
-    let reading = clock.read();
-    assert!(rt; 1_577_836_800_000 < reading && reading < 4_102_444_800_000);
 }

@@ -354,46 +354,72 @@ fn strings(alloc: Global, row: &[&str]) -> Result<Vec<String>, AllocError> {
     Ok(words)
 }
 
-/// What these words are read as.
-fn read(alloc: Global, words: &[String]) -> Result<Result<Command<'_>, WordsFault>, AllocError> {
+/// Whether words are read as this command.
+fn name(alloc: Global, words: &[String], command: Command<'_>) -> Result<bool, AllocError> {
     match read_words(alloc, words) {
+        Ok(found) => Ok(found == command),
         Err(WordsFault::NoMemory) => Err(AllocError),
-        other => Ok(other),
+        Err(WordsFault::Refused(_)) => Ok(false),
     }
+}
+
+/// Whether words are read as the command of their row.
+fn is_named(alloc: Global, row: &Words) -> Result<bool, AllocError> {
+    let words = strings(alloc, row.words)?;
+    name(alloc, &words, row.command)
 }
 
 #[test]
 fn words_name_their_command(rt: HostRuntime) -> Result<(), Fail> {
-    for row in WORDS {
-        let words = strings(rt.alloc(), row.words)?;
-        match read(rt.alloc(), &words)? {
-            Ok(command) => assert_eq!(rt; command, row.command),
-            Err(_) => assert!(rt; false),
-        }
+    for (place, row) in WORDS.iter().enumerate() {
+        assert!(rt; is_named(rt.alloc(), row)?, "row {place}");
     }
     Ok(())
+}
+
+/// The text by which words are refused; none where they name a command.
+fn refusal(alloc: Global, words: &[String]) -> Result<Option<String>, AllocError> {
+    match read_words(alloc, words) {
+        Ok(_) => Ok(None),
+        Err(WordsFault::NoMemory) => Err(AllocError),
+        Err(WordsFault::Refused(text)) => Ok(Some(text)),
+    }
+}
+
+/// The same of the words of a row.
+fn refusal_of(alloc: Global, row: &Refused) -> Result<Option<String>, AllocError> {
+    let words = strings(alloc, row.words)?;
+    refusal(alloc, &words)
+}
+
+/// Whether the text by which words are refused begins with that of their row.
+fn is_refused(alloc: Global, row: &Refused) -> Result<bool, AllocError> {
+    match refusal_of(alloc, row)? {
+        Some(text) => Ok(text.as_str().starts_with(row.text)),
+        None => Ok(false),
+    }
 }
 
 #[test]
 fn other_words_are_refused(rt: HostRuntime) -> Result<(), Fail> {
-    for row in REFUSED {
-        let words = strings(rt.alloc(), row.words)?;
-        match read(rt.alloc(), &words)? {
-            Err(WordsFault::Refused(text)) => assert!(rt; text.as_str().starts_with(row.text)),
-            _ => assert!(rt; false),
-        }
+    for (place, row) in REFUSED.iter().enumerate() {
+        assert!(rt; is_refused(rt.alloc(), row)?, "row {place}");
     }
     Ok(())
 }
 
+/// Whether that text has the part of their row.
+fn is_helped(alloc: Global, row: &Refused) -> Result<bool, AllocError> {
+    match refusal_of(alloc, row)? {
+        Some(text) => Ok(text.as_str().contains(row.text)),
+        None => Ok(false),
+    }
+}
+
 #[test]
 fn help_is_a_refusal(rt: HostRuntime) -> Result<(), Fail> {
-    for row in HELP {
-        let words = strings(rt.alloc(), row.words)?;
-        match read(rt.alloc(), &words)? {
-            Err(WordsFault::Refused(text)) => assert!(rt; text.as_str().contains(row.text)),
-            _ => assert!(rt; false),
-        }
+    for (place, row) in HELP.iter().enumerate() {
+        assert!(rt; is_helped(rt.alloc(), row)?, "row {place}");
     }
     Ok(())
 }

@@ -1,11 +1,11 @@
 //! Stores in files whose disk stops. The files are in memory here.
 use crate::conclusion::conclude;
-use crate::playing::created;
 use land_core::ask::Request;
 use land_scenario::first::{first_fault, first_request};
 use land_scenario::stop::{Stop, expect};
 use land_tables::table_keeper::TableKeeper;
 use land_tables::tables::Tables;
+use land_tables_cases::playing::created;
 use sqlite::{Alter, Connection, FileStore, Files, Options};
 use sqlite_disk::{Disk, Fuse, Memory};
 use std::alloc::Global;
@@ -45,22 +45,55 @@ fn told<S: Alter>(alloc: Global, tables: Tables<S>, request: &Request) -> (u16, 
     (fault, keeper.into_tables())
 }
 
+/// What the caller of a step is told, and again of the same step, and whether the tables are closed after each.
+#[derive(Clone, Copy)]
+struct Twice {
+    first: u16,
+    was_closed: bool,
+    again: u16,
+    is_closed: bool,
+}
+
+/// What the caller of the first step is told twice.
+fn told_twice<S: Alter + Drop>(alloc: Global, tables: Tables<S>, request: &Request) -> Twice {
+    let (first, tables) = told(alloc, tables, request);
+    let was_closed = tables.is_closed();
+    let (again, tables) = told(alloc, tables, request);
+    let is_closed = tables.is_closed();
+    Twice {
+        first,
+        was_closed,
+        again,
+        is_closed,
+    }
+}
+
+/// Whether the keeper was closed by the step, and stays so.
+fn stays_closed(it: Twice) -> bool {
+    it.first == 502 && it.was_closed && it.again == 503 && it.is_closed
+}
+
+/// What became of the first step, by what was told of it.
+fn became(it: Twice) -> Result<Ending, Stop> {
+    if it.first == 0 && !it.was_closed {
+        return Ok(Ending::Done);
+    }
+    if stays_closed(it) {
+        return Ok(Ending::Closed);
+    }
+    if it.first == 501 || it.again == 501 {
+        return Err(Stop::Memory);
+    }
+    Ok(Ending::Other)
+}
+
 /// What becomes of the first step, and of the same step again.
 fn ending_of<S: Alter + Drop>(
     alloc: Global,
     tables: Tables<S>,
     request: &Request,
 ) -> Result<Ending, Stop> {
-    let (first, tables) = told(alloc, tables, request);
-    let was_closed = tables.is_closed();
-    let (again, tables) = told(alloc, tables, request);
-    let is_closed = tables.is_closed();
-    match (first, was_closed, again, is_closed) {
-        (0, false, _, _) => Ok(Ending::Done),
-        (502, true, 503, true) => Ok(Ending::Closed),
-        (501, _, _, _) | (_, _, 501, _) => Err(Stop::Memory),
-        _ => Ok(Ending::Other),
-    }
+    became(told_twice(alloc, tables, request))
 }
 
 /// There is no register yet, unless there was no memory for it.

@@ -1,10 +1,10 @@
 //! Stores that are taken for a register's, and damaged ones that are not.
 use crate::conclusion::conclude;
-use crate::creating::{expect_fault, run, store};
-use crate::playing::played;
 use land_scenario::looks::look_at_steps;
 use land_scenario::stop::Stop;
 use land_tables::tables::Tables;
+use land_tables_cases::playing::played;
+use land_tables_cases::stores::{expect_fault, run, store};
 use sqlite::{Connection, MemStore};
 use std::alloc::Global;
 use std::test::Fail;
@@ -243,34 +243,49 @@ fn adopted(alloc: Global, conn: Connection<MemStore>) -> (u16, Connection<MemSto
     }
 }
 
-/// Damages the tables, takes them, and undoes the damage: the fault that they had, and the store.
-fn undone(
-    alloc: Global,
-    conn: Connection<MemStore>,
-    damage: &Damage,
-) -> Result<(u16, Connection<MemStore>), Stop> {
-    let mut conn = conn;
-    run(&mut conn, damage.0)?;
-    let (fault, back) = adopted(alloc, conn);
-    let mut conn = back;
-    run(&mut conn, damage.1)?;
-    Ok((fault, conn))
+/// Takes the tables of the store that is left, and leaves it again.
+fn adopt_back(alloc: Global, left: &mut Option<Connection<MemStore>>) -> Result<u16, Stop> {
+    match left.take() {
+        Some(conn) => {
+            let (fault, back) = adopted(alloc, conn);
+            *left = Some(back);
+            Ok(fault)
+        }
+        None => Err(Stop::Call),
+    }
 }
 
-/// Each of some damages has its fault; the store, when they are undone.
-fn after_damages(
+/// Runs a text on the store that is left.
+fn run_on(left: &mut Option<Connection<MemStore>>, text: &str) -> Result<(), Stop> {
+    match left.as_mut() {
+        Some(conn) => run(conn, text),
+        None => Err(Stop::Call),
+    }
+}
+
+/// Damages the tables, takes them, and undoes the damage: the fault that they had.
+fn undone(
     alloc: Global,
-    conn: Connection<MemStore>,
+    left: &mut Option<Connection<MemStore>>,
+    damage: &Damage,
+) -> Result<u16, Stop> {
+    run_on(left, damage.0)?;
+    let fault = adopt_back(alloc, left)?;
+    run_on(left, damage.1)?;
+    Ok(fault)
+}
+
+/// Each of some damages has its fault.
+fn have_faults(
+    alloc: Global,
+    left: &mut Option<Connection<MemStore>>,
     name: &'static str,
     damages: &[Damage],
-) -> Result<Connection<MemStore>, Stop> {
-    let mut conn = conn;
+) -> Result<(), Stop> {
     for (place, damage) in damages.iter().enumerate() {
-        let (fault, back) = undone(alloc, conn, damage)?;
-        conn = back;
-        expect_fault(fault, damage.2, name, place)?;
+        expect_fault(undone(alloc, left, damage)?, damage.2, name, place)?;
     }
-    Ok(conn)
+    Ok(())
 }
 
 const DAMAGES: &[(&str, &[Damage])] = &[
@@ -282,13 +297,36 @@ const DAMAGES: &[(&str, &[Damage])] = &[
     ("begun", BEGUN),
 ];
 
+/// Each damage has its fault.
+fn all_have_faults(alloc: Global, left: &mut Option<Connection<MemStore>>) -> Result<(), Stop> {
+    for (name, damages) in DAMAGES {
+        have_faults(alloc, left, name, damages)?;
+    }
+    Ok(())
+}
+
+/// What is undone leaves the rows of the scenario.
+fn look_on(alloc: Global, left: &mut Option<Connection<MemStore>>) -> Result<(), Stop> {
+    match left.as_mut() {
+        Some(conn) => look_at_steps(alloc, conn),
+        None => Err(Stop::Call),
+    }
+}
+
+/// The store of the tables after the scenario.
+fn played_store(alloc: Global) -> Result<Option<Connection<MemStore>>, Stop> {
+    Ok(Some(played(alloc)?.into_connection()))
+}
+
+fn are_damaged(alloc: Global, left: &mut Option<Connection<MemStore>>) -> Result<(), Stop> {
+    all_have_faults(alloc, left)?;
+    look_on(alloc, left)
+}
+
 /// Each damage has its fault, and what is undone leaves the rows of the scenario.
 fn damages_have_their_faults(alloc: Global) -> Result<(), Stop> {
-    let mut conn = played(alloc)?.into_connection();
-    for (name, damages) in DAMAGES {
-        conn = after_damages(alloc, conn, name, damages)?;
-    }
-    look_at_steps(alloc, &mut conn)
+    let mut left = played_store(alloc)?;
+    are_damaged(alloc, &mut left)
 }
 
 #[test]

@@ -2,14 +2,13 @@
 ghost use Rattle.std.specs.Prelude.{IfErr};
 ghost use Rattle.land_commands.specs.ProgramFaults.{IsFaultOfClosing};
 
-use crate::commands::lacked_memory;
 use crate::conclusion::conclude;
 use land_commands::host::Host;
 use land_commands::program_fault::ProgramFault;
 use land_commands::run::run_command;
 use land_keep::store_fault::StoreFault;
-use land_scenario::calls::{CALLS, Call};
-use land_scenario::doubles::{Pieces, Readings, Sink};
+use land_scenario::calls::{CALLS, Call, Calls, expect_all_told, sinks};
+use land_scenario::doubles::{Readings, Sink};
 use land_scenario::playing::open_sink;
 use land_scenario::stop::{Stop, expect};
 use land_service::connections::Connections;
@@ -20,48 +19,17 @@ use std::alloc::Global;
 use std::io;
 use std::test::Fail;
 
-/// Connections that a test makes; what is told on them is let go.
+/// A machine with a register in memory under every name, and with connections that are heard once.
 #[derive(Drop)]
-struct Visits {
+struct TownHost<L> {
     alloc: Global,
-    left: &'static [Call],
+    visits: Option<L>,
 }
 
-impl Connections for Visits {
-    type Reader = Pieces<'static>;
-
-    type Writer = Sink;
-
-    fn next_connection(&mut self) -> io::Result<(Pieces<'static>, Sink)> {
-        let Some((call, left)) = self.left.split_first() else {
-            return Err(io::Error::from(io::ErrorKind::ConnectionAborted));
-        };
-        self.left = left;
-        let reader = Pieces {
-            left: call.brings,
-            piece: 50,
-            reads: call.reads,
-        };
-        let writer = Sink {
-            taken: Vec::new(self.alloc),
-            writes: call.writes,
-            fails: false,
-        };
-        Ok((reader, writer))
-    }
-}
-
-/// A machine with a register in memory under every name, and with connections that a test makes.
-#[derive(Drop)]
-struct TownHost {
-    alloc: Global,
-    visits: Option<Visits>,
-}
-
-impl Host for TownHost {
+impl<L: Connections + Drop> Host for TownHost<L> {
     type Store = MemStore;
 
-    type Listener = Visits;
+    type Listener = L;
 
     ghost holds = { λ _ _. Unit {0} };
 
@@ -87,7 +55,7 @@ impl Host for TownHost {
         Ok(())
     }
 
-    fn listen(&mut self, _port: u16) -> io::Result<Visits> {
+    fn listen(&mut self, _port: u16) -> io::Result<L> {
         match self.visits.take() {
             Some(visits) => Ok(visits),
             None => Err(io::Error::from(io::ErrorKind::AddrInUse)),
@@ -96,9 +64,9 @@ impl Host for TownHost {
 }
 
 /// Does the command that serves so many of these connections, and gives its status.
-fn status(
+fn status<L: Connections + Drop>(
     alloc: Global,
-    calls: &'static [Call],
+    visits: L,
     connections: u32,
     output: &mut Sink,
     errors: &mut Sink,
@@ -108,7 +76,6 @@ fn status(
         port: 8080,
         connections,
     };
-    let visits = Visits { alloc, left: calls };
     let mut town = TownHost {
         alloc,
         visits: Some(visits),
@@ -122,6 +89,11 @@ fn status(
 #[derive(Clone, Copy)]
 struct Ending(u32, u8, &'static str);
 
+/// Whether a command has said that there was no memory.
+fn lacked_memory(errors: &Sink) -> bool {
+    errors.taken.as_slice() == b"land: fault 501\n".as_slice()
+}
+
 /// A command has ended so, and has said nothing else. Want of memory stops the test.
 fn expect_ending(ending: Ending, status: u8, output: &Sink, errors: &Sink) -> Result<(), Stop> {
     if lacked_memory(errors) {
@@ -131,12 +103,23 @@ fn expect_ending(ending: Ending, status: u8, output: &Sink, errors: &Sink) -> Re
     expect(is_said && status == ending.1, "the ending", 0)
 }
 
-/// The command that serves these connections ends so.
-fn expect_service(alloc: Global, calls: &'static [Call], ending: Ending) -> Result<(), Stop> {
+/// The command that serves what is heard ends so.
+fn expect_end<L: Connections + Drop>(alloc: Global, visits: L, ending: Ending) -> Result<(), Stop> {
     let mut output = open_sink(alloc, 0)?;
     let mut errors = open_sink(alloc, 64)?;
-    let status = status(alloc, calls, ending.0, &mut output, &mut errors);
+    let status = status(alloc, visits, ending.0, &mut output, &mut errors);
     expect_ending(ending, status, &output, &errors)
+}
+
+/// The command that serves these connections ends so, and on each of them is told what it is to be.
+fn expect_service(alloc: Global, calls: &'static [Call], ending: Ending) -> Result<(), Stop> {
+    let mut sinks = sinks(alloc, calls)?;
+    let visits = Calls {
+        calls,
+        sinks: sinks.iter_mut(),
+    };
+    expect_end(alloc, visits, ending)?;
+    expect_all_told(calls, &sinks)
 }
 
 #[test]

@@ -1,0 +1,34 @@
+//! Why a test stops.
+use land_fraction::FractionFault;
+use land_shape::ShapeFault;
+use std::alloc::AllocError;
+
+/// Why a test stops.
+#[derive(Clone, Copy, Debug)]
+pub enum Stop {
+    /// There was no memory.
+    Memory,
+    /// What a fact says cannot be made: what it is called.
+    Unmade(&'static str),
+}
+
+impl From<AllocError> for Stop {
+    fn from(_error: AllocError) -> Stop {
+        Stop::Memory
+    }
+}
+
+impl From<FractionFault> for Stop {
+    fn from(_fault: FractionFault) -> Stop {
+        Stop::Unmade("a share")
+    }
+}
+
+impl From<ShapeFault> for Stop {
+    fn from(fault: ShapeFault) -> Stop {
+        match fault {
+            ShapeFault::NoMemory => Stop::Memory,
+            _ => Stop::Unmade("an outline"),
+        }
+    }
+}

@@ -1,0 +1,12 @@
+//! Tests of `land_commands`: the command that serves, over connections that the tests make, and what is told on each of them. There is
+//! nothing else here: a crate that has tests is proved twice, so that crate has none of its own, and this one has nothing to prove.
+//! Commands over files are in `land_commands_tests`.
+//!
+//! Want of memory ends a test with an `Err`, so that it fails unless an allocation was refused. `.ci/refusals` runs these tests with
+//! each allocation refused in turn: a test may then end so, and no assertion may fail.
+#![tactic(auto)]
+
+#[cfg(test)]
+mod conclusion;
+#[cfg(test)]
+mod town;
