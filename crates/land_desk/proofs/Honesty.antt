@@ -7,8 +7,8 @@ use Rattle.land_keep.specs.declared.reply.Reply.{Reply}
 use Rattle.land_bodies.specs.declared.wire_fault.WireFault.{WireFault}
 use Rattle.land_wire.specs.Fields.{field_map}
 use Rattle.land_wire.specs.Reading.{reading}
-use Rattle.land_desk.specs.Frame.{fields_of}
-use Rattle.land_desk.specs.Items.{Item, request, faulty}
+use Rattle.land_framing.specs.Frame.{fields_of}
+use Rattle.land_framing.specs.Items.{Item, request, faulty}
 use Rattle.land_desk.specs.Serving.{Answers, Brings, Exchange, Goes, Hears, HearsIf, IsServed, IsServing, One, Serves, ServesTo, SoFar, Told}
 use Rattle.land_desk.specs.Turns.{IfBoth, IsTurn}
 use Rattle.land_desk.specs.declared.serve.DeskFault.{DeskFault}

@@ -6,8 +6,8 @@ use Rattle.land_keep.specs.declared.reply.Reply.{Reply}
 use Rattle.land_bodies.specs.declared.wire_fault.WireFault.{WireFault}
 use Rattle.land_wire.specs.Fields.{field_map}
 use Rattle.land_wire.specs.Reading.{reading}
-use Rattle.land_desk.specs.Frame.{fields_of}
-use Rattle.land_desk.specs.Items.{Item, request, faulty}
+use Rattle.land_framing.specs.Frame.{fields_of}
+use Rattle.land_framing.specs.Items.{Item, request, faulty}
 use Rattle.land_desk.specs.Serving.{Answers, Brings, Exchange, HearsAll, MayHear, Moves, MovesTo, One, Told}
 
 module _ {C : Type 0} (hears : State C → Request → Reply → State C → Type 0) where

@@ -11,9 +11,9 @@ use Rattle.land_bodies.specs.WireFaults.{fault_number}
 use Rattle.land_bodies.specs.declared.wire_fault.WireFault.{WireFault}
 use Rattle.land_wire.specs.Fields.{field_map}
 use Rattle.land_wire.specs.Reading.{reading}
-use Rattle.land_desk.specs.FrameFaults.{number_of}
-use Rattle.land_desk.specs.Frame.{fields_of, is_head}
-use Rattle.land_desk.specs.Items.{Item, request, faulty, IsItem, AreItems, is_last}
+use Rattle.land_framing.specs.FrameFaults.{number_of}
+use Rattle.land_framing.specs.Frame.{fields_of, is_head}
+use Rattle.land_framing.specs.Items.{Item, request, faulty, IsItem, AreItems, is_last}
 use Rattle.land_desk.specs.Responses.{IsResponse}
 use Rattle.land_desk.specs.declared.serve.DeskFault.{DeskFault}
 use Rattle.land_desk.specs.declared.serve.DeskFault.TheVariants as desk

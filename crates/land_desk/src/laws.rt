@@ -1,19 +1,8 @@
 //! Laws, each stated over the definitions alone.
-ghost use Rattle.land_desk.specs.Items.{OneItem, OneListOfItems};
 ghost use Rattle.land_desk.specs.Responses.{OneResponse};
 ghost use Rattle.land_desk.specs.Serving.{Hears, ServedItems};
 
 use land_keep::clock::Clock;
-
-/// A stream has one item at its front and no other.
-pub fn items_are_unique()
-    ensures { OneItem }
-{}
-
-/// A stream has one list of items and no other.
-pub fn item_lists_are_unique()
-    ensures { OneListOfItems }
-{}
 
 /// A reply has one response and no other.
 pub fn responses_are_unique()

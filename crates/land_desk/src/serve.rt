@@ -4,10 +4,10 @@ ghost use Rattle.land_keep.specs.Keeping.{IsAt};
 ghost use Rattle.land_routes.specs.Table.{FindsRoutes};
 ghost use Rattle.land_desk.specs.Serving.{HearsIf, MovesTo, ServesTo};
 
-use crate::counted_reader::CountedReader;
-use crate::head::FIELD_ROOM;
 use crate::turn::{Turn, take_turn};
 use httparse::spans::{EMPTY_HEADER_SPAN, HeaderSpan};
+use land_framing::counted_reader::CountedReader;
+use land_framing::head::FIELD_ROOM;
 use land_keep::clock::Clock;
 use land_keep::keeper::Keeper;
 use land_routes::table::{Goal, routes};

@@ -1,24 +1,21 @@
-//! Tests of what stands between the wire and the keeper: requests and replies as bytes (`land_wire`), and streams of them (`land_desk`).
-//! There is nothing else here: a crate that has tests is proved twice, so those crates have none of their own, and this one has nothing
-//! to prove.
+//! The tests of what is read and written: routes, bodies, sheets, requests and replies as bytes, streams, connections, the words of the
+//! command line. Those of the wire and the desk are calls of trials in `land_wire_trials` and `land_desk_trials`; connections, clocks
+//! and words are tried here. There is nothing else here: a crate that has tests is proved twice, and its program is compiled with all
+//! that it stands on.
 //!
-//! Want of memory ends a test with an `Err`, so that it fails unless an allocation was refused. `.ci/refusals` runs these tests with
-//! each allocation refused in turn: a test may then end so, and no assertion may fail.
+//! Want of memory ends a test with an `Err`, so that it fails unless an allocation was refused; all else that is wrong fails an assertion.
+//! `.ci/refusals` runs these tests with each allocation refused in turn: a test may then end for want of memory, and no assertion may fail.
 #![tactic(auto)]
 
 #[cfg(test)]
-mod exchanges;
+mod clocks;
 #[cfg(test)]
-mod failures;
+mod conclusion;
 #[cfg(test)]
-mod long_requests;
+mod connections;
 #[cfg(test)]
-mod long_streams;
+mod desk;
 #[cfg(test)]
-mod office;
+mod wire;
 #[cfg(test)]
-mod readings;
-#[cfg(test)]
-mod replies;
-#[cfg(test)]
-mod streams;
+mod words;

@@ -10,6 +10,8 @@ pub enum Stop {
     Memory,
     /// What a fact says cannot be made: what it is called.
     Unmade(&'static str),
+    /// Something is not as the test has it: what it is called, and its place.
+    Unlike(&'static str, usize),
 }
 
 impl From<AllocError> for Stop {
@@ -30,5 +32,14 @@ impl From<ShapeFault> for Stop {
             ShapeFault::NoMemory => Stop::Memory,
             _ => Stop::Unmade("an outline"),
         }
+    }
+}
+
+/// Goes on where something is as it should be.
+pub fn expect(is_well: bool, name: &'static str, place: usize) -> Result<(), Stop> {
+    if is_well {
+        Ok(())
+    } else {
+        Err(Stop::Unlike(name, place))
     }
 }

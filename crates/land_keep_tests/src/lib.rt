@@ -1,6 +1,6 @@
 //! Tests of `land_keep` over `run`, and nothing else: that crate has none of its own, since a crate that has tests is proved twice. This
-//! one has nothing to prove. Mutations and parcels are in `land_mutations_tests`, acts over a register alone in `land_acts_tests`, and what
-//! a refused allocation leaves in `land_memory_tests`.
+//! one has nothing to prove. Acts over a register alone are in `land_acts_tests`, and what a refused allocation leaves in
+//! `land_memory_tests`.
 //!
 //! The tests hold what no clause says: that the calls succeed up to the limits, and worked examples with their full replies. Want of
 //! memory ends a test with an `Err`, so that it fails unless an allocation was refused. `.ci/refusals` runs these tests with each
@@ -15,5 +15,9 @@ mod first_rows;
 mod groups_and_roles;
 #[cfg(test)]
 mod large_unit;
+#[cfg(test)]
+mod mutations;
+#[cfg(test)]
+mod parcels;
 #[cfg(test)]
 mod units_and_sight;

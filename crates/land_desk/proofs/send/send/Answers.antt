@@ -1,4 +1,4 @@
-use Rattle.land_desk.proofs.StreamLemmas.{send_more}
+use Rattle.land_framing.proofs.StreamLemmas.{send_more}
 use Rattle.land_desk.proofs.send.send.Goals as goal
 
 pub loop-done-preserved : goal.loop-done-preserved

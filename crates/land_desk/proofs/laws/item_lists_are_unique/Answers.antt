@@ -1,5 +1,0 @@
-use Rattle.land_desk.proofs.ItemLemmas.{items_unique}
-use Rattle.land_desk.proofs.laws.item_lists_are_unique.Goals as goal
-
-pub returns : goal.returns
-returns c = items_unique

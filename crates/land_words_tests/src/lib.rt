@@ -1,9 +1,0 @@
-//! Tests of `land_words`: the words of the command line. There is nothing else here: a crate that has tests is proved twice, so that
-//! crate has none of its own, and this one has nothing to prove.
-//!
-//! Want of memory ends a test with an `Err`, so that it fails unless an allocation was refused. `.ci/refusals` runs these tests with
-//! each allocation refused in turn: a test may then end so, and no assertion may fail.
-#![tactic(auto)]
-
-#[cfg(test)]
-mod words;
