@@ -1,6 +1,5 @@
 -- Definitions of the register.
 pub mod Acts
-pub mod ByUnit
 pub mod Changes
 pub mod Contents
 pub mod Entries

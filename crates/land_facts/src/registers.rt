@@ -8,7 +8,8 @@ use land_core::records::Records;
 use land_core::register::Register;
 use land_core::role::Role;
 use land_core::roles::{Grant, Roles};
-use land_core::soundness::{Unsound, check};
+use land_core::soundness::Unsound;
+use land_soundness::check::check;
 use std::alloc::Global;
 
 /// Puts a record in, where it was made. It takes the answer of what makes it, so that its callers have no exit.

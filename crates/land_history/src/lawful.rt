@@ -12,7 +12,8 @@ use crate::moment::Moment;
 use crate::namings::are_named;
 use crate::register::{move_register, register_at};
 use land_core::register::Register;
-use land_core::soundness::{Unsound, check};
+use land_core::soundness::Unsound;
+use land_soundness::check::check;
 use std::alloc::{AllocError, Global};
 
 /// Whether the register at each moment is sound, its mutations name the units that they are listed with, the next number never falls, no

@@ -1,0 +1,2 @@
+-- Definitions of what one pass over a register lists.
+pub mod ByUnit
