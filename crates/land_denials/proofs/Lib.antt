@@ -1,4 +1,5 @@
 -- Lemmas of what is denied.
+pub mod Awaited
 pub mod Enough
 pub mod LookedUp
 pub mod Telling

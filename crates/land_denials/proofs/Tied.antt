@@ -1,4 +1,4 @@
--- What a citizen or a bank sees of a unit and of its entries is told by what ties it to the unit.
+-- What a citizen or a bank sees of a unit and of its entries, and a citizen of what names the unit, is told by what ties it to the unit.
 use Rattle.std.proofs.Common.{◌≡◌, ◌⊎◌, ◌↔◌, inl, inr, ℕ, Bool, true, false, not, ◌&&◌, ◌||◌, cond, nat_eq, List, [], ◌∷◌, filter, Option, Some, None, is_some, refl, sym, ap, ap₂, subst, ◌∙◌}
 use Rattle.std.proofs.lemmas.Bool.{eqb-true, false≢true}
 use Rattle.std.proofs.lemmas.Bool.Decides.{Decides-eqb}
@@ -12,24 +12,28 @@ use Rattle.std.specs.Ordering.{nat_cmp}
 use Rattle.land_core.proofs.Booleans.{both_of, or_true}
 use Rattle.land_core.proofs.FiniteMaps.{none_is_not_some}
 use Rattle.land_core.proofs.Reflection.{entries-only, some_passes}
+use Rattle.land_core.specs.Contents.{names_where}
 use Rattle.land_core.specs.Entries.{has, some}
 use Rattle.land_core.specs.Laws.{SoundnessByLookUps}
 use Rattle.land_core.specs.Register.{nothing}
 use Rattle.land_core.specs.Soundness.{IsSound}
 use Rattle.land_core.specs.Units.{is_right_of}
 use Rattle.land_core.specs.declared.caller.Caller.{Caller}
+use Rattle.land_core.specs.declared.content.Content.{Content}
+use Rattle.land_core.specs.declared.content.Content.TheVariants as content
 use Rattle.land_core.specs.declared.kind.Kind.{Kind}
 use Rattle.land_core.specs.declared.kind.Kind.TheVariants as kind
+use Rattle.land_core.specs.declared.mutation.MutationRecord.{MutationRecord}
 use Rattle.land_core.specs.declared.register.Register.{Register}
 use Rattle.land_core.specs.declared.role.Role.{Role}
 use Rattle.land_core.specs.declared.role.Role.TheVariants as roles
 use Rattle.land_core.specs.declared.rrr.Class.{Class}
 use Rattle.land_core.specs.declared.rrr.RightType.TheVariants.{Ownership}
 use Rattle.land_core.specs.declared.rrr.RrrRecord.{RrrRecord}
-use Rattle.land_denials.specs.Ties.{AreGroupsOf, Entries, GroupsTellTies, TiesTellSight, entries_of, is_shown_by_tie, sees_by_ties, shows_entry, shows_unit, tie_at, tie_of}
+use Rattle.land_denials.specs.Ties.{AreGroupsOf, Entries, GroupsTellTies, TiesTellSight, entries_of, is_shown_by_tie, names_shown, sees_by_ties, shows_entry, shows_unit, tie_at, tie_of}
 use Rattle.land_denials.specs.declared.ties.Tie.{Tie}
 use Rattle.land_denials.specs.declared.ties.Tie.TheVariants.{Stranger, Holder, Owner, Creditor}
-use Rattle.land_rules.specs.Relations.{holds_as, is_credit, is_creditor_on, is_held_right, is_holder, is_member_of, is_mortgage, is_owner, is_right, is_rrr_where, is_told_to_creditor, is_told_to_holder}
+use Rattle.land_rules.specs.Relations.{holds_as, is_credit, is_creditor_on, is_held_right, is_holder, is_member_of, is_mortgage, is_mutation_where, is_owner, is_right, is_rrr_where, is_told_to_creditor, is_told_to_holder, names_holding}
 use Rattle.land_rules.specs.Rules.{is_allowed, is_told_to_bank, sees}
 use Rattle.land_rules.specs.declared.verdict.Verdict.TheVariants.{Allowed, Denied}
 
@@ -39,7 +43,7 @@ and_assoc : (a b c : Bool) → (a && (b && c)) ≡ ((a && b) && c)
 and_assoc true b c = refl
 and_assoc false b c = refl
 
-and_true : (b : Bool) → (b && true) ≡ b
+pub and_true : (b : Bool) → (b && true) ≡ b
 and_true true = refl
 and_true false = refl
 
@@ -64,7 +68,7 @@ same_tests false true forth back = back refl
 same_tests false false forth back = refl
 
 -- a role's rule and the last rule let pass what passes both
-passes_both : (a b : Bool) (k : ℕ) → is_allowed (cond (not a) (Denied k) (cond (not b) (Denied 27) Allowed)) ≡ (a && b)
+pub passes_both : (a b : Bool) (k : ℕ) → is_allowed (cond (not a) (Denied k) (cond (not b) (Denied 27) Allowed)) ≡ (a && b)
 passes_both true true k = refl
 passes_both true false k = refl
 passes_both false b k = refl
@@ -86,13 +90,13 @@ module _ {X : Type 0} where
 -- ---- the entries of a unit
 
 -- the unit of an entry stands
-abbrev UnitsStand : Register → Type 0
+abbrev pub UnitsStand : Register → Type 0
 UnitsStand r = (n : ℕ) (e : RrrRecord) → map.get r.rrrs n ≡ Some e → has r.units e.unit ≡ true
 
 none_there : UnitsStand nothing
 none_there n e is = absurd (none_is_not_some (sym (map.get-empty nat_cmp n) ∙ is))
 
-units_stand : SoundnessByLookUps → (r : Register) → IsSound r ⊎ (r ≡ nothing) → UnitsStand r
+pub units_stand : SoundnessByLookUps → (r : Register) → IsSound r ⊎ (r ≡ nothing) → UnitsStand r
 units_stand look_ups r (inl sound) = λ n e is. (((look_ups r).0 sound).entries n e is).unit
 units_stand look_ups r (inr none) = subst UnitsStand (sym none) none_there
 
@@ -147,10 +151,18 @@ entry_to_bank : (credits : Bool) (party : ℕ) (e : RrrRecord) → (credits && i
 entry_to_bank true party e = refl
 entry_to_bank false party e = refl
 
--- an entry that stands is told or not
-at_entry : (told shown : RrrRecord → Bool) → ((e : RrrRecord) → told e ≡ shown e) → (o : Option RrrRecord) → (option_map_or told o false && is_some o) ≡ option_map_or shown o false
-at_entry told shown same None = refl
-at_entry told shown same (Some e) = and_true (told e) ∙ same e
+-- a record that stands is told or not
+told_of : {X : Type 0} (told shown : X → Bool) → ((x : X) → told x ≡ shown x) → (o : Option X) → (option_map_or told o false && is_some o) ≡ option_map_or shown o false
+told_of told shown same None = refl
+told_of told shown same (Some x) = and_true (told x) ∙ same x
+
+-- tests that agree on units agree on what names them
+named_alike : (p q : ℕ → Bool) → ((unit : ℕ) → p unit ≡ q unit) → (c : Content) → names_where p c ≡ names_where q c
+named_alike p q same (content.Transfer it) = same it.unit
+named_alike p q same (content.Subdivision it) = same it.unit
+named_alike p q same (content.Merger it) = ap₂ (λ a b. a || b) (same it.unit) (any_alike p q same it.others)
+named_alike p q same (content.Mortgage it) = same it.unit
+named_alike p q same (content.Discharge it) = same it.unit
 
 module _ (r : Register) (refers : UnitsStand r) (p : ℕ) where
   abbrev citizen : Caller
@@ -193,22 +205,36 @@ module _ (r : Register) (refers : UnitsStand r) (p : ℕ) where
   entry_of_citizen : (n : ℕ) → sees r citizen kind.Rrr n ≡ is_shown_by_tie r citizen kind.Rrr n
   entry_of_citizen n =
       passes_both (is_rrr_where (is_told_to_holder r p) r n) (has r.rrrs n) 12
-      ∙ at_entry (is_told_to_holder r p) (λ e. shows_entry (tie_at r citizen e.unit) p e) told_to_citizen (map.get r.rrrs n)
+      ∙ told_of (is_told_to_holder r p) (λ e. shows_entry (tie_at r citizen e.unit) p e) told_to_citizen (map.get r.rrrs n)
 
   entry_of_bank : (n : ℕ) → sees r bank kind.Rrr n ≡ is_shown_by_tie r bank kind.Rrr n
   entry_of_bank n =
       passes_both (is_rrr_where (is_told_to_bank r bank) r n) (has r.rrrs n) 16
-      ∙ at_entry (is_told_to_bank r bank) (λ e. shows_entry (tie_at r bank e.unit) p e) told_to_bank (map.get r.rrrs n)
+      ∙ told_of (is_told_to_bank r bank) (λ e. shows_entry (tie_at r bank e.unit) p e) told_to_bank (map.get r.rrrs n)
+
+  names_to_citizen : (m : MutationRecord) → names_holding r p m ≡ names_shown r citizen m
+  names_to_citizen m =
+      named_alike (is_holder r p) (λ unit. shows_unit (tie_at r citizen unit)) (λ unit. holder unit ∙ unit_to_citizen (holds unit) (owns unit)) m.content
+
+  mutation_of_citizen : (n : ℕ) → sees r citizen kind.Mutation n ≡ is_shown_by_tie r citizen kind.Mutation n
+  mutation_of_citizen n =
+      passes_both (is_mutation_where (names_holding r p) r n) (has r.mutations n) 14
+      ∙ told_of (names_holding r p) (names_shown r citizen) names_to_citizen (map.get r.mutations n)
 
   by_role : (role : Role) (k : Kind) (n : ℕ) → sees_by_ties role k ≡ true → sees r (record { party = p; role = role }) k n ≡ is_shown_by_tie r (record { party = p; role = role }) k n
   by_role roles.Citizen kind.Unit n h = unit_of_citizen n
   by_role roles.Citizen kind.Rrr n h = entry_of_citizen n
+  by_role roles.Citizen kind.Mutation n h = mutation_of_citizen n
   by_role roles.Bank kind.Unit n h = unit_of_bank n
   by_role roles.Bank kind.Rrr n h = entry_of_bank n
   by_role role kind.Party n h = absurd (false≢true h)
   by_role role kind.Parcel n h = absurd (false≢true h)
   by_role role kind.Source n h = absurd (false≢true h)
-  by_role role kind.Mutation n h = absurd (false≢true h)
+  by_role roles.Bank kind.Mutation n h = absurd (false≢true h)
+  by_role roles.Conveyancer kind.Mutation n h = absurd (false≢true h)
+  by_role roles.Notary kind.Mutation n h = absurd (false≢true h)
+  by_role roles.CertifiedSurveyor kind.Mutation n h = absurd (false≢true h)
+  by_role roles.StateAdministrator kind.Mutation n h = absurd (false≢true h)
   by_role roles.Conveyancer kind.Unit n h = absurd (false≢true h)
   by_role roles.Conveyancer kind.Rrr n h = absurd (false≢true h)
   by_role roles.Notary kind.Unit n h = absurd (false≢true h)

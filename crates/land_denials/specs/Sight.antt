@@ -1,6 +1,6 @@
 -- What is told of a view, by what is in sight alone.
-use Rattle.std.specs.Prelude.{◌≡◌, ℕ, Bool, true, false, ◌&&◌, ◌||◌, if◌then◌else◌}
-use Rattle.land_core.specs.Register.{stands}
+use Rattle.std.specs.Prelude.{◌≡◌, ◌⊎◌, ℕ, Bool, true, false, ◌&&◌, ◌||◌, if◌then◌else◌}
+use Rattle.land_core.specs.Register.{nothing, stands}
 use Rattle.land_core.specs.Role.{is_role}
 use Rattle.land_core.specs.Soundness.{IsSound}
 use Rattle.land_core.specs.declared.caller.Caller.{Caller}
@@ -8,9 +8,9 @@ use Rattle.land_core.specs.declared.kind.Kind.{Kind}
 use Rattle.land_core.specs.declared.kind.Kind.TheVariants as kind
 use Rattle.land_core.specs.declared.register.Register.{Register}
 use Rattle.land_core.specs.declared.role.Role.{Role}
-use Rattle.land_core.specs.declared.role.Role.TheVariants.{Conveyancer, Notary, StateAdministrator}
+use Rattle.land_core.specs.declared.role.Role.TheVariants.{Bank, CertifiedSurveyor, Conveyancer, Notary, StateAdministrator}
 use Rattle.land_rules.specs.Laws.{is_itself, rule_of_role}
-use Rattle.land_rules.specs.Relations.{is_lodger_on}
+use Rattle.land_rules.specs.Relations.{has_lodged, is_lodger_on, is_rrr_where}
 use Rattle.land_rules.specs.Rules.{first_denial, sees, view_rules}
 use Rattle.land_rules.specs.declared.verdict.Verdict.{Verdict}
 use Rattle.land_rules.specs.declared.verdict.Verdict.TheVariants.{Allowed, Denied}
@@ -47,3 +47,40 @@ sees_all role kind.Mutation = is_role role Notary || is_role role StateAdministr
 -- who is shown all objects of a kind sees each that stands, and no other
 abbrev pub AllThatStandsIsSeen : Type 0
 AllThatStandsIsSeen = (at : Register) (caller : Caller) (k : Kind) (number : ℕ) → sees_all caller.role k ≡ true → sees at caller k number ≡ stands at k number
+
+-- banks, conveyancers and certified surveyors are shown the mutations that they lodged
+abbrev pub sees_own_lodgings : Role → Kind → Bool
+sees_own_lodgings role kind.Party = false
+sees_own_lodgings role kind.Unit = false
+sees_own_lodgings role kind.Parcel = false
+sees_own_lodgings role kind.Rrr = false
+sees_own_lodgings role kind.Source = false
+sees_own_lodgings role kind.Mutation = is_role role Bank || is_role role Conveyancer || is_role role CertifiedSurveyor
+
+-- such a caller sees a mutation exactly where it stands and the caller lodged it, be it decided or not
+abbrev pub LodgersSeeTheirOwn : Type 0
+LodgersSeeTheirOwn = (at : Register) (caller : Caller) (k : Kind) (number : ℕ) → sees_own_lodgings caller.role k ≡ true
+    → sees at caller k number ≡ has_lodged at caller.party number
+
+-- conveyancers are shown units, and entries, by what they await
+abbrev pub sees_by_awaiting : Role → Kind → Bool
+sees_by_awaiting role kind.Party = false
+sees_by_awaiting role kind.Unit = is_role role Conveyancer
+sees_by_awaiting role kind.Parcel = false
+sees_by_awaiting role kind.Rrr = is_role role Conveyancer
+sees_by_awaiting role kind.Source = false
+sees_by_awaiting role kind.Mutation = false
+
+-- a unit that stands and that an undecided mutation of the caller names, and an entry of a unit that it names
+abbrev pub is_awaited : Register → Caller → Kind → (number : ℕ) → Bool
+is_awaited at caller kind.Party number = false
+is_awaited at caller kind.Unit number = is_lodger_on at caller.party number && stands at kind.Unit number
+is_awaited at caller kind.Parcel number = false
+is_awaited at caller kind.Rrr number = is_rrr_where (λ e. is_lodger_on at caller.party e.unit) at number
+is_awaited at caller kind.Source number = false
+is_awaited at caller kind.Mutation number = false
+
+-- in a register that is sound, or that has nothing in it, this is what they see of units and entries
+abbrev pub WhatIsAwaitedIsSeen : Type 0
+WhatIsAwaitedIsSeen = (at : Register) → IsSound at ⊎ (at ≡ nothing) → (caller : Caller) (k : Kind) (number : ℕ) → sees_by_awaiting caller.role k ≡ true
+    → sees at caller k number ≡ is_awaited at caller k number

@@ -3,6 +3,7 @@ use Rattle.std.specs.Prelude.{◌≡◌, ◌⊎◌, ◌↔◌, ℕ, Bool, true, 
 use Rattle.std.specs.FinMap.{FinMap}
 use Rattle.std.specs.List.{Contains, list_any}
 use Rattle.std.specs.Ordering.{nat_cmp}
+use Rattle.land_core.specs.Contents.{names_where}
 use Rattle.land_core.specs.Entries.{only, some}
 use Rattle.land_core.specs.Register.{nothing}
 use Rattle.land_core.specs.Role.{is_role}
@@ -11,6 +12,7 @@ use Rattle.land_core.specs.Units.{is_right_of}
 use Rattle.land_core.specs.declared.caller.Caller.{Caller}
 use Rattle.land_core.specs.declared.kind.Kind.{Kind}
 use Rattle.land_core.specs.declared.kind.Kind.TheVariants as kind
+use Rattle.land_core.specs.declared.mutation.MutationRecord.{MutationRecord}
 use Rattle.land_core.specs.declared.register.Register.{Register}
 use Rattle.land_core.specs.declared.role.Role.{Role}
 use Rattle.land_core.specs.declared.role.Role.TheVariants.{Bank, Citizen}
@@ -18,7 +20,7 @@ use Rattle.land_core.specs.declared.rrr.RightType.TheVariants.{Ownership}
 use Rattle.land_core.specs.declared.rrr.RrrRecord.{RrrRecord}
 use Rattle.land_denials.specs.declared.ties.Tie.{Tie}
 use Rattle.land_denials.specs.declared.ties.Tie.TheVariants.{Stranger, Holder, Owner, Creditor}
-use Rattle.land_rules.specs.Relations.{is_member_of, is_mortgage, is_right, is_rrr_where, is_told_to_creditor}
+use Rattle.land_rules.specs.Relations.{is_member_of, is_mortgage, is_mutation_where, is_right, is_rrr_where, is_told_to_creditor}
 use Rattle.land_rules.specs.Rules.{sees}
 
 -- ---- a tie, by the entries of a unit
@@ -79,23 +81,28 @@ shows_entry Creditor party e = is_told_to_creditor party e
 abbrev pub tie_at : Register → Caller → (unit : ℕ) → Tie
 tie_at at caller unit = tie_of (is_member_of at caller.party) caller (entries_of at unit)
 
--- whether an object is shown by a tie: a unit by the caller's to it, an entry that stands by that to its unit
+-- whether a mutation names a unit that is shown by the caller's tie to it
+abbrev pub names_shown : Register → Caller → MutationRecord → Bool
+names_shown at caller m = names_where (λ unit. shows_unit (tie_at at caller unit)) m.content
+
+-- whether an object is shown by a tie: a unit by the caller's to it, an entry that stands by that to its unit, a mutation that stands by
+-- that to a unit that it names
 abbrev pub is_shown_by_tie : Register → Caller → Kind → (number : ℕ) → Bool
 is_shown_by_tie at caller kind.Party number = false
 is_shown_by_tie at caller kind.Unit number = shows_unit (tie_at at caller number)
 is_shown_by_tie at caller kind.Parcel number = false
 is_shown_by_tie at caller kind.Rrr number = is_rrr_where (λ e. shows_entry (tie_at at caller e.unit) caller.party e) at number
 is_shown_by_tie at caller kind.Source number = false
-is_shown_by_tie at caller kind.Mutation number = false
+is_shown_by_tie at caller kind.Mutation number = is_mutation_where (names_shown at caller) at number
 
--- citizens and banks see units and entries so
+-- citizens and banks see units and entries so, and citizens mutations
 abbrev pub sees_by_ties : Role → Kind → Bool
 sees_by_ties role kind.Party = false
 sees_by_ties role kind.Unit = is_role role Citizen || is_role role Bank
 sees_by_ties role kind.Parcel = false
 sees_by_ties role kind.Rrr = is_role role Citizen || is_role role Bank
 sees_by_ties role kind.Source = false
-sees_by_ties role kind.Mutation = false
+sees_by_ties role kind.Mutation = is_role role Citizen
 
 -- in a register that is sound, or that has nothing in it, what they see is what is shown by ties
 abbrev pub TiesTellSight : Type 0

@@ -1,5 +1,5 @@
 //! Laws, each stated over the definitions alone.
-ghost use Rattle.land_denials.specs.Sight.{AllThatStandsIsSeen, SightTellsVerdicts};
+ghost use Rattle.land_denials.specs.Sight.{AllThatStandsIsSeen, LodgersSeeTheirOwn, SightTellsVerdicts, WhatIsAwaitedIsSeen};
 ghost use Rattle.land_denials.specs.Standing.{FewAreEnough, LookedUpIsEnough};
 ghost use Rattle.land_denials.specs.Ties.{GroupsTellTies, TiesTellSight};
 
@@ -24,12 +24,25 @@ pub fn all_that_stands_is_seen()
     ensures { AllThatStandsIsSeen }
 {}
 
+/// A bank, a conveyancer or a certified surveyor sees a mutation exactly where it stands and the caller lodged it.
+pub fn lodgers_see_their_own()
+    ensures { LodgersSeeTheirOwn }
+{}
+
+/// A conveyancer sees the units that stand and that its undecided mutations name, and the entries of units that they name.
+pub fn what_is_awaited_is_seen()
+    ensures { WhatIsAwaitedIsSeen }
+{
+    soundness_by_look_ups();
+}
+
 /// The caller with its roles, and the entry and the mutation that an ask names, as they are looked up, are enough to judge who asks.
 pub fn looked_up_is_enough()
     ensures { LookedUpIsEnough }
 {}
 
-/// What a citizen or a bank sees of units and of their entries is what is shown by what ties it to these units.
+/// What a citizen or a bank sees of units and of their entries, and a citizen of mutations, is what is shown by what ties it to these units, or
+/// to the units that a mutation names.
 pub fn ties_tell_sight()
     ensures { TiesTellSight }
 {

@@ -1,7 +1,7 @@
 //! The verdict on a view, by what is in sight.
 ghost use Rattle.std.specs.Prelude.{◌≡◌};
 ghost use Rattle.land_core.specs.declared.role.Role.TheVariants as roles;
-ghost use Rattle.land_denials.specs.Sight.{is_unit_of_conveyancer, sees_all, told_by};
+ghost use Rattle.land_denials.specs.Sight.{is_unit_of_conveyancer, sees_all, sees_by_awaiting, sees_own_lodgings, told_by};
 ghost use Rattle.land_rules.specs.Laws.{is_itself, rule_of_role};
 
 use land_core::caller::Caller;
@@ -14,6 +14,21 @@ pub fn sees_all(role: Role, kind: Kind) -> bool
     ensures { result ≡ sees_all role kind }
 {
     kind == Kind::Parcel || role == Role::Notary || role == Role::StateAdministrator
+}
+
+/// Whether a role is shown of the objects of a kind those that the caller lodged: so banks, conveyancers and certified surveyors see mutations.
+pub fn sees_own_lodgings(role: Role, kind: Kind) -> bool
+    ensures { result ≡ sees_own_lodgings role kind }
+{
+    kind == Kind::Mutation
+        && (role == Role::Bank || role == Role::Conveyancer || role == Role::CertifiedSurveyor)
+}
+
+/// Whether a role is shown the objects of a kind by what the caller awaits: so conveyancers see units and entries, by their undecided mutations.
+pub fn sees_by_awaiting(role: Role, kind: Kind) -> bool
+    ensures { result ≡ sees_by_awaiting role kind }
+{
+    (kind == Kind::Unit || kind == Kind::Rrr) && role == Role::Conveyancer
 }
 
 /// The verdict on a view of an object that is in sight or is not; `awaited` says whether an undecided mutation of the caller names it.

@@ -50,11 +50,15 @@ impl Tie {
     }
 }
 
-/// Whether a role sees the objects of a kind by what ties it to their units.
+/// Whether a role sees the objects of a kind by what ties it to their units, or to the units that they name.
 pub fn sees_by_ties(role: Role, kind: Kind) -> bool
     ensures { result ≡ sees_by_ties role kind }
 {
-    (kind == Kind::Unit || kind == Kind::Rrr) && (role == Role::Citizen || role == Role::Bank)
+    match kind {
+        Kind::Unit | Kind::Rrr => role == Role::Citizen || role == Role::Bank,
+        Kind::Mutation => role == Role::Citizen,
+        Kind::Party | Kind::Parcel | Kind::Source => false,
+    }
 }
 
 fn is_mortgage(class: &Class) -> bool

@@ -1,6 +1,7 @@
 -- Lemmas of what look-ups find.
 pub mod Chains
 pub mod Lodged
+pub mod Namers
 pub mod Parts
 pub mod Passing
 pub mod Persons

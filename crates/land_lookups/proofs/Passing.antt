@@ -1,6 +1,6 @@
 -- What rows say that pass a test, where the test can be told by what each of them says.
 use Rattle.std.proofs.Common.{◌≡◌, Bool, true, false, cond, List, [], ◌∷◌, filter, map, Ok, Err, Result, refl, sym, ap, ap₂, subst₂, ◌∙◌, IsPermutation}
-use Rattle.std.proofs.lemmas.List.Sorted.{IsPermutation-map, IsPermutation-sym, IsPermutation-trans}
+use Rattle.std.proofs.lemmas.List.Sorted.{IsPermutation-sym}
 use Rattle.std.specs.List.{AllByRecursion}
 use Rattle.land_bodies.specs.WireFaults.{◌>>=◌}
 use Rattle.land_bodies.specs.declared.wire_fault.WireFault.{WireFault}

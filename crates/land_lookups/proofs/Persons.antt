@@ -1,5 +1,5 @@
 -- A party is shown by its own record, its roles and its members alone.
-use Rattle.std.proofs.Common.{◌≡◌, ℕ, Bool, true, nat_eq, cond, is_some, List, [], ◌∷◌, filter, None, Option, Some, refl, sym, ap, ap₂, ◌∙◌}
+use Rattle.std.proofs.Common.{◌≡◌, ℕ, Bool, true, nat_eq, cond, is_some, List, [], ◌∷◌, filter, None, Some, refl, ap, ap₂, ◌∙◌}
 use Rattle.std.proofs.lemmas.Bool.Decides.{Decides-eqb}
 use Rattle.std.specs.Cmp.{nat_cmp_total, tied_itself}
 use Rattle.std.specs.FinMap as map
@@ -11,15 +11,12 @@ use Rattle.land_core.proofs.Reflection.{get-only}
 use Rattle.land_core.specs.Entries.{only}
 use Rattle.land_core.specs.Grants.{Grants, grant_of, has_grant}
 use Rattle.land_core.specs.Members.{Members, members_in}
-use Rattle.land_core.specs.Register.{nothing, object_at, party_at}
+use Rattle.land_core.specs.Register.{nothing, object_at}
 use Rattle.land_core.specs.Role.{all_roles}
 use Rattle.land_core.specs.declared.kind.Kind.TheVariants as kinds
 use Rattle.land_core.specs.declared.object.Object.TheVariants as object
-use Rattle.land_core.specs.declared.object.Object.{Object}
-use Rattle.land_core.specs.declared.party.Party.{Party}
 use Rattle.land_core.specs.declared.party.PartyRecord.{PartyRecord}
 use Rattle.land_core.specs.declared.register.Register.{Register}
-use Rattle.land_core.specs.declared.role.Role.{Role}
 
 its_own : (n : ℕ) → nat_eq n n ≡ true
 its_own n = (Decides-eqb n n).1 refl

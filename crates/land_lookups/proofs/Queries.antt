@@ -1,13 +1,12 @@
 -- Each text as a query of one table.
-use Rattle.std.proofs.Common.{◌≡◌, ◌&&◌, ℕ, ℤ, Bool, List, [], ◌∷◌, codes, Ok, refl}
+use Rattle.std.proofs.Common.{◌≡◌, ◌&&◌, ℕ, ℤ, List, [], ◌∷◌, codes, Ok, refl}
 use Rattle.land_history.specs.Standing.{stands}
 use Rattle.land_history.specs.declared.version.Version.{Version}
 use Rattle.land_joins.proofs.Joined.{Asks}
 use Rattle.land_joins.proofs.Known.{caller, same, still, word}
-use Rattle.land_joins.proofs.Places.{members, mutations, parcels, parties, roles, rrrs, shows, sources, units}
+use Rattle.land_joins.proofs.Places.{members, mutations, names, parcels, parties, roles, rrrs, shows, sources, units}
 use Rattle.land_joins.specs.Meaning.{given}
 use Rattle.land_joins.specs.Running.{asked_for}
-use Rattle.land_listing.specs.Reading.{Listing}
 use Rattle.land_lookups.proofs.Tested.{by_number, by_role, decides}
 use Rattle.land_lookups.specs.Finding.{Found, is_meant, listing_of}
 use Rattle.land_lookups.specs.Texts.{text_of}
@@ -35,10 +34,10 @@ filter_of look_up.Source = same (col 1 1) caller ∷ still 1 4
 filter_of look_up.Mutation = same (col 1 1) caller ∷ still 1 9
 filter_of look_up.ParcelsOfUnit = same (col 1 2) caller ∷ still 1 6
 filter_of look_up.EntriesOfUnit = same (col 1 2) caller ∷ still 1 12
+filter_of look_up.NamingsOfUnit = same (col 1 2) caller ∷ still 1 3
 filter_of look_up.EntriesOfParty = same (col 1 3) caller ∷ still 1 12
 filter_of look_up.RolesOfParty = same (col 1 1) caller ∷ still 1 3
 filter_of look_up.MembersOfGroup = same (col 1 1) caller ∷ still 1 5
-filter_of look_up.MutationsOfLodger = same (col 1 2) caller ∷ still 1 9
 filter_of look_up.Administrators = word (col 1 2) (codes "stateAdministrator") ∷ still 1 3
 
 -- the columns that are shown
@@ -51,10 +50,10 @@ project_of look_up.Source = columns_of 1 1 5
 project_of look_up.Mutation = columns_of 1 1 10
 project_of look_up.ParcelsOfUnit = columns_of 1 1 7
 project_of look_up.EntriesOfUnit = columns_of 1 1 13
+project_of look_up.NamingsOfUnit = columns_of 1 1 4
 project_of look_up.EntriesOfParty = columns_of 1 1 13
 project_of look_up.RolesOfParty = columns_of 1 1 4
 project_of look_up.MembersOfGroup = columns_of 1 1 6
-project_of look_up.MutationsOfLodger = columns_of 1 1 10
 project_of look_up.Administrators = columns_of 1 1 4
 
 abbrev pub query_of : LookUp → Query
@@ -71,10 +70,10 @@ asks look_up.Source indexes = record { names = codes "number" ∷ codes "kind" �
 asks look_up.Mutation indexes = record { names = codes "number" ∷ codes "lodger" ∷ codes "reference" ∷ codes "source" ∷ codes "lodged" ∷ codes "act" ∷ codes "content" ∷ codes "state" ∷ codes "since" ∷ codes "until" ∷ []; command = refl; unlisted = refl; plain = (refl, refl) }
 asks look_up.ParcelsOfUnit indexes = record { names = codes "number" ∷ codes "unit" ∷ codes "label" ∷ codes "outline" ∷ codes "source" ∷ codes "since" ∷ codes "until" ∷ []; command = refl; unlisted = refl; plain = (refl, refl) }
 asks look_up.EntriesOfUnit indexes = record { names = codes "number" ∷ codes "unit" ∷ codes "party" ∷ codes "class" ∷ codes "num" ∷ codes "den" ∷ codes "amount" ∷ codes "currency" ∷ codes "place" ∷ codes "words" ∷ codes "source" ∷ codes "since" ∷ codes "until" ∷ []; command = refl; unlisted = refl; plain = (refl, refl) }
+asks look_up.NamingsOfUnit indexes = record { names = codes "mutation" ∷ codes "unit" ∷ codes "since" ∷ codes "until" ∷ []; command = refl; unlisted = refl; plain = (refl, refl) }
 asks look_up.EntriesOfParty indexes = record { names = codes "number" ∷ codes "unit" ∷ codes "party" ∷ codes "class" ∷ codes "num" ∷ codes "den" ∷ codes "amount" ∷ codes "currency" ∷ codes "place" ∷ codes "words" ∷ codes "source" ∷ codes "since" ∷ codes "until" ∷ []; command = refl; unlisted = refl; plain = (refl, refl) }
 asks look_up.RolesOfParty indexes = record { names = codes "party" ∷ codes "role" ∷ codes "since" ∷ codes "until" ∷ []; command = refl; unlisted = refl; plain = (refl, refl) }
 asks look_up.MembersOfGroup indexes = record { names = codes "grp" ∷ codes "party" ∷ codes "num" ∷ codes "den" ∷ codes "since" ∷ codes "until" ∷ []; command = refl; unlisted = refl; plain = (refl, refl) }
-asks look_up.MutationsOfLodger indexes = record { names = codes "number" ∷ codes "lodger" ∷ codes "reference" ∷ codes "source" ∷ codes "lodged" ∷ codes "act" ∷ codes "content" ∷ codes "state" ∷ codes "since" ∷ codes "until" ∷ []; command = refl; unlisted = refl; plain = (refl, refl) }
 asks look_up.Administrators indexes = record { names = codes "party" ∷ codes "role" ∷ codes "since" ∷ codes "until" ∷ []; command = refl; unlisted = refl; plain = (refl, refl) }
 
 -- a query reads the rows of its table
@@ -87,10 +86,10 @@ stored look_up.Source db = refl
 stored look_up.Mutation db = refl
 stored look_up.ParcelsOfUnit db = refl
 stored look_up.EntriesOfUnit db = refl
+stored look_up.NamingsOfUnit db = refl
 stored look_up.EntriesOfParty db = refl
 stored look_up.RolesOfParty db = refl
 stored look_up.MembersOfGroup db = refl
-stored look_up.MutationsOfLodger db = refl
 stored look_up.Administrators db = refl
 
 -- and shows the columns of a row that are read
@@ -103,10 +102,10 @@ shown look_up.Source params r = refl
 shown look_up.Mutation params r = refl
 shown look_up.ParcelsOfUnit params r = refl
 shown look_up.EntriesOfUnit params r = refl
+shown look_up.NamingsOfUnit params r = refl
 shown look_up.EntriesOfParty params r = refl
 shown look_up.RolesOfParty params r = refl
 shown look_up.MembersOfGroup params r = refl
-shown look_up.MutationsOfLodger params r = refl
 shown look_up.Administrators params r = refl
 
 -- a row that says a version passes where the version stands and is meant
@@ -128,13 +127,13 @@ tests look_up.ParcelsOfUnit r v e number t =
     by_number (passes (filter_of look_up.ParcelsOfUnit) (given (asked_for number) t) r) v.what.1.unit number t v.since v.until (shows parcels r v e).1.1 (decides parcels r v e (asked_for number) t (filter_of look_up.ParcelsOfUnit) refl)
 tests look_up.EntriesOfUnit r v e number t =
     by_number (passes (filter_of look_up.EntriesOfUnit) (given (asked_for number) t) r) v.what.1.unit number t v.since v.until (shows rrrs r v e).1.2 (decides rrrs r v e (asked_for number) t (filter_of look_up.EntriesOfUnit) refl)
+tests look_up.NamingsOfUnit r v e number t =
+    by_number (passes (filter_of look_up.NamingsOfUnit) (given (asked_for number) t) r) v.what.unit number t v.since v.until (shows names r v e).1.1 (decides names r v e (asked_for number) t (filter_of look_up.NamingsOfUnit) refl)
 tests look_up.EntriesOfParty r v e number t =
     by_number (passes (filter_of look_up.EntriesOfParty) (given (asked_for number) t) r) v.what.1.party number t v.since v.until (shows rrrs r v e).1.0 (decides rrrs r v e (asked_for number) t (filter_of look_up.EntriesOfParty) refl)
 tests look_up.RolesOfParty r v e number t =
     by_number (passes (filter_of look_up.RolesOfParty) (given (asked_for number) t) r) v.what.party number t v.since v.until (shows roles r v e).1 (decides roles r v e (asked_for number) t (filter_of look_up.RolesOfParty) refl)
 tests look_up.MembersOfGroup r v e number t =
     by_number (passes (filter_of look_up.MembersOfGroup) (given (asked_for number) t) r) v.what.group number t v.since v.until (shows members r v e).1.1 (decides members r v e (asked_for number) t (filter_of look_up.MembersOfGroup) refl)
-tests look_up.MutationsOfLodger r v e number t =
-    by_number (passes (filter_of look_up.MutationsOfLodger) (given (asked_for number) t) r) v.what.1.lodger number t v.since v.until (shows mutations r v e).1.0 (decides mutations r v e (asked_for number) t (filter_of look_up.MutationsOfLodger) refl)
 tests look_up.Administrators r v e number t =
     by_role (passes (filter_of look_up.Administrators) (given (asked_for number) t) r) v.what.role t v.since v.until (decides roles r v e (asked_for number) t (filter_of look_up.Administrators) refl)

@@ -14,8 +14,9 @@ use Rattle.land_core.specs.declared.source.SourceRecord.{SourceRecord}
 use Rattle.land_core.specs.declared.unit.UnitRecord.{UnitRecord}
 use Rattle.land_history.specs.Standing.{stands}
 use Rattle.land_history.specs.declared.group_member.GroupMember.{GroupMember}
+use Rattle.land_history.specs.declared.naming.Naming.{Naming}
 use Rattle.land_history.specs.declared.version.Version.{Version}
-use Rattle.land_listing.specs.Reading.{Listing, Says, members, mutations, parcels, parties, roles, rrrs, sources, units}
+use Rattle.land_listing.specs.Reading.{Listing, Says, members, mutations, namings, parcels, parties, roles, rrrs, sources, units}
 use Rattle.land_listing.specs.declared.fault.ReadFault.TheVariants.{Unreadable}
 use Rattle.land_listing.specs.declared.fault.ReadFault.{ReadFault}
 use Rattle.land_lookups.specs.declared.look_up.LookUp.TheVariants as look_up
@@ -34,10 +35,10 @@ Found look_up.Source = ℕ × SourceRecord
 Found look_up.Mutation = ℕ × MutationRecord
 Found look_up.ParcelsOfUnit = ℕ × ParcelRecord
 Found look_up.EntriesOfUnit = ℕ × RrrRecord
+Found look_up.NamingsOfUnit = Naming
 Found look_up.EntriesOfParty = ℕ × RrrRecord
 Found look_up.RolesOfParty = Grant
 Found look_up.MembersOfGroup = GroupMember
-Found look_up.MutationsOfLodger = ℕ × MutationRecord
 Found look_up.Administrators = Grant
 
 -- the table, and how its rows are read
@@ -50,10 +51,10 @@ listing_of look_up.Source = sources
 listing_of look_up.Mutation = mutations
 listing_of look_up.ParcelsOfUnit = parcels
 listing_of look_up.EntriesOfUnit = rrrs
+listing_of look_up.NamingsOfUnit = namings
 listing_of look_up.EntriesOfParty = rrrs
 listing_of look_up.RolesOfParty = roles
 listing_of look_up.MembersOfGroup = members
-listing_of look_up.MutationsOfLodger = mutations
 listing_of look_up.Administrators = roles
 
 -- which of them are looked for, by the number that is given
@@ -66,10 +67,10 @@ is_meant look_up.Source number source = nat_eq source.0 number
 is_meant look_up.Mutation number mutation = nat_eq mutation.0 number
 is_meant look_up.ParcelsOfUnit number parcel = nat_eq parcel.1.unit number
 is_meant look_up.EntriesOfUnit number entry = nat_eq entry.1.unit number
+is_meant look_up.NamingsOfUnit number naming = nat_eq naming.unit number
 is_meant look_up.EntriesOfParty number entry = nat_eq entry.1.party number
 is_meant look_up.RolesOfParty number grant = nat_eq grant.party number
 is_meant look_up.MembersOfGroup number joined = nat_eq joined.group number
-is_meant look_up.MutationsOfLodger number mutation = nat_eq mutation.1.lodger number
 is_meant look_up.Administrators number grant = is_role grant.role StateAdministrator
 
 -- of some versions, those that stand at a moment and are meant

@@ -23,14 +23,14 @@ pub enum LookUp {
     ParcelsOfUnit,
     /// The entries of a unit.
     EntriesOfUnit,
+    /// Which mutations name a unit.
+    NamingsOfUnit,
     /// The entries whose party is a party.
     EntriesOfParty,
     /// The roles of a party.
     RolesOfParty,
     /// The members of a group.
     MembersOfGroup,
-    /// The mutations that a party lodged, decided or not.
-    MutationsOfLodger,
     /// The state administrators, whatever number is given.
     Administrators,
 }
@@ -48,10 +48,10 @@ pub fn text_of(look_up: LookUp) -> &'static str
         LookUp::Mutation => texts::MUTATION,
         LookUp::ParcelsOfUnit => texts::PARCELS_OF_UNIT,
         LookUp::EntriesOfUnit => texts::ENTRIES_OF_UNIT,
+        LookUp::NamingsOfUnit => texts::NAMINGS_OF_UNIT,
         LookUp::EntriesOfParty => texts::ENTRIES_OF_PARTY,
         LookUp::RolesOfParty => texts::ROLES_OF_PARTY,
         LookUp::MembersOfGroup => texts::MEMBERS_OF_GROUP,
-        LookUp::MutationsOfLodger => texts::MUTATIONS_OF_LODGER,
         LookUp::Administrators => texts::ADMINISTRATORS,
     }
 }

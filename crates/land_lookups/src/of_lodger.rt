@@ -1,5 +1,5 @@
 //! What belongs to a lodger.
-ghost use Rattle.std.specs.Prelude.{◌≡◌, nat_eq, false, IfErr};
+ghost use Rattle.std.specs.Prelude.{◌≡◌, false, IfErr};
 ghost use Rattle.land_core.specs.Entries.{only};
 ghost use Rattle.land_core.specs.Mutations.{is_lodged_as};
 ghost use Rattle.land_joins.specs.Running.{HoldsNone};
@@ -9,8 +9,7 @@ ghost use Rattle.land_schema.specs.Land.{IsLand};
 ghost use Rattle.sqlite.specs.Held.{state};
 ghost use Rattle.sqlite.specs.State.{HasCleanDisk};
 
-use crate::finding::{find, read, rows_lodged_as};
-use crate::look_up::LookUp;
+use crate::finding::{read, rows_lodged_as};
 use land_core::mutation::MutationRecord;
 use land_core::records::Records;
 use land_core::sequence::Sequence;
@@ -19,23 +18,6 @@ use land_history::version::Version;
 use land_listing::fault::ReadFault;
 use sqlite::{Alter, Connection};
 use std::alloc::Global;
-
-/// The mutations that a party lodged, decided or not, that stand at a moment, in milliseconds since 1970 UTC, under their numbers. 520: the
-/// tables hold no history. 501: there was no memory.
-pub fn mutations<S: Alter>(
-    alloc: Global,
-    conn: &mut Connection<S>,
-    lodger: u64,
-    at: i64,
-) -> Result<Records<MutationRecord>, ReadFault>
-    requires land { HasCleanDisk (state S.Store conn.old) → IsLand (state S.Store conn.old).now.schema }
-    ensures look { IsLook result (λ it. IsPart (λ r. only (λ n m. nat_eq m.lodger lodger) r.mutations) at (state S.Store conn.old).now.trees it) (state S.Store conn.old) (state S.Store conn.new) }
-    ensures unreadable { HasCleanDisk (state S.Store conn.new) → IfErr result (HoldsNone (state S.Store conn.old).now.trees) }
-    ensures mode { conn.old.in_transaction ≡ false → conn.new.in_transaction ≡ false }
-{
-    let found = find(alloc, conn, LookUp::MutationsOfLodger, lodger, at)?;
-    Ok(part_at(alloc, found.as_slice(), at)?)
-}
 
 /// The mutation that a party lodged under a reference and that stands at a moment, in milliseconds since 1970 UTC, under its number, if any.
 /// 520: the tables hold no history. 501: there was no memory.

@@ -35,6 +35,10 @@ pub const PARCELS_OF_UNIT: &str =
 pub const ENTRIES_OF_UNIT: &str =
     "SELECT number, unit, party, class, num, den, amount, currency, place, words, source, since, until FROM rrr WHERE unit = ?1 AND since <= ?2 AND ?2 < until";
 
+/// Which mutations name a unit.
+pub const NAMINGS_OF_UNIT: &str =
+    "SELECT mutation, unit, since, until FROM names WHERE unit = ?1 AND since <= ?2 AND ?2 < until";
+
 /// The entries whose party is a party.
 pub const ENTRIES_OF_PARTY: &str =
     "SELECT number, unit, party, class, num, den, amount, currency, place, words, source, since, until FROM rrr WHERE party = ?1 AND since <= ?2 AND ?2 < until";
@@ -46,10 +50,6 @@ pub const ROLES_OF_PARTY: &str =
 /// The members of a group.
 pub const MEMBERS_OF_GROUP: &str =
     "SELECT grp, party, num, den, since, until FROM member WHERE grp = ?1 AND since <= ?2 AND ?2 < until";
-
-/// The mutations that a party lodged, decided or not.
-pub const MUTATIONS_OF_LODGER: &str =
-    "SELECT number, lodger, reference, source, lodged, act, content, state, since, until FROM mutation WHERE lodger = ?1 AND since <= ?2 AND ?2 < until";
 
 /// The mutation that a party lodged under a reference.
 pub const MUTATION_LODGED_AS: &str =

@@ -1,19 +1,13 @@
 -- What few records and what is in sight tell is the verdict on what is asked.
-use Rattle.std.proofs.Common.{◌≡◌, ◌∙◌, ◌++◌, ◌&&◌, ◌||◌, ℕ, ℤ, Bool, true, false, nat_eq, cond, List, [], ◌∷◌, filter, None, Some, Option, is_some, Ok, IfSome, IsTrue, refl, sym, ap, ap₂, arith, inl}
+use Rattle.std.proofs.Common.{◌≡◌, ◌∙◌, ◌++◌, ◌&&◌, ◌||◌, ℕ, ℤ, Bool, true, false, cond, [], ◌∷◌, None, Some, Option, is_some, Ok, IfSome, IsTrue, refl, sym, ap, ap₂, arith, inl}
 use Rattle.std.proofs.lemmas.Bool.{false≢true}
 use Rattle.std.proofs.lemmas.Bool.Decides.{Decides-and}
 use Rattle.std.specs.Bool.{Decides}
-use Rattle.std.specs.Cmp.{nat_cmp_total}
 use Rattle.std.specs.FinMap as map
-use Rattle.std.specs.FinMap.{FinMap, nat_cmp-IsAntisymmetric}
-use Rattle.std.specs.List.{list_any}
+use Rattle.std.specs.FinMap.{FinMap}
 use Rattle.std.specs.Option.{option_map}
 use Rattle.std.specs.Ordering.{nat_cmp}
-use Rattle.land_core.proofs.Reflection.{entries-only}
-use Rattle.land_core.specs.Entries.{only, some}
 use Rattle.land_core.specs.Laws.{SoundnessByLookUps}
-use Rattle.land_core.specs.Mutations.{is_undecided}
-use Rattle.land_core.specs.Contents.{names_unit}
 use Rattle.land_core.specs.Register.{object_at, stands}
 use Rattle.land_core.specs.Role.{is_role}
 use Rattle.land_core.specs.declared.ask.Ask.{Ask}
@@ -29,7 +23,7 @@ use Rattle.land_history.specs.declared.history.History.{History}
 use Rattle.land_lookups.specs.Parts.{IsPart}
 use Rattle.land_rows.specs.Looks.{IsLook}
 use Rattle.land_rules.specs.Laws.{is_itself, rule_of_role}
-use Rattle.land_rules.specs.Relations.{is_lodger_on, is_pending_on}
+use Rattle.land_rules.specs.Relations.{is_lodger_on}
 use Rattle.land_rules.specs.Rules.{Rules, first_denial, is_allowed, sees, sight_rules, standing_rules, verdict_of, view_rules}
 use Rattle.land_rules.specs.declared.verdict.Verdict.{Verdict}
 use Rattle.land_rules.specs.declared.verdict.Verdict.TheVariants.{Allowed, Denied}
@@ -85,30 +79,6 @@ object_stands r kind.Parcel n = shown_there _ _ (map.get r.parcels n)
 object_stands r kind.Rrr n = shown_there _ _ (map.get r.rrrs n)
 object_stands r kind.Source n = shown_there _ _ (map.get r.sources n)
 object_stands r kind.Mutation n = shown_there _ _ (map.get r.mutations n)
-
--- some item of those that pass a test passes another that implies it, where some item does
-any_left : {X : Type 0} (p q : X → Bool) → ((x : X) → p x ≡ true → q x ≡ true) → (xs : List X) → list_any p (filter q xs) ≡ list_any p xs
-any_left p q implies [] = refl
-any_left p q implies (x ∷ xs) = go (q x) (implies x) (any_left p q implies xs)
-  where
-    none : (c : Bool) → (c ≡ true → false ≡ true) → c ≡ false
-    none true h = absurd (false≢true (h refl))
-    none false h = refl
-
-    go : (b : Bool) → (p x ≡ true → b ≡ true) → list_any p (filter q xs) ≡ list_any p xs → list_any p (cond b (x ∷ filter q xs) (filter q xs)) ≡ (p x || list_any p xs)
-    go true h rest = ap (λ c. p x || c) rest
-    go false h rest = rest ∙ ap (λ c. c || list_any p xs) (sym (none (p x) h))
-
--- of the mutations of a lodger one is pending on a unit where one of all is
-pub pending_among : (r : Register) (party unit : ℕ) → some (λ n m. is_pending_on party unit m) (only (λ n m. nat_eq m.lodger party) r.mutations) ≡ is_lodger_on r party unit
-pending_among r party unit =
-    ap (list_any (λ e. is_pending_on party unit e.1)) (entries-only nat_cmp_total nat_cmp-IsAntisymmetric (λ n m. nat_eq m.lodger party) r.mutations)
-    ∙ any_left (λ e. is_pending_on party unit e.1) (λ e. nat_eq e.1.lodger party) (λ e. lodged (is_undecided e.1) (nat_eq e.1.lodger party) (names_unit unit e.1.content)) (map.entries r.mutations)
-  where
-    lodged : (a b c : Bool) → ((a && b) && c) ≡ true → b ≡ true
-    lodged true true c h = refl
-    lodged true false c h = h
-    lodged false b c h = absurd (false≢true h)
 
 -- a conveyancer's unit that its own undecided mutation names
 awaits_decides : (r : Register) (t : ℤ) (h : History) → StandsAt t h r → SoundnessByLookUps → IsSoundOrNothing r → (caller : Caller) (k : Kind) (n : ℕ)

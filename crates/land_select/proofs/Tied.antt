@@ -35,7 +35,7 @@ groups_are r t h is caller groups all citizen group =
     )
 
 -- a test that is asked for only where another passes
-only_where : (a b c : Bool) → (a ≡ true → b ≡ c) → (a && b) ≡ (a && c)
+pub only_where : (a b c : Bool) → (a ≡ true → b ≡ c) → (a && b) ≡ (a && c)
 only_where true b c same = same refl
 only_where false b c same = refl
 

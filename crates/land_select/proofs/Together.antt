@@ -1,8 +1,5 @@
 -- What the texts of a role's sight give together is what the rules let the caller see.
-use Rattle.std.proofs.Common.{◌≡◌, inl, inr, ℕ, ℤ, List, [], ◌∷◌, map, sym, subst}
-use Rattle.std.specs.List.{Contains}
-use Rattle.land_core.specs.declared.caller.Caller.{Caller}
-use Rattle.land_core.specs.declared.kind.Kind.{Kind}
+use Rattle.std.proofs.Common.{inl, inr, List, [], ◌∷◌, map, sym, subst}
 use Rattle.land_history.specs.declared.history.History.{History}
 use Rattle.land_history.specs.declared.moment.Moment.{Moment}
 use Rattle.land_joins.specs.Meaning.{TextsSelect}

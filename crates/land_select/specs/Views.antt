@@ -1,11 +1,12 @@
 -- What look-ups and joins show of the register that stands at a moment.
-use Rattle.std.specs.Prelude.{◌≡◌, ℕ, ℤ, ◌&&◌, nat_eq, List, [], map as map_list, Option}
+use Rattle.std.specs.FinMap as map
+use Rattle.std.specs.Prelude.{◌≡◌, ℕ, ℤ, ◌&&◌, nat_eq, List, [], map as map_list, Option, if◌then◌else◌}
 use Rattle.std.specs.FinMap.{FinMap}
 use Rattle.std.specs.Ordering.{nat_cmp}
 use Rattle.land_core.specs.Entries.{only}
 use Rattle.land_core.specs.declared.caller.Caller.{Caller}
 use Rattle.land_core.specs.declared.kind.Kind.TheVariants.{Rrr}
-use Rattle.land_rules.specs.Relations.{is_member_of}
+use Rattle.land_rules.specs.Relations.{is_lodger_on, is_member_of}
 use Rattle.land_rules.specs.Rules.{sees}
 use Rattle.std.specs.Option.{option_map, option_map_or}
 use Rattle.land_core.specs.declared.party.PartyRecord.{PartyRecord}
@@ -47,6 +48,10 @@ AreGroupsAt caller t db groups = OfHeld db (λ h. (r : Register) → StandsAt t 
 -- of the entries of a unit those that are shown to a caller by what ties it to the unit
 abbrev pub shown_of : Register → Caller → Entries → Entries
 shown_of r caller entries = only (λ n e. shows_entry (tie_of (is_member_of r caller.party) caller entries) caller.party e) entries
+
+-- the entries of a unit that an undecided mutation of a party names, none of another unit
+abbrev pub awaited_of : Register → (party unit : ℕ) → Entries → Entries
+awaited_of r party unit entries = if is_lodger_on r party unit then entries else map.empty
 
 -- a unit that stands, as a caller sees it
 abbrev pub view_from : Register → Caller → (unit : ℕ) → (moment : ℤ) → UnitRecord → View

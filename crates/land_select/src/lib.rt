@@ -1,9 +1,13 @@
 //! The keeper over joins: what a caller may see is selected by SQL.
 #![tactic(auto)]
 
+mod awaited;
 mod denial;
 pub mod laws;
+mod lodging;
+mod naming;
 mod object;
+mod shown;
 mod sight;
 pub mod sight_text;
 mod slicing;

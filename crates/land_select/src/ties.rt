@@ -15,7 +15,6 @@ ghost use Rattle.sqlite.specs.State.{HasCleanDisk};
 
 use land_core::caller::Caller;
 use land_core::duplicate::Duplicate;
-use land_core::kind::Kind;
 use land_core::records::Records;
 use land_core::role::Role;
 use land_core::rrr::RrrRecord;
@@ -89,7 +88,7 @@ fn tie_to<S: Alter>(
 }
 
 /// Whether a unit is shown to a caller at a moment by what ties it to that.
-fn is_unit_shown<S: Alter>(
+pub(crate) fn is_unit_shown<S: Alter>(
     alloc: Global,
     conn: &mut Connection<S>,
     caller: Caller,
@@ -124,7 +123,7 @@ fn is_entry_shown<S: Alter>(
 }
 
 /// Whether the entry of a number stands at a moment and is shown to a caller by what ties it to the unit of the entry.
-fn is_number_shown<S: Alter>(
+pub(crate) fn is_number_shown<S: Alter>(
     alloc: Global,
     conn: &mut Connection<S>,
     caller: Caller,
@@ -140,27 +139,6 @@ fn is_number_shown<S: Alter>(
     match found {
         Some(entry) => is_entry_shown(alloc, conn, caller, &entry, at),
         None => Ok(false),
-    }
-}
-
-/// Whether an object is shown to a caller at a moment by what ties it to a unit: the one that is asked for, or that of the entry.
-pub(crate) fn is_shown_by_tie<S: Alter>(
-    alloc: Global,
-    conn: &mut Connection<S>,
-    caller: Caller,
-    kind: Kind,
-    number: u64,
-    at: i64,
-) -> Result<bool, ReadFault>
-    requires open { HasCleanDisk (state S.Store conn.old) → IsTrue (state S.Store conn.old).is_open }
-    requires land { HasCleanDisk (state S.Store conn.old) → IsLand (state S.Store conn.old).now.schema }
-    ensures look { IsLook result (λ it. IsPart (λ r. is_shown_by_tie r caller kind number) at (state S.Store conn.old).now.trees it) (state S.Store conn.old) (state S.Store conn.new) }
-    ensures mode { conn.old.in_transaction ≡ false → conn.new.in_transaction ≡ false }
-{
-    match kind {
-        Kind::Unit => is_unit_shown(alloc, conn, caller, number, at),
-        Kind::Rrr => is_number_shown(alloc, conn, caller, number, at),
-        Kind::Party | Kind::Parcel | Kind::Source | Kind::Mutation => Ok(false),
     }
 }
 

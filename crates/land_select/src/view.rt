@@ -11,6 +11,7 @@ ghost use Rattle.land_select.specs.Views.{IsShown, in_sight, named_at, named_of,
 ghost use Rattle.sqlite.specs.Held.{state};
 ghost use Rattle.sqlite.specs.State.{HasCleanDisk};
 
+use crate::awaited::awaited_of;
 use crate::ties::shown_of;
 use land_core::caller::Caller;
 use land_core::duplicate::Duplicate;
@@ -23,8 +24,8 @@ use land_core::rrr::{Rrr, RrrRecord};
 use land_core::sequence::Sequence;
 use land_core::text::Text;
 use land_core::unit::{Unit, UnitRecord};
-use land_denials::laws::{all_that_stands_is_seen, ties_tell_sight};
-use land_denials::sight::sees_all;
+use land_denials::laws::{all_that_stands_is_seen, ties_tell_sight, what_is_awaited_is_seen};
+use land_denials::sight::{sees_all, sees_by_awaiting};
 use land_denials::ties::sees_by_ties;
 use land_joins::sight::sight;
 use land_keep::view::{NamedRrr, View};
@@ -172,12 +173,16 @@ fn entries_in_sight<S: Alter>(
     soundness_by_look_ups();
     all_that_stands_is_seen();
     ties_tell_sight();
+    what_is_awaited_is_seen();
     let entries = of_unit::entries(alloc, conn, unit, at)?;
     if sees_all(caller.role, Kind::Rrr) {
         return Ok(entries);
     }
     if sees_by_ties(caller.role, Kind::Rrr) {
         return shown_of(alloc, conn, caller, &entries, at);
+    }
+    if sees_by_awaiting(caller.role, Kind::Rrr) {
+        return awaited_of(alloc, conn, caller.party, unit, entries, at);
     }
     let listed = sight(alloc, conn, caller, Kind::Rrr, at)?;
     Ok(listed_entries(alloc, &entries, listed.as_slice())?)

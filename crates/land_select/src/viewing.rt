@@ -1,38 +1,41 @@
 //! Whether an object is in a caller's sight, and the verdict on its view, by look-ups and joins.
 ghost use Rattle.std.specs.Prelude.{◌≡◌, ◌&&◌, false, IsTrue};
-ghost use Rattle.land_core.specs.Entries.{some};
 ghost use Rattle.land_denials.specs.Sight.{is_unit_of_conveyancer};
 ghost use Rattle.land_lookups.specs.Parts.{IsPart};
 ghost use Rattle.land_rows.specs.Looks.{IsLook};
-ghost use Rattle.land_rules.specs.Relations.{is_lodger_on, is_pending_on};
+ghost use Rattle.land_rules.specs.Relations.{is_lodger_on};
 ghost use Rattle.land_rules.specs.Rules.{first_denial, sees, view_rules};
 ghost use Rattle.land_schema.specs.Land.{IsLand};
 ghost use Rattle.land_select.specs.Views.{IsShown};
 ghost use Rattle.sqlite.specs.Held.{state};
 ghost use Rattle.sqlite.specs.State.{HasCleanDisk};
 
-use crate::ties::is_shown_by_tie;
+use crate::awaited::{is_awaited, is_lodger_on};
+use crate::lodging::has_lodged;
+use crate::shown::is_shown_by_tie;
 use crate::view::is_listed;
 use land_core::caller::Caller;
 use land_core::kind::Kind;
 use land_core::laws::soundness_by_look_ups;
-use land_core::mutation::MutationRecord;
-use land_core::records::Records;
-use land_denials::laws::{all_that_stands_is_seen, ties_tell_sight};
-use land_denials::sight::{is_unit_of_conveyancer, sees_all, view_verdict};
+use land_denials::laws::{
+    all_that_stands_is_seen, lodgers_see_their_own, ties_tell_sight, what_is_awaited_is_seen,
+};
+use land_denials::sight::{
+    is_unit_of_conveyancer, sees_all, sees_by_awaiting, sees_own_lodgings, view_verdict,
+};
 use land_denials::ties::sees_by_ties;
 use land_joins::sight::sight;
 use land_listing::fault::ReadFault;
 use land_lookups::objects::object;
-use land_lookups::of_lodger;
 use land_rules::laws::seen_is_exact;
 use land_rules::verdict::Verdict;
 use land_sights::laws::selections_tell_verdicts;
 use sqlite::{Alter, Connection};
 use std::alloc::Global;
 
-/// Whether a caller sees an object at a moment: one look by its number where the caller is shown all objects of the kind; the entries of
-/// one unit, and a citizen's groups, where what ties the caller to a unit tells; else the list of those that it sees.
+/// Whether a caller sees an object at a moment: one look by its number where the caller is shown all objects of the kind, or those that it
+/// lodged; the entries of one unit, or of those that a mutation names, and a citizen's groups, where what ties the caller to a unit tells; what
+/// names the unit where a conveyancer awaits it; else the list of those that it sees.
 fn is_in_sight<S: Alter>(
     alloc: Global,
     conn: &mut Connection<S>,
@@ -49,36 +52,28 @@ fn is_in_sight<S: Alter>(
     seen_is_exact();
     soundness_by_look_ups();
     all_that_stands_is_seen();
+    lodgers_see_their_own();
     ties_tell_sight();
+    what_is_awaited_is_seen();
     if sees_all(caller.role, kind) {
         let found = object(alloc, conn, kind, number, at)?;
         return Ok(found.is_some());
     }
+    if sees_own_lodgings(caller.role, kind) {
+        return has_lodged(alloc, conn, caller.party, number, at);
+    }
     if sees_by_ties(caller.role, kind) {
         return is_shown_by_tie(alloc, conn, caller, kind, number, at);
+    }
+    if sees_by_awaiting(caller.role, kind) {
+        return is_awaited(alloc, conn, caller, kind, number, at);
     }
     let listed = sight(alloc, conn, caller, kind, at)?;
     Ok(is_listed(listed.as_slice(), number))
 }
 
-/// Whether a mutation is undecided, and a party lodged it, and it names a unit.
-fn is_pending_on(party: u64, unit: u64, mutation: &MutationRecord) -> bool
-    ensures { result ≡ is_pending_on party unit mutation.now }
-{
-    mutation.is_undecided() && mutation.lodger == party && mutation.content.names_unit(unit)
-}
-
-/// Whether one of some mutations is undecided, and a party lodged it, and it names a unit.
-fn is_any_pending_on(mutations: &Records<MutationRecord>, party: u64, unit: u64) -> bool
-    ensures { result ≡ some (λ n m. is_pending_on party unit m) mutations.now }
-{
-    mutations
-        .iter()
-        .any(|(_, mutation)| is_pending_on(party, unit, mutation))
-}
-
-/// Whether a conveyancer asks for a unit, and an undecided mutation of its own names that.
-fn is_awaited<S: Alter>(
+/// Whether a conveyancer asks for a unit, which need not stand, and an undecided mutation of its own names that.
+fn is_named<S: Alter>(
     alloc: Global,
     conn: &mut Connection<S>,
     caller: Caller,
@@ -95,8 +90,7 @@ fn is_awaited<S: Alter>(
     if !is_unit_of_conveyancer(caller.role, kind) {
         return Ok(false);
     }
-    let lodged = of_lodger::mutations(alloc, conn, caller.party, at)?;
-    Ok(is_any_pending_on(&lodged, caller.party, number))
+    is_lodger_on(alloc, conn, caller.party, number, at)
 }
 
 /// The verdict on the view of an object, by what stands at a moment.
@@ -116,6 +110,6 @@ pub(crate) fn viewing<S: Alter>(
     soundness_by_look_ups();
     selections_tell_verdicts();
     let in_sight = is_in_sight(alloc, conn, caller, kind, number, at)?;
-    let awaited = is_awaited(alloc, conn, caller, kind, number, at)?;
+    let awaited = is_named(alloc, conn, caller, kind, number, at)?;
     Ok(view_verdict(in_sight, awaited, caller, kind, number))
 }

@@ -1,12 +1,11 @@
 use Rattle.std.proofs.Common.{rules, ◌≡◌, nat_eq, subst, to_z, of_z, w64, Ok, ◌∙◌}
 use Rattle.land_core.specs.Entries.{only}
-use Rattle.land_core.specs.declared.register.Register.{Register}
 use Rattle.land_listing.specs.declared.fault.ReadFault.{ReadFault}
 use Rattle.land_lookups.proofs.Chains.{none_after}
 use Rattle.land_lookups.proofs.Persons.{by_its_own}
 use Rattle.land_lookups.proofs.Records.{none_held}
 use Rattle.land_lookups.specs.Parts.{IsPart}
-use Rattle.land_rows.proofs.Looking.{look_fails, look_then, look_told, was_clean}
+use Rattle.land_rows.proofs.Looking.{look_fails, look_then, look_told}
 use Rattle.land_rows.specs.Looks.{IsLook}
 use Rattle.sqlite.specs.Effect.{Database}
 use Rattle.sqlite.specs.Held.{state}

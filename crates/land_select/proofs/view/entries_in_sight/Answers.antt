@@ -8,9 +8,10 @@ use Rattle.land_lookups.proofs.Chains.{look_after}
 use Rattle.land_lookups.specs.Parts.{IsPart}
 use Rattle.land_rows.proofs.Looking.{look_fails, look_then, look_told}
 use Rattle.land_rows.specs.Looks.{IsLook}
+use Rattle.land_select.proofs.Awaiting.{awaited_in_sight}
 use Rattle.land_select.proofs.Tied.{tied_in_sight}
 use Rattle.land_select.proofs.Viewed.{AreListed, all_in_sight, have_members, listed_in_sight, look_lost}
-use Rattle.land_select.specs.Views.{shown_of}
+use Rattle.land_select.specs.Views.{awaited_of, shown_of}
 use Rattle.sqlite.specs.Effect.{Database}
 use Rattle.sqlite.specs.Held.{state}
 use Rattle.land_select.proofs.view.entries_in_sight.Goals as goal
@@ -35,6 +36,19 @@ returns-then-sees_by_ties-clause-look g c =
     let have = have_members c.soundness_by_look_ups.ensures r premise in
     subst (λ (now : Database). IsPart (λ r. shown_of r c.args.caller entries) t now.trees it) same shown moments h held r have stands
     ∙ ap (shown_of r c.args.caller) (is moments h held r have stands) ∙ tied_in_sight c.ties_tell_sight.ensures r c.args.caller c.args.unit premise by)
+
+pub returns-then-sees_by_awaiting-clause-look : goal.returns-then-sees_by_awaiting-clause-look
+returns-then-sees_by_awaiting-clause-look g c =
+    let t = c.args.at in
+    let party = c.args.caller.party in
+    let when : to_z w64 (of_z w64 t) ≡ t = search rules in
+    let entries = c.in_ok-entries.entries in
+    let by = sym c.sees_by_awaiting.ensures ∙ c.if-sees_by_awaiting.true in
+    look_after (state g.S.Store c.args.conn.now) (state g.S.Store c.entries.new.conn) (state g.S.Store c.awaited_of.new.conn) c.awaited_of.result (rw when at c.in_ok-entries.ensures.look) (rw when at c.awaited_of.ensures.look)
+    (λ it clean same is kept moments h held r premise stands.
+    let have = have_members c.soundness_by_look_ups.ensures r premise in
+    subst (λ (now : Database). IsPart (λ r. awaited_of r party c.args.unit entries) t now.trees it) same kept moments h held r have stands
+    ∙ ap (awaited_of r party c.args.unit) (is moments h held r have stands) ∙ awaited_in_sight c.what_is_awaited_is_seen.ensures r c.args.caller c.args.unit premise by)
 
 pub returns-in_err-listed-clause-look : goal.returns-in_err-listed-clause-look
 returns-in_err-listed-clause-look g c =

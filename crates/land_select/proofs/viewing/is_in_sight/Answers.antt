@@ -17,6 +17,15 @@ returns-then-sees_all-clause-look g c =
     c.is_some.ensures ∙ ap is_some (is moments h held r (have_members c.soundness_by_look_ups.ensures r premise) stands) ∙ object_stands r c.args.kind c.args.number
     ∙ sym (c.all_that_stands_is_seen.ensures r c.args.caller c.args.kind c.args.number all))
 
+pub returns-then-sees_own_lodgings-clause-look : goal.returns-then-sees_own_lodgings-clause-look
+returns-then-sees_own_lodgings-clause-look g c =
+    let when : to_z w64 (of_z w64 c.args.at) ≡ c.args.at = search rules in
+    let look = rw when at c.has_lodged.ensures.look in
+    let own = sym c.sees_own_lodgings.ensures ∙ c.if-sees_own_lodgings.true in
+    look_means (state g.S.Store c.args.conn.now) (state g.S.Store c.has_lodged.new.conn) c.has_lodged.result look
+    (λ it is moments h held r premise stands.
+    is moments h held r (have_members c.soundness_by_look_ups.ensures r premise) stands ∙ sym (c.lodgers_see_their_own.ensures r c.args.caller c.args.kind c.args.number own))
+
 pub returns-then-sees_by_ties-clause-look : goal.returns-then-sees_by_ties-clause-look
 returns-then-sees_by_ties-clause-look g c =
     let when : to_z w64 (of_z w64 c.args.at) ≡ c.args.at = search rules in
@@ -25,6 +34,15 @@ returns-then-sees_by_ties-clause-look g c =
     look_means (state g.S.Store c.args.conn.now) (state g.S.Store c.is_shown_by_tie.new.conn) c.is_shown_by_tie.result look
     (λ it is moments h held r premise stands.
     is moments h held r (have_members c.soundness_by_look_ups.ensures r premise) stands ∙ sym (c.ties_tell_sight.ensures r premise c.args.caller c.args.kind c.args.number by))
+
+pub returns-then-sees_by_awaiting-clause-look : goal.returns-then-sees_by_awaiting-clause-look
+returns-then-sees_by_awaiting-clause-look g c =
+    let when : to_z w64 (of_z w64 c.args.at) ≡ c.args.at = search rules in
+    let look = rw when at c.is_awaited.ensures.look in
+    let by = sym c.sees_by_awaiting.ensures ∙ c.if-sees_by_awaiting.true in
+    look_means (state g.S.Store c.args.conn.now) (state g.S.Store c.is_awaited.new.conn) c.is_awaited.result look
+    (λ it is moments h held r premise stands.
+    is moments h held r (have_members c.soundness_by_look_ups.ensures r premise) stands ∙ sym (c.what_is_awaited_is_seen.ensures r premise c.args.caller c.args.kind c.args.number by))
 
 pub returns-clause-look : goal.returns-clause-look
 returns-clause-look g c =

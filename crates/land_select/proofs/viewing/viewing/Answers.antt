@@ -15,12 +15,12 @@ use Rattle.land_select.proofs.viewing.viewing.Goals as goal
 
 pub returns-in_err-awaited-clause-look : goal.returns-in_err-awaited-clause-look
 returns-in_err-awaited-clause-look g c =
-    look_fails (state g.S.Store c.args.conn.now) (state g.S.Store c.is_in_sight.new.conn) (state g.S.Store c.is_awaited.new.conn) c.from_residual-in_err-awaited.result c.from_residual-in_err-awaited.ensures.0 c.in_ok-in_sight.ensures.look c.in_err-awaited.ensures.look
+    look_fails (state g.S.Store c.args.conn.now) (state g.S.Store c.is_in_sight.new.conn) (state g.S.Store c.is_named.new.conn) c.from_residual-in_err-awaited.result c.from_residual-in_err-awaited.ensures.0 c.in_ok-in_sight.ensures.look c.in_err-awaited.ensures.look
 
 pub returns-clause-look : goal.returns-clause-look
 returns-clause-look g c =
     let a = state g.S.Store c.args.conn.now in
-    let d = state g.S.Store c.is_awaited.new.conn in
+    let d = state g.S.Store c.is_named.new.conn in
     let caller = c.args.caller in
     let k = c.args.kind in
     let n = c.args.number in

@@ -1,4 +1,3 @@
-use Rattle.std.proofs.Common.{◌≡◌, false}
 use Rattle.land_select.proofs.Seen.{slice_stands}
 use Rattle.sqlite.specs.Held.{state}
 use Rattle.land_select.proofs.sql_keeper.SqlKeeperKeeper.slice.Goals as goal

@@ -4,7 +4,7 @@ use Rattle.land_denials.specs.Ties.{is_shown_by_tie}
 use Rattle.land_lookups.specs.Parts.{IsPart}
 use Rattle.land_rows.specs.Looks.{IsLook}
 use Rattle.sqlite.specs.Held.{state}
-use Rattle.land_select.proofs.ties.is_shown_by_tie.Goals as goal
+use Rattle.land_select.proofs.shown.is_shown_by_tie.Goals as goal
 
 pub returns-in-Unit-clause-look : goal.returns-in-Unit-clause-look
 returns-in-Unit-clause-look g c =
@@ -21,3 +21,11 @@ returns-in-Rrr-clause-look g c =
     let when : to_z w64 (of_z w64 t) ≡ t = search rules in
     let look = rw when at c.is_number_shown.ensures.look in
     subst (λ (k : Kind). IsLook c.is_number_shown.result (IsPart (λ r. is_shown_by_tie r c.args.caller k c.args.number) t a.now.trees) a (state g.S.Store c.is_number_shown.new.conn)) (sym c.in-Rrr.is) look
+
+pub returns-in-Mutation-clause-look : goal.returns-in-Mutation-clause-look
+returns-in-Mutation-clause-look g c =
+    let a = state g.S.Store c.args.conn.now in
+    let t = c.args.at in
+    let when : to_z w64 (of_z w64 t) ≡ t = search rules in
+    let look = rw when at c.is_mutation_shown.ensures.look in
+    subst (λ (k : Kind). IsLook c.is_mutation_shown.result (IsPart (λ r. is_shown_by_tie r c.args.caller k c.args.number) t a.now.trees) a (state g.S.Store c.is_mutation_shown.new.conn)) (sym c.in-Mutation.is) look

@@ -1,0 +1,23 @@
+use Rattle.std.proofs.Common.{rules, ◌≡◌, subst, sym, to_z, of_z, w64}
+use Rattle.land_core.specs.declared.kind.Kind.{Kind}
+use Rattle.land_denials.specs.Sight.{is_awaited}
+use Rattle.land_lookups.specs.Parts.{IsPart}
+use Rattle.land_rows.specs.Looks.{IsLook}
+use Rattle.sqlite.specs.Held.{state}
+use Rattle.land_select.proofs.awaited.is_awaited.Goals as goal
+
+pub returns-in-Unit-clause-look : goal.returns-in-Unit-clause-look
+returns-in-Unit-clause-look g c =
+    let a = state g.S.Store c.args.conn.now in
+    let t = c.args.at in
+    let when : to_z w64 (of_z w64 t) ≡ t = search rules in
+    let look = rw when at c.is_unit_awaited.ensures.look in
+    subst (λ (k : Kind). IsLook c.is_unit_awaited.result (IsPart (λ r. is_awaited r c.args.caller k c.args.number) t a.now.trees) a (state g.S.Store c.is_unit_awaited.new.conn)) (sym c.in-Unit.is) look
+
+pub returns-in-Rrr-clause-look : goal.returns-in-Rrr-clause-look
+returns-in-Rrr-clause-look g c =
+    let a = state g.S.Store c.args.conn.now in
+    let t = c.args.at in
+    let when : to_z w64 (of_z w64 t) ≡ t = search rules in
+    let look = rw when at c.is_entry_awaited.ensures.look in
+    subst (λ (k : Kind). IsLook c.is_entry_awaited.result (IsPart (λ r. is_awaited r c.args.caller k c.args.number) t a.now.trees) a (state g.S.Store c.is_entry_awaited.new.conn)) (sym c.in-Rrr.is) look

@@ -1,0 +1,30 @@
+use Rattle.std.proofs.Common.{rules, ◌≡◌, ap, false, subst, sym, to_z, of_z, w64, ◌∙◌}
+use Rattle.std.specs.Option.{option_map_or}
+use Rattle.land_core.specs.declared.rrr.RrrRecord.{RrrRecord}
+use Rattle.land_lookups.proofs.Chains.{look_after}
+use Rattle.land_lookups.specs.Parts.{IsPart}
+use Rattle.land_rows.proofs.Looking.{look_told}
+use Rattle.land_rules.specs.Relations.{is_lodger_on}
+use Rattle.sqlite.specs.Effect.{Database}
+use Rattle.sqlite.specs.Held.{state}
+use Rattle.land_select.proofs.awaited.is_entry_awaited.Goals as goal
+
+pub returns-in-Some-clause-look : goal.returns-in-Some-clause-look
+returns-in-Some-clause-look g c =
+    let party = c.args.caller.party in
+    let t = c.args.at in
+    let entry = c.in-Some.entry in
+    let when : to_z w64 (of_z w64 t) ≡ t = search rules in
+    look_after (state g.S.Store c.args.conn.now) (state g.S.Store c.entry.new.conn) (state g.S.Store c.is_lodger_on.new.conn) c.is_lodger_on.result (rw when at c.in_ok-found.ensures.look) (rw when at c.is_lodger_on.ensures.look)
+    (λ it clean same is named moments h held r have stands.
+    subst (λ (now : Database). IsPart (λ r. is_lodger_on r party entry.unit) t now.trees it) same named moments h held r have stands
+    ∙ ap (λ o. option_map_or (λ (e : RrrRecord). is_lodger_on r party e.unit) o false) (sym c.in-Some.is ∙ is moments h held r have stands))
+
+pub returns-in-None-clause-look : goal.returns-in-None-clause-look
+returns-in-None-clause-look g c =
+    let party = c.args.caller.party in
+    let when : to_z w64 (of_z w64 c.args.at) ≡ c.args.at = search rules in
+    let look = rw when at c.in_ok-found.ensures.look in
+    look_told (state g.S.Store c.args.conn.now) (state g.S.Store c.entry.new.conn) _ look
+    (λ clean is moments h held r have stands.
+    ap (λ o. option_map_or (λ (e : RrrRecord). is_lodger_on r party e.unit) o false) (sym c.in-None.is ∙ is moments h held r have stands))

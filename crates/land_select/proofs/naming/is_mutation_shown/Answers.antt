@@ -1,0 +1,29 @@
+use Rattle.std.proofs.Common.{rules, ◌≡◌, ap, false, subst, sym, to_z, of_z, w64, ◌∙◌}
+use Rattle.std.specs.Option.{option_map_or}
+use Rattle.land_denials.specs.Ties.{names_shown}
+use Rattle.land_lookups.proofs.Chains.{look_after}
+use Rattle.land_lookups.specs.Parts.{IsPart}
+use Rattle.land_rows.proofs.Looking.{look_told}
+use Rattle.sqlite.specs.Effect.{Database}
+use Rattle.sqlite.specs.Held.{state}
+use Rattle.land_select.proofs.naming.is_mutation_shown.Goals as goal
+
+pub returns-in-Some-clause-look : goal.returns-in-Some-clause-look
+returns-in-Some-clause-look g c =
+    let caller = c.args.caller in
+    let t = c.args.at in
+    let mutation = c.in-Some.mutation in
+    let when : to_z w64 (of_z w64 t) ≡ t = search rules in
+    look_after (state g.S.Store c.args.conn.now) (state g.S.Store c.mutation.new.conn) (state g.S.Store c.names_shown.new.conn) c.names_shown.result (rw when at c.in_ok-found.ensures.look) (rw when at c.names_shown.ensures.look)
+    (λ it clean same is shown moments h held r have stands.
+    subst (λ (now : Database). IsPart (λ r. names_shown r caller mutation) t now.trees it) same shown moments h held r have stands
+    ∙ ap (λ o. option_map_or (names_shown r caller) o false) (sym c.in-Some.is ∙ is moments h held r have stands))
+
+pub returns-in-None-clause-look : goal.returns-in-None-clause-look
+returns-in-None-clause-look g c =
+    let caller = c.args.caller in
+    let when : to_z w64 (of_z w64 c.args.at) ≡ c.args.at = search rules in
+    let look = rw when at c.in_ok-found.ensures.look in
+    look_told (state g.S.Store c.args.conn.now) (state g.S.Store c.mutation.new.conn) _ look
+    (λ clean is moments h held r have stands.
+    ap (λ o. option_map_or (names_shown r caller) o false) (sym c.in-None.is ∙ is moments h held r have stands))

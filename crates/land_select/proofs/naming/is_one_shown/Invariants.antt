@@ -1,0 +1,14 @@
+use Rattle.std.proofs.Common.{take, Ok, ◌≡◌, false}
+use Rattle.land_denials.specs.Ties.{shows_unit, tie_at}
+use Rattle.land_listing.specs.declared.fault.ReadFault.{ReadFault}
+use Rattle.land_rows.specs.Looks.{IsLook}
+use Rattle.land_select.proofs.Passing.{NonePasses}
+use Rattle.sqlite.specs.Held.{state}
+use Rattle.land_select.proofs.naming.is_one_shown.Given as goal
+
+-- none of those so far
+abbrev pub invariant-loop-unit : goal.invariant-loop-unit
+invariant-loop-unit g l =
+    IsLook {X = Unit {0}} {E = ReadFault} (Ok tt) (λ _. NonePasses (λ r unit. shows_unit (tie_at r l.fn.caller unit)) l.fn.at (state g.S.Store l.fn.conn).now.trees (take l.unit-index l.units))
+    (state g.S.Store l.fn.conn) (state g.S.Store l.conn)
+    × (l.fn.conn.in_transaction ≡ false → l.conn.in_transaction ≡ false)

@@ -1,0 +1,39 @@
+//! Whether an object is shown to a caller at a moment by what ties it to a unit.
+ghost use Rattle.std.specs.Prelude.{◌≡◌, false, IsTrue};
+ghost use Rattle.land_denials.specs.Ties.{is_shown_by_tie};
+ghost use Rattle.land_lookups.specs.Parts.{IsPart};
+ghost use Rattle.land_rows.specs.Looks.{IsLook};
+ghost use Rattle.land_schema.specs.Land.{IsLand};
+ghost use Rattle.sqlite.specs.Held.{state};
+ghost use Rattle.sqlite.specs.State.{HasCleanDisk};
+
+use crate::naming::is_mutation_shown;
+use crate::ties::{is_number_shown, is_unit_shown};
+use land_core::caller::Caller;
+use land_core::kind::Kind;
+use land_listing::fault::ReadFault;
+use sqlite::{Alter, Connection};
+use std::alloc::Global;
+
+/// Whether an object is shown to a caller at a moment by what ties it to a unit: the one that is asked for, that of the entry, or one that the
+/// mutation names.
+pub(crate) fn is_shown_by_tie<S: Alter>(
+    alloc: Global,
+    conn: &mut Connection<S>,
+    caller: Caller,
+    kind: Kind,
+    number: u64,
+    at: i64,
+) -> Result<bool, ReadFault>
+    requires open { HasCleanDisk (state S.Store conn.old) → IsTrue (state S.Store conn.old).is_open }
+    requires land { HasCleanDisk (state S.Store conn.old) → IsLand (state S.Store conn.old).now.schema }
+    ensures look { IsLook result (λ it. IsPart (λ r. is_shown_by_tie r caller kind number) at (state S.Store conn.old).now.trees it) (state S.Store conn.old) (state S.Store conn.new) }
+    ensures mode { conn.old.in_transaction ≡ false → conn.new.in_transaction ≡ false }
+{
+    match kind {
+        Kind::Unit => is_unit_shown(alloc, conn, caller, number, at),
+        Kind::Rrr => is_number_shown(alloc, conn, caller, number, at),
+        Kind::Mutation => is_mutation_shown(alloc, conn, caller, number, at),
+        Kind::Party | Kind::Parcel | Kind::Source => Ok(false),
+    }
+}
