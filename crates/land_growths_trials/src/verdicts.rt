@@ -30,10 +30,12 @@ enum Asked {
 /// What is judged: its name, who asks, in which role, for what, and the rule that denies it, 0 where none does.
 struct Judged(&'static str, u64, Role, Asked, u8);
 
-/// The garden, and the ownership in it.
+/// The garden, the ownership in it, and its subdivision, which Sam lodged.
 const GARDEN: Asked = Asked::View(Kind::Unit, 9);
 
 const OWNERSHIP: Asked = Asked::View(Kind::Rrr, 21);
+
+const SUBDIVISION: Asked = Asked::View(Kind::Mutation, 23);
 
 /// Nora holds nothing, Ben owns the garden, Sam has a lease in it and the bank a mortgage on it.
 const JUDGED: &[Judged] = &[
@@ -45,6 +47,16 @@ const JUDGED: &[Judged] = &[
     Judged("a sheet, allowed", 6, Role::Citizen, Asked::Sheet(9), 0),
     Judged("a unit, to a bank", 4, Role::Bank, GARDEN, 0),
     Judged("a unit, to a notary", 5, Role::Notary, GARDEN, 0),
+    Judged("a mutation, denied", 5, Role::Citizen, SUBDIVISION, 14),
+    Judged("a mutation, allowed", 3, Role::Citizen, SUBDIVISION, 0),
+    Judged(
+        "a mutation, to its lodger",
+        6,
+        Role::CertifiedSurveyor,
+        SUBDIVISION,
+        0,
+    ),
+    Judged("a mutation, to another", 4, Role::Bank, SUBDIVISION, 18),
     Judged(
         "a grant, allowed",
         1,

@@ -5,7 +5,9 @@
 
 mod keepers;
 mod looks;
+mod parcels;
 mod requests;
 mod story;
+mod streams;
 mod turns;
 pub mod two_keepers;

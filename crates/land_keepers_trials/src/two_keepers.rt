@@ -2,9 +2,11 @@
 //! that the register may take.
 use crate::keepers::play_over_each;
 use crate::looks::{FIRST_LOOKS, LAST_LOOKS};
+use crate::parcels::PARCELS;
 use crate::requests::{BODIES, CALLERS, ROUTES, SHARES_AND_OUTLINES, TARGETS};
 use crate::story::Story;
-use crate::turns::{EARLY, PARCELS, ROLES, TRANSFERS};
+use crate::streams::{cut_in_a_body, heads_at_their_limit};
+use crate::turns::{EARLY, ROLES, TRANSFERS};
 use land_scenario::scenario::STEPS;
 use land_scenario::stop::Stop;
 use land_scenario::talk::Talk;
@@ -111,4 +113,11 @@ pub fn the_scenario_with_what_is_told_beside_its_first_steps(alloc: Global) -> R
 /// The scenario with what is told beside its last steps.
 pub fn the_scenario_with_what_is_told_beside_its_last_steps(alloc: Global) -> Result<(), Stop> {
     are_told_beside(alloc, LAST_LOOKS)
+}
+
+/// A stream that ends within a request, one that has no byte, and heads at their limit.
+pub fn streams_end_where_they_are_cut(alloc: Global) -> Result<(), Stop> {
+    play_over_each(alloc, &[], &Talk::new(alloc)?)?;
+    play_over_each(alloc, &[], &cut_in_a_body(alloc)?)?;
+    play_over_each(alloc, &[], &heads_at_their_limit(alloc)?)
 }

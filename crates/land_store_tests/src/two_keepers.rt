@@ -54,3 +54,8 @@ fn the_scenario_with_what_is_told_beside_its_last_steps(rt: HostRuntime) -> Resu
         two_keepers::the_scenario_with_what_is_told_beside_its_last_steps(rt.alloc()),
     )
 }
+
+#[test]
+fn streams_end_where_they_are_cut(rt: HostRuntime) -> Result<(), Fail> {
+    conclude(&rt, two_keepers::streams_end_where_they_are_cut(rt.alloc()))
+}
