@@ -2,7 +2,7 @@
 
     python3 bench/desk.py FILE PORT
 
-It answers lists, views and title sheets of citizens, banks, notaries and the office as the program does, by the same texts in the same
+It answers lists, views and title sheets of citizens, banks, notaries and the office, and views of mutations by conveyancers, as the program does, by the same texts in the same
 order, and the acts enrol, register, transfer and approve with the checks that the requests of joins.py need, and no others: it
 writes the same rows in one commit each, synchronous to the disk.
 """
@@ -17,18 +17,20 @@ import time
 from registers import OPEN, texts
 
 LOOK = texts("land_lookups/src/texts.rt")
-EVERY, OWN, HOLDER, GROUP, CREDITOR = (texts(f"land_joins/src/{name}.rt") for name in ("all", "own", "holder", "group", "creditor"))
-KINDS = {"parties": "PARTY", "units": "UNIT", "parcels": "PARCEL", "rrrs": "ENTRY"}
-ALL = {"PARTY": "PARTIES", "UNIT": "UNITS", "PARCEL": "PARCELS", "ENTRY": "ENTRIES"}
+EVERY, OWN, HOLDER, GROUP, CREDITOR, NAMED = (texts(f"land_joins/src/{name}.rt") for name in ("all", "own", "holder", "group", "creditor", "named"))
+KINDS = {"parties": "PARTY", "units": "UNIT", "parcels": "PARCEL", "rrrs": "ENTRY", "mutations": "MUTATION"}
+ALL = {"PARTY": "PARTIES", "UNIT": "UNITS", "PARCEL": "PARCELS", "ENTRY": "ENTRIES", "MUTATION": "MUTATIONS"}
 SIGHT = {
     ("citizen", "PARTY"): [OWN["ITSELF"], OWN["GROUPS"], HOLDER["PARTIES"], GROUP["PARTIES"]],
     ("citizen", "UNIT"): [HOLDER["UNITS"], GROUP["UNITS"]],
     ("citizen", "ENTRY"): [HOLDER["ENTRIES"], GROUP["ENTRIES"]],
+    ("citizen", "MUTATION"): [NAMED["HELD"], NAMED["THROUGH"]],
     ("bank", "PARTY"): [OWN["ITSELF"], CREDITOR["PARTIES"]],
     ("bank", "UNIT"): [CREDITOR["UNITS"]],
     ("bank", "ENTRY"): [CREDITOR["ENTRIES"]],
+    ("conveyancer", "MUTATION"): [OWN["LODGINGS"]],
 }
-DENIED = {("citizen", "UNIT"): 11, ("citizen", "ENTRY"): 12, ("citizen", "PARTY"): 13,
+DENIED = {("citizen", "UNIT"): 11, ("citizen", "ENTRY"): 12, ("citizen", "PARTY"): 13, ("citizen", "MUTATION"): 14, ("conveyancer", "MUTATION"): 22,
           ("bank", "UNIT"): 15, ("bank", "ENTRY"): 16, ("bank", "PARTY"): 17}
 
 
@@ -55,6 +57,12 @@ def entry_object(row):
     if kind == "mortgage":
         return {**shown, "amount": amount, "currency": currency, "rank": place}
     return {**shown, "words": words} if words is not None else {**shown, "share": share(row)}
+
+
+def mutation_object(row):
+    number, lodger, reference, source, lodged, act, content, state = row[:8]
+    return {"act": act, "content": json.loads(content), "lodged": lodged, "lodger": lodger, "number": number, "reference": reference,
+            "source": source, "state": state}
 
 
 def says(row):
@@ -112,7 +120,7 @@ class Register:
             return {"checked": row[2] == 1, "name": row[1], "number": number}
         if kind == "PARCEL":
             return {"doubled": doubled_area(row[3]), "label": row[2], "number": number, "outline": row[3], "source": row[4], "unit": row[1]}
-        return entry_object(row)
+        return mutation_object(row) if kind == "MUTATION" else entry_object(row)
 
     def sheet(self, party, role, unit, at):
         found, = self.ask(LOOK["UNIT"], unit, at)

@@ -171,12 +171,14 @@ CREATE VIEW citizen_parties AS
 CREATE VIEW bank_parties AS
   SELECT ME AS number UNION ALL
   SELECT rrr.party FROM credited JOIN rrr ON rrr.unit = credited.unit WHERE (rrr.class <> 'mortgage' OR rrr.party = (SELECT ME)) AND STANDS;
-CREATE ROLE citizen; CREATE ROLE bank; CREATE ROLE notary;
-GRANT SELECT ON ALL TABLES IN SCHEMA public TO citizen, bank, notary;
+CREATE VIEW citizen_mutations AS SELECT names.mutation FROM held JOIN names ON names.unit = held.unit WHERE STANDS;
+CREATE ROLE citizen; CREATE ROLE bank; CREATE ROLE notary; CREATE ROLE conveyancer;
+GRANT SELECT ON ALL TABLES IN SCHEMA public TO citizen, bank, notary, conveyancer;
 ALTER TABLE party ENABLE ROW LEVEL SECURITY;
 ALTER TABLE unit ENABLE ROW LEVEL SECURITY;
 ALTER TABLE parcel ENABLE ROW LEVEL SECURITY;
 ALTER TABLE rrr ENABLE ROW LEVEL SECURITY;
+ALTER TABLE mutation ENABLE ROW LEVEL SECURITY;
 CREATE POLICY everybody ON parcel FOR SELECT USING (STANDS);
 CREATE POLICY notaries ON party FOR SELECT TO notary USING (STANDS);
 CREATE POLICY notaries ON unit FOR SELECT TO notary USING (STANDS);
@@ -185,6 +187,8 @@ CREATE POLICY citizens ON party FOR SELECT TO citizen USING (STANDS AND number =
 CREATE POLICY citizens ON unit FOR SELECT TO citizen USING (STANDS AND number = ANY (ARRAY(SELECT unit FROM held)));
 CREATE POLICY citizens ON rrr FOR SELECT TO citizen USING (STANDS AND unit = ANY (ARRAY(SELECT unit FROM held))
   AND (class <> 'mortgage' OR unit = ANY (ARRAY(SELECT unit FROM held WHERE class = 'ownership'))));
+CREATE POLICY citizens ON mutation FOR SELECT TO citizen USING (STANDS AND number = ANY (ARRAY(SELECT mutation FROM citizen_mutations)));
+CREATE POLICY conveyancers ON mutation FOR SELECT TO conveyancer USING (STANDS AND lodger = (SELECT ME));
 CREATE POLICY banks ON party FOR SELECT TO bank USING (STANDS AND number = ANY (ARRAY(SELECT number FROM bank_parties)));
 CREATE POLICY banks ON unit FOR SELECT TO bank USING (STANDS AND number = ANY (ARRAY(SELECT unit FROM credited)));
 CREATE POLICY banks ON rrr FOR SELECT TO bank USING (STANDS AND unit = ANY (ARRAY(SELECT unit FROM credited))
@@ -224,7 +228,7 @@ class Postgres:
         """The schema with the same keys and indexes, all rows, the policies."""
         schema = registers.schema().replace(") STRICT", ")").replace("INTEGER", "BIGINT")
         lines = ["DROP SCHEMA public CASCADE; CREATE SCHEMA public; GRANT USAGE ON SCHEMA public TO PUBLIC;",
-                 "DROP ROLE IF EXISTS citizen; DROP ROLE IF EXISTS bank; DROP ROLE IF EXISTS notary;", schema]
+                 "DROP ROLE IF EXISTS citizen; DROP ROLE IF EXISTS bank; DROP ROLE IF EXISTS notary;", "DROP ROLE IF EXISTS conveyancer;", schema]
         base = sqlite3.connect(file)
         for table in re.findall(r"CREATE TABLE (\w+)", schema):
             lines.append(f"COPY {table} FROM STDIN;")
@@ -256,7 +260,7 @@ class Postgres:
         self.run("pg_ctl", "-D", self.data, "-m", "immediate", "stop")
 
 
-TABLES = {"parties": "party", "units": "unit", "parcels": "parcel", "rrrs": "rrr"}
+TABLES = {"parties": "party", "units": "unit", "parcels": "parcel", "rrrs": "rrr", "mutations": "mutation"}
 
 
 def statements(path):
@@ -276,7 +280,8 @@ def statements(path):
 def asked(known):
     """Who asks, in which role, what that is called, and the path."""
     owner, unit, other = known["owner"], known["unit"], known["entries"][0]
-    citizen, bank, notary = (owner, "citizen"), (SMALL_BANK, "bank"), (NOTARY, "notary")
+    citizen, bank, notary, conveyancer = (owner, "citizen"), (SMALL_BANK, "bank"), (NOTARY, "notary"), (BUSY, "conveyancer")
+    mutation, partner = known["mutations"][0]
     return [
         (*citizen, "a path that names nothing", "/nothing"),
         (*citizen, "its units", "/units"),
@@ -293,6 +298,10 @@ def asked(known):
         (*bank, "an entry that is denied", f"/rrrs/{other}"),
         (*bank, "the title sheet", f"/units/{unit}/sheet"),
         (BANK, "bank", "an entry, where it has a mortgage on all other units", f"/rrrs/{other}"),
+        (partner, "citizen", "a mutation of its unit", f"/mutations/{mutation}"),
+        (*citizen, "a mutation that is denied", f"/mutations/{mutation}"),
+        (*conveyancer, "a mutation, where it lodged all that there are", f"/mutations/{mutation}"),
+        (CALM[0], "conveyancer", "a mutation that another lodged", f"/mutations/{mutation}"),
         (*notary, "an entry", f"/rrrs/{other}"),
         (*notary, "an entry that is not there", "/rrrs/999999999"),
         (*notary, "a title sheet", f"/units/{unit}/sheet"),

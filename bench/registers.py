@@ -61,7 +61,7 @@ def of_entries(path, entries):
     parties = [(number, name, "nonNaturalPerson", 1000, OPEN) for number, name, _ in people]
     roles = [(number, role, 1000, OPEN) for number, _, role in people]
     members, sources, estates, parcels, rrrs, mutations, names = [], [], [], [], [], [], []
-    known, number = {"units": [], "rights": [], "entries": []}, FIRST
+    known, number = {"units": [], "rights": [], "entries": [], "mutations": []}, FIRST
     for place in range(units):
         shared = place % 10 == 0
         anna, ben, group, deed, unit, parcel, first, mutation = (number + step for step in (0, 1, 2, 3, 4, 5, 6, 10))
@@ -80,6 +80,7 @@ def of_entries(path, entries):
             common = (mutation, BUSY, f"R{mutation}", deed, 1000, "transfer", content)
             mutations += [(*common, "lodged", 1000, 2000), (*common, "refused", 2000, OPEN)]
             names.append((mutation, unit, 1000, OPEN))
+            known["mutations"].append((mutation, anna))
         else:
             rights = [(anna, "ownership", 1, 2), (ben, "ownership", 1, 2)]
         rrrs += [(first + step, unit, *right, None, None, None, None, deed, 1000, OPEN) for step, right in enumerate(rights)]
