@@ -2,7 +2,7 @@
 
     python3 bench/desk.py FILE PORT
 
-It answers lists, views and title sheets of citizens, banks, notaries and the office, and views of mutations by conveyancers, as the program does, by the same texts in the same
+It answers lists, views and title sheets of citizens, banks, notaries and the office, and views of units and mutations by conveyancers, as the program does, by the same texts in the same
 order, and the acts enrol, register, transfer and approve with the checks that the requests of joins.py need, and no others: it
 writes the same rows in one commit each, synchronous to the disk.
 """
@@ -17,7 +17,8 @@ import time
 from registers import OPEN, texts
 
 LOOK = texts("land_lookups/src/texts.rt")
-EVERY, OWN, HOLDER, GROUP, CREDITOR, NAMED = (texts(f"land_joins/src/{name}.rt") for name in ("all", "own", "holder", "group", "creditor", "named"))
+EVERY, OWN, HOLDER, GROUP, CREDITOR, LODGER, NAMED = (
+    texts(f"land_joins/src/{name}.rt") for name in ("all", "own", "holder", "group", "creditor", "lodger", "named"))
 KINDS = {"parties": "PARTY", "units": "UNIT", "parcels": "PARCEL", "rrrs": "ENTRY", "mutations": "MUTATION"}
 ALL = {"PARTY": "PARTIES", "UNIT": "UNITS", "PARCEL": "PARCELS", "ENTRY": "ENTRIES", "MUTATION": "MUTATIONS"}
 SIGHT = {
@@ -28,10 +29,12 @@ SIGHT = {
     ("bank", "PARTY"): [OWN["ITSELF"], CREDITOR["PARTIES"]],
     ("bank", "UNIT"): [CREDITOR["UNITS"]],
     ("bank", "ENTRY"): [CREDITOR["ENTRIES"]],
+    ("conveyancer", "UNIT"): [LODGER["UNITS"]],
     ("conveyancer", "MUTATION"): [OWN["LODGINGS"]],
 }
-DENIED = {("citizen", "UNIT"): 11, ("citizen", "ENTRY"): 12, ("citizen", "PARTY"): 13, ("citizen", "MUTATION"): 14, ("conveyancer", "MUTATION"): 22,
-          ("bank", "UNIT"): 15, ("bank", "ENTRY"): 16, ("bank", "PARTY"): 17}
+DENIED = {("citizen", "UNIT"): 11, ("citizen", "ENTRY"): 12, ("citizen", "PARTY"): 13, ("citizen", "MUTATION"): 14,
+          ("bank", "UNIT"): 15, ("bank", "ENTRY"): 16, ("bank", "PARTY"): 17,
+          ("conveyancer", "UNIT"): 19, ("conveyancer", "MUTATION"): 22}
 
 
 class Denied(Exception):

@@ -172,6 +172,8 @@ CREATE VIEW bank_parties AS
   SELECT ME AS number UNION ALL
   SELECT rrr.party FROM credited JOIN rrr ON rrr.unit = credited.unit WHERE (rrr.class <> 'mortgage' OR rrr.party = (SELECT ME)) AND STANDS;
 CREATE VIEW citizen_mutations AS SELECT names.mutation FROM held JOIN names ON names.unit = held.unit WHERE STANDS;
+CREATE VIEW awaited AS SELECT unit FROM names WHERE STANDS AND mutation = ANY (ARRAY(
+  SELECT number FROM mutation WHERE lodger = (SELECT ME) AND state = 'lodged' AND STANDS));
 CREATE ROLE citizen; CREATE ROLE bank; CREATE ROLE notary; CREATE ROLE conveyancer;
 GRANT SELECT ON ALL TABLES IN SCHEMA public TO citizen, bank, notary, conveyancer;
 ALTER TABLE party ENABLE ROW LEVEL SECURITY;
@@ -188,6 +190,7 @@ CREATE POLICY citizens ON unit FOR SELECT TO citizen USING (STANDS AND number = 
 CREATE POLICY citizens ON rrr FOR SELECT TO citizen USING (STANDS AND unit = ANY (ARRAY(SELECT unit FROM held))
   AND (class <> 'mortgage' OR unit = ANY (ARRAY(SELECT unit FROM held WHERE class = 'ownership'))));
 CREATE POLICY citizens ON mutation FOR SELECT TO citizen USING (STANDS AND number = ANY (ARRAY(SELECT mutation FROM citizen_mutations)));
+CREATE POLICY conveyancers ON unit FOR SELECT TO conveyancer USING (STANDS AND number = ANY (ARRAY(SELECT unit FROM awaited)));
 CREATE POLICY conveyancers ON mutation FOR SELECT TO conveyancer USING (STANDS AND lodger = (SELECT ME));
 CREATE POLICY banks ON party FOR SELECT TO bank USING (STANDS AND number = ANY (ARRAY(SELECT number FROM bank_parties)));
 CREATE POLICY banks ON unit FOR SELECT TO bank USING (STANDS AND number = ANY (ARRAY(SELECT unit FROM credited)));
@@ -302,6 +305,7 @@ def asked(known):
         (*citizen, "a mutation that is denied", f"/mutations/{mutation}"),
         (*conveyancer, "a mutation, where it lodged all that there are", f"/mutations/{mutation}"),
         (CALM[0], "conveyancer", "a mutation that another lodged", f"/mutations/{mutation}"),
+        (*conveyancer, "a unit that is denied, where all that it lodged is decided", f"/units/{known['units'][0]}"),
         (*notary, "an entry", f"/rrrs/{other}"),
         (*notary, "an entry that is not there", "/rrrs/999999999"),
         (*notary, "a title sheet", f"/units/{unit}/sheet"),
