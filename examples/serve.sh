@@ -8,26 +8,17 @@ top=$(cd "$(dirname "$0")/.." && pwd) || exit 1
 file=${1:-town.land}
 port=${2:-8080}
 
-# Prints the reply to a request. Where nothing listens on the port yet, it is sent again for 10 seconds.
+# Prints the reply to a request. What `serve` prints is fixed, and nothing tells when it listens: so curl asks again while nothing does.
 #   ask PARTY ROLE PATH [BODY]
 ask() {
-    local tries=0 status
-    while true; do
-        curl --silent --show-error --header "Register-Party: $1" --header "Register-Role: $2" \
-            ${4:+--data-binary "$4"} "http://127.0.0.1:$port$3" 2> "$said"
-        status=$?
-        [ $status = 7 ] && [ $((tries += 1)) -lt 200 ] || break
-        sleep 0.05
-    done
-    [ $status = 0 ] || cat "$said" >&2
+    curl --silent --retry-connrefused --retry 5 --header "Register-Party: $1" --header "Register-Role: $2" \
+        ${4:+--data-binary "$4"} "http://127.0.0.1:$port$3" || echo "no reply: curl ends with status $?" >&2
     echo
 }
 
 # An act, in the role of the office where none is named.
 office() { ask 1 stateAdministrator "/acts/$1" "$2"; }
 
-said=$(mktemp) || exit 1
-trap 'rm -f "$said"' EXIT
 "$top/land" new --file "$file" || exit
 
 # The scenario is 18 acts and a look, each on a connection of its own, after which the service ends.
