@@ -21,27 +21,10 @@ import time
 from pathlib import Path
 
 import registers
-from registers import TOP, texts
+from building import build, named_by
+from registers import texts
 
 READS, WRITES, RUNS = 20, 200, 3
-
-
-def build(folder):
-    """The program, proved and built in a copy of the repository."""
-    copy = folder / "copy"
-    shutil.copytree(TOP, copy, symlinks=True, ignore=lambda path, names: [
-        name for name in names if name == ".git" or Path(path).name == "out" and name != "rlib"])
-    crate = copy / "crates" / "tables_bench"
-    (crate / "src").mkdir(parents=True)
-    shutil.copy(TOP / "bench" / "tables.txt", crate / "src" / "main.rt")
-    lines = (copy / "crates.txt").read_text().splitlines()
-    below = next(line for line in lines if line.startswith("land_commands:")).split(":")[1]
-    (copy / "crates.txt").write_text("\n".join([*lines, f"tables_bench:{below}"]) + "\n")
-    done = subprocess.run(["rt", "run"], cwd=crate, capture_output=True, text=True)
-    program = crate / "out" / "tables_bench"
-    if not program.exists():
-        sys.exit(done.stdout + done.stderr)
-    return program
 
 
 def ours(program, file):
@@ -87,7 +70,7 @@ def main():
     sizes = [int(word) for word in sys.argv[1:]] or [1000, 10000]
     with tempfile.TemporaryDirectory() as room:
         folder = Path(room)
-        program = os.environ.get("TABLES") or build(folder)
+        program = os.environ.get("TABLES") or build(folder, "tables.txt", named_by("land_commands"))
         print("| records | `read_at` at the middle | at the end | rows listed by Python | a change written | by Python | planned |\n|---|---|---|---|---|---|---|", flush=True)
         for size in sizes:
             found = []
