@@ -3,6 +3,7 @@
 
     ./land talk --clock 0 < /dev/null    # builds the program where it is not built
     bench/service.py [OBJECTS [SECONDS]]
+    LAND=PROGRAM bench/service.py ..     another program than crates/land/out/land
 
 Makes a register of so many parties (1,000), and asks both services the same for so many seconds each (5), in turns: one
 party, the list of all parties, and an enrolment, each over one kept connection and over one connection a request. Python's
@@ -21,7 +22,7 @@ import tempfile
 import time
 
 TOP = os.path.dirname(os.path.dirname(os.path.abspath(__file__)))
-PROGRAM = os.path.join(TOP, "crates", "land", "out", "land")
+PROGRAM = os.environ.get("LAND", os.path.join(TOP, "crates", "land", "out", "land"))
 OFFICE = {"Register-Party": "1", "Register-Role": "stateAdministrator"}
 OPEN = 4102444800000
 
