@@ -33,6 +33,8 @@ pub enum RowAct {
     Revoke(u64, Role),
     /// A unit, its shares checked or not, with so many parcels and these rights.
     Register(bool, usize, &'static [Right]),
+    /// A unit under another name than the garden's, its shares checked, with one parcel and these rights.
+    RegisterAs(&'static str, &'static [Right]),
     /// The class of a burden, its unit and its party.
     Burden(BurdenClass, u64, u64),
     Lift(u64),
@@ -168,6 +170,9 @@ pub fn act(alloc: Global, it: &RowAct) -> Result<Act, Stop> {
         }),
         RowAct::Register(checked, count, rights) => {
             Act::Register(new_unit(alloc, &GARDEN, *checked, *count, rights)?)
+        }
+        RowAct::RegisterAs(name, rights) => {
+            Act::Register(new_unit(alloc, &Words { name, ..GARDEN }, true, 1, rights)?)
         }
         RowAct::Burden(class, unit, party) => {
             Act::Burden(new_burden(alloc, *class, *unit, *party)?)

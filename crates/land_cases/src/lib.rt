@@ -9,3 +9,4 @@ pub mod rows;
 pub mod steps;
 pub mod stop;
 pub mod told;
+pub mod worlds;

@@ -40,16 +40,22 @@ fn add_all<'a>(all: &mut Vec<&'a Row>, rows: &'a [Row]) -> Result<(), AllocError
     Ok(())
 }
 
+/// The rows of some parts, in their order.
+fn rows_of<'a>(alloc: Global, parts: &[&'a [Row]]) -> Result<Vec<&'a Row>, AllocError> {
+    let mut all = Vec::new(alloc);
+    for part in parts {
+        add_all(&mut all, part)?;
+    }
+    Ok(all)
+}
+
 /// The rows that others begin with, and these, in their order.
 fn all_of<'a>(
     alloc: Global,
     base: &[&'a [Row]],
     rows: &'a [Row],
 ) -> Result<Vec<&'a Row>, AllocError> {
-    let mut all = Vec::new(alloc);
-    for part in base {
-        add_all(&mut all, part)?;
-    }
+    let mut all = rows_of(alloc, base)?;
     add_all(&mut all, rows)?;
     Ok(all)
 }
@@ -69,14 +75,24 @@ fn requests(alloc: Global, rows: &[&Row]) -> Result<Vec<Request>, Stop> {
     Ok(requests)
 }
 
-/// The replies to requests over a new register; the rows read the clock.
-pub fn answered(alloc: Global, rows: &[&Row], requests: &[Request]) -> Result<Vec<Reply>, Stop> {
+/// The replies to requests over a keeper; the rows read the clock.
+fn answered_by(
+    alloc: Global,
+    keeper: &mut PlainKeeper,
+    rows: &[&Row],
+    requests: &[Request],
+) -> Result<Vec<Reply>, Stop> {
     if !are_well_formed(requests) {
         return Err(Stop::Unmade("a request that is well formed"));
     }
-    let mut keeper = PlainKeeper::new(alloc)?;
     let mut clock = RowClock { rows, next: 0 };
-    Ok(run(alloc, &mut keeper, &mut clock, requests)?)
+    Ok(run(alloc, keeper, &mut clock, requests)?)
+}
+
+/// The replies to requests over a new register; the rows read the clock.
+pub fn answered(alloc: Global, rows: &[&Row], requests: &[Request]) -> Result<Vec<Reply>, Stop> {
+    let mut keeper = PlainKeeper::new(alloc)?;
+    answered_by(alloc, &mut keeper, rows, requests)
 }
 
 /// The place of the first row with another reply, if any.
@@ -105,6 +121,29 @@ fn wrong_of(alloc: Global, rows: &[&Row]) -> Result<Option<usize>, Stop> {
 fn wrong_of_all(alloc: Global, base: &[&[Row]], rows: &[Row]) -> Result<Option<usize>, Stop> {
     let rows = all_of(alloc, base, rows)?;
     wrong_of(alloc, rows.as_slice())
+}
+
+/// Plays rows over a keeper, and compares the replies in full.
+fn play_over(alloc: Global, keeper: &mut PlainKeeper, rows: &[&Row]) -> Result<(), Stop> {
+    let requests = requests(alloc, rows)?;
+    let replies = answered_by(alloc, keeper, rows, requests.as_slice())?;
+    match wrong_row(alloc, rows, replies.as_slice())? {
+        Some(place) => Err(Stop::Unlike("row", place)),
+        None => Ok(()),
+    }
+}
+
+/// Plays the rows of some parts over a keeper, likewise.
+fn play_parts(alloc: Global, keeper: &mut PlainKeeper, parts: &[&[Row]]) -> Result<(), Stop> {
+    let rows = rows_of(alloc, parts)?;
+    play_over(alloc, keeper, rows.as_slice())
+}
+
+/// Plays rows over a new keeper, one after another, compares the replies in full, and gives the keeper as they left it.
+pub fn keeper_after(alloc: Global, parts: &[&[Row]]) -> Result<PlainKeeper, Stop> {
+    let mut keeper = PlainKeeper::new(alloc)?;
+    play_parts(alloc, &mut keeper, parts)?;
+    Ok(keeper)
 }
 
 /// Plays the rows that these begin with and then these, one after another, over a new register, and compares the replies

@@ -1,5 +1,5 @@
 //! The steps that other rows begin with.
-use crate::asked::RowAct::{Approve, Enrol, Grant, Group, Lodge, Register};
+use crate::asked::RowAct::{Approve, Enrol, Grant, Group, Lodge, Register, RegisterAs};
 use crate::asked::RowAsk::Do;
 use crate::asked::{OFFICE, Right, RowAsk, Share};
 use crate::lodged::RowContent::{Mortgage, Transfer};
@@ -117,6 +117,17 @@ const REGISTERED: &[Row] = &[Row(
     "done 9 made [8, 9, 10, 11, 12, 13] at 1009",
 )];
 
+/// In place of the garden the field is registered: a unit under another name, of which Anna and the group have a half each.
+const FIELD_REGISTERED: &[Row] = &[Row(
+    1000,
+    OFFICE,
+    Do(RegisterAs(
+        "Field",
+        &[(2, Ownership, 1, 2), (7, Ownership, 1, 2), (6, Lease, 1, 1)],
+    )),
+    "done 9 made [8, 9, 10, 11, 12, 13] at 1009",
+)];
+
 /// The bank lends on the garden.
 pub const LOAN: RowAsk = Do(Lodge("M1", "Loan 1", Mortgage(9, 4, 2_500_000)));
 
@@ -139,6 +150,12 @@ const SOLD: &[Row] = &[
     Row(1000, NORA, WHOLE, "done 20 made [19, 20] at 1014"),
     Row(1000, OFFICE, Do(Approve(20)), "done 20 made [21] at 1015"),
 ];
+
+/// The steps up to the mortgage on the garden.
+pub const WITH_GARDEN: &[&[Row]] = &[ENROLLED, GROUPED, REGISTERED, LODGED, MORTGAGED];
+
+/// The same steps, with the field in the garden's place.
+pub const WITH_FIELD: &[&[Row]] = &[ENROLLED, GROUPED, FIELD_REGISTERED, LODGED, MORTGAGED];
 
 /// Plays rows over a new register, and compares the replies in full.
 pub fn play_anew(alloc: Global, rows: &[Row]) -> Result<(), Stop> {
@@ -167,11 +184,7 @@ pub fn play_with_loan(alloc: Global, rows: &[Row]) -> Result<(), Stop> {
 
 /// Plays rows where the loan is approved, too.
 pub fn play_with_mortgage(alloc: Global, rows: &[Row]) -> Result<(), Stop> {
-    play_rows(
-        alloc,
-        &[ENROLLED, GROUPED, REGISTERED, LODGED, MORTGAGED],
-        rows,
-    )
+    play_rows(alloc, WITH_GARDEN, rows)
 }
 
 /// Plays rows where Ben has bought the garden, too.

@@ -160,6 +160,36 @@ fn write_reply(line: &mut String, reply: &Reply) -> Result<(), AllocError> {
     }
 }
 
+/// A title sheet with all that its parcels and its entries show.
+fn write_whole_sheet(line: &mut String, it: &View) -> Result<(), AllocError> {
+    write_unit(line, &it.unit)?;
+    write!(line, " at {}", it.at)?;
+    for parcel in it.parcels.as_slice() {
+        write_parcel(line, parcel)?;
+    }
+    for entry in it.rrrs.as_slice() {
+        write_rrr(line, &entry.rrr)?;
+        write!(line, " {}", entry.name.as_str())?;
+    }
+    Ok(())
+}
+
+fn write_whole(line: &mut String, reply: &Reply) -> Result<(), AllocError> {
+    match reply {
+        Reply::Sheet(it) => write_whole_sheet(line, it),
+        _ => write_reply(line, reply),
+    }
+}
+
+/// Whether two replies are alike in all that they tell. A reply of 501 is want of memory.
+pub fn are_alike(alloc: Global, one: &Reply, other: &Reply) -> Result<bool, AllocError> {
+    let mut line = String::new(alloc);
+    write_whole(&mut line, one)?;
+    let mut other_line = String::new(alloc);
+    write_whole(&mut other_line, other)?;
+    Ok(line.as_str() == other_line.as_str())
+}
+
 /// Whether a reply is this line. A reply of 501 is want of memory.
 pub fn is_told(alloc: Global, reply: &Reply, line: &str) -> Result<bool, AllocError> {
     let mut told = String::new(alloc);

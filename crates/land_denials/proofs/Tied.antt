@@ -11,12 +11,12 @@ use Rattle.std.specs.Option.{option_map_or}
 use Rattle.std.specs.Ordering.{nat_cmp}
 use Rattle.land_core.proofs.Booleans.{both_of, or_true}
 use Rattle.land_core.proofs.FiniteMaps.{none_is_not_some}
+use Rattle.land_core.proofs.Pairs.{list_any_same}
 use Rattle.land_core.proofs.Reflection.{entries-only, some_passes}
 use Rattle.land_core.specs.Contents.{names_where}
 use Rattle.land_core.specs.Entries.{has, some}
 use Rattle.land_core.specs.Laws.{SoundnessByLookUps}
 use Rattle.land_core.specs.Register.{nothing}
-use Rattle.land_core.specs.Soundness.{IsSound}
 use Rattle.land_core.specs.Units.{is_right_of}
 use Rattle.land_core.specs.declared.caller.Caller.{Caller}
 use Rattle.land_core.specs.declared.content.Content.{Content}
@@ -30,10 +30,12 @@ use Rattle.land_core.specs.declared.role.Role.TheVariants as roles
 use Rattle.land_core.specs.declared.rrr.Class.{Class}
 use Rattle.land_core.specs.declared.rrr.RightType.TheVariants.{Ownership}
 use Rattle.land_core.specs.declared.rrr.RrrRecord.{RrrRecord}
-use Rattle.land_denials.specs.Ties.{AreGroupsOf, Entries, GroupsTellTies, TiesTellSight, entries_of, is_shown_by_tie, names_shown, sees_by_ties, shows_entry, shows_unit, tie_at, tie_of}
+use Rattle.land_denials.specs.Ties.{AreNamesOf, Entries, NamesTellTies, TiesTellSight, entries_of, is_shown_by_tie, names_shown, sees_by_ties, shows_entry, shows_unit, tie_at, tie_of}
 use Rattle.land_denials.specs.declared.ties.Tie.{Tie}
 use Rattle.land_denials.specs.declared.ties.Tie.TheVariants.{Stranger, Holder, Owner, Creditor}
-use Rattle.land_rules.specs.Relations.{holds_as, is_credit, is_creditor_on, is_held_right, is_holder, is_member_of, is_mortgage, is_mutation_where, is_owner, is_right, is_rrr_where, is_told_to_creditor, is_told_to_holder, names_holding}
+use Rattle.land_rules.proofs.Booleans.{same_tests}
+use Rattle.land_rules.specs.Laws.{IsSoundOrNothing}
+use Rattle.land_rules.specs.Relations.{holds_as, is_credit, is_creditor_on, is_held_right, is_holder, is_mortgage, is_mutation_where, is_owner, is_right, is_rrr_where, is_told_to_creditor, is_told_to_holder, names_holding}
 use Rattle.land_rules.specs.Rules.{is_allowed, is_told_to_bank, sees}
 use Rattle.land_rules.specs.declared.verdict.Verdict.TheVariants.{Allowed, Denied}
 
@@ -62,11 +64,6 @@ again : (a b : Bool) → ((a && b) && a) ≡ (a && b)
 again true b = and_true b
 again false b = refl
 
-same_tests : (a b : Bool) → (a ≡ true → b ≡ true) → (b ≡ true → a ≡ true) → a ≡ b
-same_tests true b forth back = sym (forth refl)
-same_tests false true forth back = back refl
-same_tests false false forth back = refl
-
 -- a role's rule and the last rule let pass what passes both
 pub passes_both : (a b : Bool) (k : ℕ) → is_allowed (cond (not a) (Denied k) (cond (not b) (Denied 27) Allowed)) ≡ (a && b)
 passes_both true true k = refl
@@ -74,10 +71,6 @@ passes_both true false k = refl
 passes_both false b k = refl
 
 module _ {X : Type 0} where
-  any_alike : (p q : X → Bool) → ((x : X) → p x ≡ q x) → (xs : List X) → list_any p xs ≡ list_any q xs
-  any_alike p q same [] = refl
-  any_alike p q same (x ∷ xs) = ap₂ (λ a b. a || b) (same x) (any_alike p q same xs)
-
   -- of what passes one test some passes another where some passes both
   any_of : (p q : X → Bool) (xs : List X) → list_any p (filter q xs) ≡ list_any (λ x. q x && p x) xs
   any_of p q [] = refl
@@ -96,7 +89,7 @@ UnitsStand r = (n : ℕ) (e : RrrRecord) → map.get r.rrrs n ≡ Some e → has
 none_there : UnitsStand nothing
 none_there n e is = absurd (none_is_not_some (sym (map.get-empty nat_cmp n) ∙ is))
 
-pub units_stand : SoundnessByLookUps → (r : Register) → IsSound r ⊎ (r ≡ nothing) → UnitsStand r
+pub units_stand : SoundnessByLookUps → (r : Register) → IsSoundOrNothing r → UnitsStand r
 units_stand look_ups r (inl sound) = λ n e is. (((look_ups r).0 sound).entries n e is).unit
 units_stand look_ups r (inr none) = subst UnitsStand (sym none) none_there
 
@@ -112,7 +105,7 @@ module _ (r : Register) (refers : UnitsStand r) (is_of : Class → Bool) (is_his
   some_there =
       ap (list_any (λ e. is_one e.1)) (entries-only nat_cmp_total nat_cmp-IsAntisymmetric (λ n e. nat_eq e.unit unit) r.rrrs)
       ∙ any_of (λ e. is_one e.1) (λ e. nat_eq e.1.unit unit) (map.entries r.rrrs)
-      ∙ any_alike (λ e. nat_eq e.1.unit unit && is_one e.1) (λ e. is_one_there e.1) (λ e. and_assoc (nat_eq e.1.unit unit) (is_of e.1.class) (is_his e.1.party)) (map.entries r.rrrs)
+      ∙ list_any_same (λ e. nat_eq e.1.unit unit && is_one e.1) (λ e. is_one_there e.1) (λ e. and_assoc (nat_eq e.1.unit unit) (is_of e.1.class) (is_his e.1.party)) (map.entries r.rrrs)
 
   -- a unit with an entry stands
   unit_there : some (λ n e. is_one_there e) r.rrrs ≡ true → has r.units unit ≡ true
@@ -160,7 +153,7 @@ told_of told shown same (Some x) = and_true (told x) ∙ same x
 named_alike : (p q : ℕ → Bool) → ((unit : ℕ) → p unit ≡ q unit) → (c : Content) → names_where p c ≡ names_where q c
 named_alike p q same (content.Transfer it) = same it.unit
 named_alike p q same (content.Subdivision it) = same it.unit
-named_alike p q same (content.Merger it) = ap₂ (λ a b. a || b) (same it.unit) (any_alike p q same it.others)
+named_alike p q same (content.Merger it) = ap₂ (λ a b. a || b) (same it.unit) (list_any_same p q same it.others)
 named_alike p q same (content.Mortgage it) = same it.unit
 named_alike p q same (content.Discharge it) = same it.unit
 
@@ -247,30 +240,28 @@ module _ (r : Register) (refers : UnitsStand r) (p : ℕ) where
 pub ties_tell_sight : SoundnessByLookUps → TiesTellSight
 ties_tell_sight look_ups at premise caller k number h = by_role at (units_stand look_ups at premise) caller.party caller.role k number h
 
--- ---- the groups
+-- ---- the names
 
--- where two tests of groups agree, the entries in the name of a party or of such a group are the same
-module _ (p : ℕ) (one other : ℕ → Bool) (same : (group : ℕ) → one group ≡ other group) (entries : Entries) where
-  some_alike : (is_of : Class → Bool) → some (λ n e. is_of e.class && (nat_eq e.party p || one e.party)) entries ≡ some (λ n e. is_of e.class && (nat_eq e.party p || other e.party)) entries
-  some_alike is_of =
-      any_alike (λ e. is_of e.1.class && (nat_eq e.1.party p || one e.1.party)) (λ e. is_of e.1.class && (nat_eq e.1.party p || other e.1.party))
-      (λ e. ap (λ b. is_of e.1.class && (nat_eq e.1.party p || b)) (same e.1.party)) (map.entries entries)
+-- where two tests of names agree, the entries in such a name are the same
+module _ (p : ℕ) (one other : ℕ → Bool) (same : (named : ℕ) → one named ≡ other named) (entries : Entries) where
+  some_alike : (is_of : Class → Bool) → some (λ n e. is_of e.class && one e.party) entries ≡ some (λ n e. is_of e.class && other e.party) entries
+  some_alike is_of = list_any_same (λ e. is_of e.1.class && one e.1.party) (λ e. is_of e.1.class && other e.1.party) (λ e. ap (λ b. is_of e.1.class && b) (same e.1.party)) (map.entries entries)
 
   ties_alike : tie_of one (record { party = p; role = roles.Citizen }) entries ≡ tie_of other (record { party = p; role = roles.Citizen }) entries
   ties_alike = ap₂ of_citizen (some_alike is_right) (some_alike (is_right_of Ownership))
 
-among_them : (r : Register) (p : ℕ) (groups : List ℕ) → ((group : ℕ) → Contains groups group ↔ (is_member_of r p group ≡ true)) → (group : ℕ) → list_any (nat_eq group) groups ≡ is_member_of r p group
-among_them r p groups are group =
-    same_tests (list_any (nat_eq group) groups) (is_member_of r p group) (λ h. (are group).0 (Contains-from_any eqb-true group groups h)) (λ h. list_any-from_Contains nat_eq_equiv group groups ((are group).1 h))
+among_them : (r : Register) (p : ℕ) (names : List ℕ) → ((named : ℕ) → Contains names named ↔ (holds_as r p named ≡ true)) → (named : ℕ) → list_any (nat_eq named) names ≡ holds_as r p named
+among_them r p names are named =
+    same_tests (list_any (nat_eq named) names) (holds_as r p named) (λ h. (are named).0 (Contains-from_any eqb-true named names h)) (λ h. list_any-from_Contains nat_eq_equiv named names ((are named).1 h))
 
-by_groups : (r : Register) (p : ℕ) (role : Role) (groups : List ℕ) → AreGroupsOf r (record { party = p; role = role }) groups → (entries : Entries)
-    → tie_of (λ group. list_any (nat_eq group) groups) (record { party = p; role = role }) entries ≡ tie_of (is_member_of r p) (record { party = p; role = role }) entries
-by_groups r p roles.Citizen groups are entries = ties_alike p (λ group. list_any (nat_eq group) groups) (is_member_of r p) (among_them r p groups (are refl)) entries
-by_groups r p roles.Conveyancer groups are entries = refl
-by_groups r p roles.Notary groups are entries = refl
-by_groups r p roles.Bank groups are entries = refl
-by_groups r p roles.CertifiedSurveyor groups are entries = refl
-by_groups r p roles.StateAdministrator groups are entries = refl
+by_names : (r : Register) (p : ℕ) (role : Role) (names : List ℕ) → AreNamesOf r (record { party = p; role = role }) names → (entries : Entries)
+    → tie_of (λ named. list_any (nat_eq named) names) (record { party = p; role = role }) entries ≡ tie_of (holds_as r p) (record { party = p; role = role }) entries
+by_names r p roles.Citizen names are entries = ties_alike p (λ named. list_any (nat_eq named) names) (holds_as r p) (among_them r p names (are refl)) entries
+by_names r p roles.Conveyancer names are entries = refl
+by_names r p roles.Notary names are entries = refl
+by_names r p roles.Bank names are entries = refl
+by_names r p roles.CertifiedSurveyor names are entries = refl
+by_names r p roles.StateAdministrator names are entries = refl
 
-pub groups_tell_ties : GroupsTellTies
-groups_tell_ties at caller groups are entries = by_groups at caller.party caller.role groups are entries
+pub names_tell_ties : NamesTellTies
+names_tell_ties at caller names are entries = by_names at caller.party caller.role names are entries

@@ -1,15 +1,14 @@
 -- What is told of a view, by what is in sight alone.
-use Rattle.std.specs.Prelude.{◌≡◌, ◌⊎◌, ℕ, Bool, true, false, ◌&&◌, ◌||◌, if◌then◌else◌}
-use Rattle.land_core.specs.Register.{nothing, stands}
+use Rattle.std.specs.Prelude.{◌≡◌, ℕ, Bool, true, false, ◌&&◌, ◌||◌, if◌then◌else◌}
+use Rattle.land_core.specs.Register.{stands}
 use Rattle.land_core.specs.Role.{is_role}
-use Rattle.land_core.specs.Soundness.{IsSound}
 use Rattle.land_core.specs.declared.caller.Caller.{Caller}
 use Rattle.land_core.specs.declared.kind.Kind.{Kind}
 use Rattle.land_core.specs.declared.kind.Kind.TheVariants as kind
 use Rattle.land_core.specs.declared.register.Register.{Register}
 use Rattle.land_core.specs.declared.role.Role.{Role}
 use Rattle.land_core.specs.declared.role.Role.TheVariants.{Bank, CertifiedSurveyor, Conveyancer, Notary, StateAdministrator}
-use Rattle.land_rules.specs.Laws.{is_itself, rule_of_role}
+use Rattle.land_rules.specs.Laws.{IsSoundOrNothing, is_itself, rule_of_role}
 use Rattle.land_rules.specs.Relations.{has_lodged, is_lodger_on, is_rrr_where}
 use Rattle.land_rules.specs.Rules.{first_denial, sees, view_rules}
 use Rattle.land_rules.specs.declared.verdict.Verdict.{Verdict}
@@ -30,9 +29,9 @@ abbrev pub told_by : (in_sight awaited : Bool) → Caller → Kind → (number :
 told_by in_sight awaited caller k number = if in_sight then Allowed
     else Denied (if is_unit_of_conveyancer caller.role k && awaited || is_itself caller k number then 27 else rule_of_role caller.role k)
 
--- so the verdict on a view follows from the sight of a sound register
+-- so the verdict on a view follows from the sight of a register that is sound, or that has nothing in it
 abbrev pub SightTellsVerdicts : Type 0
-SightTellsVerdicts = (at : Register) → IsSound at → (caller : Caller) (k : Kind) (number : ℕ)
+SightTellsVerdicts = (at : Register) → IsSoundOrNothing at → (caller : Caller) (k : Kind) (number : ℕ)
     → first_denial (view_rules at caller k number) ≡ told_by (sees at caller k number) (is_lodger_on at caller.party number) caller k number
 
 -- parcels are shown to all, and notaries and state administrators are shown all
@@ -82,5 +81,5 @@ is_awaited at caller kind.Mutation number = false
 
 -- in a register that is sound, or that has nothing in it, this is what they see of units and entries
 abbrev pub WhatIsAwaitedIsSeen : Type 0
-WhatIsAwaitedIsSeen = (at : Register) → IsSound at ⊎ (at ≡ nothing) → (caller : Caller) (k : Kind) (number : ℕ) → sees_by_awaiting caller.role k ≡ true
+WhatIsAwaitedIsSeen = (at : Register) → IsSoundOrNothing at → (caller : Caller) (k : Kind) (number : ℕ) → sees_by_awaiting caller.role k ≡ true
     → sees at caller k number ≡ is_awaited at caller k number

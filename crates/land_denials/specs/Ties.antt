@@ -1,13 +1,12 @@
--- What ties a citizen or a bank to a unit, by the entries of the unit and the groups of the citizen alone, and what is shown by such a tie.
-use Rattle.std.specs.Prelude.{◌≡◌, ◌⊎◌, ◌↔◌, ℕ, Bool, true, false, not, ◌&&◌, ◌||◌, nat_eq, List, if◌then◌else◌}
+-- What ties a citizen or a bank to a unit, by the entries of the unit and the names in which the citizen holds alone, and what is shown by
+-- such a tie.
+use Rattle.std.specs.Prelude.{◌≡◌, ◌↔◌, ℕ, Bool, true, false, not, ◌&&◌, ◌||◌, nat_eq, List, if◌then◌else◌}
 use Rattle.std.specs.FinMap.{FinMap}
 use Rattle.std.specs.List.{Contains, list_any}
 use Rattle.std.specs.Ordering.{nat_cmp}
 use Rattle.land_core.specs.Contents.{names_where}
 use Rattle.land_core.specs.Entries.{only, some}
-use Rattle.land_core.specs.Register.{nothing}
 use Rattle.land_core.specs.Role.{is_role}
-use Rattle.land_core.specs.Soundness.{IsSound}
 use Rattle.land_core.specs.Units.{is_right_of}
 use Rattle.land_core.specs.declared.caller.Caller.{Caller}
 use Rattle.land_core.specs.declared.kind.Kind.{Kind}
@@ -20,7 +19,8 @@ use Rattle.land_core.specs.declared.rrr.RightType.TheVariants.{Ownership}
 use Rattle.land_core.specs.declared.rrr.RrrRecord.{RrrRecord}
 use Rattle.land_denials.specs.declared.ties.Tie.{Tie}
 use Rattle.land_denials.specs.declared.ties.Tie.TheVariants.{Stranger, Holder, Owner, Creditor}
-use Rattle.land_rules.specs.Relations.{is_member_of, is_mortgage, is_mutation_where, is_right, is_rrr_where, is_told_to_creditor}
+use Rattle.land_rules.specs.Laws.{IsSoundOrNothing}
+use Rattle.land_rules.specs.Relations.{holds_as, is_mortgage, is_mutation_where, is_right, is_rrr_where, is_told_to_creditor}
 use Rattle.land_rules.specs.Rules.{sees}
 
 -- ---- a tie, by the entries of a unit
@@ -32,32 +32,28 @@ Entries = FinMap nat_cmp RrrRecord
 abbrev pub entries_of : Register → (unit : ℕ) → Entries
 entries_of at unit = only (λ n e. nat_eq e.unit unit) at.rrrs
 
--- whether an entry is in the name of a party or of one of its groups
-abbrev pub is_in_name_of : (party : ℕ) → (is_group : ℕ → Bool) → RrrRecord → Bool
-is_in_name_of party is_group e = nat_eq e.party party || is_group e.party
+-- whether an entry is a right, an ownership, in one of some names; and a mortgage of which a party is the creditor
+abbrev pub is_right_in : (is_name : ℕ → Bool) → RrrRecord → Bool
+is_right_in is_name e = is_right e.class && is_name e.party
 
--- whether an entry is a right, an ownership, that a party has itself or as a member of a group; and a mortgage of which it is the creditor
-abbrev pub is_right_for : (party : ℕ) → (is_group : ℕ → Bool) → RrrRecord → Bool
-is_right_for party is_group e = is_right e.class && is_in_name_of party is_group e
-
-abbrev pub is_ownership_for : (party : ℕ) → (is_group : ℕ → Bool) → RrrRecord → Bool
-is_ownership_for party is_group e = is_right_of Ownership e.class && is_in_name_of party is_group e
+abbrev pub is_ownership_in : (is_name : ℕ → Bool) → RrrRecord → Bool
+is_ownership_in is_name e = is_right_of Ownership e.class && is_name e.party
 
 abbrev pub is_mortgage_for : (party : ℕ) → RrrRecord → Bool
 is_mortgage_for party e = is_mortgage e.class && nat_eq e.party party
 
--- a citizen that has one of the rights of a unit is a holder in it, and an owner if it has an ownership
-abbrev pub tie_of_citizen : (party : ℕ) → (is_group : ℕ → Bool) → Entries → Tie
-tie_of_citizen party is_group entries =
-    if some (λ n e. is_right_for party is_group e) entries then (if some (λ n e. is_ownership_for party is_group e) entries then Owner else Holder) else Stranger
+-- a citizen that has one of the rights of a unit, in one of its names, is a holder in it, and an owner if it has an ownership
+abbrev pub tie_of_citizen : (is_name : ℕ → Bool) → Entries → Tie
+tie_of_citizen is_name entries =
+    if some (λ n e. is_right_in is_name e) entries then (if some (λ n e. is_ownership_in is_name e) entries then Owner else Holder) else Stranger
 
 -- a bank that has one of the mortgages on a unit is a creditor
 abbrev pub tie_of_bank : (party : ℕ) → Entries → Tie
 tie_of_bank party entries = if some (λ n e. is_mortgage_for party e) entries then Creditor else Stranger
 
 -- no other role sees by such a tie
-abbrev pub tie_of : (is_group : ℕ → Bool) → Caller → Entries → Tie
-tie_of is_group caller entries = if is_role caller.role Citizen then tie_of_citizen caller.party is_group entries else (if is_role caller.role Bank then tie_of_bank caller.party entries else Stranger)
+abbrev pub tie_of : (is_name : ℕ → Bool) → Caller → Entries → Tie
+tie_of is_name caller entries = if is_role caller.role Citizen then tie_of_citizen is_name entries else (if is_role caller.role Bank then tie_of_bank caller.party entries else Stranger)
 
 -- ---- what a tie shows
 
@@ -77,9 +73,9 @@ shows_entry Creditor party e = is_told_to_creditor party e
 
 -- ---- in a register
 
--- what ties a caller to a unit
+-- what ties a caller to a unit: a citizen holds in its own name and in those of its groups
 abbrev pub tie_at : Register → Caller → (unit : ℕ) → Tie
-tie_at at caller unit = tie_of (is_member_of at caller.party) caller (entries_of at unit)
+tie_at at caller unit = tie_of (holds_as at caller.party) caller (entries_of at unit)
 
 -- whether a mutation names a unit that is shown by the caller's tie to it
 abbrev pub names_shown : Register → Caller → MutationRecord → Bool
@@ -106,16 +102,16 @@ sees_by_ties role kind.Mutation = is_role role Citizen
 
 -- in a register that is sound, or that has nothing in it, what they see is what is shown by ties
 abbrev pub TiesTellSight : Type 0
-TiesTellSight = (at : Register) → IsSound at ⊎ (at ≡ nothing) → (caller : Caller) (k : Kind) (number : ℕ) → sees_by_ties caller.role k ≡ true
+TiesTellSight = (at : Register) → IsSoundOrNothing at → (caller : Caller) (k : Kind) (number : ℕ) → sees_by_ties caller.role k ≡ true
     → sees at caller k number ≡ is_shown_by_tie at caller k number
 
--- ---- the groups
+-- ---- the names
 
--- these are the groups of which a citizen is a member; of another caller none need be known
-abbrev pub AreGroupsOf : Register → Caller → List ℕ → Type 0
-AreGroupsOf at caller groups = is_role caller.role Citizen ≡ true → (group : ℕ) → Contains groups group ↔ (is_member_of at caller.party group ≡ true)
+-- these are the names in which a citizen holds, its own and those of its groups; of another caller none need be known
+abbrev pub AreNamesOf : Register → Caller → (names : List ℕ) → Type 0
+AreNamesOf at caller names = is_role caller.role Citizen ≡ true → (named : ℕ) → Contains names named ↔ (holds_as at caller.party named ≡ true)
 
--- so the list of its groups and the entries of a unit tell what ties the caller to it
-abbrev pub GroupsTellTies : Type 0
-GroupsTellTies = (at : Register) (caller : Caller) (groups : List ℕ) → AreGroupsOf at caller groups → (entries : Entries)
-    → tie_of (λ group. list_any (nat_eq group) groups) caller entries ≡ tie_of (is_member_of at caller.party) caller entries
+-- so the list of its names and the entries of a unit tell what ties the caller to it
+abbrev pub NamesTellTies : Type 0
+NamesTellTies = (at : Register) (caller : Caller) (names : List ℕ) → AreNamesOf at caller names → (entries : Entries)
+    → tie_of (λ named. list_any (nat_eq named) names) caller entries ≡ tie_of (holds_as at caller.party) caller entries

@@ -44,12 +44,8 @@ pub fn few_of(
     Ok(Register {
         parties: one_at(alloc, Some(caller.party), party)?,
         roles,
-        members: Records::new(alloc),
-        units: Records::new(alloc),
-        parcels: Records::new(alloc),
         rrrs: one_at(alloc, discharged(ask), entry)?,
-        sources: Records::new(alloc),
         mutations: one_at(alloc, decided(ask), mutation)?,
-        next: 2,
+        ..Register::nothing(alloc)
     })
 }

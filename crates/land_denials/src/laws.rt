@@ -1,7 +1,7 @@
 //! Laws, each stated over the definitions alone.
 ghost use Rattle.land_denials.specs.Sight.{AllThatStandsIsSeen, LodgersSeeTheirOwn, SightTellsVerdicts, WhatIsAwaitedIsSeen};
 ghost use Rattle.land_denials.specs.Standing.{FewAreEnough, LookedUpIsEnough};
-ghost use Rattle.land_denials.specs.Ties.{GroupsTellTies, TiesTellSight};
+ghost use Rattle.land_denials.specs.Ties.{NamesTellTies, TiesTellSight};
 
 use land_core::laws::soundness_by_look_ups;
 use land_rules::laws::denials_tell_sight;
@@ -49,7 +49,7 @@ pub fn ties_tell_sight()
     soundness_by_look_ups();
 }
 
-/// The groups of a citizen and the entries of a unit tell what ties the citizen to it.
-pub fn groups_tell_ties()
-    ensures { GroupsTellTies }
+/// The names in which a citizen holds and the entries of a unit tell what ties the citizen to it.
+pub fn names_tell_ties()
+    ensures { NamesTellTies }
 {}

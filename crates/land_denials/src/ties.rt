@@ -1,8 +1,9 @@
-//! What ties a citizen or a bank to a unit, by the entries of the unit, and what is shown by that.
+//! What ties a citizen or a bank to a unit, by the entries of the unit, and what is shown by that. A citizen holds in its own name and in those
+//! of its groups: one list of names says which.
 ghost use Rattle.std.specs.List.{list_any};
 ghost use Rattle.std.specs.Prelude.{◌≡◌, nat_eq};
 ghost use Rattle.land_core.specs.Entries.{some};
-ghost use Rattle.land_denials.specs.Ties.{is_in_name_of, is_mortgage_for, is_ownership_for, is_right_for, sees_by_ties, tie_of, tie_of_bank, tie_of_citizen};
+ghost use Rattle.land_denials.specs.Ties.{is_mortgage_for, is_ownership_in, is_right_in, sees_by_ties, tie_of, tie_of_bank, tie_of_citizen};
 ghost use Rattle.land_rules.specs.Relations.{is_mortgage, is_told_to_creditor};
 
 use land_core::caller::Caller;
@@ -73,28 +74,22 @@ fn is_told_to_creditor(party: u64, entry: &RrrRecord) -> bool
     !is_mortgage(&entry.class) || entry.party == party
 }
 
-fn is_among(groups: &[u64], number: u64) -> bool
-    ensures { result ≡ list_any (nat_eq number) groups.now }
+fn is_among(names: &[u64], number: u64) -> bool
+    ensures { result ≡ list_any (nat_eq number) names.now }
 {
-    groups.iter().any(|group| number == *group)
+    names.iter().any(|name| number == *name)
 }
 
-fn is_in_name_of(party: u64, groups: &[u64], entry: &RrrRecord) -> bool
-    ensures { result ≡ is_in_name_of party (λ group. list_any (nat_eq group) groups.now) entry.now }
+fn is_right_in(names: &[u64], entry: &RrrRecord) -> bool
+    ensures { result ≡ is_right_in (λ named. list_any (nat_eq named) names.now) entry.now }
 {
-    entry.party == party || is_among(groups, entry.party)
+    entry.class.right_type().is_some() && is_among(names, entry.party)
 }
 
-fn is_right_for(party: u64, groups: &[u64], entry: &RrrRecord) -> bool
-    ensures { result ≡ is_right_for party (λ group. list_any (nat_eq group) groups.now) entry.now }
+fn is_ownership_in(names: &[u64], entry: &RrrRecord) -> bool
+    ensures { result ≡ is_ownership_in (λ named. list_any (nat_eq named) names.now) entry.now }
 {
-    entry.class.right_type().is_some() && is_in_name_of(party, groups, entry)
-}
-
-fn is_ownership_for(party: u64, groups: &[u64], entry: &RrrRecord) -> bool
-    ensures { result ≡ is_ownership_for party (λ group. list_any (nat_eq group) groups.now) entry.now }
-{
-    entry.class.is_right_of(RightType::Ownership) && is_in_name_of(party, groups, entry)
+    entry.class.is_right_of(RightType::Ownership) && is_among(names, entry.party)
 }
 
 fn is_mortgage_for(party: u64, entry: &RrrRecord) -> bool
@@ -103,20 +98,20 @@ fn is_mortgage_for(party: u64, entry: &RrrRecord) -> bool
     is_mortgage(&entry.class) && entry.party == party
 }
 
-fn has_right(party: u64, groups: &[u64], entries: &Records<RrrRecord>) -> bool
-    ensures { result ≡ some (λ n e. is_right_for party (λ group. list_any (nat_eq group) groups.now) e) entries.now }
+fn has_right(names: &[u64], entries: &Records<RrrRecord>) -> bool
+    ensures { result ≡ some (λ n e. is_right_in (λ named. list_any (nat_eq named) names.now) e) entries.now }
 {
     entries
         .iter()
-        .any(|(_, entry)| is_right_for(party, groups, entry))
+        .any(|(_, entry)| is_right_in(names, entry))
 }
 
-fn has_ownership(party: u64, groups: &[u64], entries: &Records<RrrRecord>) -> bool
-    ensures { result ≡ some (λ n e. is_ownership_for party (λ group. list_any (nat_eq group) groups.now) e) entries.now }
+fn has_ownership(names: &[u64], entries: &Records<RrrRecord>) -> bool
+    ensures { result ≡ some (λ n e. is_ownership_in (λ named. list_any (nat_eq named) names.now) e) entries.now }
 {
     entries
         .iter()
-        .any(|(_, entry)| is_ownership_for(party, groups, entry))
+        .any(|(_, entry)| is_ownership_in(names, entry))
 }
 
 fn has_mortgage(party: u64, entries: &Records<RrrRecord>) -> bool
@@ -127,12 +122,12 @@ fn has_mortgage(party: u64, entries: &Records<RrrRecord>) -> bool
         .any(|(_, entry)| is_mortgage_for(party, entry))
 }
 
-fn tie_of_citizen(party: u64, groups: &[u64], entries: &Records<RrrRecord>) -> Tie
-    ensures { result ≡ tie_of_citizen party (λ group. list_any (nat_eq group) groups.now) entries.now }
+fn tie_of_citizen(names: &[u64], entries: &Records<RrrRecord>) -> Tie
+    ensures { result ≡ tie_of_citizen (λ named. list_any (nat_eq named) names.now) entries.now }
 {
-    if !has_right(party, groups, entries) {
+    if !has_right(names, entries) {
         Tie::Stranger
-    } else if has_ownership(party, groups, entries) {
+    } else if has_ownership(names, entries) {
         Tie::Owner
     } else {
         Tie::Holder
@@ -149,12 +144,12 @@ fn tie_of_bank(party: u64, entries: &Records<RrrRecord>) -> Tie
     }
 }
 
-/// What ties a caller to a unit, by the entries of the unit and, where the caller is a citizen, the groups of which it is a member.
-pub fn tie_of(caller: Caller, groups: &[u64], entries: &Records<RrrRecord>) -> Tie
-    ensures { result ≡ tie_of (λ group. list_any (nat_eq group) groups.now) caller entries.now }
+/// What ties a caller to a unit, by the entries of the unit and, where the caller is a citizen, the names in which it holds.
+pub fn tie_of(caller: Caller, names: &[u64], entries: &Records<RrrRecord>) -> Tie
+    ensures { result ≡ tie_of (λ named. list_any (nat_eq named) names.now) caller entries.now }
 {
     if caller.role == Role::Citizen {
-        tie_of_citizen(caller.party, groups, entries)
+        tie_of_citizen(names, entries)
     } else if caller.role == Role::Bank {
         tie_of_bank(caller.party, entries)
     } else {

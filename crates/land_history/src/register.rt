@@ -34,6 +34,7 @@ pub fn register_at(
         sources: part_at(alloc, history.sources.as_slice(), at)?,
         mutations: part_at(alloc, history.mutations.as_slice(), at)?,
         next,
+        ..Register::nothing(alloc)
     })
 }
 

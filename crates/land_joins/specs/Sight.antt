@@ -6,7 +6,7 @@ use Rattle.land_core.specs.declared.register.Register.{Register}
 use Rattle.land_history.specs.History.{StandsAt}
 use Rattle.land_joins.specs.Running.{OfHeld}
 use Rattle.land_rules.specs.Rules.{seen_of}
-use Rattle.land_sights.specs.Laws.{IsSoundOrNothing}
+use Rattle.land_rules.specs.Laws.{IsSoundOrNothing}
 use Rattle.sqlite_trees.specs.Tree.{Trees}
 
 -- Where the tables hold a history that at the moment stands for a register, sound or with nothing in it, these are the numbers of the kind

@@ -1,15 +1,19 @@
 -- The last version of a timeline, and timelines that go on.
-use Rattle.std.proofs.Common.{◌≡◌, ◌≤◌, ◌-◌, [], ◌∷◌, ◌++◌, length, Some, refl, ap, ◌∙◌, arith}
-use Rattle.std.specs.Prelude.{ℤ, pos, ◌<ℤ◌, ◌≤ℤ◌, slice_get}
+use Rattle.std.proofs.Common.{◌≡◌, ◌≤◌, ◌-◌, inl, inr, Bool, true, false, cond, [], ◌∷◌, ◌++◌, length, Option, Some, None, refl, ap, ◌∙◌, arith}
+use Rattle.std.specs.Prelude.{ℤ, pos, ◌<ℤ◌, ◌≤ℤ◌, int_le, fold, unwrap_or, slice_get, if◌then◌else◌}
 use Rattle.std.specs.List.{AllByRecursion}
+use Rattle.std.specs.Option.{option_map}
 use Rattle.std.proofs.lemmas.Int.{ints}
 use Rattle.land_core.specs.Changes.{after}
+use Rattle.land_core.specs.Register.{nothing}
 use Rattle.land_core.specs.Soundness.{IsSound}
+use Rattle.land_core.specs.declared.register.Register.{Register}
 use Rattle.land_acts.proofs.Accepted.{accepted_sound}
 use Rattle.land_keep.specs.Laws.{WritingKeepsSound}
 use Rattle.land_keep.specs.Moments.{IsMoment, last_moment}
-use Rattle.land_keep.specs.Timeline.{Timeline, IsSoundTimeline, Rises, last_from, last_register, last_version, last_stamp}
+use Rattle.land_keep.specs.Timeline.{Timeline, IsSoundTimeline, Rises, last_from, last_register, last_version, last_stamp, register_at}
 use Rattle.land_keep.specs.declared.timeline.Version.{Version}
+use Rattle.land_rules.specs.Laws.{IsSoundOrNothing}
 
 -- what is at the last place of a list
 slice_get-last : (v : Version) (vs : Timeline) → slice_get (v ∷ vs) (length vs) ≡ Some (last_from v vs)
@@ -59,3 +63,22 @@ last_is_sound (v ∷ vs) sound = all_last (λ it. IsSound it.register) v vs soun
 pub last_is_moment : (tl : Timeline) → IsSoundTimeline tl → last_stamp tl ≤ℤ last_moment
 last_is_moment [] sound = absurd sound.rising
 last_is_moment (v ∷ vs) sound = (all_last (λ it. IsMoment it.stamp) v vs sound.moments).1
+
+-- ---- the register at a moment
+
+-- the register of a version that was found, or that of none
+abbrev registered : Option Version → Register
+registered found = unwrap_or (option_map (λ (v : Version). v.register) found) nothing
+
+found_sound : (t : ℤ) (vs : Timeline) (found : Option Version) → IsSoundOrNothing (registered found) → AllByRecursion (λ v. IsSound v.register) vs
+    → IsSoundOrNothing (registered (fold (λ found v. if int_le v.stamp t then Some v else found) found vs))
+found_sound t [] found whole sound = whole
+found_sound t (v ∷ vs) found whole sound = found_sound t vs (cond (int_le v.stamp t) (Some v) found) (here (int_le v.stamp t)) sound.1
+  where
+    here : (b : Bool) → IsSoundOrNothing (registered (cond b (Some v) found))
+    here true = inl sound.0
+    here false = whole
+
+-- at each moment the register of a sound timeline is sound, or there is nothing yet
+pub sound_or_nothing : (tl : Timeline) (t : ℤ) → IsSoundTimeline tl → IsSoundOrNothing (register_at tl t)
+sound_or_nothing tl t sound = found_sound t tl None (inr refl) sound.sound

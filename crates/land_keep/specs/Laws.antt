@@ -5,8 +5,6 @@ use Rattle.land_core.specs.Changes.{after}
 use Rattle.land_core.specs.Members.{are_group_shares}
 use Rattle.land_core.specs.Register.{is_single, shares_of}
 use Rattle.land_core.specs.Units.{has_whole_shares}
-use Rattle.land_core.specs.declared.ask.Ask.{Ask}
-use Rattle.land_core.specs.declared.ask.Ask.TheVariants as ask
 use Rattle.land_core.specs.declared.ask.Request.{Request}
 use Rattle.land_core.specs.declared.change.Change.{Change}
 use Rattle.land_core.specs.declared.party.PartyRecord.{PartyRecord}
@@ -15,6 +13,7 @@ use Rattle.land_core.specs.declared.unit.UnitRecord.{UnitRecord}
 use Rattle.land_keep.specs.Keeping.{CanWrite, Closes}
 use Rattle.land_keep.specs.Machine.{step, written, now_of, moment_of}
 use Rattle.land_keep.specs.Timeline.{Timeline, IsSoundTimeline, register_at, last_register}
+use Rattle.land_rules.specs.Alike.{IsRead, LookAlike}
 use Rattle.land_keep.specs.declared.store_fault.StoreFault.{StoreFault}
 use Rattle.land_keep.specs.declared.store_fault.StoreFault.TheVariants.{NoMemory}
 
@@ -47,15 +46,19 @@ ChangesKeepSharesWhole = (tl : Timeline) (change : Change) (stamp t : ℤ) → I
 abbrev pub OpenKeepersLackMemoryAlone : Type 0
 OpenKeepersLackMemoryAlone = (closed : Bool) (fault : StoreFault) → Closes {T = Unit {0}} closed false (Err fault) → fault ≡ NoMemory
 
-abbrev pub IsRead : Ask → Type 0
-IsRead (ask.View k number at) = Unit {0}
-IsRead (ask.List k at) = Unit {0}
-IsRead (ask.Sheet unit at) = Unit {0}
-IsRead (ask.Do it) = ⊥
-
 -- the reply to a read is told by now, the last register and the register at the asked moment, and by nothing else of the timeline
 abbrev pub ReadsLookAtTwoRegisters : Type 0
 ReadsLookAtTwoRegisters = (clock : ℤ) (request : Request) (one other : Timeline)
     → IsRead request.ask → now_of clock one ≡ now_of clock other → last_register one ≡ last_register other
     → register_at one (moment_of request.ask (now_of clock one)) ≡ register_at other (moment_of request.ask (now_of clock one))
     → (step clock request one).0 ≡ (step clock request other).0
+
+-- replies tell nothing unseen. Take two sound timelines, each with its own reading of the clock and the same now, such that to a caller
+-- their last registers look alike, and so do their registers at the asked moment, be it before the office began: then each view, list
+-- and sheet has the same reply in both, the number of a denial included
+abbrev pub RepliesTellNothingUnseen : Type 0
+RepliesTellNothingUnseen = (clock other_clock : ℤ) (request : Request) (one other : Timeline) → IsSoundTimeline one → IsSoundTimeline other
+    → IsRead request.ask → now_of clock one ≡ now_of other_clock other
+    → LookAlike (last_register one) (last_register other) request.caller
+    → LookAlike (register_at one (moment_of request.ask (now_of clock one))) (register_at other (moment_of request.ask (now_of clock one))) request.caller
+    → (step clock request one).0 ≡ (step other_clock request other).0

@@ -1,5 +1,5 @@
 //! Laws, each stated over the definitions alone.
-ghost use Rattle.land_keep.specs.Laws.{ChangesKeepSharesWhole, SharesAreWhole, WritingKeepsSound, PastStays, ChangeStands, OpenKeepersLackMemoryAlone, ReadsLookAtTwoRegisters};
+ghost use Rattle.land_keep.specs.Laws.{ChangesKeepSharesWhole, SharesAreWhole, WritingKeepsSound, PastStays, ChangeStands, OpenKeepersLackMemoryAlone, ReadsLookAtTwoRegisters, RepliesTellNothingUnseen};
 
 /// A timeline stays sound after each change that may be written.
 pub fn writing_keeps_soundness()
@@ -34,4 +34,11 @@ pub fn open_keepers_lack_memory_alone()
 /// The reply to a read is told by now, the last register and the register at the asked moment alone.
 pub fn reads_look_at_two_registers()
     ensures { ReadsLookAtTwoRegisters }
+{}
+
+/// Replies tell nothing unseen: where two sound timelines with the same now look alike to a caller, in their last registers and in
+/// those at the asked moment, every view, list and sheet is given the same reply in both, the number of a denial included. Of acts
+/// it says nothing: numbers that are made, stamps, refusals and the default now show that others have acted.
+pub fn replies_tell_nothing_unseen()
+    ensures { RepliesTellNothingUnseen }
 {}

@@ -8,6 +8,8 @@
 #![tactic(auto)]
 
 #[cfg(test)]
+mod alike;
+#[cfg(test)]
 mod conclusion;
 #[cfg(test)]
 mod first_rows;
@@ -15,6 +17,8 @@ mod first_rows;
 mod groups_and_roles;
 #[cfg(test)]
 mod large_unit;
+#[cfg(test)]
+mod late;
 #[cfg(test)]
 mod mutations;
 #[cfg(test)]

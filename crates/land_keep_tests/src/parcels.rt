@@ -1,6 +1,7 @@
 //! Parcels that are cut into parts, and that become one again, with their units and the entries of these.
 mod merged;
 mod refused;
+mod repeated;
 mod subdivided;
 
 use land_cases::asked::OFFICE;

@@ -1,4 +1,6 @@
 pub mod ActLaws
+pub mod Alike
+pub mod Booleans
 pub mod Denials
 pub mod Seeing
 pub mod SightDenials

@@ -50,7 +50,7 @@ sees_what_stands at caller k n h = denies_absent at caller k n (none_from_allowe
     allowed_from Allowed e = refl
     allowed_from (Denied k) e = absurd (false≢true e)
 
-number_is : (n k : ℕ) → nat_eq n k ≡ true → n ≡ k
+pub number_is : (n k : ℕ) → nat_eq n k ≡ true → n ≡ k
 number_is n k h = grind (arith, nat_tests)
 
 and_nothing : (b : Bool) → (b && false) ≡ false

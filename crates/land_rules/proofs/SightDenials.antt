@@ -1,5 +1,5 @@
 -- What the denial of a view tells.
-use Rattle.std.proofs.Common.{◌≡◌, ℕ, Bool, true, false, ◌||◌, ◌&&◌, not, cond, Option, Some, None, refl, subst, arith}
+use Rattle.std.proofs.Common.{◌≡◌, inl, inr, ℕ, Bool, true, false, ◌||◌, ◌&&◌, not, cond, Option, Some, None, refl, sym, subst, ◌∙◌, arith}
 use Rattle.std.specs.Prelude.{is_some, nat_eq}
 use Rattle.std.specs.Option.{option_map_or}
 use Rattle.std.specs.Cmp.{nat_cmp_total}
@@ -8,9 +8,10 @@ use Rattle.std.specs.FinMap.{nat_cmp-IsAntisymmetric}
 use Rattle.std.proofs.lemmas.Bool.{false≢true}
 use Rattle.std.proofs.lemmas.Bool.Decides.{nat_tests}
 use Rattle.land_core.specs.Entries.{has}
+use Rattle.land_core.specs.Grants.{grant_cmp}
 use Rattle.land_core.specs.Members.{Members}
-use Rattle.land_core.specs.Register.{is_member, is_single}
-use Rattle.land_core.specs.Soundness.{IsSound, are_loose}
+use Rattle.land_core.specs.Register.{is_member, is_single, nothing}
+use Rattle.land_core.specs.Soundness.{are_loose}
 use Rattle.land_core.specs.declared.caller.Caller.{Caller}
 use Rattle.land_core.specs.declared.kind.Kind.{Kind}
 use Rattle.land_core.specs.declared.kind.Kind.TheVariants as kind
@@ -21,8 +22,9 @@ use Rattle.land_core.specs.declared.role.Role.TheVariants.{Citizen, Conveyancer,
 use Rattle.land_core.specs.declared.soundness.Unsound.TheVariants.{Reference}
 use Rattle.land_core.proofs.Booleans.{both_of, or_false, not_false}
 use Rattle.land_core.proofs.Reflection.{none_at, some_passes}
-use Rattle.land_core.proofs.SoundRegisters.{refers}
-use Rattle.land_rules.specs.Laws.{DenialsTellSight, told_by_sight}
+use Rattle.land_core.proofs.FiniteMaps.{none_is_not_some}
+use Rattle.land_core.proofs.SoundRegisters.{Refers, are_used_back, loose_from, none_in_empty, refers}
+use Rattle.land_rules.specs.Laws.{DenialsTellSight, IsSoundOrNothing, told_by_sight}
 use Rattle.land_rules.specs.Relations.{is_lodger_of, is_lodger_on, is_told_to_holder, names_holding}
 use Rattle.land_rules.specs.Rules.{first_denial, is_allowed, is_party_in_sight, is_rrr_in_sight, is_told_to_bank, is_told_to_conveyancer, view_rules}
 use Rattle.land_rules.specs.declared.verdict.Verdict.{Verdict}
@@ -84,9 +86,33 @@ apart false there k = refl
 number_is : (n k : ℕ) → nat_eq n k ≡ true → n ≡ k
 number_is n k h = grind (arith, nat_tests)
 
-module _ (at : Register) (sound : IsSound at) where
+-- nothing refers to anything
+refers_nothing : Refers nothing
+refers_nothing = record {
+  room = refl;
+  numbers = are_used_back nothing (record {
+    parties = none_in_empty _;
+    units = none_in_empty _;
+    parcels = none_in_empty _;
+    rrrs = none_in_empty _;
+    sources = none_in_empty _;
+    mutations = none_in_empty _;
+  });
+  grants = loose_from nothing (λ g is. absurd (none_is_not_some (sym (map.get-empty grant_cmp g) ∙ is)));
+  members = none_in_empty _;
+  parcels = none_in_empty _;
+  rrrs = none_in_empty _;
+  mutations = none_in_empty _;
+}
+
+-- what the tests of a register's references say, where it is sound and where nothing is in it
+pub references : (at : Register) → IsSoundOrNothing at → Refers at
+references at (inl sound) = refers at (sound Reference)
+references at (inr none) = subst Refers (sym none) refers_nothing
+
+module _ (at : Register) (sound : IsSoundOrNothing at) where
   -- groups with members stand
-  group_stands : (party group : ℕ) → is_member at group party ≡ true → has at.parties group ≡ true
+  pub group_stands : (party group : ℕ) → is_member at group party ≡ true → has at.parties group ≡ true
   group_stands party group h = found (map.get at.members group) refl h
     where
       is_there : (o : Option PartyRecord) → option_map_or (λ p. not (is_single p.kind)) o false ≡ true → is_some o ≡ true
@@ -96,15 +122,15 @@ module _ (at : Register) (sound : IsSound at) where
       found : (o : Option Members) → map.get at.members group ≡ o → option_map_or (λ members. has members party) o false ≡ true → has at.parties group ≡ true
       found None e h = absurd (false≢true h)
       found (Some members) e h =
-          let whole = none_at nat_cmp_total nat_cmp-IsAntisymmetric (λ n m. are_loose at n m) at.members group members (refers at (sound Reference)).members e in
+          let whole = none_at nat_cmp_total nat_cmp-IsAntisymmetric (λ n m. are_loose at n m) at.members group members (references at sound).members e in
           is_there (map.get at.parties group) (not_false _ (or_false _ _ whole).0)
 
   -- parties of entries stand
-  party_stands : (caller : Caller) (party : ℕ) → is_party_in_sight at caller party ≡ true → has at.parties party ≡ true
+  pub party_stands : (caller : Caller) (party : ℕ) → is_party_in_sight at caller party ≡ true → has at.parties party ≡ true
   party_stands caller party h =
       let it = some_passes nat_cmp_total nat_cmp-IsAntisymmetric (λ n e. nat_eq e.party party && is_rrr_in_sight at caller n) at.rrrs h in
       let stands =
-      none_at nat_cmp_total nat_cmp-IsAntisymmetric (λ n e. not (has at.units e.unit && has at.parties e.party && has at.sources e.source)) at.rrrs it.key it.value (refers at (sound Reference)).rrrs it.there in
+      none_at nat_cmp_total nat_cmp-IsAntisymmetric (λ n e. not (has at.units e.unit && has at.parties e.party && has at.sources e.source)) at.rrrs it.key it.value (references at sound).rrrs it.there in
       subst (λ (n : ℕ). has at.parties n ≡ true) (number_is it.value.party party (both_of _ _ it.passes).0) (both_of _ _ (both_of _ _ (not_false _ stands)).0).1
 
   told : (party : ℕ) (role : Role) (k : Kind) (n : ℕ) → let caller : Caller = record { party = party; role = role } in first_denial (view_rules at caller k n) ≡ told_by_sight at caller k n
@@ -150,5 +176,8 @@ module _ (at : Register) (sound : IsSound at) where
   told party StateAdministrator kind.Source n = absent (has at.sources n)
   told party StateAdministrator kind.Mutation n = absent (has at.mutations n)
 
+pub told_by_references : (at : Register) → IsSoundOrNothing at → (caller : Caller) (k : Kind) (n : ℕ) → first_denial (view_rules at caller k n) ≡ told_by_sight at caller k n
+told_by_references at sound caller k n = told at sound caller.party caller.role k n
+
 pub denials_tell_sight : DenialsTellSight
-denials_tell_sight at sound caller k n = told at sound caller.party caller.role k n
+denials_tell_sight = told_by_references

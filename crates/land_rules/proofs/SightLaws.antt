@@ -242,7 +242,7 @@ banks_see at party = record {
 
 module _ (at : Register) (party : ℕ) where
   -- in the roles that see what they lodged
-  sees_lodged : (role : Role) (number : ℕ) → let caller : Caller = record { party = party; role = role } in
+  pub sees_lodged : (role : Role) (number : ℕ) → let caller : Caller = record { party = party; role = role } in
       is_of_the_present caller ≡ true → sees at caller kind.Mutation number ≡ is_mutation_where (is_lodger_of party) at number
   sees_lodged Citizen number h = absurd (false≢true h)
   sees_lodged Conveyancer number h = record_passes (is_lodger_of party) (map.get at.mutations number) 22

@@ -1,15 +1,18 @@
 -- What is collected of a register once, before each object of a list is asked.
-use Rattle.std.specs.Prelude.{◌≡◌, ℕ, Bool, ◌&&◌, ◌||◌}
+use Rattle.std.specs.Prelude.{◌≡◌, ℕ, Bool, ◌&&◌, ◌||◌, nat_eq}
 use Rattle.std.specs.BTreeSet.{BTreeSet, contains}
 use Rattle.std.specs.Ordering.{nat_cmp}
 use Rattle.land_core.specs.Register.{stands}
 use Rattle.land_core.specs.Role.{is_role}
+use Rattle.land_core.specs.Units.{is_right_of}
 use Rattle.land_core.specs.declared.caller.Caller.{Caller}
 use Rattle.land_core.specs.declared.kind.Kind.TheVariants as kind
 use Rattle.land_core.specs.declared.register.Register.{Register}
 use Rattle.land_core.specs.declared.role.Role.TheVariants.{Citizen, Conveyancer, Bank}
+use Rattle.land_core.specs.declared.rrr.Class.{Class}
+use Rattle.land_core.specs.declared.rrr.RightType.TheVariants.{Ownership}
 use Rattle.land_core.specs.declared.rrr.RrrRecord.{RrrRecord}
-use Rattle.land_rules.specs.Relations.{is_credit, is_creditor_on, is_held_ownership, is_held_right, is_holder, is_lodger_on, is_owner}
+use Rattle.land_rules.specs.Relations.{holds_as, is_creditor_on, is_holder, is_lodger_on, is_mortgage, is_owner, is_right}
 use Rattle.land_rules.specs.Rules.{is_party_in_sight}
 use Rattle.land_rules.specs.declared.rules.holdings.Holdings.{Holdings}
 use Rattle.land_rules.specs.declared.rules.holdings.Tie.{Tie}
@@ -19,13 +22,27 @@ use Rattle.land_rules.specs.declared.rules.holdings.Tie.TheVariants.{Holder, Own
 abbrev pub has_number : BTreeSet ℕ → ℕ → Bool
 has_number numbers n = contains nat_cmp numbers n
 
--- whether an entry ties a party to a unit that stands
-abbrev pub is_tied : Tie → Register → (party unit : ℕ) → RrrRecord → Bool
-is_tied Holder at party unit e = stands at kind.Unit unit && is_held_right at party unit e
-is_tied Owner at party unit e = stands at kind.Unit unit && is_held_ownership at party unit e
-is_tied Creditor at party unit e = stands at kind.Unit unit && is_credit party unit e
+-- the classes of entries that tie: a right makes a holder, an ownership an owner, a mortgage a creditor
+abbrev pub ties_by : Tie → Class → Bool
+ties_by Holder class = is_right class
+ties_by Owner class = is_right_of Ownership class
+ties_by Creditor class = is_mortgage class
 
--- whether some entry does: whether the party is a holder in the unit, an owner or a creditor
+-- in which names a party is tied: as a holder and an owner in its own and in those of its groups, as a creditor in its own
+abbrev pub is_tied_as : Tie → Register → (party named : ℕ) → Bool
+is_tied_as Holder at party named = holds_as at party named
+is_tied_as Owner at party named = holds_as at party named
+is_tied_as Creditor at party named = nat_eq named party
+
+-- a set of these names
+abbrev pub AreNames : Tie → Register → (party : ℕ) → BTreeSet ℕ → Type 0
+AreNames tie at party names = (named : ℕ) → has_number names named ≡ is_tied_as tie at party named
+
+-- whether an entry in one of some names ties to a unit that stands
+abbrev pub is_tied : Tie → Register → (is_name : ℕ → Bool) → (unit : ℕ) → RrrRecord → Bool
+is_tied tie at is_name unit e = stands at kind.Unit unit && (nat_eq e.unit unit && ties_by tie e.class && is_name e.party)
+
+-- whether some entry ties a party to a unit: whether the party is a holder in it, an owner or a creditor
 abbrev pub has_tie : Tie → Register → (party unit : ℕ) → Bool
 has_tie Holder at party unit = is_holder at party unit
 has_tie Owner at party unit = is_owner at party unit

@@ -1,7 +1,7 @@
 -- Laws over the definitions alone.
-use Rattle.std.specs.Prelude.{◌≡◌, ℕ, ◌<◌, ◌↔◌, Bool, true, false, ◌&&◌, ◌||◌, Option, ℤ, nat_eq, if◌then◌else◌}
+use Rattle.std.specs.Prelude.{◌≡◌, ◌⊎◌, ℕ, ◌<◌, ◌↔◌, Bool, true, false, ◌&&◌, ◌||◌, Option, ℤ, nat_eq, if◌then◌else◌}
 use Rattle.std.specs.List.{list_any}
-use Rattle.land_core.specs.Register.{stands, holds, is_member}
+use Rattle.land_core.specs.Register.{stands, holds, is_member, nothing}
 use Rattle.land_core.specs.Role.{is_role}
 use Rattle.land_core.specs.Soundness.{IsSound}
 use Rattle.land_core.specs.declared.ask.Ask.{Ask}
@@ -115,7 +115,11 @@ rule_out_of_sight at caller k number = if is_named_by_itself at caller k number 
 abbrev pub told_by_sight : (at : Register) → Caller → Kind → ℕ → Verdict
 told_by_sight at caller k number = if sees at caller k number then Allowed else Denied (rule_out_of_sight at caller k number)
 
--- the denial of a view in a sound register tells nothing else of the register than that the object is out of sight
+-- what a register may be at a moment: sound, or nothing, as before the office began
+abbrev pub IsSoundOrNothing : Register → Type 0
+IsSoundOrNothing at = IsSound at ⊎ (at ≡ nothing)
+
+-- the denial of a view in such a register tells nothing else of it than that the object is out of sight
 abbrev pub DenialsTellSight : Type 0
-DenialsTellSight = (at : Register) → IsSound at → (caller : Caller) (k : Kind) (number : ℕ)
+DenialsTellSight = (at : Register) → IsSoundOrNothing at → (caller : Caller) (k : Kind) (number : ℕ)
     → first_denial (view_rules at caller k number) ≡ told_by_sight at caller k number

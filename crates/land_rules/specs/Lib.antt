@@ -1,6 +1,7 @@
 -- Definitions of the policy.
 pub mod ActLaws
 pub mod Acts
+pub mod Alike
 pub mod Holdings
 pub mod Laws
 pub mod Relations

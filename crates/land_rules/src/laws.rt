@@ -1,5 +1,6 @@
 //! Laws, each stated over the definitions alone.
 ghost use Rattle.land_rules.specs.ActLaws.{LodgersDoNotDecide, AdministratorsDecideForOthers};
+ghost use Rattle.land_rules.specs.Alike.{VerdictsTellNothingUnseen};
 ghost use Rattle.land_rules.specs.Laws.{RulesRise, VerdictsAreLeast, SeenIsExactly, MembersSeeGroups, DenialsTellSight};
 ghost use Rattle.land_rules.specs.SightLaws.{MembersHold, EndedEntriesGiveNoSight, OwnersAloneSeeMortgages, BanksSeeByTheirMortgages, LodgersSeeTheirMutations, ConveyancersSeeByTheirLodgings};
 
@@ -54,11 +55,17 @@ pub fn conveyancers_see_by_their_lodgings()
     ensures { ConveyancersSeeByTheirLodgings }
 {}
 
-/// In a sound register what is in sight is shown. The denial of what is not tells by its number the caller's role and the
+/// In a sound register, and before the office began, what is in sight is shown. The denial of what is not tells by its number the caller's role and the
 /// kind alone, with two exceptions, which are told rule 27: a caller that does not stand and looks for itself, and a
 /// conveyancer's unit that its own undecided mutation names and that does not stand.
 pub fn denials_tell_sight()
     ensures { DenialsTellSight }
+{}
+
+/// Replies tell nothing unseen, as far as the policy goes: where the registers now look alike to a caller, and so do those at the
+/// asked moment, each view, list and sheet has the same verdict in both, the number of a denial included.
+pub fn verdicts_tell_nothing_unseen()
+    ensures { VerdictsTellNothingUnseen }
 {}
 
 /// Whoever lodged a mutation may neither approve nor refuse it, in no role.

@@ -10,7 +10,7 @@ use land_core::mutation::MutationRecord;
 use land_core::register::Register;
 use land_core::rrr::{Class, RightType, RrrRecord};
 
-fn is_right(class: &Class) -> bool
+pub(crate) fn is_right(class: &Class) -> bool
     ensures { result ≡ is_right class.now }
 {
     class.right_type().is_some()
@@ -36,19 +36,19 @@ fn holds_as(at: &Register, party: u64, named: u64) -> bool
     named == party || is_member_of(at, party, named)
 }
 
-pub(crate) fn is_held_right(at: &Register, party: u64, unit: u64, entry: &RrrRecord) -> bool
+fn is_held_right(at: &Register, party: u64, unit: u64, entry: &RrrRecord) -> bool
     ensures { result ≡ is_held_right at.now party unit entry.now }
 {
     entry.unit == unit && is_right(&entry.class) && holds_as(at, party, entry.party)
 }
 
-pub(crate) fn is_held_ownership(at: &Register, party: u64, unit: u64, entry: &RrrRecord) -> bool
+fn is_held_ownership(at: &Register, party: u64, unit: u64, entry: &RrrRecord) -> bool
     ensures { result ≡ is_held_ownership at.now party unit entry.now }
 {
     entry.is_right_in(unit, RightType::Ownership) && holds_as(at, party, entry.party)
 }
 
-pub(crate) fn is_credit(party: u64, unit: u64, entry: &RrrRecord) -> bool
+fn is_credit(party: u64, unit: u64, entry: &RrrRecord) -> bool
     ensures { result ≡ is_credit party unit entry.now }
 {
     entry.unit == unit && is_mortgage(&entry.class) && entry.party == party

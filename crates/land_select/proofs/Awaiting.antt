@@ -27,7 +27,7 @@ use Rattle.land_select.proofs.Viewed.{agreed}
 use Rattle.land_select.specs.Views.{awaited_of, in_sight}
 use Rattle.land_sights.proofs.Containing.{any_decides}
 use Rattle.land_sights.proofs.Standing.{entry_there}
-use Rattle.land_sights.specs.Laws.{IsSoundOrNothing}
+use Rattle.land_rules.specs.Laws.{IsSoundOrNothing}
 
 -- ---- the mutations that name a unit
 

@@ -1,37 +1,25 @@
 -- What few records and what is in sight tell is the verdict on what is asked.
 use Rattle.std.proofs.Common.{◌≡◌, ◌∙◌, ◌++◌, ◌&&◌, ◌||◌, ℕ, ℤ, Bool, true, false, cond, [], ◌∷◌, None, Some, Option, is_some, Ok, IfSome, IsTrue, refl, sym, ap, ap₂, arith, inl}
-use Rattle.std.proofs.lemmas.Bool.{false≢true}
-use Rattle.std.proofs.lemmas.Bool.Decides.{Decides-and}
-use Rattle.std.specs.Bool.{Decides}
 use Rattle.std.specs.FinMap as map
 use Rattle.std.specs.FinMap.{FinMap}
 use Rattle.std.specs.Option.{option_map}
 use Rattle.std.specs.Ordering.{nat_cmp}
-use Rattle.land_core.specs.Laws.{SoundnessByLookUps}
 use Rattle.land_core.specs.Register.{object_at, stands}
-use Rattle.land_core.specs.Role.{is_role}
 use Rattle.land_core.specs.declared.ask.Ask.{Ask}
 use Rattle.land_core.specs.declared.caller.Caller.{Caller}
 use Rattle.land_core.specs.declared.kind.Kind.{Kind}
 use Rattle.land_core.specs.declared.kind.Kind.TheVariants as kind
 use Rattle.land_core.specs.declared.register.Register.{Register}
-use Rattle.land_core.specs.declared.role.Role.TheVariants.{Conveyancer}
-use Rattle.land_denials.specs.Sight.{is_unit_of_conveyancer, told_by}
+use Rattle.land_denials.specs.Sight.{SightTellsVerdicts, is_unit_of_conveyancer, told_by}
 use Rattle.land_denials.specs.Standing.{FewAreEnough, LookedUpIsEnough, decided, discharged}
-use Rattle.land_history.specs.History.{StandsAt}
-use Rattle.land_history.specs.declared.history.History.{History}
 use Rattle.land_lookups.specs.Parts.{IsPart}
 use Rattle.land_rows.specs.Looks.{IsLook}
-use Rattle.land_rules.specs.Laws.{is_itself, rule_of_role}
+use Rattle.land_rules.specs.Laws.{IsSoundOrNothing, is_itself, rule_of_role}
 use Rattle.land_rules.specs.Relations.{is_lodger_on}
 use Rattle.land_rules.specs.Rules.{Rules, first_denial, is_allowed, sees, sight_rules, standing_rules, verdict_of, view_rules}
 use Rattle.land_rules.specs.declared.verdict.Verdict.{Verdict}
 use Rattle.land_rules.specs.declared.verdict.Verdict.TheVariants.{Allowed, Denied}
 use Rattle.land_select.specs.Verdicts.{few_in, record_at, roles_in}
-use Rattle.land_sights.proofs.References.{refers}
-use Rattle.land_sights.proofs.Views.{lodger_decides}
-use Rattle.land_sights.specs.Denials.{AwaitsIt, SelectionsTellVerdicts, VerdictIsTold}
-use Rattle.land_sights.specs.Laws.{IsSoundOrNothing}
 use Rattle.sqlite.specs.State.{HasCleanDisk, State}
 use Rattle.sqlite_trees.specs.Tree.{Trees}
 
@@ -80,42 +68,21 @@ object_stands r kind.Rrr n = shown_there _ _ (map.get r.rrrs n)
 object_stands r kind.Source n = shown_there _ _ (map.get r.sources n)
 object_stands r kind.Mutation n = shown_there _ _ (map.get r.mutations n)
 
--- a conveyancer's unit that its own undecided mutation names
-awaits_decides : (r : Register) (t : ℤ) (h : History) → StandsAt t h r → SoundnessByLookUps → IsSoundOrNothing r → (caller : Caller) (k : Kind) (n : ℕ)
-    → Decides (is_unit_of_conveyancer caller.role k && is_lodger_on r caller.party n) (AwaitsIt t h caller k n)
-awaits_decides r t h is look_ups premise caller kind.Party n = ((λ e. absurd (false≢true e)), (λ none. absurd none))
-awaits_decides r t h is look_ups premise caller kind.Unit n =
-    Decides-and (is_role caller.role Conveyancer) (is_lodger_on r caller.party n) ((λ e. e), (λ e. e)) (lodger_decides r t h is (refers look_ups r premise) caller.party n)
-awaits_decides r t h is look_ups premise caller kind.Parcel n = ((λ e. absurd (false≢true e)), (λ none. absurd none))
-awaits_decides r t h is look_ups premise caller kind.Rrr n = ((λ e. absurd (false≢true e)), (λ none. absurd none))
-awaits_decides r t h is look_ups premise caller kind.Source n = ((λ e. absurd (false≢true e)), (λ none. absurd none))
-awaits_decides r t h is look_ups premise caller kind.Mutation n = ((λ e. absurd (false≢true e)), (λ none. absurd none))
-
 denied_is_not_allowed : (j : ℕ) → Denied j ≡ Allowed → ⊥
 denied_is_not_allowed j e = cc
 
+-- what is asked for twice is asked for once
+asked_twice : (a b : Bool) → (a && (a && b)) ≡ (a && b)
+asked_twice true b = refl
+asked_twice false b = refl
+
 -- the verdict on a view is told by what is in sight, also where nothing stands
-pub view_told : SelectionsTellVerdicts → SoundnessByLookUps → (r : Register) (h : History) (t : ℤ) → IsSoundOrNothing r → StandsAt t h r → (caller : Caller) (k : Kind) (n : ℕ)
+pub view_told : SightTellsVerdicts → (r : Register) → IsSoundOrNothing r → (caller : Caller) (k : Kind) (n : ℕ)
     → told_by (sees r caller k n) (is_unit_of_conveyancer caller.role k && is_lodger_on r caller.party n) caller k n ≡ first_denial (view_rules r caller k n)
-view_told law look_ups r h t premise is caller k n = sym (by_verdict (first_denial (view_rules r caller k n)) (law r h t premise is caller k n))
-  where
-    awaited : Bool
-    awaited = is_unit_of_conveyancer caller.role k && is_lodger_on r caller.party n
-
-    twice : (a b c : Bool) → ((a && (a && b)) || c) ≡ ((a && b) || c)
-    twice true b c = refl
-    twice false b c = refl
-
-    by_verdict : (v : Verdict) → VerdictIsTold t h caller k n v → v ≡ told_by (is_allowed v) (is_unit_of_conveyancer caller.role k && is_lodger_on r caller.party n) caller k n
-    by_verdict Allowed told = refl
-    by_verdict (Denied j) told =
-        by_tests (is_unit_of_conveyancer caller.role k && is_lodger_on r caller.party n) (awaits_decides r t h is look_ups premise caller k n) (is_itself caller k n) refl
-        ∙ ap (λ b. Denied (cond b 27 (rule_of_role caller.role k))) (sym (twice (is_unit_of_conveyancer caller.role k) (is_lodger_on r caller.party n) (is_itself caller k n)))
-      where
-        by_tests : (w : Bool) → Decides w (AwaitsIt t h caller k n) → (i : Bool) → is_itself caller k n ≡ i → Denied j ≡ Denied (cond (w || i) 27 (rule_of_role caller.role k))
-        by_tests true d i e = told.awaited (λ seen. denied_is_not_allowed j (told.shown seen)) (d.0 refl)
-        by_tests false d true e = told.itself (λ seen. denied_is_not_allowed j (told.shown seen)) e
-        by_tests false d false e = told.hidden (λ seen. denied_is_not_allowed j (told.shown seen)) e (λ it. false≢true (d.1 it))
+view_told law r premise caller k n =
+    ap (λ b. cond (sees r caller k n) Allowed (Denied (cond (b || is_itself caller k n) 27 (rule_of_role caller.role k))))
+    (asked_twice (is_unit_of_conveyancer caller.role k) (is_lodger_on r caller.party n))
+    ∙ sym (law r premise caller k n)
 
 -- ---- the verdict
 

@@ -13,7 +13,7 @@ use Rattle.land_core.specs.declared.ask.Ask.{Ask}
 use Rattle.land_core.specs.declared.caller.Caller.{Caller}
 use Rattle.land_core.specs.declared.kind.Kind.{Kind}
 use Rattle.land_core.specs.declared.register.Register.{Register}
-use Rattle.land_keep.proofs.Timelines.{last_is_moment}
+use Rattle.land_keep.proofs.Timelines.{last_is_moment, sound_or_nothing}
 use Rattle.land_keep.specs.Keeping.{Closes}
 use Rattle.land_keep.specs.Machine.{moment_of, verdict_at}
 use Rattle.land_keep.specs.Moments.{IsMoment, last_moment}
@@ -26,7 +26,6 @@ use Rattle.land_joins.specs.Sight.{IsSight}
 use Rattle.land_lookups.specs.Parts.{IsPart}
 use Rattle.land_select.specs.Verdicts.{IsVerdict}
 use Rattle.land_select.specs.Views.{IsShown}
-use Rattle.land_sights.specs.Laws.{IsSoundOrNothing}
 use Rattle.land_slices.specs.Gathered.{IsSo}
 use Rattle.land_standing.proofs.One.{have_members}
 use Rattle.land_standing.proofs.WrittenTimelines.{stays_last}
@@ -34,23 +33,6 @@ use Rattle.land_tables.proofs.ReadBack.{IsReadAt}
 use Rattle.land_tables.specs.Office.{IsAnswer}
 use Rattle.land_tables.specs.Standing.{timeline_in}
 use Rattle.sqlite.specs.State.{State}
-
--- the register of a version that was found, or that of none
-abbrev registered : Option Version → Register
-registered found = unwrap_or (option_map (λ (v : Version). v.register) found) nothing
-
-found_sound : (t : ℤ) (vs : Timeline) (found : Option Version) → IsSoundOrNothing (registered found) → AllByRecursion (λ v. IsSound v.register) vs
-    → IsSoundOrNothing (registered (fold (λ found v. if int_le v.stamp t then Some v else found) found vs))
-found_sound t [] found whole sound = whole
-found_sound t (v ∷ vs) found whole sound = found_sound t vs (cond (int_le v.stamp t) (Some v) found) (here (int_le v.stamp t)) sound.1
-  where
-    here : (b : Bool) → IsSoundOrNothing (registered (cond b (Some v) found))
-    here true = inl sound.0
-    here false = whole
-
--- at each moment the register of a sound timeline is sound, or there is nothing yet
-pub sound_or_nothing : (tl : Timeline) (t : ℤ) → IsSoundTimeline tl → IsSoundOrNothing (register_at tl t)
-sound_or_nothing tl t sound = found_sound t tl None (inr refl) sound.sound
 
 -- a moment that is not before the first
 pub from_first : (t : ℤ) → int_lt t (pos 0) ≡ false → pos 0 ≤ℤ t

@@ -5,7 +5,7 @@ use Rattle.land_history.specs.declared.moment.Moment.{Moment}
 use Rattle.land_joins.specs.Meaning.{TextsSelect}
 use Rattle.land_joins.specs.Texts.{text_of}
 use Rattle.land_keep.specs.Timeline.{register_at}
-use Rattle.land_select.proofs.Seen.{sound_or_nothing}
+use Rattle.land_keep.proofs.Timelines.{sound_or_nothing}
 use Rattle.land_select.specs.Laws.{AreAnswer, Asked, GiveTogether, SightTextsAreTheRules}
 use Rattle.land_sights.proofs.Containing.{first, first_or_later, in_nothing, later}
 use Rattle.land_sights.specs.Laws.{SelectionsAreTheRules}

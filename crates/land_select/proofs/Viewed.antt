@@ -30,7 +30,7 @@ use Rattle.land_rows.specs.Looks.{IsLook}
 use Rattle.land_rules.specs.Laws.{SeenIsExactly}
 use Rattle.land_rules.specs.Rules.{seen_of, sees}
 use Rattle.land_select.specs.Views.{IsShown, in_sight, named_at, named_of, view_from}
-use Rattle.land_sights.specs.Laws.{IsSoundOrNothing}
+use Rattle.land_rules.specs.Laws.{IsSoundOrNothing}
 use Rattle.land_sights.proofs.Containing.{first, later}
 use Rattle.land_sights.proofs.Standing.{entry_there}
 use Rattle.land_standing.proofs.Members.{no_members, sound_members}

@@ -15,7 +15,7 @@ use Rattle.land_joins.specs.Running.{OfHeld}
 use Rattle.land_keep.specs.Moments.{last_moment}
 use Rattle.land_rules.specs.Rules.{verdict_of}
 use Rattle.land_rules.specs.declared.verdict.Verdict.{Verdict}
-use Rattle.land_sights.specs.Laws.{IsSoundOrNothing}
+use Rattle.land_rules.specs.Laws.{IsSoundOrNothing}
 use Rattle.sqlite_trees.specs.Tree.{Trees}
 
 -- the record at a number, none where there is no number

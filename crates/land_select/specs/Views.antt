@@ -1,13 +1,14 @@
 -- What look-ups and joins show of the register that stands at a moment.
 use Rattle.std.specs.FinMap as map
-use Rattle.std.specs.Prelude.{◌≡◌, ℕ, ℤ, ◌&&◌, nat_eq, List, [], map as map_list, Option, if◌then◌else◌}
+use Rattle.std.specs.Prelude.{◌≡◌, ◌↔◌, ℕ, ℤ, true, ◌&&◌, nat_eq, List, [], map as map_list, Option, if◌then◌else◌}
 use Rattle.std.specs.FinMap.{FinMap}
 use Rattle.std.specs.Ordering.{nat_cmp}
 use Rattle.land_core.specs.Entries.{only}
 use Rattle.land_core.specs.declared.caller.Caller.{Caller}
 use Rattle.land_core.specs.declared.kind.Kind.TheVariants.{Rrr}
-use Rattle.land_rules.specs.Relations.{is_lodger_on, is_member_of}
+use Rattle.land_rules.specs.Relations.{holds_as, is_lodger_on, is_member_of}
 use Rattle.land_rules.specs.Rules.{sees}
+use Rattle.std.specs.List.{Contains}
 use Rattle.std.specs.Option.{option_map, option_map_or}
 use Rattle.land_core.specs.declared.party.PartyRecord.{PartyRecord}
 use Rattle.land_core.specs.declared.register.Register.{Register}
@@ -15,11 +16,11 @@ use Rattle.land_core.specs.declared.rrr.RrrRecord.{RrrRecord}
 use Rattle.land_history.specs.History.{StandsAt}
 use Rattle.land_joins.specs.Running.{OfHeld}
 use Rattle.land_core.specs.declared.unit.UnitRecord.{UnitRecord}
-use Rattle.land_denials.specs.Ties.{AreGroupsOf, Entries, shows_entry, tie_of}
+use Rattle.land_denials.specs.Ties.{AreNamesOf, Entries, shows_entry, tie_of}
 use Rattle.land_keep.specs.Sheets.{entries_seen, named_rrr, parcels_at}
 use Rattle.land_keep.specs.declared.view.View.{View}
 use Rattle.land_keep.specs.declared.view.NamedRrr.{NamedRrr}
-use Rattle.land_sights.specs.Laws.{IsSoundOrNothing}
+use Rattle.land_rules.specs.Laws.{IsSoundOrNothing}
 use Rattle.sqlite_trees.specs.Tree.{Trees}
 
 -- where the tables hold a history that at the moment stands for a register, sound or with nothing in it, this is what is shown of it
@@ -41,13 +42,17 @@ with_name n e party = record {
 abbrev pub in_sight : Register → Caller → (unit : ℕ) → FinMap nat_cmp RrrRecord
 in_sight r caller unit = only (λ n e. nat_eq e.unit unit && sees r caller Rrr n) r.rrrs
 
--- where the tables hold a history that at the moment stands for a register, these are the groups of which a citizen is a member in it
-abbrev pub AreGroupsAt : Caller → (t : ℤ) → Trees → List ℕ → Type 0
-AreGroupsAt caller t db groups = OfHeld db (λ h. (r : Register) → StandsAt t h r → AreGroupsOf r caller groups)
+-- where the tables hold a history that at the moment stands for a register, these are the groups of which a party is a member in it
+abbrev pub AreGroupsAt : (party : ℕ) → (t : ℤ) → Trees → List ℕ → Type 0
+AreGroupsAt party t db groups = OfHeld db (λ h. (r : Register) → StandsAt t h r → (group : ℕ) → Contains groups group ↔ (is_member_of r party group ≡ true))
+
+-- and these the names in which a citizen holds in it
+abbrev pub AreNamesAt : Caller → (t : ℤ) → Trees → List ℕ → Type 0
+AreNamesAt caller t db names = OfHeld db (λ h. (r : Register) → StandsAt t h r → AreNamesOf r caller names)
 
 -- of the entries of a unit those that are shown to a caller by what ties it to the unit
 abbrev pub shown_of : Register → Caller → Entries → Entries
-shown_of r caller entries = only (λ n e. shows_entry (tie_of (is_member_of r caller.party) caller entries) caller.party e) entries
+shown_of r caller entries = only (λ n e. shows_entry (tie_of (holds_as r caller.party) caller entries) caller.party e) entries
 
 -- the entries of a unit that an undecided mutation of a party names, none of another unit
 abbrev pub awaited_of : Register → (party unit : ℕ) → Entries → Entries

@@ -7,9 +7,9 @@ ghost use Rattle.land_core.specs.declared.role.Role.TheVariants as roles;
 ghost use Rattle.land_denials.specs.Ties.{is_shown_by_tie, shows_entry, shows_unit, tie_at, tie_of};
 ghost use Rattle.land_lookups.specs.Parts.{IsPart};
 ghost use Rattle.land_rows.specs.Looks.{IsLook};
-ghost use Rattle.land_rules.specs.Relations.{is_member_of};
+ghost use Rattle.land_rules.specs.Relations.{holds_as};
 ghost use Rattle.land_schema.specs.Land.{IsLand};
-ghost use Rattle.land_select.specs.Views.{AreGroupsAt, shown_of};
+ghost use Rattle.land_select.specs.Views.{AreGroupsAt, AreNamesAt, shown_of};
 ghost use Rattle.sqlite.specs.Held.{state};
 ghost use Rattle.sqlite.specs.State.{HasCleanDisk};
 
@@ -19,7 +19,7 @@ use land_core::records::Records;
 use land_core::role::Role;
 use land_core::rrr::RrrRecord;
 use land_core::sequence::{NumberList, Sequence};
-use land_denials::laws::groups_tell_ties;
+use land_denials::laws::names_tell_ties;
 use land_denials::ties::{Tie, tie_of};
 use land_joins::running::numbers;
 use land_listing::fault::ReadFault;
@@ -34,8 +34,23 @@ fn is_citizen(role: Role) -> bool
     role == Role::Citizen
 }
 
-/// The groups of which a citizen is a member at a moment, in whatever order; for another role none is looked for.
+/// The groups of which a party is a member at a moment, in whatever order.
 fn groups_of<S: Alter>(
+    alloc: Global,
+    conn: &mut Connection<S>,
+    party: u64,
+    at: i64,
+) -> Result<NumberList, ReadFault>
+    requires open { HasCleanDisk (state S.Store conn.old) → IsTrue (state S.Store conn.old).is_open }
+    requires land { HasCleanDisk (state S.Store conn.old) → IsLand (state S.Store conn.old).now.schema }
+    ensures look { IsLook result (λ it. AreGroupsAt party at (state S.Store conn.old).now.trees it) (state S.Store conn.old) (state S.Store conn.new) }
+    ensures mode { conn.old.in_transaction ≡ false → conn.new.in_transaction ≡ false }
+{
+    numbers(alloc, conn, Selection::ItsGroups, party, at)
+}
+
+/// The names in which a citizen holds at a moment, in whatever order: its own and those of its groups. For another role none is looked for.
+fn names_of<S: Alter>(
     alloc: Global,
     conn: &mut Connection<S>,
     caller: Caller,
@@ -43,13 +58,15 @@ fn groups_of<S: Alter>(
 ) -> Result<NumberList, ReadFault>
     requires open { HasCleanDisk (state S.Store conn.old) → IsTrue (state S.Store conn.old).is_open }
     requires land { HasCleanDisk (state S.Store conn.old) → IsLand (state S.Store conn.old).now.schema }
-    ensures look { IsLook result (λ it. AreGroupsAt caller at (state S.Store conn.old).now.trees it) (state S.Store conn.old) (state S.Store conn.new) }
+    ensures look { IsLook result (λ it. AreNamesAt caller at (state S.Store conn.old).now.trees it) (state S.Store conn.old) (state S.Store conn.new) }
     ensures mode { conn.old.in_transaction ≡ false → conn.new.in_transaction ≡ false }
 {
     if !is_citizen(caller.role) {
         return Ok(Sequence::new(alloc));
     }
-    numbers(alloc, conn, Selection::ItsGroups, caller.party, at)
+    let mut names = groups_of(alloc, conn, caller.party, at)?;
+    names.push(caller.party)?;
+    Ok(names)
 }
 
 /// What ties a caller at a moment to the unit of which these are the entries.
@@ -62,12 +79,12 @@ fn tie_by<S: Alter>(
 ) -> Result<Tie, ReadFault>
     requires open { HasCleanDisk (state S.Store conn.old) → IsTrue (state S.Store conn.old).is_open }
     requires land { HasCleanDisk (state S.Store conn.old) → IsLand (state S.Store conn.old).now.schema }
-    ensures look { IsLook result (λ it. IsPart (λ r. tie_of (is_member_of r caller.party) caller entries.now) at (state S.Store conn.old).now.trees it) (state S.Store conn.old) (state S.Store conn.new) }
+    ensures look { IsLook result (λ it. IsPart (λ r. tie_of (holds_as r caller.party) caller entries.now) at (state S.Store conn.old).now.trees it) (state S.Store conn.old) (state S.Store conn.new) }
     ensures mode { conn.old.in_transaction ≡ false → conn.new.in_transaction ≡ false }
 {
-    groups_tell_ties();
-    let groups = groups_of(alloc, conn, caller, at)?;
-    Ok(tie_of(caller, groups.as_slice(), entries))
+    names_tell_ties();
+    let names = names_of(alloc, conn, caller, at)?;
+    Ok(tie_of(caller, names.as_slice(), entries))
 }
 
 /// What ties a caller to a unit at a moment.

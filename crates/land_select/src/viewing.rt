@@ -18,7 +18,8 @@ use land_core::caller::Caller;
 use land_core::kind::Kind;
 use land_core::laws::soundness_by_look_ups;
 use land_denials::laws::{
-    all_that_stands_is_seen, lodgers_see_their_own, ties_tell_sight, what_is_awaited_is_seen,
+    all_that_stands_is_seen, lodgers_see_their_own, sight_tells_verdicts, ties_tell_sight,
+    what_is_awaited_is_seen,
 };
 use land_denials::sight::{
     is_unit_of_conveyancer, sees_all, sees_by_awaiting, sees_own_lodgings, view_verdict,
@@ -29,7 +30,6 @@ use land_listing::fault::ReadFault;
 use land_lookups::objects::object;
 use land_rules::laws::seen_is_exact;
 use land_rules::verdict::Verdict;
-use land_sights::laws::selections_tell_verdicts;
 use sqlite::{Alter, Connection};
 use std::alloc::Global;
 
@@ -108,7 +108,7 @@ pub(crate) fn viewing<S: Alter>(
     ensures mode { conn.old.in_transaction ≡ false → conn.new.in_transaction ≡ false }
 {
     soundness_by_look_ups();
-    selections_tell_verdicts();
+    sight_tells_verdicts();
     let in_sight = is_in_sight(alloc, conn, caller, kind, number, at)?;
     let awaited = is_named(alloc, conn, caller, kind, number, at)?;
     Ok(view_verdict(in_sight, awaited, caller, kind, number))

@@ -7,5 +7,4 @@ pub mod Nobody
 pub mod References
 pub mod Seeing
 pub mod Standing
-pub mod Telling
 pub mod Views

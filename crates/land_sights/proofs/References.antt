@@ -13,7 +13,8 @@ use Rattle.land_core.specs.declared.party.PartyRecord.{PartyRecord}
 use Rattle.land_core.specs.declared.register.Register.{Register}
 use Rattle.land_fraction.specs.Ratio.{Ratio}
 use Rattle.land_sights.proofs.Views.{Refers}
-use Rattle.land_sights.specs.Laws.{IsNobody, IsSoundOrNothing}
+use Rattle.land_rules.specs.Laws.{IsSoundOrNothing}
+use Rattle.land_sights.specs.Laws.{IsNobody}
 
 -- a party of whose kind something is told stands
 party_there : (o : Option PartyRecord) (test : PartyRecord → Bool) → option_map_or test o false ≡ true → is_some o ≡ true

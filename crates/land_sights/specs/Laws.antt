@@ -2,8 +2,6 @@
 use Rattle.std.specs.Prelude.{◌≡◌, ◌⊎◌, ◌↔◌, ◌<◌, ℕ, ℤ, List}
 use Rattle.std.specs.List.{Contains}
 use Rattle.std.specs.List.Sorted.{IsStrictlyIncreasing}
-use Rattle.land_core.specs.Register.{nothing}
-use Rattle.land_core.specs.Soundness.{IsSound}
 use Rattle.land_core.specs.declared.caller.Caller.{Caller}
 use Rattle.land_core.specs.declared.kind.Kind.{Kind}
 use Rattle.land_core.specs.declared.mutation.MutationRecord.{MutationRecord}
@@ -12,14 +10,11 @@ use Rattle.land_core.specs.declared.role.Role.{Role}
 use Rattle.land_history.specs.History.{StandsAt}
 use Rattle.land_history.specs.declared.group_member.GroupMember.{GroupMember}
 use Rattle.land_history.specs.declared.history.History.{History}
+use Rattle.land_rules.specs.Laws.{IsSoundOrNothing}
 use Rattle.land_rules.specs.Rules.{seen_of}
 use Rattle.land_sights.specs.Selections.{Entry, Stands, StandsUnder}
 use Rattle.land_sights.specs.Sights.{AnySelects, selections_of}
 use Rattle.land_sights.specs.declared.selection.Selection.{Selection}
-
--- what a register may be at a moment: sound, or nothing, as before the office began
-abbrev pub IsSoundOrNothing : Register → Type 0
-IsSoundOrNothing r = IsSound r ⊎ (r ≡ nothing)
 
 -- the selections of a role and a kind give exactly the numbers that the rules let the caller see in the register at the moment:
 -- none is missing, and none is more

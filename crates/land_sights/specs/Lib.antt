@@ -1,5 +1,4 @@
 -- Definitions of what a caller may see, as selections.
-pub mod Denials
 pub mod Laws
 pub mod Selections
 pub mod Sights

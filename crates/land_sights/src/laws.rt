@@ -1,5 +1,4 @@
 //! Laws, each stated over the definitions alone.
-ghost use Rattle.land_sights.specs.Denials.{SelectionsTellVerdicts};
 ghost use Rattle.land_sights.specs.Laws.{AscendingListsAreOne, NobodiesSeeAlike, SelectedIsSeen, SelectionsAreTheRules, TheUnnamedSeeTheLeast};
 
 use land_core::laws::soundness_by_look_ups;
@@ -38,12 +37,4 @@ pub fn nobodies_see_alike()
 {
     soundness_by_look_ups();
     the_unnamed_see_the_least();
-}
-
-/// The selections of a role and a kind tell the verdict on each view: what they give is shown, and what they do not give is
-/// denied by a rule that role, kind and caller alone tell, with two exceptions, which are told rule 27.
-pub fn selections_tell_verdicts()
-    ensures { SelectionsTellVerdicts }
-{
-    soundness_by_look_ups();
 }

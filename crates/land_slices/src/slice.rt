@@ -173,6 +173,7 @@ fn slice_with<S: Alter>(
         sources: papers.sources,
         mutations,
         next,
+        ..Register::nothing(alloc)
     })
 }
 

@@ -245,7 +245,7 @@ module _ (choices : Choices) where
 
   module _ (program file clock_digits party_digits : Text) (clock party : ℕ) (role : Role) (kind : Kind)
       (taken : AreTaken file clock_digits party_digits (role_word role) (kind_word kind)) (clock_read : IsRead clock_digits 0 4102444799999 clock)
-      (party_read : IsRead party_digits 1 9223372036854775807 party) where
+      (party_read : IsRead party_digits 1 1000000000 party) where
     at_clock : NamesBy choices (program ∷ codes "extract" ∷ extract_words file clock_digits party_digits role kind)
         (to_extract file (pos clock) party role kind None)
     at_clock =
@@ -300,7 +300,7 @@ module _ (choices : Choices) where
 pub plain_extract : PlainExtractLaw
 plain_extract choices program file clock_digits party_digits clock party role kind spelled plain clock_written party_written =
     let clock_read = written clock_digits 0 4102444799999 clock (omega arith) clock_written in
-    let party_read = written party_digits 1 9223372036854775807 party (omega arith) party_written in
+    let party_read = written party_digits 1 1000000000 party (omega arith) party_written in
     let taken : AreTaken choices file clock_digits party_digits (role_word role) (kind_word kind) = record {
       file_plain = plain;
       clock_plain = clock_read.0;

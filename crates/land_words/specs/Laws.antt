@@ -56,7 +56,7 @@ extract_words file clock_digits party_digits role kind =
 -- with `--at MS` behind them name it at that moment, where the numbers are decimal digits
 abbrev pub PlainExtractLaw : Type 0
 PlainExtractLaw = (choices : Choices) (program file clock_digits party_digits : Text) (clock party : ℕ) (role : Role) (kind : Kind)
-    → AreSpelled choices → IsPlainText file → Writes clock_digits 0 4102444799999 clock → Writes party_digits 1 9223372036854775807 party
+    → AreSpelled choices → IsPlainText file → Writes clock_digits 0 4102444799999 clock → Writes party_digits 1 1000000000 party
     → NamesBy choices (program ∷ codes "extract" ∷ extract_words file clock_digits party_digits role kind)
     (to_extract file (pos clock) party role kind None)
     × ((at_digits : Text) (at : ℕ) → Writes at_digits 0 4102444799999 at

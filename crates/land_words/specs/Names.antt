@@ -45,7 +45,7 @@ module _ {A : Type 0} (spell : A → Text) where
 -- the party that asks, and its role
 abbrev pub HasCaller : List Row → (party : ℕ) → Role → Type 0
 HasCaller rows party role =
-    HasNumber rows (codes "party") (pos 1) (pos 9223372036854775807) (pos party) × (first_of (codes "role") rows ≡ Some (role_word role))
+    HasNumber rows (codes "party") (pos 1) (pos 1000000000) (pos party) × (first_of (codes "role") rows ≡ Some (role_word role))
 
 -- who asks, or nobody does
 abbrev pub IsCallerOf : List Row → Option Caller → Type 0

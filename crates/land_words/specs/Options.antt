@@ -27,9 +27,9 @@ ports = parser.Signed (pos 1) (pos 65535)
 abbrev pub counts : ValueParser
 counts = parser.Signed (pos 1) (pos 1000000)
 
--- numbers from 1 to 9223372036854775807
+-- numbers from 1 to 1000000000
 abbrev pub parties : ValueParser
-parties = parser.Signed (pos 1) (pos 9223372036854775807)
+parties = parser.Signed (pos 1) (pos 1000000000)
 
 -- `--NAME MS`, a moment
 abbrev pub moment_rule : (name : Text) → (is_required : Bool) → Rule

@@ -17,7 +17,7 @@ pub const LAST_PORT: i64 = 65_535;
 pub const MOST_CONNECTIONS: i64 = 1_000_000;
 
 /// The last number of a party that may ask.
-pub const LAST_PARTY: i64 = i64::MAX;
+pub const LAST_PARTY: i64 = 1_000_000_000;
 
 /// An option `--NAME VALUE`.
 fn option<'a>(
@@ -93,7 +93,7 @@ pub fn connections_option<'a>(alloc: Global) -> Arg<'a>
 pub fn party_option<'a>(alloc: Global) -> Arg<'a>
     ensures { IsOption party_rule result }
 {
-    let help = "The number of the party that asks, 1 to 9223372036854775807";
+    let help = "The number of the party that asks, 1 to 1000000000";
     let parties = clap::value_parser!(i64).range(1..=LAST_PARTY);
     option(alloc, "party", "NUMBER", help, true, parties)
 }

@@ -122,7 +122,7 @@ fn caller_of(found: &ArgMatches<'_>) -> Option<Caller>
 }
 
 fn party_of(found: &ArgMatches<'_>) -> Option<u64>
-    ensures { IsNumberOf (rows_of (found_of found.now)) (codes "party") (pos 1) (pos 9223372036854775807) (option_map pos result) }
+    ensures { IsNumberOf (rows_of (found_of found.now)) (codes "party") (pos 1) (pos 1000000000) (option_map pos result) }
 {
     let party = number_of(found, "party", 1, LAST_PARTY)?;
     u64::try_from(party).ok()

@@ -100,6 +100,11 @@ fn parties_stand_and_have_one_right_of_a_type(rt: HostRuntime) -> Result<(), Fai
 const LAST_NUMBERS: &[Step] = &[
     Row(Register(true, 1, HALVES), STAMP, "refused 210"),
     Row(
+        Register(true, 1, &[(2, Ownership, 1, 2), (3, Ownership, 1, 3)]),
+        STAMP,
+        "refused 210",
+    ),
+    Row(
         Register(true, 1, &[(2, Ownership, 1, 1)]),
         STAMP,
         "done 999999998 made [999999997, 999999998, 999999999, 1000000000] at 1000",

@@ -66,6 +66,7 @@ const WITH_ITSELF: &[Share] = &[(2, 1, 2), (5, 1, 2)];
 const BROKEN: Option<Unsound> = Some(Unsound::Group);
 
 const MEMBERS: &[Case] = &[
+    Case(&[], BROKEN),
     Case(&[Fact::Members(5, ANNA_A_THIRD)], None),
     Case(&[Fact::Members(5, THIRDS)], None),
     Case(&[Fact::Members(5, TOO_LITTLE)], BROKEN),

@@ -3,15 +3,16 @@
 ghost use Rattle.std.specs.Prelude.{◌≡◌, ℕ, ◌||◌, nat_eq, IfOk, OnOk};
 ghost use Rattle.land_core.specs.Contents.{names_unit};
 ghost use Rattle.land_core.specs.Mergers.{lists_number};
-ghost use Rattle.land_rules.specs.Holdings.{AreHoldings, AreLodgedOn, AreTied, has_number, is_tied};
+ghost use Rattle.land_rules.specs.Holdings.{AreHoldings, AreLodgedOn, AreNames, AreTied, has_number, is_tied, ties_by};
+ghost use Rattle.land_rules.specs.declared.rules.holdings.Tie.TheVariants as ties;
 
-use crate::relations::{is_credit, is_held_ownership, is_held_right, is_pending_of};
+use crate::relations::{is_mortgage, is_pending_of, is_right};
 use land_core::caller::Caller;
 use land_core::content::Content;
 use land_core::kind::Kind;
 use land_core::register::Register;
 use land_core::role::Role;
-use land_core::rrr::RrrRecord;
+use land_core::rrr::{Class, RightType, RrrRecord};
 use std::alloc::{AllocError, Global};
 use std::collections::BTreeSet;
 
@@ -51,11 +52,13 @@ impl Holdings {
             lodged_on: BTreeSet::new(alloc),
         };
         if caller.role == Role::Citizen {
-            holdings.held = tied_units(alloc, at, caller.party, Tie::Holder)?;
-            holdings.owned = tied_units(alloc, at, caller.party, Tie::Owner)?;
+            let names = names_of_citizen(alloc, at, caller.party)?;
+            holdings.held = tied_units(alloc, at, &names, Tie::Holder)?;
+            holdings.owned = tied_units(alloc, at, &names, Tie::Owner)?;
         }
         if caller.role == Role::Bank {
-            holdings.credited = tied_units(alloc, at, caller.party, Tie::Creditor)?;
+            let names = names_of_bank(alloc, caller.party)?;
+            holdings.credited = tied_units(alloc, at, &names, Tie::Creditor)?;
         }
         if caller.role == Role::Conveyancer {
             holdings.lodged_on = lodged_units(alloc, at, caller.party)?;
@@ -64,34 +67,69 @@ impl Holdings {
     }
 }
 
-/// The units that stand and to which entries tie a party.
-fn tied_units(
+/// The names in which a citizen has rights: its own, and those of the groups of which it is a member.
+fn names_of_citizen(
     alloc: Global,
     at: &Register,
     party: u64,
+) -> Result<BTreeSet<u64>, AllocError>
+    ensures { IfOk result (λ it. AreNames ties.Holder at.now party it) }
+{
+    let mut names = BTreeSet::new(alloc);
+    names.insert(party)?;
+    for (group, members) in at.members.iter() {
+        if members.get(party).is_some() {
+            names.insert(*group)?;
+        }
+    }
+    Ok(names)
+}
+
+/// The name in which a bank is a creditor: its own.
+fn names_of_bank(alloc: Global, party: u64) -> Result<BTreeSet<u64>, AllocError>
+    ensures { IfOk result (λ it. (named : ℕ) → has_number it named ≡ nat_eq named party) }
+{
+    let mut names = BTreeSet::new(alloc);
+    names.insert(party)?;
+    Ok(names)
+}
+
+/// The units that stand and to which entries in some names tie whoever has these names.
+fn tied_units(
+    alloc: Global,
+    at: &Register,
+    names: &BTreeSet<u64>,
     tie: Tie,
 ) -> Result<BTreeSet<u64>, AllocError>
-    ensures { IfOk result (λ it. AreTied tie at.now party it) }
+    ensures { IfOk result (λ it. (party : ℕ) → AreNames tie at.now party names.now → AreTied tie at.now party it) }
 {
     let mut units = BTreeSet::new(alloc);
     for (_, entry) in at.rrrs.iter() {
-        if is_tied(at, party, tie, entry) {
+        if is_tied(at, names, tie, entry) {
             units.insert(entry.unit)?;
         }
     }
     Ok(units)
 }
 
-/// Whether an entry ties a party to its unit, which stands.
-fn is_tied(at: &Register, party: u64, tie: Tie, entry: &RrrRecord) -> bool
-    ensures { result ≡ is_tied tie at.now party entry.now.unit entry.now }
+/// Whether an entry in one of some names ties to its unit, which stands.
+fn is_tied(at: &Register, names: &BTreeSet<u64>, tie: Tie, entry: &RrrRecord) -> bool
+    ensures { result ≡ is_tied tie at.now (has_number names.now) entry.now.unit entry.now }
 {
     at.stands(Kind::Unit, entry.unit)
-        && match tie {
-            Tie::Holder => is_held_right(at, party, entry.unit, entry),
-            Tie::Owner => is_held_ownership(at, party, entry.unit, entry),
-            Tie::Creditor => is_credit(party, entry.unit, entry),
-        }
+        && ties_by(tie, &entry.class)
+        && names.contains(&entry.party)
+}
+
+/// Whether entries of a class tie so.
+fn ties_by(tie: Tie, class: &Class) -> bool
+    ensures { result ≡ ties_by tie class.now }
+{
+    match tie {
+        Tie::Holder => is_right(class),
+        Tie::Owner => class.is_right_of(RightType::Ownership),
+        Tie::Creditor => is_mortgage(class),
+    }
 }
 
 /// The units that the undecided mutations of a party name.

@@ -6,7 +6,7 @@ use Rattle.land_select.proofs.ties.tie_by.Goals as goal
 pub returns-clause-look : goal.returns-clause-look
 returns-clause-look g c =
     let when : to_z w64 (of_z w64 c.args.at) ≡ c.args.at = search rules in
-    let look = rw when at c.in_ok-groups.ensures.look in
+    let look = rw when at c.in_ok-names.ensures.look in
     let told = rw c.as_slice.ensures at c.tie_of.ensures in
-    look_told (state g.S.Store c.args.conn.now) (state g.S.Store c.groups_of.new.conn) _ look
-    (λ clean are moments h held r have stands. told ∙ c.groups_tell_ties.ensures r c.args.caller c.in_ok-groups.groups (are moments h held r stands) c.args.entries.now)
+    look_told (state g.S.Store c.args.conn.now) (state g.S.Store c.names_of.new.conn) _ look
+    (λ clean are moments h held r have stands. told ∙ c.names_tell_ties.ensures r c.args.caller c.in_ok-names.names (are moments h held r stands) c.args.entries.now)

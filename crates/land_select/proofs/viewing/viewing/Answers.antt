@@ -35,4 +35,4 @@ returns-clause-look g c =
     (λ clean both moments h held r premise stands.
     c.view_verdict.ensures
     ∙ ap₂ (λ seen named. told_by seen named caller k n) (both.0 moments h held r premise stands) (both.1 moments h held r (have_members c.soundness_by_look_ups.ensures r premise) stands)
-    ∙ view_told c.selections_tell_verdicts.ensures c.soundness_by_look_ups.ensures r h t premise stands caller k n)
+    ∙ view_told c.sight_tells_verdicts.ensures r premise caller k n)

@@ -5,7 +5,7 @@ use Rattle.land_words.specs.Names.{IsCallerOf, IsNumberOf}
 use Rattle.land_words.proofs.reading.caller_of.Goals as goal
 
 -- nobody asks where there is no party
-partyless : (rows : List Row) (party : Option ℕ) → IsNumberOf rows (codes "party") (pos 1) (pos 9223372036854775807) (option_map pos party) → party ≡ None
+partyless : (rows : List Row) (party : Option ℕ) → IsNumberOf rows (codes "party") (pos 1) (pos 1000000000) (option_map pos party) → party ≡ None
     → IsCallerOf rows None
 partyless rows None none e party role has = none (pos party) has.0
 partyless rows (Some some_party) some e party role has = cc

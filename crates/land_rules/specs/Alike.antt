@@ -1,0 +1,44 @@
+-- When two registers look alike to a caller, and what follows for what it is told.
+use Rattle.std.specs.Prelude.{◌≡◌, ℕ, Bool, List, Option, map as map_list}
+use Rattle.land_core.specs.Register.{holds, object_at, stands}
+use Rattle.land_core.specs.declared.ask.Ask.{Ask}
+use Rattle.land_core.specs.declared.ask.Ask.TheVariants as ask
+use Rattle.land_core.specs.declared.caller.Caller.{Caller}
+use Rattle.land_core.specs.declared.kind.Kind.{Kind}
+use Rattle.land_core.specs.declared.kind.Kind.TheVariants as kind
+use Rattle.land_core.specs.declared.object.Object.{Object}
+use Rattle.land_core.specs.declared.register.Register.{Register}
+use Rattle.land_core.specs.declared.role.Role.{Role}
+use Rattle.land_rules.specs.Laws.{IsSoundOrNothing}
+use Rattle.land_rules.specs.Rules.{seen_of, verdict_of}
+
+-- the numbers of a kind that a caller sees, each with its object
+abbrev pub shown_of : Register → Caller → Kind → List (ℕ × Option Object)
+shown_of at caller k = map_list (λ n. (n, object_at at k n)) (seen_of at caller k)
+
+-- two registers look alike to a caller: it stands in both or in neither, it has the same roles in both, and of each kind it sees the
+-- same numbers with the same objects
+pub record LookAlike (one other : Register) (caller : Caller) : Type 0 where
+  pub party : stands one kind.Party caller.party ≡ stands other kind.Party caller.party
+  pub roles : (role : Role) → holds one caller.party role ≡ holds other caller.party role
+  pub shown : (k : Kind) → shown_of one caller k ≡ shown_of other caller k
+
+-- an ask to see: a view, a list or a sheet, and not an act
+abbrev pub IsRead : Ask → Type 0
+IsRead (ask.View k number at) = Unit {0}
+IsRead (ask.List k at) = Unit {0}
+IsRead (ask.Sheet unit at) = Unit {0}
+IsRead (ask.Do it) = ⊥
+
+-- two worlds look alike to a caller: their registers now do, and so do those at the asked moment, each sound or nothing
+pub record WorldsLookAlike (now other_now at other_at : Register) (caller : Caller) : Type 0 where
+  pub last : LookAlike now other_now caller
+  pub asked : LookAlike at other_at caller
+  pub one : IsSoundOrNothing at
+  pub other : IsSoundOrNothing other_at
+
+-- in worlds that look alike to a caller the policy says the same of each view, list and sheet that it asks for, the number of a
+-- denial included
+abbrev pub VerdictsTellNothingUnseen : Type 0
+VerdictsTellNothingUnseen = (now other_now at other_at : Register) (caller : Caller) (a : Ask) (past : Bool) → WorldsLookAlike now other_now at other_at caller
+    → IsRead a → verdict_of now at caller a past ≡ verdict_of other_now other_at caller a past

@@ -1,0 +1,15 @@
+use Rattle.std.proofs.Common.{rules, ◌≡◌, ◌++◌, ◌↔◌, [], ◌∷◌, ℕ, List, sym, subst, true, to_z, of_z, w64, ◌∙◌}
+use Rattle.std.proofs.lemmas.Bool.{false≢true}
+use Rattle.std.specs.List.{Contains}
+use Rattle.land_rows.proofs.Looking.{look_told}
+use Rattle.land_rules.specs.Relations.{holds_as}
+use Rattle.land_select.proofs.Judged.{looked_at_nothing}
+use Rattle.land_select.proofs.Tied.{names_are}
+use Rattle.land_select.proofs.Viewed.{look_lost}
+use Rattle.sqlite.specs.Held.{state}
+use Rattle.land_select.proofs.ties.names_of.Goals as goal
+
+pub returns-then-not-is_citizen-clause-look : goal.returns-then-not-is_citizen-clause-look
+returns-then-not-is_citizen-clause-look g c =
+    looked_at_nothing _ _ (state g.S.Store c.args.conn.now) c.requires.open
+    (λ clean moments h held r stands citizen. absurd (false≢true (sym c.if-not-is_citizen.true ∙ c.is_citizen.ensures ∙ citizen)))
