@@ -23,3 +23,9 @@ pub mod PrintLemmas
 pub mod PrintedTokens
 pub mod PrintedNumbers
 pub mod LawLemmas
+-- grounds
+pub mod Tallies
+pub mod MatchingLaw
+pub mod LiesLaw
+pub mod MatchingTest
+pub mod EdgeLemmas
