@@ -27,5 +27,12 @@ pub mod LawLemmas
 pub mod Tallies
 pub mod MatchingLaw
 pub mod LiesLaw
+pub mod Sorting
+pub mod Order
+pub mod Betweenness
+pub mod Chains
+pub mod Turning
+pub mod Walking
+pub mod Balance
 pub mod MatchingTest
 pub mod EdgeLemmas

@@ -22,7 +22,7 @@ turn_over : (ux uy wx wy : ℤ) → cross_of ux uy wx wy ≡ pos 0 → cross_of 
 turn_over ux uy wx wy h =
     by_parts (cross_expr (var wx) (var wy) (var ux) (var uy)) (num 0) (omega (arith, parts_eq (cross_expr (var ux) (var uy) (var wx) (var wy)) (num 0) h))
 
-in_box : (a b x : ℤ) → is_between a b x ≡ true ↔ Overlap a b x x
+pub in_box : (a b x : ℤ) → is_between a b x ≡ true ↔ Overlap a b x x
 in_box a b x = (
   λ h. let l = and_left (int_le (int_min a b) x) (int_le x (int_max a b)) h in let g = and_right (int_le (int_min a b) x) (int_le x (int_max a b)) h in
       record { low = omega (arith, ints, clamps); high = omega (arith, ints, clamps) },

@@ -32,7 +32,7 @@ and_comm false false = refl
 pub and_true : (a b : Bool) → a ≡ true → b ≡ true → (a && b) ≡ true
 and_true a b h k = rw (h, k) refl
 
-same_place_is : (p q : Place) → is_same_place p q ≡ true → p ≡ q
+pub same_place_is : (p q : Place) → is_same_place p q ≡ true → p ≡ q
 same_place_is p q h =
     let ex : p.x ≡ q.x = (Decides-int_eq p.x q.x).0 (and_left (int_eq p.x q.x) (int_eq p.y q.y) h) in
     let ey : p.y ≡ q.y = (Decides-int_eq p.y q.y).0 (and_right (int_eq p.x q.x) (int_eq p.y q.y) h) in
@@ -41,7 +41,7 @@ same_place_is p q h =
     place_of : {a b c d : ℤ} → a ≡ b → c ≡ d → (let p : Place = record { x = a; y = c } in p) ≡ (let q : Place = record { x = b; y = d } in q)
     place_of e f = cc
 
-same_place_itself : (p : Place) → is_same_place p p ≡ true
+pub same_place_itself : (p : Place) → is_same_place p p ≡ true
 same_place_itself p = and_true _ _ ((Decides-int_eq p.x p.x).1 refl) ((Decides-int_eq p.y p.y).1 refl)
 
 pub same_edge_is : (e f : Edge) → is_same_edge e f ≡ true → e ≡ f
@@ -53,7 +53,7 @@ same_edge_is e f h =
     edge_of : {a b c d : Place} → a ≡ b → c ≡ d → (let p : Edge = record { from = a; to = c } in p) ≡ (let q : Edge = record { from = b; to = d } in q)
     edge_of e f = cc
 
-same_edge_itself : (e : Edge) → is_same_edge e e ≡ true
+pub same_edge_itself : (e : Edge) → is_same_edge e e ≡ true
 same_edge_itself e = and_true _ _ (same_place_itself e.from) (same_place_itself e.to)
 
 -- ---- counts

@@ -19,3 +19,4 @@ pub mod Turns
 pub mod Reader
 pub mod Steps
 pub mod Edges
+pub mod Walks

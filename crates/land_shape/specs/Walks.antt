@@ -1,0 +1,30 @@
+-- What the pieces of edges are found by: walks from left to right over all corners
+use Rattle.std.specs.Prelude.{Bool, List, [], ◌∷◌, ◌++◌, if◌then◌else◌}
+use Rattle.std.specs.declared.cmp.Ordering.{Ordering}
+use Rattle.std.specs.Ordering.{int_cmp, ordering_then, is_lt}
+use Rattle.land_shape.specs.Matching.{lies_inside}
+use Rattle.land_shape.specs.Place.{Place, Edge}
+
+-- the order of places from left to right, and from below where they are as far right
+abbrev pub place_cmp : Place → Place → Ordering
+place_cmp p q = ordering_then (int_cmp p.x q.x) (int_cmp p.y q.y)
+
+abbrev pub edge_cmp : Edge → Edge → Ordering
+edge_cmp e f = ordering_then (place_cmp e.from f.from) (place_cmp e.to f.to)
+
+abbrev pub is_before : Place → Place → Bool
+is_before p q = is_lt (place_cmp p q)
+
+abbrev pub edge_before : Edge → Edge → Bool
+edge_before e f = is_lt (edge_cmp e f)
+
+-- the pieces of the way from one place to another: each leads to the next of the places that lies inside what is left
+abbrev pub walk : Place → Place → List Place → List Edge
+walk last end [] = record { from = last; to = end } ∷ []
+walk last end (p ∷ ps) =
+    if lies_inside p (record { from = last; to = end }) then record { from = last; to = p } ∷ walk p end ps else walk last end ps
+
+-- the pieces of the edges that lead to a later place
+abbrev pub walks : List Place → List Edge → List Edge
+walks ps [] = []
+walks ps (e ∷ es) = (if is_before e.from e.to then walk e.from e.to ps else []) ++ walks ps es
