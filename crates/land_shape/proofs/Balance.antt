@@ -1,16 +1,16 @@
 -- Lists of edges lead along every edge alike where the walks of the one and the walks back of the other are the same
-use Rattle.std.proofs.Common.{◌≡◌, ◌↔◌, ℕ, ◌+◌, Bool, true, false, cond, List, [], ◌∷◌, ◌++◌, map, ◌⊎◌, inl, inr, refl, sym, ap, ◌∙◌, subst, arith, append_assoc}
-use Rattle.land_shape.specs.Matching.{pieces, reversed, is_same_edge, count_of, AgreeEverywhere, Agree}
+use Rattle.std.proofs.Common.{◌≡◌, ◌↔◌, ℕ, ◌+◌, false, cond, List, [], ◌∷◌, ◌++◌, map, ◌⊎◌, inl, inr, refl, sym, ap, ◌∙◌, subst, arith, append_assoc}
+use Rattle.land_shape.specs.Matching.{pieces, reversed, is_same_edge, AgreeEverywhere, Agree}
 use Rattle.land_shape.specs.Place.{Place, Edge}
-use Rattle.land_shape.specs.Walks.{walk, walks, is_before}
+use Rattle.land_shape.specs.Walks.{walk, walks, is_before, IsOneOf, HaveSameEdges}
 use Rattle.land_shape.specs.Matching.{lies_inside}
 use Rattle.land_shape.proofs.Betweenness.{edge, inside_after, inside_before}
-use Rattle.land_shape.proofs.Chains.{IsOneOf, same_pieces}
+use Rattle.land_shape.proofs.Chains.{same_pieces}
 use Rattle.land_shape.proofs.MatchingLaw.{same_edge_is, tally-count}
 use Rattle.land_shape.proofs.Order.{Before, never_itself, before_all, before_of, of_before, one_before, edge_is}
 use Rattle.land_shape.proofs.Tallies.{tally, tally-append, either_way}
 use Rattle.land_shape.proofs.Turning.{turned, pieces-append, pieces_turned, tally-turned}
-use Rattle.land_shape.proofs.Walking.{Rise, walk_pieces, clash}
+use Rattle.land_shape.proofs.WalkLemmas.{Rise, walk_pieces}
 
 -- the walk of an edge, if it leads to a later place
 abbrev pub own_walk : List Place → Edge → List Edge
@@ -44,19 +44,21 @@ module _ (places corners : List Place) (rise : Rise corners)
   even : (e z : Edge) → IsEven e z
   even e z = elim (one_before e.from e.to) as (λ o. IsEven e z) [
     | inl up ↦
-      rw (of_before e.from e.to up, not_before e.to e.from (not_back e.from e.to up), found e.from e.to up) (omega arith)
+        rw (of_before e.from e.to up, not_before e.to e.from (not_back e.from e.to up), found e.from e.to up) (omega arith)
     | inr o ↦ elim o as (λ o. IsEven e z) [
       | inl level ↦
-        (let r : reversed e ≡ e = edge_is (reversed e) e (sym level) level in
-        let b : times z (pieces places (e ∷ [])) ≡ times (reversed z) (pieces places (e ∷ [])) = ap (λ (f : Edge). times z (pieces places (f ∷ []))) (sym r) ∙ times_back e z in
-        rw (not_before e.from e.to (λ h. never_itself e.from (subst (λ (q : Place). Before e.from q) (sym level) h)),
-        not_before e.to e.from (λ h. never_itself e.from (subst (λ (q : Place). Before q e.from) (sym level) h))) (omega (arith, b)))
+          (let r : reversed e ≡ e = edge_is (reversed e) e (sym level) level in
+          let b : times z (pieces places (e ∷ [])) ≡ times (reversed z) (pieces places (e ∷ [])) = ap (λ (f : Edge). times z (pieces places (f ∷ []))) (sym r) ∙ times_back e z in
+          rw (
+            not_before e.from e.to (λ h. never_itself e.from (subst (λ (q : Place). Before e.from q) (sym level) h)),
+            not_before e.to e.from (λ h. never_itself e.from (subst (λ (q : Place). Before q e.from) (sym level) h)),
+          ) (omega (arith, b)))
       | inr down ↦
-        (let there : times z (pieces places (e ∷ [])) ≡ times (reversed z) (walk e.to e.from corners)
-        = times_back (reversed e) z ∙ ap (times (reversed z)) (found e.to e.from down) in
-        let back : times (reversed z) (pieces places (e ∷ [])) ≡ times z (walk e.to e.from corners)
-        = times_back (reversed e) (reversed z) ∙ ap (times z) (found e.to e.from down) in
-        rw (of_before e.to e.from down, not_before e.from e.to (not_back e.to e.from down)) (omega (arith, there, back)))
+          (let there : times z (pieces places (e ∷ [])) ≡ times (reversed z) (walk e.to e.from corners)
+          = times_back (reversed e) z ∙ ap (times (reversed z)) (found e.to e.from down) in
+          let back : times (reversed z) (pieces places (e ∷ [])) ≡ times z (walk e.to e.from corners)
+          = times_back (reversed e) (reversed z) ∙ ap (times z) (found e.to e.from down) in
+          rw (of_before e.to e.from down, not_before e.from e.to (not_back e.to e.from down)) (omega (arith, there, back)))
     ]
   ]
 
@@ -85,7 +87,7 @@ module _ (places corners : List Place) (rise : Rise corners)
         tally-append is_same_edge (reversed z) (own_walk corners (reversed e)) (walks corners (map reversed es)),
       ) (omega (arith, first, rest))
 
-walks-append : (ps : List Place) (es fs : List Edge) → walks ps (es ++ fs) ≡ walks ps es ++ walks ps fs
+pub walks-append : (ps : List Place) (es fs : List Edge) → walks ps (es ++ fs) ≡ walks ps es ++ walks ps fs
 walks-append ps [] fs = refl
 walks-append ps (e ∷ es) fs = ap (λ (gs : List Edge). own_walk ps e ++ gs) (walks-append ps es fs) ∙ sym (append_assoc (own_walk ps e) (walks ps es) (walks ps fs))
 
@@ -126,28 +128,31 @@ either_up z = elim (one_before z.from z.to) as (λ o. (¬ Before z.from z.to) �
   ]
 ]
 
-abbrev pub SameTimes : List Edge → List Edge → Type 0
-SameTimes es fs = (z : Edge) → tally is_same_edge z es ≡ tally is_same_edge z fs
+pub as_times : (es fs : List Edge) → HaveSameEdges es fs → (z : Edge) → times z es ≡ times z fs
+as_times es fs h z = tally-count z es ∙ h z ∙ sym (tally-count z fs)
+
+pub as_counts : (es fs : List Edge) → ((z : Edge) → times z es ≡ times z fs) → HaveSameEdges es fs
+as_counts es fs h z = sym (tally-count z es) ∙ h z ∙ tally-count z fs
 
 abbrev Weighed : List Edge → List Edge → Edge → Type 0
 Weighed ours theirs z = times z ours + times (reversed z) theirs ≡ times z theirs + times (reversed z) ours
 
 pub same_ways : (places corners : List Place) → Rise corners
     → ((q : Place) → IsOneOf q places → IsOneOf q corners) → ((q : Place) → IsOneOf q corners → IsOneOf q places)
-    → (ours theirs : List Edge) → SameTimes (one_way corners ours theirs) (one_way corners theirs ours) ↔ AgreeEverywhere (pieces places ours) (pieces places theirs)
+    → (ours theirs : List Edge) → HaveSameEdges (one_way corners ours theirs) (one_way corners theirs ours) ↔ AgreeEverywhere (pieces places ours) (pieces places theirs)
 same_ways places corners rise to from ours theirs = (
-  λ h z. counted z (omega (
+  λ same z. counted z (omega (
     arith,
     all_even places corners rise to from ours z,
     all_even places corners rise to from theirs z,
-    h z,
-    h (reversed z),
+    as_times (one_way corners ours theirs) (one_way corners theirs ours) same z,
+    as_times (one_way corners ours theirs) (one_way corners theirs ours) same (reversed z),
     times_one_way corners ours theirs z,
     times_one_way corners theirs ours z,
     times_one_way corners ours theirs (reversed z),
     times_one_way corners theirs ours (reversed z),
   )),
-  λ agree z. elim (either_up z) as (λ o. times z (one_way corners ours theirs) ≡ times z (one_way corners theirs ours)) [
+  λ agree. as_counts (one_way corners ours theirs) (one_way corners theirs ours) (λ z. elim (either_up z) as (λ o. times z (one_way corners ours theirs) ≡ times z (one_way corners theirs ours)) [
     | inl n ↦ walks_up corners (ours ++ map reversed theirs) z n ∙ sym (walks_up corners (theirs ++ map reversed ours) z n)
     | inr n ↦ omega (
       arith,
@@ -161,10 +166,11 @@ same_ways places corners rise to from ours theirs = (
       times_one_way corners ours theirs (reversed z),
       times_one_way corners theirs ours (reversed z),
     )
-  ],
+  ]),
 )
   where
     counted : (z : Edge) → Weighed (pieces places ours) (pieces places theirs) z → Agree (pieces places ours) (pieces places theirs) z
     counted z h = omega (arith, h, tally-count z (pieces places ours), tally-count z (pieces places theirs), tally-count (reversed z) (pieces places ours), tally-count (reversed z) (pieces places theirs))
+
     weighed : (z : Edge) → Agree (pieces places ours) (pieces places theirs) z → Weighed (pieces places ours) (pieces places theirs) z
     weighed z h = omega (arith, h, tally-count z (pieces places ours), tally-count z (pieces places theirs), tally-count (reversed z) (pieces places ours), tally-count (reversed z) (pieces places theirs))

@@ -1,5 +1,5 @@
 -- Places on one line: which of them lie inside which edges
-use Rattle.std.proofs.Common.{◌≡◌, ◌↔◌, ℕ, zero, suc, ◌+◌, ◌*◌, ◌≤◌, Bool, true, false, ◌&&◌, not, ◌⊎◌, inl, inr, arith, refl, sym, ap, ◌∙◌, subst, int_le}
+use Rattle.std.proofs.Common.{◌≡◌, ℕ, zero, suc, ◌*◌, true, false, ◌&&◌, not, ◌⊎◌, inl, inr, arith, refl, sym, ap, ◌∙◌, subst, int_le}
 use Rattle.std.proofs.lemmas.Int.{ints, clamps, unsigned_abs-mul}
 use Rattle.std.proofs.lemmas.Bool.Decides.{Decides-int_eq}
 use Rattle.std.specs.Int.RustNames.{unsigned_abs}
@@ -8,14 +8,13 @@ use Rattle.std.specs.Cmp.{int_ranks}
 use Rattle.std.specs.declared.cmp.Ordering.{Ordering}
 use Rattle.std.specs.declared.cmp.Ordering.TheVariants.{Less, Equal, Greater}
 use Rattle.std.specs.Ordering.{int_eq, int_cmp, MatchOrdering}
-use lib.IntN.{ℤ, pos, ◌+ℤ◌, ◌-ℤ◌, ◌*ℤ◌, nat_abs}
+use lib.IntN.{ℤ, pos, ◌-ℤ◌, ◌*ℤ◌, nat_abs}
 use lib.Signed.{◌≤ℤ◌, ◌<ℤ◌}
 use Rattle.land_shape.specs.Coordinate.{cross_of}
 use Rattle.land_shape.specs.Place.{Place, Edge, is_same_place}
-use Rattle.land_shape.specs.Segment.{HaveCommonPoint, along}
-use Rattle.land_shape.specs.Turns.{Overlap, BoxesOverlap}
+use Rattle.land_shape.specs.Segment.{HaveCommonPoint}
 use Rattle.land_shape.specs.Matching.{is_between, is_on_line, is_in_box, lies_on, lies_inside}
-use Rattle.land_shape.proofs.Expressions.{Expr, var, num, ◌⊕◌, ◌⊖◌, ◌⊗◌, by_parts, parts_eq}
+use Rattle.land_shape.proofs.Expressions.{var, num, ◌⊕◌, ◌⊖◌, ◌⊗◌, by_parts, parts_eq}
 use Rattle.land_shape.proofs.Meeting.{common-boxes, cross_expr, nat_of}
 use Rattle.land_shape.proofs.MatchingLaw.{and_left, and_right, and_true, same_place_is, same_place_itself}
 use Rattle.land_shape.proofs.LiesLaw.{in_box}
@@ -142,7 +141,7 @@ common_at a b p wide low high on =
         on_second = omega arith;
         same_x = rw (eq, es) (by_parts ((bx ⊖ ax) ⊗ ax ⊕ (px ⊖ ax) ⊗ (bx ⊖ ax)) ((bx ⊖ ax) ⊗ px ⊕ num 0 ⊗ (px ⊖ px)) (omega arith));
         same_y = rw (eq, es) (by_parts ((bx ⊖ ax) ⊗ ay ⊕ (px ⊖ ax) ⊗ (by ⊖ ay)) ((bx ⊖ ax) ⊗ py ⊕ num 0 ⊗ (py ⊖ py))
-        (omega (arith, parts_eq (cross_expr (bx ⊖ ax) (by ⊖ ay) (px ⊖ ax) (py ⊖ ay)) (num 0) on)));
+            (omega (arith, parts_eq (cross_expr (bx ⊖ ax) (by ⊖ ay) (px ⊖ ax) (py ⊖ ay)) (num 0) on)));
       };
     }
 

@@ -1,18 +1,11 @@
 -- The pieces of an edge that leads to a later place: a chain of places along it, whatever the order of the cuts
-use Rattle.std.proofs.Common.{◌≡◌, Bool, true, false, cond, List, [], ◌∷◌, ◌++◌, ◌⊎◌, inl, inr, refl, sym, ap, ◌∙◌, subst}
-use Rattle.land_shape.specs.Faults.{SomeOf}
-use Rattle.land_shape.specs.Matching.{lies_inside, cut_edge, cut_at, pieces}
+use Rattle.std.proofs.Common.{◌≡◌, true, false, cond, List, [], ◌∷◌, ◌⊎◌, inl, inr, refl, sym, ap, ◌∙◌, subst}
+use Rattle.land_shape.specs.Matching.{lies_inside, cut_at, pieces}
 use Rattle.land_shape.specs.Place.{Place, Edge, path_edges}
+use Rattle.land_shape.specs.Walks.{IsOneOf}
 use Rattle.land_shape.proofs.Betweenness.{edge, On, on_part, on_whole, on_start, on_end, inside_of, inside_on, inside_after, inside_before}
 use Rattle.land_shape.proofs.Order.{Before, never_itself, before_all, one_before}
 use Rattle.land_shape.proofs.Tallies.{either_way}
-
-abbrev pub Is : Place → Place → Type 0
-Is q p = q ≡ p
-
--- the place is one of the list
-abbrev pub IsOneOf : Place → List Place → Type 0
-IsOneOf q ps = SomeOf (Is q) ps
 
 -- the places after the first of a chain, with one more where it lies inside a piece
 abbrev pub after : Place → Place → List Place → List Place
@@ -199,5 +192,6 @@ same_pieces f t up ps qs to from =
   where
     on_first : On f t f
     on_first = on_start f t
+
     on_last : On f t t
     on_last = on_end f t

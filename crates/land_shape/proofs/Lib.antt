@@ -27,12 +27,13 @@ pub mod LawLemmas
 pub mod Tallies
 pub mod MatchingLaw
 pub mod LiesLaw
-pub mod Sorting
+pub mod SortLemmas
 pub mod Order
 pub mod Betweenness
 pub mod Chains
 pub mod Turning
-pub mod Walking
+pub mod WalkLemmas
 pub mod Balance
-pub mod MatchingTest
+pub mod NearLemmas
+pub mod SameEdges
 pub mod EdgeLemmas

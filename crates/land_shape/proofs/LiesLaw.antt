@@ -1,16 +1,13 @@
-use Rattle.std.proofs.Common.{◌≡◌, ◌↔◌, Bool, true, false, ◌&&◌, arith, refl, sym, ◌∙◌, int_le}
+use Rattle.std.proofs.Common.{◌≡◌, ◌↔◌, true, arith, refl, sym, int_le}
 use Rattle.std.proofs.lemmas.Int.{ints, clamps}
 use Rattle.std.proofs.lemmas.Bool.Decides.{Decides-int_eq}
-use Rattle.std.specs.Ordering.{int_eq}
 use Rattle.std.specs.Int.{int_min, int_max}
-use lib.IntN.{ℤ, pos, ◌-ℤ◌, ◌*ℤ◌}
-use lib.Signed.{◌≤ℤ◌, le_z}
+use lib.IntN.{ℤ, pos, ◌-ℤ◌}
+use lib.Signed.{le_z}
 use Rattle.land_shape.specs.Coordinate.{cross_of}
-use Rattle.land_shape.specs.Place.{Place, Edge}
-use Rattle.land_shape.specs.Segment.{HaveCommonPoint}
-use Rattle.land_shape.specs.Turns.{Overlap, AreTurns}
+use Rattle.land_shape.specs.Turns.{Overlap}
 use Rattle.land_shape.specs.Matching.{is_between, is_on_line, is_in_box, LiesLaw}
-use Rattle.land_shape.proofs.Expressions.{Expr, var, num, ◌⊕◌, ◌⊖◌, ◌⊗◌, by_parts, parts_eq}
+use Rattle.land_shape.proofs.Expressions.{var, num, ◌⊖◌, ◌⊗◌, by_parts, parts_eq}
 use Rattle.land_shape.proofs.Meeting.{line-common, common-boxes, cross_expr}
 use Rattle.land_shape.proofs.MatchingLaw.{and_left, and_right, and_true}
 

@@ -1,19 +1,17 @@
 -- Rings whose cut edges agree have equal sums of areas
-use Rattle.std.proofs.Common.{◌≡◌, ℕ, ◌+◌, Bool, true, false, cond, List, [], ◌∷◌, ◌++◌, ◌&&◌, not, map, refl, sym, ap, ◌∙◌, arith, sum_by, inl, inr}
+use Rattle.std.proofs.Common.{◌≡◌, ℕ, ◌+◌, Bool, true, false, cond, List, [], ◌∷◌, ◌++◌, ◌&&◌, not, map, refl, sym, ap, ◌∙◌, arith, sum_by}
 use Rattle.std.proofs.lemmas.Int.{ints}
 use Rattle.std.proofs.lemmas.List.Sums.{sum_by-cons}
 use Rattle.std.proofs.lemmas.Bool.Decides.{Decides-int_eq}
 use Rattle.std.specs.List.{AllByRecursion}
 use Rattle.std.specs.Ordering.{int_eq}
-use Rattle.std.specs.Int.RustNames.{unsigned_abs}
-use lib.IntN.{ℤ, pos, ◌+ℤ◌, ◌-ℤ◌, ◌*ℤ◌}
-use lib.Signed.{◌<ℤ◌}
+use lib.IntN.{ℤ, pos, ◌+ℤ◌, ◌-ℤ◌}
 use Rattle.land_shape.specs.Coordinate.{cross_of}
 use Rattle.land_shape.specs.Place.{Place, Edge, is_same_place, ring_edges, edge_area, area_of}
-use Rattle.land_shape.specs.Matching.{lies_inside, lies_on, is_on_line, is_in_box, is_same_edge, reversed, cut_edge, cut_at, pieces, edges_of, places_of, count_of, Match, MatchingLaw, IsCounterclockwise}
+use Rattle.land_shape.specs.Matching.{lies_inside, lies_on, is_on_line, is_in_box, is_same_edge, reversed, cut_at, pieces, edges_of, places_of, count_of, MatchingLaw, IsCounterclockwise}
 use Rattle.land_shape.specs.Outline.{doubled_area}
 use Rattle.land_shape.proofs.Tallies.{total, tally, total-append, tally-append, total-same_tallies, either_way}
-use Rattle.land_shape.proofs.Expressions.{Expr, var, num, ◌⊕◌, ◌⊖◌, ◌⊗◌, by_parts, parts_eq}
+use Rattle.land_shape.proofs.Expressions.{var, num, ◌⊕◌, ◌⊖◌, ◌⊗◌, by_parts, parts_eq}
 
 pub and_left : (a b : Bool) → (a && b) ≡ true → a ≡ true
 and_left true b h = refl

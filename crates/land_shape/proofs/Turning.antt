@@ -1,15 +1,14 @@
 -- Edges the other way round: what is cut of them is what is cut of the edges, the other way round
-use Rattle.std.proofs.Common.{◌≡◌, ℕ, ◌+◌, Bool, true, false, cond, List, [], ◌∷◌, ◌++◌, ◌&&◌, not, map, reverse, refl, sym, ap, ◌∙◌, arith, append_assoc}
+use Rattle.std.proofs.Common.{◌≡◌, Bool, true, false, List, [], ◌∷◌, ◌++◌, ◌&&◌, not, refl, sym, ap, ◌∙◌, arith, append_assoc}
 use Rattle.std.proofs.lemmas.Int.{ints, clamps}
 use Rattle.std.proofs.lemmas.Bool.Decides.{Decides-int_eq}
 use Rattle.std.specs.Bool.{one_answer}
 use Rattle.std.specs.Int.{int_min, int_max}
-use Rattle.std.specs.Ordering.{int_eq}
-use lib.IntN.{ℤ, pos, ◌-ℤ◌, ◌*ℤ◌}
+use lib.IntN.{ℤ, pos, ◌-ℤ◌}
 use Rattle.land_shape.specs.Coordinate.{cross_of}
-use Rattle.land_shape.specs.Matching.{is_between, is_on_line, is_in_box, lies_on, lies_inside, cut_edge, cut_at, pieces, reversed, is_same_edge}
+use Rattle.land_shape.specs.Matching.{is_between, is_on_line, lies_on, lies_inside, cut_edge, cut_at, pieces, reversed, is_same_edge}
 use Rattle.land_shape.specs.Place.{Place, Edge, is_same_place}
-use Rattle.land_shape.proofs.Expressions.{Expr, var, num, ◌⊕◌, ◌⊖◌, ◌⊗◌, by_parts, parts_eq}
+use Rattle.land_shape.proofs.Expressions.{var, num, ◌⊖◌, by_parts, parts_eq}
 use Rattle.land_shape.proofs.Meeting.{cross_expr}
 use Rattle.land_shape.proofs.Tallies.{tally, tally-append, either_way}
 

@@ -1,5 +1,5 @@
 -- Lists of rings that have the same ground, by their signed edges
-use Rattle.std.specs.Prelude.{◌≡◌, ◌↔◌, ℕ, ℤ, Bool, List, [], ◌∷◌, ◌++◌, ◌+◌, pos, ◌&&◌, not, if◌then◌else◌, map, count_by, int_le, ◌-ℤ◌, ◌<ℤ◌, sum_by, IsTrue}
+use Rattle.std.specs.Prelude.{◌≡◌, ◌↔◌, ℕ, ℤ, Bool, List, [], ◌∷◌, ◌++◌, ◌+◌, pos, ◌&&◌, not, if◌then◌else◌, count_by, int_le, ◌-ℤ◌, ◌<ℤ◌, sum_by, IsTrue}
 use Rattle.std.specs.List.{AllByRecursion}
 use Rattle.std.specs.Ordering.{int_eq}
 use Rattle.std.specs.Int.{int_min, int_max}

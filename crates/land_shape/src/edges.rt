@@ -2,14 +2,14 @@
 
 ghost use Rattle.std.specs.Prelude.{◌≡◌};
 ghost use Rattle.land_shape.specs.Edges.{edge_of};
-ghost use Rattle.land_shape.specs.Matching.{is_between, is_on_line, is_in_box, lies_on, lies_inside, is_same_edge, reversed};
+ghost use Rattle.land_shape.specs.Matching.{is_between, is_on_line, is_in_box, lies_on, lies_inside, reversed};
 ghost use Rattle.land_shape.specs.Place.{is_same_place};
 ghost use Rattle.land_shape.specs.Simple.{place_of};
 
 use crate::plane::Point;
 
-/// An edge from one point to another.
-#[derive(Clone, Copy)]
+/// An edge from one point to another. Edges are in order of the points where they begin, and then of those where they end.
+#[derive(Clone, Copy, PartialEq, Eq, PartialOrd, Ord)]
 pub(crate) struct Edge {
     pub(crate) from: Point,
     pub(crate) to: Point,
@@ -73,11 +73,4 @@ pub(crate) fn lies_inside(point: Point, edge: Edge) -> bool
         return false;
     }
     lies_on(point, edge)
-}
-
-/// Whether two edges lead from the same place to the same place.
-pub(crate) fn is_same_edge(a: Edge, b: Edge) -> bool
-    ensures { result ≡ is_same_edge (edge_of a) (edge_of b) }
-{
-    is_at(a.from, b.from) && is_at(a.to, b.to)
 }

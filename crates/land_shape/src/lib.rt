@@ -6,8 +6,6 @@ mod body;
 mod boxes;
 mod closing;
 mod corners;
-mod counting;
-mod cutting;
 mod edges;
 mod faults;
 mod grounds;
@@ -23,7 +21,9 @@ mod printing;
 mod reading;
 mod segment;
 mod simple;
+mod sorting;
 mod tokens;
+mod walking;
 mod words;
 
 pub use crate::faults::ShapeFault;

@@ -3,10 +3,10 @@
 ghost use Rattle.std.specs.Prelude.{◌↔◌, IfOk, IsTrue};
 ghost use Rattle.land_shape.specs.Matching.{Match};
 
-use crate::counting::agree_everywhere;
-use crate::cutting::pieces;
 use crate::grounds::{corners_of, edges_of};
 use crate::outline::Ring;
+use crate::sorting::{have_same_edges, sorted_points};
+use crate::walking::pieces_one_way;
 use std::alloc::{AllocError, Global};
 
 /// Whether two lists of rings have the same ground: with every edge cut at every corner of any of the rings, they lead from
@@ -14,8 +14,10 @@ use std::alloc::{AllocError, Global};
 pub fn chain_matches(alloc: Global, rings: &[Ring], others: &[Ring]) -> Result<bool, AllocError>
     ensures { IfOk result (λ yes. IsTrue yes ↔ Match rings.now others.now) }
 {
-    let corners = corners_of(alloc, rings, others)?;
-    let ours = pieces(alloc, &corners, edges_of(alloc, rings)?)?;
-    let theirs = pieces(alloc, &corners, edges_of(alloc, others)?)?;
-    Ok(agree_everywhere(&ours, &theirs))
+    let corners = sorted_points(corners_of(alloc, rings, others)?);
+    let ours = edges_of(alloc, rings)?;
+    let theirs = edges_of(alloc, others)?;
+    let forth = pieces_one_way(alloc, &corners, &ours, &theirs)?;
+    let back = pieces_one_way(alloc, &corners, &theirs, &ours)?;
+    Ok(have_same_edges(forth, back))
 }

@@ -1,13 +1,12 @@
-use Rattle.std.proofs.Common.{◌≡◌, ℕ, ◌==◌, Bool, true, arith, rules, of_z, sym, ap, ◌∙◌, eq-eqb}
+use Rattle.std.proofs.Common.{◌≡◌, ◌==◌, arith, rules, of_z, ap, ◌∙◌}
 use Rattle.std.proofs.lemmas.Int.{ints}
 use Rattle.std.proofs.lemmas.Bool.Decides.{Decides-int_eq, nat_tests}
-use Rattle.std.specs.Bool.{one_answer, Decides}
+use Rattle.std.specs.Bool.{one_answer}
 use Rattle.std.specs.Ordering.{int_eq}
 use lib.IntN.{ℤ, pos, ◌-ℤ◌}
 use mir.Syntax.{w128}
 use mir.Val.{SFits}
 use Rattle.land_shape.specs.Coordinate.{cross_of}
-use Rattle.land_shape.specs.Edges.{edge_of}
 use Rattle.land_shape.specs.Simple.{place_of}
 use Rattle.land_shape.proofs.edges.is_on_line.Goals as goal
 

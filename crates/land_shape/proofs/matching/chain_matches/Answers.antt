@@ -1,13 +1,24 @@
-use Rattle.std.proofs.Common.{◌≡◌, ◌++◌, ◌∙◌, ap}
+use Rattle.std.proofs.Common.{◌≡◌, ◌++◌, sym, subst, List}
 use Rattle.land_shape.specs.Edges.{edges}
-use Rattle.land_shape.specs.Matching.{pieces, places_of, edges_of}
+use Rattle.land_shape.specs.Matching.{places_of, edges_of}
+use Rattle.land_shape.specs.Place.{Place}
+use Rattle.land_shape.specs.Simple.{places}
+use Rattle.land_shape.specs.Walks.{IsOneOf}
+use Rattle.land_shape.proofs.Balance.{same_ways, one_way}
+use Rattle.land_shape.proofs.CornerLemmas.{through}
 use Rattle.land_shape.proofs.matching.chain_matches.Goals as goal
 
 pub returns : goal.returns
 returns c =
-    let corners = places_of (c.args.rings.now ++ c.args.others.now) in
-    let ours : edges c.deref-3.result.now ≡ pieces corners (edges_of c.args.rings.now)
-    = ap edges c.deref-3.ensures.value ∙ (rw (c.deref.ensures.value, c.in_ok-corners.ensures, c.in_ok-edges_of.ensures) at c.in_ok-ours.ensures) in
-    let theirs : edges c.deref-4.result.now ≡ pieces corners (edges_of c.args.others.now)
-    = ap edges c.deref-4.ensures.value ∙ (rw (c.deref-2.ensures.value, c.in_ok-corners.ensures, c.in_ok-edges_of-2.ensures) at c.in_ok-theirs.ensures) in
-    rw (ours, theirs) at c.agree_everywhere.ensures
+    let listed = places_of (c.args.rings.now ++ c.args.others.now) in
+    let sorted = places c.sorted_points-corners.result.items in
+    let ours = edges_of c.args.rings.now in let theirs = edges_of c.args.others.now in
+    let forth : edges c.in_ok-forth.forth.items ≡ one_way sorted ours theirs
+    = rw (c.deref.ensures.value, c.deref-2.ensures.value, c.deref-3.ensures.value, c.in_ok-ours.ensures, c.in_ok-theirs.ensures) at c.in_ok-forth.ensures in
+    let back : edges c.in_ok-back.back.items ≡ one_way sorted theirs ours
+    = rw (c.deref-4.ensures.value, c.deref-5.ensures.value, c.deref-6.ensures.value, c.in_ok-ours.ensures, c.in_ok-theirs.ensures) at c.in_ok-back.ensures in
+    through (rw (forth, back) at c.have_same_edges.ensures)
+    (same_ways listed sorted c.sorted_points-corners.ensures.rise
+    (λ q m. c.sorted_points-corners.ensures.all q (subst (λ (ps : List Place). IsOneOf q ps) (sym c.in_ok-corners_of.ensures) m))
+    (λ q m. subst (λ (ps : List Place). IsOneOf q ps) c.in_ok-corners_of.ensures (c.sorted_points-corners.ensures.alone q m))
+    ours theirs)

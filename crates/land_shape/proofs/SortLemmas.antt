@@ -1,17 +1,13 @@
 -- Sorted lists: what comes before what, and that two of them with the same elements are one
-use Rattle.std.proofs.Common.{◌≡◌, ℕ, zero, suc, ◌+◌, ◌<◌, ◌≤◌, Bool, true, false, cond, List, [], ◌∷◌, ◌++◌, map, length, get_or, ◌⊎◌, inl, inr, refl, sym, ap, ◌∙◌, subst, arith}
+use Rattle.std.proofs.Common.{◌≡◌, ℕ, zero, suc, ◌+◌, ◌<◌, ◌≤◌, Bool, true, false, cond, List, [], ◌∷◌, map, length, get_or, ◌⊎◌, inl, inr, refl, sym, ap, ◌∙◌, subst, arith}
 use Rattle.std.proofs.lemmas.List.Sorted.{sorted_far, sum_by-IsPermutation, Contains-permutation}
 use Rattle.std.proofs.lemmas.List.Sums.{sum_by-cons}
 use Rattle.std.specs.Cmp.{IsStrictWeakOrder}
 use Rattle.std.specs.List.{AllByRecursion, Contains, sum_by}
 use Rattle.std.specs.List.Sorted.{IsSortedBy, IsPermutation}
 use Rattle.land_shape.specs.Faults.{SomeOf}
+use Rattle.land_shape.specs.Walks.{Rises}
 use Rattle.land_shape.proofs.Tallies.{tally, either_way}
-
--- no element stands before an earlier one
-abbrev pub Rises : {X : Type 0} → (X → X → Bool) → List X → Type 0
-Rises lt [] = Unit {0}
-Rises lt (x ∷ xs) = AllByRecursion (λ y. lt y x ≡ false) xs × Rises lt xs
 
 -- from a fact at each index
 each_of : {X : Type 0} (P : X → Type 0) (xs : List X) → ((k : ℕ) (d : X) → k < length xs → P (get_or xs k d)) → AllByRecursion P xs
@@ -23,7 +19,7 @@ rises_from_sorted lt o [] up = tt
 rises_from_sorted {X} lt o (x ∷ xs) up = (
   each_of (λ y. lt y x ≡ false) xs (λ k d l. sorted_far lt o (x ∷ xs) up 0 (suc k) d (omega arith) (omega arith)),
   rises_from_sorted lt o xs (λ k d z l. let n : suc k + 1 ≡ suc (k + 1) = omega arith in
-  subst (λ (m : ℕ). lt (get_or (x ∷ xs) m d) (get_or xs k d) ≡ false) n (up (suc k) d (omega arith) (omega arith))),
+      subst (λ (m : ℕ). lt (get_or (x ∷ xs) m d) (get_or xs k d) ≡ false) n (up (suc k) d (omega arith) (omega arith))),
 )
 
 pub all_map : {X Y : Type 0} (f : X → Y) (P : Y → Type 0) (xs : List X) → AllByRecursion (λ x. P (f x)) xs → AllByRecursion P (map f xs)

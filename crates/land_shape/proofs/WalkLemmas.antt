@@ -1,19 +1,17 @@
 -- A walk over all corners from left to right gives the pieces of an edge
-use Rattle.std.proofs.Common.{◌≡◌, ℕ, ◌+◌, Bool, true, false, cond, List, [], ◌∷◌, ◌++◌, ◌⊎◌, inl, inr, refl, sym, ap, ◌∙◌, subst, arith}
+use Rattle.std.proofs.Common.{◌≡◌, Bool, true, false, List, [], ◌∷◌, ◌++◌, refl, sym, ap, ◌∙◌}
 use Rattle.std.specs.List.{AllByRecursion}
-use Rattle.land_shape.specs.Matching.{lies_inside, cut_edge, cut_at, pieces, reversed, is_same_edge}
-use Rattle.land_shape.specs.Place.{Place, Edge, is_same_place}
-use Rattle.land_shape.specs.Walks.{walk, walks, is_before}
+use Rattle.land_shape.specs.Matching.{lies_inside, pieces}
+use Rattle.land_shape.specs.Place.{Place, Edge}
+use Rattle.land_shape.specs.Walks.{walk, is_before, Rises}
 use Rattle.land_shape.proofs.Betweenness.{edge, inside_after, inside_before}
-use Rattle.land_shape.proofs.Chains.{IsOneOf, same_pieces}
-use Rattle.land_shape.proofs.Order.{Before, never_itself, before_all, before_of, of_before, one_before}
-use Rattle.land_shape.proofs.Tallies.{tally, tally-append, either_way}
+use Rattle.land_shape.proofs.Order.{Before, never_itself, before_all, before_of, of_before}
+use Rattle.land_shape.proofs.Tallies.{either_way}
 use Rattle.land_shape.proofs.Turning.{pieces-append}
 
 -- the places rise from left to right
 abbrev pub Rise : List Place → Type 0
-Rise [] = Unit {0}
-Rise (p ∷ ps) = AllByRecursion (λ q. is_before q p ≡ false) ps × Rise ps
+Rise ps = Rises is_before ps
 
 pub clash : (P : Type 0) (b : Bool) → b ≡ true → b ≡ false → P
 clash P b t f = let e : true ≡ false = sym t ∙ f in cc e
@@ -31,9 +29,9 @@ walk_pieces a t [] up h = refl
 walk_pieces a t (p ∷ ps) up h =
     either_way (lies_inside p (edge a t))
     (λ yes. rw yes (
-      pieces-append ps (edge a p ∷ []) (edge p t ∷ [])
-      ∙ ap (λ (es : List Edge). es ++ pieces ps (edge p t ∷ [])) (uncut a p ps (inside_after a t p up yes) h.0)
-      ∙ ap (λ (es : List Edge). edge a p ∷ es) (walk_pieces p t ps (inside_before a t p up yes) h.1)
+    pieces-append ps (edge a p ∷ []) (edge p t ∷ [])
+    ∙ ap (λ (es : List Edge). es ++ pieces ps (edge p t ∷ [])) (uncut a p ps (inside_after a t p up yes) h.0)
+    ∙ ap (λ (es : List Edge). edge a p ∷ es) (walk_pieces p t ps (inside_before a t p up yes) h.1)
     ))
     (λ no. rw no (walk_pieces a t ps up h.1))
 
