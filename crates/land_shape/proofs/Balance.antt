@@ -1,6 +1,7 @@
 -- Lists of edges lead along every edge alike where the walks of the one and the walks back of the other are the same
 use Rattle.std.proofs.Common.{◌≡◌, ◌↔◌, ℕ, ◌+◌, false, cond, List, [], ◌∷◌, ◌++◌, map, ◌⊎◌, inl, inr, refl, sym, ap, ◌∙◌, subst, arith, append_assoc}
-use Rattle.land_shape.specs.Matching.{pieces, reversed, is_same_edge, AgreeEverywhere, Agree}
+use Rattle.std.proofs.lemmas.Int.{ints}
+use Rattle.land_shape.specs.Matching.{pieces, reversed, is_same_edge, count_along, LeadAlike}
 use Rattle.land_shape.specs.Place.{Place, Edge}
 use Rattle.land_shape.specs.Walks.{walk, walks, is_before, IsOneOf, HaveSameEdges}
 use Rattle.land_shape.specs.Matching.{lies_inside}
@@ -134,12 +135,15 @@ as_times es fs h z = tally-count z es ∙ h z ∙ sym (tally-count z fs)
 pub as_counts : (es fs : List Edge) → ((z : Edge) → times z es ≡ times z fs) → HaveSameEdges es fs
 as_counts es fs h z = sym (tally-count z es) ∙ h z ∙ tally-count z fs
 
+abbrev IsLedAlike : List Edge → List Edge → Edge → Type 0
+IsLedAlike ours theirs z = count_along z ours ≡ count_along z theirs
+
 abbrev Weighed : List Edge → List Edge → Edge → Type 0
 Weighed ours theirs z = times z ours + times (reversed z) theirs ≡ times z theirs + times (reversed z) ours
 
 pub same_ways : (places corners : List Place) → Rise corners
     → ((q : Place) → IsOneOf q places → IsOneOf q corners) → ((q : Place) → IsOneOf q corners → IsOneOf q places)
-    → (ours theirs : List Edge) → HaveSameEdges (one_way corners ours theirs) (one_way corners theirs ours) ↔ AgreeEverywhere (pieces places ours) (pieces places theirs)
+    → (ours theirs : List Edge) → HaveSameEdges (one_way corners ours theirs) (one_way corners theirs ours) ↔ LeadAlike (pieces places ours) (pieces places theirs)
 same_ways places corners rise to from ours theirs = (
   λ same z. counted z (omega (
     arith,
@@ -169,8 +173,8 @@ same_ways places corners rise to from ours theirs = (
   ]),
 )
   where
-    counted : (z : Edge) → Weighed (pieces places ours) (pieces places theirs) z → Agree (pieces places ours) (pieces places theirs) z
-    counted z h = omega (arith, h, tally-count z (pieces places ours), tally-count z (pieces places theirs), tally-count (reversed z) (pieces places ours), tally-count (reversed z) (pieces places theirs))
+    counted : (z : Edge) → Weighed (pieces places ours) (pieces places theirs) z → IsLedAlike (pieces places ours) (pieces places theirs) z
+    counted z h = omega (arith, ints, h, tally-count z (pieces places ours), tally-count z (pieces places theirs), tally-count (reversed z) (pieces places ours), tally-count (reversed z) (pieces places theirs))
 
-    weighed : (z : Edge) → Agree (pieces places ours) (pieces places theirs) z → Weighed (pieces places ours) (pieces places theirs) z
-    weighed z h = omega (arith, h, tally-count z (pieces places ours), tally-count z (pieces places theirs), tally-count (reversed z) (pieces places ours), tally-count (reversed z) (pieces places theirs))
+    weighed : (z : Edge) → IsLedAlike (pieces places ours) (pieces places theirs) z → Weighed (pieces places ours) (pieces places theirs) z
+    weighed z h = omega (arith, ints, h, tally-count z (pieces places ours), tally-count z (pieces places theirs), tally-count (reversed z) (pieces places ours), tally-count (reversed z) (pieces places theirs))

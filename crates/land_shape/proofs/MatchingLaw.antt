@@ -8,7 +8,7 @@ use Rattle.std.specs.Ordering.{int_eq}
 use lib.IntN.{ℤ, pos, ◌+ℤ◌, ◌-ℤ◌}
 use Rattle.land_shape.specs.Coordinate.{cross_of}
 use Rattle.land_shape.specs.Place.{Place, Edge, is_same_place, ring_edges, edge_area, area_of}
-use Rattle.land_shape.specs.Matching.{lies_inside, lies_on, is_on_line, is_in_box, is_same_edge, reversed, cut_at, pieces, edges_of, places_of, count_of, MatchingLaw, IsCounterclockwise}
+use Rattle.land_shape.specs.Matching.{lies_inside, lies_on, is_on_line, is_in_box, is_same_edge, reversed, cut_at, pieces, edges_of, places_of, count_of, count_along, MatchingLaw, IsCounterclockwise}
 use Rattle.land_shape.specs.Outline.{doubled_area}
 use Rattle.land_shape.proofs.Tallies.{total, tally, total-append, tally-append, total-same_tallies, either_way}
 use Rattle.land_shape.proofs.Expressions.{var, num, ◌⊕◌, ◌⊖◌, ◌⊗◌, by_parts, parts_eq}
@@ -148,5 +148,8 @@ ring_areas (r ∷ rs) h =
 pub matching_law : MatchingLaw
 matching_law rings others ours theirs m =
     let places = places_of (rings ++ others) in
-    let e : area_of (pieces places (edges_of rings)) ≡ area_of (pieces places (edges_of others)) = same_area (pieces places (edges_of rings)) (pieces places (edges_of others)) m in
+    let e : area_of (pieces places (edges_of rings)) ≡ area_of (pieces places (edges_of others)) = same_area (pieces places (edges_of rings)) (pieces places (edges_of others)) (λ e. by_counts e (pieces places (edges_of rings)) (pieces places (edges_of others)) (m e)) in
     omega (arith, ints, ring_areas rings ours, ring_areas others theirs, e, area-pieces places (edges_of rings), area-pieces places (edges_of others))
+  where
+    by_counts : (e : Edge) (es fs : List Edge) → count_along e es ≡ count_along e fs → count_of e es + count_of (reversed e) fs ≡ count_of e fs + count_of (reversed e) es
+    by_counts e es fs h = omega (arith, ints, h)

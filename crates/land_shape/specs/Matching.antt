@@ -1,5 +1,5 @@
 -- Lists of rings that have the same ground, by their signed edges
-use Rattle.std.specs.Prelude.{◌≡◌, ◌↔◌, ℕ, ℤ, Bool, List, [], ◌∷◌, ◌++◌, ◌+◌, pos, ◌&&◌, not, if◌then◌else◌, count_by, int_le, ◌-ℤ◌, ◌<ℤ◌, sum_by, IsTrue}
+use Rattle.std.specs.Prelude.{◌≡◌, ◌↔◌, ℕ, ℤ, Bool, List, [], ◌∷◌, ◌++◌, pos, ◌&&◌, not, if◌then◌else◌, count_by, int_le, ◌-ℤ◌, ◌<ℤ◌, sum_by, IsTrue}
 use Rattle.std.specs.List.{AllByRecursion}
 use Rattle.std.specs.Ordering.{int_eq}
 use Rattle.std.specs.Int.{int_min, int_max}
@@ -62,20 +62,19 @@ is_same_edge e f = is_same_place e.from f.from && is_same_place e.to f.to
 abbrev pub count_of : Edge → List Edge → ℕ
 count_of e es = count_by (λ f. is_same_edge f e) es
 
--- Two lists of edges lead from the start of an edge to its end as often as each other, less how often they lead back. (Each
--- side of the equation has what the other list leads back.)
-abbrev pub Agree : List Edge → List Edge → Edge → Type 0
-Agree ours theirs e = count_of e ours + count_of (reversed e) theirs ≡ count_of e theirs + count_of (reversed e) ours
+-- how much more often a list leads along an edge than back
+abbrev pub count_along : Edge → List Edge → ℤ
+count_along e es = pos (count_of e es) -ℤ pos (count_of (reversed e) es)
 
-abbrev pub AgreeEverywhere : List Edge → List Edge → Type 0
-AgreeEverywhere ours theirs = (e : Edge) → Agree ours theirs e
+-- Two lists of edges lead from each place to each other as often, less how often they lead back.
+abbrev pub LeadAlike : List Edge → List Edge → Type 0
+LeadAlike ours theirs = (e : Edge) → count_along e ours ≡ count_along e theirs
 
--- Two lists of rings have the same ground: with every edge cut at every corner of any of the rings, they lead from each place
--- to each other as often, less how often they lead back.
+-- Two lists of rings have the same ground: their edges, each cut at every corner of any of the rings, lead alike.
 abbrev pub Match : List (List Place) → List (List Place) → Type 0
 Match rings others =
     let corners = places_of (rings ++ others) in
-    AgreeEverywhere (pieces corners (edges_of rings)) (pieces corners (edges_of others))
+    LeadAlike (pieces corners (edges_of rings)) (pieces corners (edges_of others))
 
 -- the ring runs counterclockwise, as each outline does
 abbrev pub IsCounterclockwise : List Place → Type 0
