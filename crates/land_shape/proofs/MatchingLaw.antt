@@ -8,7 +8,7 @@ use Rattle.std.specs.Ordering.{int_eq}
 use lib.IntN.{ℤ, pos, ◌+ℤ◌, ◌-ℤ◌}
 use Rattle.land_shape.specs.Coordinate.{cross_of}
 use Rattle.land_shape.specs.Place.{Place, Edge, is_same_place, ring_edges, edge_area, area_of}
-use Rattle.land_shape.specs.Matching.{lies_inside, lies_on, is_on_line, is_in_box, is_same_edge, reversed, cut_at, pieces, edges_of, places_of, count_of, count_along, MatchingLaw, IsCounterclockwise}
+use Rattle.land_shape.specs.Matching.{lies_inside, lies_on, is_on_line, is_in_box, is_same_edge, reversed, cut_at, pieces, edges_of, places_of, count_of, count_along, Match, MatchingLaw, IsCounterclockwise}
 use Rattle.land_shape.specs.Outline.{doubled_area}
 use Rattle.land_shape.proofs.Tallies.{total, tally, total-append, tally-append, total-same_tallies, either_way}
 use Rattle.land_shape.proofs.Expressions.{var, num, ◌⊕◌, ◌⊖◌, ◌⊗◌, by_parts, parts_eq}
@@ -146,6 +146,7 @@ ring_areas (r ∷ rs) h =
     omega (arith, ints, ih, first, area-append (ring_edges r) (edges_of rs), sum_by-cons doubled_area r rs)
 
 pub matching_law : MatchingLaw
+unfolding Match
 matching_law rings others ours theirs m =
     let places = places_of (rings ++ others) in
     let e : area_of (pieces places (edges_of rings)) ≡ area_of (pieces places (edges_of others)) = same_area (pieces places (edges_of rings)) (pieces places (edges_of others)) (λ e. by_counts e (pieces places (edges_of rings)) (pieces places (edges_of others)) (m e)) in

@@ -52,9 +52,11 @@ abbrev pub places_of : List (List Place) → List Place
 places_of [] = []
 places_of (ring ∷ rings) = ring ++ places_of rings
 
+-- an edge the other way round
 abbrev pub reversed : Edge → Edge
 reversed e = record { from = e.to; to = e.from }
 
+-- whether two edges lead from the same place to the same place
 abbrev pub is_same_edge : Edge → Edge → Bool
 is_same_edge e f = is_same_place e.from f.from && is_same_place e.to f.to
 
@@ -71,7 +73,7 @@ abbrev pub LeadAlike : List Edge → List Edge → Type 0
 LeadAlike ours theirs = (e : Edge) → count_along e ours ≡ count_along e theirs
 
 -- Two lists of rings have the same ground: their edges, each cut at every corner of any of the rings, lead alike.
-abbrev pub Match : List (List Place) → List (List Place) → Type 0
+unfoldable pub Match : List (List Place) → List (List Place) → Type 0
 Match rings others =
     let corners = places_of (rings ++ others) in
     LeadAlike (pieces corners (edges_of rings)) (pieces corners (edges_of others))

@@ -11,12 +11,15 @@ use Rattle.land_shape.specs.Place.{Place, Edge}
 abbrev pub place_cmp : Place → Place → Ordering
 place_cmp p q = ordering_then (int_cmp p.x q.x) (int_cmp p.y q.y)
 
+-- the order of edges, by where they begin and then by where they end
 abbrev pub edge_cmp : Edge → Edge → Ordering
 edge_cmp e f = ordering_then (place_cmp e.from f.from) (place_cmp e.to f.to)
 
+-- whether a place comes before another
 abbrev pub is_before : Place → Place → Bool
 is_before p q = is_lt (place_cmp p q)
 
+-- whether an edge comes before another
 abbrev pub edge_before : Edge → Edge → Bool
 edge_before e f = is_lt (edge_cmp e f)
 

@@ -1,6 +1,6 @@
 use Rattle.std.proofs.Common.{◌≡◌, ◌++◌, sym, subst, List}
 use Rattle.land_shape.specs.Edges.{edges}
-use Rattle.land_shape.specs.Matching.{places_of, edges_of}
+use Rattle.land_shape.specs.Matching.{Match, places_of, edges_of}
 use Rattle.land_shape.specs.Place.{Place}
 use Rattle.land_shape.specs.Simple.{places}
 use Rattle.land_shape.specs.Walks.{IsOneOf}
@@ -9,6 +9,7 @@ use Rattle.land_shape.proofs.CornerLemmas.{through}
 use Rattle.land_shape.proofs.matching.chain_matches.Goals as goal
 
 pub returns : goal.returns
+unfolding Match
 returns c =
     let listed = places_of (c.args.rings.now ++ c.args.others.now) in
     let sorted = places c.sorted_points-corners.result.items in
