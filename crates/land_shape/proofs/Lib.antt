@@ -23,3 +23,17 @@ pub mod PrintLemmas
 pub mod PrintedTokens
 pub mod PrintedNumbers
 pub mod LawLemmas
+-- grounds
+pub mod Tallies
+pub mod MatchingLaw
+pub mod LiesLaw
+pub mod SortLemmas
+pub mod Order
+pub mod Betweenness
+pub mod Chains
+pub mod Turning
+pub mod WalkLemmas
+pub mod Balance
+pub mod NearLemmas
+pub mod SameEdges
+pub mod EdgeLemmas

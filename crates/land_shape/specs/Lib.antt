@@ -12,7 +12,11 @@ pub mod Printed
 pub mod FaultTexts
 pub mod Faults
 pub mod Laws
+-- grounds
+pub mod Matching
 -- what private functions compute
 pub mod Turns
 pub mod Reader
 pub mod Steps
+pub mod Edges
+pub mod Walks

@@ -1,6 +1,7 @@
 //! Laws over the definitions alone, each the contract of a function that does nothing.
 
 ghost use Rattle.land_shape.specs.Laws.{PrintedLaw, OneAnswerLaw, AnswerLaw};
+ghost use Rattle.land_shape.specs.Matching.{MatchingLaw, LiesLaw};
 
 /// The printed form of a ring stands for that ring and no other.
 pub fn printed_rings()
@@ -15,4 +16,14 @@ pub fn one_answer()
 /// Each text has an answer: a ring that it stands for, or a first fault.
 pub fn every_text_is_judged()
     ensures { AnswerLaw }
+{}
+
+/// A place lies on an edge where the edge has that point.
+pub fn places_on_edges()
+    ensures { LiesLaw }
+{}
+
+/// Lists of rings that match have equal sums of doubled areas.
+pub fn matching_chains_have_equal_areas()
+    ensures { MatchingLaw }
 {}

@@ -5,8 +5,9 @@ ghost use Rattle.land_shape.specs.Coordinate.{IsCoordinate, IsDistance, IsTriang
 
 /// A corner of an outline, in whole millimetres.
 ///
-/// Both coordinates lie between -10_000_000_000 and 10_000_000_000.
-#[derive(Clone, Copy, PartialEq, Eq, Debug)]
+/// Both coordinates lie between -10_000_000_000 and 10_000_000_000. Points are in order from left to right, and from below
+/// where they are as far right.
+#[derive(Clone, Copy, PartialEq, Eq, PartialOrd, Ord, Debug)]
 pub struct Point {
     pub x: i64,
     pub y: i64,

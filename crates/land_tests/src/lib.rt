@@ -8,6 +8,8 @@
 #![tactic(auto)]
 
 #[cfg(test)]
+mod chains;
+#[cfg(test)]
 mod core_acts;
 #[cfg(test)]
 mod core_types;
@@ -15,3 +17,5 @@ mod core_types;
 mod fraction;
 #[cfg(test)]
 mod shape;
+#[cfg(test)]
+mod tilings;

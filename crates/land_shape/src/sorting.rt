@@ -1,0 +1,38 @@
+//! Points and edges in order.
+
+ghost use Rattle.std.specs.Prelude.{◌≡◌, ◌↔◌, IsTrue};
+ghost use Rattle.land_shape.specs.Edges.{edges};
+ghost use Rattle.land_shape.specs.Place.{Place};
+ghost use Rattle.land_shape.specs.Simple.{places};
+ghost use Rattle.land_shape.specs.Walks.{HaveSameEdges, IsOneOf, Rises, edge_before, is_before};
+
+use crate::edges::Edge;
+use crate::plane::Point;
+
+/// The points from left to right.
+pub(crate) fn sorted_points(points: Vec<Point>) -> Vec<Point>
+    ensures rise { Rises is_before (places result.items) }
+    ensures all { (p : Place) → IsOneOf p (places points.items) → IsOneOf p (places result.items) }
+    ensures alone { (p : Place) → IsOneOf p (places result.items) → IsOneOf p (places points.items) }
+{
+    let mut sorted = points;
+    sorted.sort_unstable();
+    sorted
+}
+
+/// The edges in order.
+fn sorted_edges(list: Vec<Edge>) -> Vec<Edge>
+    ensures rise { Rises edge_before (edges result.items) }
+    ensures same { HaveSameEdges (edges result.items) (edges list.items) }
+{
+    let mut sorted = list;
+    sorted.sort_unstable();
+    sorted
+}
+
+/// Whether two lists have each edge as often.
+pub(crate) fn have_same_edges(list: Vec<Edge>, other: Vec<Edge>) -> bool
+    ensures { IsTrue result ↔ HaveSameEdges (edges list.items) (edges other.items) }
+{
+    sorted_edges(list) == sorted_edges(other)
+}
