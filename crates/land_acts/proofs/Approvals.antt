@@ -37,7 +37,7 @@ use Rattle.land_mutations.proofs.DischargedEntries.{discharged_is_sound}
 use Rattle.land_mutations.proofs.UnrefusedContents.{unrefused_discharge, unrefused_mortgage, unrefused_move}
 use Rattle.land_acts.proofs.MergedApprovals.{approved_merger_is_sound, approved_merger_once, tight_mutation}
 use Rattle.land_mutations.proofs.MortgagedUnits.{mortgaged_is_sound}
-use Rattle.land_mutations.proofs.SubdividedAreas.{unrefused_subdivision}
+use Rattle.land_mutations.proofs.SubdividedGrounds.{unrefused_subdivision}
 use Rattle.land_mutations.proofs.SubdividedKeys.{subdivision_names_once}
 use Rattle.land_mutations.proofs.SubdividedRegisters.{subdivided_is_sound, subdivision_grows}
 use Rattle.land_mutations.proofs.Transfers.{sound_names_once, transferred_is_sound}

@@ -1,5 +1,5 @@
--- What an approval puts in the place of parcels has together their area.
-use Rattle.std.proofs.Common.{◌≡◌, not, Some, None, [], sym, ap, ◌∙◌, arith}
+-- What an approval puts in the place of parcels is their ground, and has together their area.
+use Rattle.std.proofs.Common.{◌≡◌, not, Some, None, List, [], ◌∷◌, sym, ap, ◌∙◌, arith, subst}
 use Rattle.std.specs.Prelude.{ℤ, Ok}
 use Rattle.std.specs.Option.{option_map_or}
 use Rattle.std.specs.FinMap as map
@@ -14,8 +14,11 @@ use Rattle.land_core.specs.declared.content.Content.TheVariants as content
 use Rattle.land_core.specs.declared.mutation.MutationRecord.{MutationRecord}
 use Rattle.land_core.specs.declared.mutation.MutationState.TheVariants.{Approved}
 use Rattle.land_core.specs.declared.register.Register.{Register}
+use Rattle.land_shape.specs.Matching.{Match}
+use Rattle.land_shape.specs.Place.{Place}
 use Rattle.land_acts.specs.AreaLaws.{MergersKeepAreas, SubdivisionsKeepAreas, outlines_put}
-use Rattle.land_mutations.specs.Areas.{doubled_areas}
+use Rattle.land_acts.specs.GroundLaws.{MergersKeepGround, SubdivisionsKeepGround}
+use Rattle.land_mutations.specs.Areas.{doubled_areas, outlines_at}
 use Rattle.land_mutations.specs.Asking.{content_change, content_refusals}
 use Rattle.land_acts.specs.Deciding.{is_lodged, with_state}
 use Rattle.land_mutations.specs.Planning.{first_that_holds}
@@ -23,9 +26,9 @@ use Rattle.land_acts.specs.Outcome.{outcome_of}
 use Rattle.land_mutations.specs.declared.refusal.Planned.TheVariants.{New}
 use Rattle.land_mutations.specs.declared.refusal.Refusal.TheVariants.{NotLodged}
 use Rattle.land_acts.proofs.Accepted.{planned}
-use Rattle.land_mutations.proofs.MergedKeys.{merged_area}
+use Rattle.land_mutations.proofs.MergedKeys.{merged_area, merged_ground}
 use Rattle.land_mutations.proofs.Refusals.{first_none}
-use Rattle.land_mutations.proofs.SubdividedAreas.{subdivision_keeps_area}
+use Rattle.land_mutations.proofs.SubdividedGrounds.{subdivision_keeps_area, subdivision_keeps_ground}
 
 -- what is approved puts the parcels of its content, which is not refused
 record IsApproved (r : Register) (m : MutationRecord) (c : Content) (stamp : ℤ) (change : Change) : Type 0 where
@@ -48,6 +51,16 @@ pub subdivisions_keep_areas : SubdivisionsKeepAreas
 subdivisions_keep_areas r caller decision m it old stamp change done there is stands outcome =
     let approval = approved r caller decision m (content.Subdivision it) stamp change done there is outcome in
     ap doubled_areas approval.puts ∙ subdivision_keeps_area r m.source it (Some stamp) approval.unrefused old stands
+
+pub subdivisions_keep_ground : SubdivisionsKeepGround
+subdivisions_keep_ground r caller decision m it old stamp change done there is stands outcome =
+    let approval = approved r caller decision m (content.Subdivision it) stamp change done there is outcome in
+    subst (λ (new : List (List Place)). Match (old.outline ∷ []) new) (sym approval.puts) (subdivision_keeps_ground r m.source it (Some stamp) approval.unrefused old stands)
+
+pub mergers_keep_ground : MergersKeepGround
+mergers_keep_ground r caller decision m it stamp change done there is outcome =
+    let approval = approved r caller decision m (content.Merger it) stamp change done there is outcome in
+    subst (λ (new : List (List Place)). Match (outlines_at r it.parcels) new) (sym approval.puts) (merged_ground r it (Some stamp) approval.unrefused)
 
 pub mergers_keep_areas : MergersKeepAreas
 mergers_keep_areas r caller decision m it stamp change done there is outcome =

@@ -32,7 +32,7 @@ use Rattle.land_mutations.proofs.UnrefusedContents.{unrefused_mortgage, unrefuse
 use Rattle.land_acts.proofs.MergedApprovals.{merger_fits}
 use Rattle.land_mutations.proofs.MortgageRanks.{next_rank_fits_kept}
 use Rattle.land_mutations.proofs.Refusals.{first_none}
-use Rattle.land_mutations.proofs.SubdividedAreas.{unrefused_subdivision}
+use Rattle.land_mutations.proofs.SubdividedGrounds.{unrefused_subdivision}
 
 one_left : (s : Register) → lacks_numbers s 1 ≡ false → s.next ≤ 1000000000
 one_left s h = let most : s.next + 1 ≤ 1000000001 = ltb-false 1000000001 (s.next + 1) h in omega (arith, most)

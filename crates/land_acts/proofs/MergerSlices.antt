@@ -12,8 +12,9 @@ use Rattle.land_core.specs.declared.register.Register.{Register}
 use Rattle.land_core.specs.declared.rrr.RrrRecord.{RrrRecord}
 use Rattle.land_core.proofs.Pairs.{list_any_same}
 use Rattle.land_mutations.specs.declared.refusal.Refusal.{Refusal}
-use Rattle.land_mutations.specs.declared.refusal.Refusal.TheVariants.{NoSuchUnit, NoSuchParcel, AreaNotKept, UnlikeUnits, TooMany, ClockOut}
-use Rattle.land_mutations.specs.Areas.{do_areas_differ, outlines_at}
+use Rattle.land_mutations.specs.declared.refusal.Refusal.TheVariants.{NoSuchUnit, NoSuchParcel, UnlikeUnits, TooMany, ClockOut, NotMatched}
+use Rattle.land_mutations.specs.Areas.{outlines_at}
+use Rattle.land_mutations.specs.Grounds.{are_same_ground}
 use Rattle.land_mutations.specs.Merging.{are_same_entries, entries_of_others, has_unlike, is_named, is_parcel_named, is_same_mark, is_unlike, lacks_parcel, lacks_unit, merger_change, merger_refusals, would_have_more_parcels}
 use Rattle.land_mutations.specs.Planning.{first_that_holds, lacks_numbers}
 use Rattle.land_mutations.specs.Subdividing.{entries_of, parcels_beside}
@@ -56,13 +57,13 @@ module _ (s r : Register) (it : Merger) (named : ℕ → Bool) (agree : AgreeOnU
       list_any_same (λ n. not (is_parcel_named s it n)) (λ n. not (is_parcel_named r it n))
       (λ n. ap not (parcel_agrees s r named agree (λ p. is_named it p.unit) (λ p passes. names p.unit passes) n)) it.parcels
 
-  -- whether outlines have not the area of the new one
+  -- whether the new outline is not the ground of those of the parcels
   abbrev is_lost : Register → Bool
-  is_lost at = do_areas_differ (outlines_at at it.parcels) (it.outline ∷ [])
+  is_lost at = not (are_same_ground (outlines_at at it.parcels) (it.outline ∷ []))
 
   lost_agrees : lacks_parcel r it ≡ false → is_lost s ≡ is_lost r
   lost_agrees none =
-      ap (λ old. do_areas_differ old (it.outline ∷ [])) (outlines_agree s r named agree (λ p. is_named it p.unit) (λ p passes. names p.unit passes) it.parcels none)
+      ap (λ old. not (are_same_ground old (it.outline ∷ []))) (outlines_agree s r named agree (λ p. is_named it p.unit) (λ p passes. names p.unit passes) it.parcels none)
 
   -- whether a unit is unlike the unit, by what is read of the two
   abbrev is_unlike_by : (beside : ℕ) (checked mark : Bool) (entries others : List RrrRecord) → Bool
@@ -96,16 +97,16 @@ module _ (s r : Register) (it : Merger) (named : ℕ → Bool) (agree : AgreeOnU
       ∙ ap (cond (lacks_unit r it) (Some NoSuchUnit)) (later_lines NoSuchParcel (lacks_parcel r it) of_slice of_register rest)
     where
       of_slice : List (Refusal × Bool)
-      of_slice = (AreaNotKept, is_lost s) ∷ (UnlikeUnits, has_unlike s it) ∷ (TooMany, is_many s) ∷ (ClockOut, is_none stamp) ∷ []
+      of_slice = (UnlikeUnits, has_unlike s it) ∷ (TooMany, is_many s) ∷ (ClockOut, is_none stamp) ∷ (NotMatched, is_lost s) ∷ []
 
       of_register : List (Refusal × Bool)
-      of_register = (AreaNotKept, is_lost r) ∷ (UnlikeUnits, has_unlike r it) ∷ (TooMany, is_many r) ∷ (ClockOut, is_none stamp) ∷ []
+      of_register = (UnlikeUnits, has_unlike r it) ∷ (TooMany, is_many r) ∷ (ClockOut, is_none stamp) ∷ (NotMatched, is_lost r) ∷ []
 
       rest : lacks_parcel r it ≡ false → first_that_holds of_slice ≡ first_that_holds of_register
       rest none =
-          ap (λ b. first_that_holds ((AreaNotKept, b) ∷ (UnlikeUnits, has_unlike s it) ∷ (TooMany, is_many s) ∷ (ClockOut, is_none stamp) ∷ [])) (lost_agrees none)
-          ∙ ap (λ b. first_that_holds ((AreaNotKept, is_lost r) ∷ (UnlikeUnits, b) ∷ (TooMany, is_many s) ∷ (ClockOut, is_none stamp) ∷ [])) unlike_agree
-          ∙ ap (λ b. first_that_holds ((AreaNotKept, is_lost r) ∷ (UnlikeUnits, has_unlike r it) ∷ (TooMany, b) ∷ (ClockOut, is_none stamp) ∷ [])) many_agrees
+          ap (λ b. first_that_holds ((UnlikeUnits, b) ∷ (TooMany, is_many s) ∷ (ClockOut, is_none stamp) ∷ (NotMatched, is_lost s) ∷ [])) unlike_agree
+          ∙ ap (λ b. first_that_holds ((UnlikeUnits, has_unlike r it) ∷ (TooMany, b) ∷ (ClockOut, is_none stamp) ∷ (NotMatched, is_lost s) ∷ [])) many_agrees
+          ∙ ap (λ b. first_that_holds ((UnlikeUnits, has_unlike r it) ∷ (TooMany, is_many r) ∷ (ClockOut, is_none stamp) ∷ (NotMatched, b) ∷ [])) (lost_agrees none)
 
   -- ---- the change
 

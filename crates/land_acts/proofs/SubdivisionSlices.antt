@@ -15,8 +15,9 @@ use Rattle.land_core.specs.declared.subdivision.Subdivision.{Subdivision}
 use Rattle.land_core.proofs.Booleans.{both_of, not_false, or_false}
 use Rattle.land_core.proofs.Reflection.{entries-only}
 use Rattle.land_mutations.specs.declared.refusal.Refusal.{Refusal}
-use Rattle.land_mutations.specs.declared.refusal.Refusal.TheVariants.{NoSuchUnit, NoSuchParcel, AreaNotKept, TooMany, ClockOut}
-use Rattle.land_mutations.specs.Areas.{do_areas_differ, outlines_at}
+use Rattle.land_mutations.specs.declared.refusal.Refusal.TheVariants.{NoSuchUnit, NoSuchParcel, TooMany, ClockOut, NotMatched}
+use Rattle.land_mutations.specs.Areas.{outlines_at}
+use Rattle.land_mutations.specs.Grounds.{are_same_ground}
 use Rattle.land_mutations.specs.Numbering.{numbers_from}
 use Rattle.land_mutations.specs.Planning.{first_that_holds, lacks_numbers}
 use Rattle.land_mutations.specs.Subdividing.{all_parts, count_for, cut_change, entries_of, has_parcel_in, origin_of, outlines_of, parcels_beside, staying, subdivision_change, subdivision_count, subdivision_made, subdivision_refusals, would_have_many_parcels}
@@ -120,7 +121,7 @@ module _ (s r : Register) (it : Subdivision) (named : ℕ → Bool) (agree : Agr
 
   -- two of its refusals
   abbrev is_lost : Register → Bool
-  is_lost at = do_areas_differ (outlines_at at (it.parcel ∷ [])) (outlines_of (all_parts it))
+  is_lost at = not (are_same_ground (outlines_at at (it.parcel ∷ [])) (outlines_of (all_parts it)))
 
   abbrev is_many : Register → Bool
   is_many at = lacks_numbers at (subdivision_count at it) || would_have_many_parcels at it
@@ -133,26 +134,30 @@ module _ (s r : Register) (it : Subdivision) (named : ℕ → Bool) (agree : Agr
 
   lost_agrees : has_parcel_in r it.unit it.parcel ≡ true → is_lost s ≡ is_lost r
   lost_agrees there =
-      ap (λ old. do_areas_differ old (outlines_of (all_parts it)))
+      ap (λ old. not (are_same_ground old (outlines_of (all_parts it))))
       (outlines_agree s r named agree (λ p. nat_eq p.unit it.unit) in_named (it.parcel ∷ []) (ap (λ b. not b || false) there))
 
   -- where the parcel is one of another unit, its outline may be in the one and not in the other; but then it is refused before
   pub subdivision_refusal_agrees : (stamp : Option ℤ) → first_that_holds (subdivision_refusals s it stamp) ≡ first_that_holds (subdivision_refusals r it stamp)
   subdivision_refusal_agrees stamp =
-      ap (λ b. cond (not b) (Some NoSuchUnit) (first_that_holds ((NoSuchParcel, not (has_parcel_in s it.unit it.parcel)) ∷ (AreaNotKept, is_lost s) ∷ (TooMany, is_many s) ∷ last))) (stands_agrees s r named agree it.unit names)
+      ap (λ b. cond (not b) (Some NoSuchUnit) (first_that_holds ((NoSuchParcel, not (has_parcel_in s it.unit it.parcel)) ∷ of_slice))) (stands_agrees s r named agree it.unit names)
       ∙ ap (cond (not (has r.units it.unit)) (Some NoSuchUnit)) parcel
     where
-      last : List (Refusal × Bool)
-      last = (ClockOut, is_none stamp) ∷ []
+      of_slice : List (Refusal × Bool)
+      of_slice = (TooMany, is_many s) ∷ (ClockOut, is_none stamp) ∷ (NotMatched, is_lost s) ∷ []
 
-      parcel : first_that_holds ((NoSuchParcel, not (has_parcel_in s it.unit it.parcel)) ∷ (AreaNotKept, is_lost s) ∷ (TooMany, is_many s) ∷ last)
-          ≡ first_that_holds ((NoSuchParcel, not (has_parcel_in r it.unit it.parcel)) ∷ (AreaNotKept, is_lost r) ∷ (TooMany, is_many r) ∷ last)
+      of_register : List (Refusal × Bool)
+      of_register = (TooMany, is_many r) ∷ (ClockOut, is_none stamp) ∷ (NotMatched, is_lost r) ∷ []
+
+      rest : not (has_parcel_in r it.unit it.parcel) ≡ false → first_that_holds of_slice ≡ first_that_holds of_register
+      rest there =
+          ap (λ b. first_that_holds ((TooMany, b) ∷ (ClockOut, is_none stamp) ∷ (NotMatched, is_lost s) ∷ [])) many_agrees
+          ∙ ap (λ b. first_that_holds ((TooMany, is_many r) ∷ (ClockOut, is_none stamp) ∷ (NotMatched, b) ∷ [])) (lost_agrees (not_false _ there))
+
+      parcel : first_that_holds ((NoSuchParcel, not (has_parcel_in s it.unit it.parcel)) ∷ of_slice) ≡ first_that_holds ((NoSuchParcel, not (has_parcel_in r it.unit it.parcel)) ∷ of_register)
       parcel =
-          ap (λ b. first_that_holds ((NoSuchParcel, not b) ∷ (AreaNotKept, is_lost s) ∷ (TooMany, is_many s) ∷ last)) has_parcel_agrees
-          ∙ later_lines NoSuchParcel (not (has_parcel_in r it.unit it.parcel)) ((AreaNotKept, is_lost s) ∷ (TooMany, is_many s) ∷ last) ((AreaNotKept, is_lost r) ∷ (TooMany, is_many r) ∷ last)
-          (λ there.
-          ap (λ b. first_that_holds ((AreaNotKept, b) ∷ (TooMany, is_many s) ∷ last)) (lost_agrees (not_false _ there))
-          ∙ ap (λ b. first_that_holds ((AreaNotKept, is_lost r) ∷ (TooMany, b) ∷ last)) many_agrees)
+          ap (λ b. first_that_holds ((NoSuchParcel, not b) ∷ of_slice)) has_parcel_agrees
+          ∙ later_lines NoSuchParcel (not (has_parcel_in r it.unit it.parcel)) of_slice of_register rest
 
   pub subdivision_change_agrees : (source : ℕ) → subdivision_change s source it ≡ subdivision_change r source it
   subdivision_change_agrees source =

@@ -5,6 +5,7 @@ pub mod Deciding
 pub mod Enrolment
 pub mod FirstRights
 pub mod Granting
+pub mod GroundLaws
 pub mod Grouping
 pub mod Laws
 pub mod Lifting

@@ -1,5 +1,6 @@
 //! Laws, each stated over the definitions alone.
 ghost use Rattle.land_acts.specs.AreaLaws.{MergersKeepAreas, SubdivisionsKeepAreas};
+ghost use Rattle.land_acts.specs.GroundLaws.{MergersKeepGround, SubdivisionsKeepGround};
 ghost use Rattle.land_acts.specs.Laws.{SlicesSuffice, AcceptedKeepsSound, AcceptedNamesKeysOnce, AcceptedTellsStamp, NothingWithoutStamp};
 ghost use Rattle.land_acts.specs.MutationLaws.{DecisionsStay, LodgingsStand, LodgingsStay, RepeatsAreToldTheFirst};
 
@@ -56,4 +57,14 @@ pub fn subdivisions_keep_areas()
 /// The parcel of an approved merger has the area of the parcels that ended together.
 pub fn mergers_keep_areas()
     ensures { MergersKeepAreas }
+{}
+
+/// The parcels of an approved subdivision are the ground of the parcel that ended.
+pub fn subdivisions_keep_ground()
+    ensures { SubdivisionsKeepGround }
+{}
+
+/// The parcel of an approved merger is the ground of the parcels that ended together.
+pub fn mergers_keep_ground()
+    ensures { MergersKeepGround }
 {}

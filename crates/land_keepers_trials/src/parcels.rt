@@ -3,18 +3,19 @@ use crate::story::Story;
 use land_scenario::talk::Told::{self, Denied, Refused, Sheet, Shown};
 use land_scenario::talk::{ANNA, BANK, BEN, NORA, NOTARY, OFFICE, Row, SURVEYOR};
 
-const OTHER_AREA: &[Row] = &[
+/// The second part has the area of the right half, and lies a metre beside it.
+const OTHER_GROUND: &[Row] = &[
     Row(
         "POST /acts/subdivision",
         SURVEYOR,
-        br#"{"reference":"S1","document":"Plan 1","unit":9,"parcel":10,"first":{"label":"12a","outline":"POLYGON ((0 0, 5000 0, 5000 10000, 0 10000, 0 0))"},"rest":[{"label":"12b","outline":"POLYGON ((5000 0, 10000 0, 10000 10000, 9999 10001, 9998 10000, 5000 10000, 5000 0))","unit":"Orchard"}]}"#,
+        br#"{"reference":"S1","document":"Plan 1","unit":9,"parcel":10,"first":{"label":"12a","outline":"POLYGON ((0 0, 5000 0, 5000 10000, 0 10000, 0 0))"},"rest":[{"label":"12b","outline":"POLYGON ((6000 0, 11000 0, 11000 10000, 6000 10000, 6000 0))","unit":"Orchard"}]}"#,
         Shown(r#"{"made":[22,23],"number":23,"stamp":1016}"#),
     ),
     Row(
         "POST /acts/approve",
         OFFICE,
         br#"{"mutation":23}"#,
-        Refused(208),
+        Refused(220),
     ),
     Row(
         "GET /parcels/10",
@@ -185,7 +186,7 @@ const UNLIKE_UNITS: &[Row] = &[
 
 /// Turns where parcels are cut and merged.
 pub const PARCELS: &[Story] = &[
-    Story("another area", 16, &[], OTHER_AREA),
+    Story("other ground", 16, &[], OTHER_GROUND),
     Story("three parts", 16, &[], THREE_PARTS),
     Story("one unit", 16, &[], ONE_UNIT),
     Story("a merger", 18, &[], MERGED),

@@ -15,8 +15,9 @@ pub mod NewObjects
 pub mod NumberTests
 pub mod Numbers
 pub mod Refusals
-pub mod SubdividedAreas
+pub mod SameGround
 pub mod SubdividedEntries
+pub mod SubdividedGrounds
 pub mod SubdividedKeys
 pub mod SubdividedParcels
 pub mod SubdividedParts

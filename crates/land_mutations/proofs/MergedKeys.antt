@@ -1,4 +1,4 @@
--- What holds where a merger is not refused: its areas agree, and its change names no key twice.
+-- What holds where a merger is not refused: its ground and its area are kept, and its change names no key twice.
 use Rattle.std.proofs.Common.{◌≡◌, ◌+◌, ◌<◌, ◌≤◌, ℕ, Bool, true, false, cond, ◌&&◌, ◌||◌, not, Option, Some, None, List, [], ◌∷◌, refl, sym, ap, ◌∙◌, arith}
 use Rattle.std.specs.Prelude.{ℤ, filter, is_none, nat_eq, nat_lt, map as map_list}
 use Rattle.std.specs.List.{list_all, list_any}
@@ -9,7 +9,7 @@ use Rattle.std.specs.FinMap.Entries.{below_all}
 use Rattle.std.specs.Ordering.{is_eq, is_lt, nat_cmp}
 use Rattle.std.specs.declared.cmp.Ordering.{Ordering}
 use Rattle.std.specs.declared.cmp.Ordering.TheVariants.{Less, Equal, Greater}
-use Rattle.std.proofs.lemmas.Bool.{eqb-true, false≢true, ltb-true}
+use Rattle.std.proofs.lemmas.Bool.{false≢true, ltb-true}
 use Rattle.std.proofs.lemmas.Bool.Decides.{nat_tests}
 use Rattle.land_core.specs.Changes.{NamesKeysOnce}
 use Rattle.land_core.specs.Contents.{is_well_formed_content}
@@ -24,13 +24,16 @@ use Rattle.land_core.specs.declared.register.Register.{Register}
 use Rattle.land_core.specs.declared.soundness.Unsound.TheVariants.{Reference}
 use Rattle.land_core.proofs.Booleans.{T_true, both_of, not_false, or_false}
 use Rattle.land_core.proofs.SoundRegisters.{are_used, refers, used_bounds, used_from}
+use Rattle.land_shape.specs.Matching.{Match}
 use Rattle.land_shape.specs.Outline.{doubled_area}
 use Rattle.land_mutations.specs.declared.refusal.Refusal.{Refusal}
-use Rattle.land_mutations.specs.declared.refusal.Refusal.TheVariants.{NoSuchUnit, NoSuchParcel, AreaNotKept, UnlikeUnits, TooMany, ClockOut}
-use Rattle.land_mutations.specs.Areas.{do_areas_differ, doubled_areas, outlines_at}
+use Rattle.land_mutations.specs.declared.refusal.Refusal.TheVariants.{NoSuchUnit, NoSuchParcel, UnlikeUnits, TooMany, ClockOut, NotMatched}
+use Rattle.land_mutations.specs.Areas.{doubled_areas, outlines_at}
 use Rattle.land_mutations.specs.Asking.{content_refusals}
+use Rattle.land_mutations.specs.Grounds.{are_same_ground}
 use Rattle.land_mutations.specs.Merging.{has_unlike, is_named, is_parcel_named, lacks_parcel, lacks_unit, merger_change, would_have_more_parcels}
 use Rattle.land_mutations.specs.Planning.{first_that_holds, lacks_numbers}
+use Rattle.land_mutations.proofs.SameGround.{same_area, same_match}
 use Rattle.land_mutations.proofs.MergedParcels.{merger_limits}
 use Rattle.land_mutations.proofs.Numbers.{tied_number}
 use Rattle.land_mutations.proofs.Refusals.{first_none}
@@ -40,28 +43,35 @@ use Rattle.land_mutations.proofs.Refusals.{first_none}
 pub record IsUnrefusedMerger (r : Register) (it : Merger) : Type 0 where
   pub units : lacks_unit r it ≡ false
   pub parcels : lacks_parcel r it ≡ false
-  pub areas : do_areas_differ (outlines_at r it.parcels) (it.outline ∷ []) ≡ false
   pub alike : has_unlike r it ≡ false
   pub room : lacks_numbers r 1 ≡ false
   pub few : would_have_more_parcels r it ≡ false
+  pub ground : are_same_ground (outlines_at r it.parcels) (it.outline ∷ []) ≡ true
 
 pub unrefused_merger : (r : Register) (it : Merger) (stamp : Option ℤ) → first_that_holds (content_refusals r (content.Merger it) stamp) ≡ None → IsUnrefusedMerger r it
 unrefused_merger r it stamp none =
-    let last : List (Refusal × Bool) = (ClockOut, is_none stamp) ∷ [] in
-    let fourth : List (Refusal × Bool) = (TooMany, lacks_numbers r 1 || would_have_more_parcels r it) ∷ last in
-    let third : List (Refusal × Bool) = (UnlikeUnits, has_unlike r it) ∷ fourth in
-    let second : List (Refusal × Bool) = (AreaNotKept, do_areas_differ (outlines_at r it.parcels) (it.outline ∷ [])) ∷ third in
+    let same = are_same_ground (outlines_at r it.parcels) (it.outline ∷ []) in
+    let crowded = lacks_numbers r 1 || would_have_more_parcels r it in
+    let last : List (Refusal × Bool) = (NotMatched, not same) ∷ [] in
+    let fourth : List (Refusal × Bool) = (ClockOut, is_none stamp) ∷ last in
+    let third : List (Refusal × Bool) = (TooMany, crowded) ∷ fourth in
+    let second : List (Refusal × Bool) = (UnlikeUnits, has_unlike r it) ∷ third in
     let unit = first_none NoSuchUnit (lacks_unit r it) ((NoSuchParcel, lacks_parcel r it) ∷ second) none in
     let parcel = first_none NoSuchParcel (lacks_parcel r it) second unit.rest in
-    let area = first_none AreaNotKept (do_areas_differ (outlines_at r it.parcels) (it.outline ∷ [])) third parcel.rest in
-    let unlike = first_none UnlikeUnits (has_unlike r it) fourth area.rest in
-    let many = or_false (lacks_numbers r 1) (would_have_more_parcels r it) (first_none TooMany (lacks_numbers r 1 || would_have_more_parcels r it) last unlike.rest).first in
-    record { units = unit.first; parcels = parcel.first; areas = area.first; alike = unlike.first; room = many.0; few = many.1 }
+    let unlike = first_none UnlikeUnits (has_unlike r it) third parcel.rest in
+    let number = first_none TooMany crowded fourth unlike.rest in
+    let many = or_false (lacks_numbers r 1) (would_have_more_parcels r it) number.first in
+    let clock = first_none ClockOut (is_none stamp) last number.rest in
+    let ground = first_none NotMatched (not same) [] clock.rest in
+    record { units = unit.first; parcels = parcel.first; alike = unlike.first; room = many.0; few = many.1; ground = not_false _ ground.first }
 
--- the new parcel has the area of those that it takes the place of, together
+-- the new parcel is the ground of those that it takes the place of, and has together their area
+pub merged_ground : (r : Register) (it : Merger) (stamp : Option ℤ) → first_that_holds (content_refusals r (content.Merger it) stamp) ≡ None → Match (outlines_at r it.parcels) (it.outline ∷ [])
+merged_ground r it stamp none = same_match (outlines_at r it.parcels) (it.outline ∷ []) (unrefused_merger r it stamp none).ground
+
 pub merged_area : (r : Register) (it : Merger) (stamp : Option ℤ) → first_that_holds (content_refusals r (content.Merger it) stamp) ≡ None → doubled_area it.outline ≡ doubled_areas (outlines_at r it.parcels)
 merged_area r it stamp none =
-    let same = eqb-true (doubled_areas (outlines_at r it.parcels)) (doubled_areas (it.outline ∷ [])) (not_false _ (unrefused_merger r it stamp none).areas) in
+    let same = same_area (outlines_at r it.parcels) (it.outline ∷ []) (unrefused_merger r it stamp none).ground in
     alone (doubled_area it.outline) (doubled_areas (outlines_at r it.parcels)) same
   where
     alone : (new old : ℕ) → old ≡ new + 0 → new ≡ old

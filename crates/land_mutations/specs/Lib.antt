@@ -2,6 +2,7 @@
 pub mod Areas
 pub mod Asking
 pub mod Discharging
+pub mod Grounds
 pub mod Merging
 pub mod Mortgaging
 pub mod Numbering

@@ -16,8 +16,9 @@ use Rattle.land_core.specs.declared.rrr.Class.{Class}
 use Rattle.land_core.specs.declared.rrr.Class.TheVariants as class
 use Rattle.land_core.specs.declared.rrr.RrrRecord.{RrrRecord}
 use Rattle.land_mutations.specs.declared.refusal.Refusal.{Refusal}
-use Rattle.land_mutations.specs.declared.refusal.Refusal.TheVariants.{NoSuchUnit, NoSuchParcel, AreaNotKept, UnlikeUnits, TooMany, ClockOut}
-use Rattle.land_mutations.specs.Areas.{do_areas_differ, outlines_at}
+use Rattle.land_mutations.specs.declared.refusal.Refusal.TheVariants.{NoSuchUnit, NoSuchParcel, UnlikeUnits, TooMany, ClockOut, NotMatched}
+use Rattle.land_mutations.specs.Areas.{outlines_at}
+use Rattle.land_mutations.specs.Grounds.{are_same_ground}
 use Rattle.land_mutations.specs.Planning.{lacks_numbers}
 use Rattle.land_mutations.specs.Subdividing.{entries_of, parcels_beside}
 use Rattle.land_mutations.specs.Transferring.{is_checked}
@@ -100,10 +101,10 @@ abbrev pub merger_refusals : Register → Merger → Option ℤ → List (Refusa
 merger_refusals r it stamp =
     (NoSuchUnit, lacks_unit r it)
     ∷ (NoSuchParcel, lacks_parcel r it)
-    ∷ (AreaNotKept, do_areas_differ (outlines_at r it.parcels) (it.outline ∷ []))
     ∷ (UnlikeUnits, has_unlike r it)
     ∷ (TooMany, lacks_numbers r 1 || would_have_more_parcels r it)
     ∷ (ClockOut, is_none stamp)
+    ∷ (NotMatched, not (are_same_ground (outlines_at r it.parcels) (it.outline ∷ [])))
     ∷ []
 
 -- ---- the change

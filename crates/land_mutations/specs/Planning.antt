@@ -6,7 +6,7 @@ use Rattle.land_core.specs.declared.register.Register.{Register}
 use Rattle.land_core.specs.declared.source.SourceKind.{SourceKind}
 use Rattle.land_core.specs.declared.source.SourceRecord.{SourceRecord}
 use Rattle.land_mutations.specs.declared.refusal.Refusal.{Refusal}
-use Rattle.land_mutations.specs.declared.refusal.Refusal.TheVariants.{NotLodged, NoSuchUnit, NoSuchParcel, NoSuchRight, NoSuchParty, ShareTooLarge, SharesTooFine, AreaNotKept, UnlikeUnits, TooMany, NotBank, NotMortgage, SharesNotWhole, ReferenceUsed, RoleHeld, RoleNotHeld, ClockOut, LastAdministrator, SameParty, NoMemory}
+use Rattle.land_mutations.specs.declared.refusal.Refusal.TheVariants.{NotLodged, NoSuchUnit, NoSuchParcel, NoSuchRight, NoSuchParty, ShareTooLarge, SharesTooFine, UnlikeUnits, TooMany, NotBank, NotMortgage, SharesNotWhole, ReferenceUsed, RoleHeld, RoleNotHeld, ClockOut, LastAdministrator, SameParty, NotMatched, NoMemory}
 
 -- the number that a caller is told for a refusal
 abbrev pub number_of : Refusal → ℕ
@@ -17,7 +17,6 @@ number_of NoSuchRight = 204
 number_of NoSuchParty = 205
 number_of ShareTooLarge = 206
 number_of SharesTooFine = 207
-number_of AreaNotKept = 208
 number_of UnlikeUnits = 209
 number_of TooMany = 210
 number_of NotBank = 211
@@ -29,6 +28,7 @@ number_of RoleNotHeld = 216
 number_of ClockOut = 217
 number_of LastAdministrator = 218
 number_of SameParty = 219
+number_of NotMatched = 220
 number_of NoMemory = 501
 
 -- whether there are too few numbers left for so many new objects: 1_000_000_000 is the last one

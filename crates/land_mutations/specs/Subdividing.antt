@@ -15,8 +15,9 @@ use Rattle.land_core.specs.declared.subdivision.Subdivision.{Subdivision}
 use Rattle.land_core.specs.declared.unit.UnitRecord.{UnitRecord}
 use Rattle.land_shape.specs.Place.{Place}
 use Rattle.land_mutations.specs.declared.refusal.Refusal.{Refusal}
-use Rattle.land_mutations.specs.declared.refusal.Refusal.TheVariants.{NoSuchUnit, NoSuchParcel, AreaNotKept, TooMany, ClockOut}
-use Rattle.land_mutations.specs.Areas.{do_areas_differ, outlines_at}
+use Rattle.land_mutations.specs.declared.refusal.Refusal.TheVariants.{NoSuchUnit, NoSuchParcel, TooMany, ClockOut, NotMatched}
+use Rattle.land_mutations.specs.Areas.{outlines_at}
+use Rattle.land_mutations.specs.Grounds.{are_same_ground}
 use Rattle.land_mutations.specs.Numbering.{numbered, numbers_from}
 use Rattle.land_mutations.specs.Planning.{lacks_numbers}
 use Rattle.land_mutations.specs.Transferring.{is_checked}
@@ -141,7 +142,7 @@ abbrev pub subdivision_refusals : Register → Subdivision → Option ℤ → Li
 subdivision_refusals r it stamp =
     (NoSuchUnit, not (has r.units it.unit))
     ∷ (NoSuchParcel, not (has_parcel_in r it.unit it.parcel))
-    ∷ (AreaNotKept, do_areas_differ (outlines_at r (it.parcel ∷ [])) (outlines_of (all_parts it)))
     ∷ (TooMany, lacks_numbers r (subdivision_count r it) || would_have_many_parcels r it)
     ∷ (ClockOut, is_none stamp)
+    ∷ (NotMatched, not (are_same_ground (outlines_at r (it.parcel ∷ [])) (outlines_of (all_parts it))))
     ∷ []

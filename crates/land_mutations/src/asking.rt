@@ -23,8 +23,8 @@ pub fn refusal(
 {
     match content {
         Content::Transfer(it) => transfer::refusal(alloc, slice, it, stamp),
-        Content::Subdivision(it) => Ok(subdivide::refusal(slice, it, stamp)),
-        Content::Merger(it) => Ok(merge::refusal(slice, it, stamp)),
+        Content::Subdivision(it) => subdivide::refusal(alloc, slice, it, stamp),
+        Content::Merger(it) => merge::refusal(alloc, slice, it, stamp),
         Content::Mortgage(it) => Ok(mortgage::refusal(slice, it, stamp)),
         Content::Discharge(it) => Ok(discharge::refusal(slice, it, stamp)),
     }

@@ -1,9 +1,9 @@
 //! What mutations ask for: when it is refused, what it changes and what it makes; and what all plans have in common.
 #![tactic(auto)]
 
-mod areas;
 pub mod asking;
 mod discharge;
+mod grounds;
 pub mod laws;
 mod merge;
 mod mortgage;

@@ -3,12 +3,13 @@ ghost use Rattle.std.specs.Prelude.{◌≡◌, ◌≤◌, ◌∷◌, [], not, na
 ghost use Rattle.std.specs.List.{list_all, list_any};
 ghost use Rattle.land_core.specs.Contents.{is_same_share};
 ghost use Rattle.land_core.specs.Entries.{has};
-ghost use Rattle.land_mutations.specs.Areas.{do_areas_differ, outlines_at};
+ghost use Rattle.land_mutations.specs.Areas.{outlines_at};
+ghost use Rattle.land_mutations.specs.Grounds.{are_same_ground};
 ghost use Rattle.land_mutations.specs.Merging.{are_same_entries, entries_of_others, has_unlike, is_named, is_parcel_named, is_same_class, is_same_entry, is_same_mark, is_unlike, keeps_parcel, lacks_parcel, lacks_unit, merger_change, merger_refusals, times_in, would_have_more_parcels};
 ghost use Rattle.land_mutations.specs.Planning.{first_that_holds};
 ghost use Rattle.land_mutations.specs.Subdividing.{entries_of};
 
-use crate::areas::area_at;
+use crate::grounds::{are_same_ground, outlines_at};
 use crate::planning::{Slice, lacks_numbers};
 use crate::refusal::Refusal;
 use crate::subdivide::parcels_beside;
@@ -25,24 +26,30 @@ use land_shape::Ring;
 use std::alloc::{AllocError, Global};
 
 /// The least refusal of a merger whose condition holds.
-pub(crate) fn refusal(slice: &Slice, it: &Merger, stamp: Option<i64>) -> Option<Refusal>
-    ensures { result ≡ first_that_holds (merger_refusals slice.now it.now stamp) }
+pub(crate) fn refusal(
+    alloc: Global,
+    slice: &Slice,
+    it: &Merger,
+    stamp: Option<i64>,
+) -> Result<Option<Refusal>, AllocError>
+    ensures { IfOk result (λ first. first ≡ first_that_holds (merger_refusals slice.now it.now stamp)) }
 {
-    if lacks_unit(slice, it) {
+    let first = if lacks_unit(slice, it) {
         Some(Refusal::NoSuchUnit)
     } else if lacks_parcel(slice, it) {
         Some(Refusal::NoSuchParcel)
-    } else if is_area_lost(slice, it) {
-        Some(Refusal::AreaNotKept)
     } else if has_unlike(slice, it) {
         Some(Refusal::UnlikeUnits)
     } else if lacks_numbers(slice, 1) || would_have_more_parcels(slice, it) {
         Some(Refusal::TooMany)
     } else if stamp.is_none() {
         Some(Refusal::ClockOut)
+    } else if !keeps_ground(alloc, slice, it)? {
+        Some(Refusal::NotMatched)
     } else {
         None
-    }
+    };
+    Ok(first)
 }
 
 /// Whether a unit that is named does not stand.
@@ -86,11 +93,13 @@ fn is_named(it: &Merger, unit: u64) -> bool
     unit == it.unit || lists_number(it.others.as_slice(), unit)
 }
 
-/// Whether the new parcel has not the area of the parcels together.
-fn is_area_lost(slice: &Slice, it: &Merger) -> bool
-    ensures { result ≡ do_areas_differ (outlines_at slice.now it.now.parcels) (it.now.outline ∷ []) }
+/// Whether the new outline is the ground of the parcels.
+fn keeps_ground(alloc: Global, slice: &Slice, it: &Merger) -> Result<bool, AllocError>
+    ensures { IfOk result (λ same. same ≡ are_same_ground (outlines_at slice.now it.now.parcels) (it.now.outline ∷ [])) }
 {
-    area_at(slice, it.parcels.as_slice()) != u128::from(it.outline.doubled_area())
+    let old = outlines_at(alloc, slice, it.parcels.as_slice())?;
+    let new = Sequence::of_one(alloc, Ring::copy(&it.outline)?)?;
+    are_same_ground(alloc, old.as_slice(), new.as_slice())
 }
 
 /// Whether another unit can not end with the unit.

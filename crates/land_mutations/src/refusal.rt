@@ -21,8 +21,6 @@ pub enum Refusal {
     ShareTooLarge,
     /// 207: the shares have no common denominator up to 1_000_000_000.
     SharesTooFine,
-    /// 208: the new outlines have not together the area of the old ones.
-    AreaNotKept,
     /// 209: a unit that is to end would keep a parcel, or is not checked alike, or has other entries.
     UnlikeUnits,
     /// 210: a new number would be above 1_000_000_000, or a unit would have more than 256 parcels or entries.
@@ -45,6 +43,9 @@ pub enum Refusal {
     LastAdministrator,
     /// 219: a party is named twice.
     SameParty,
+    /// 220: the new outlines are not the ground of the old ones: parts and old parcel, or listed parcels and outline, do not
+    /// match.
+    NotMatched,
     /// 501: there was no memory for the plan.
     NoMemory,
 }
@@ -64,7 +65,6 @@ impl Refusal {
             Refusal::NoSuchParty => 205,
             Refusal::ShareTooLarge => 206,
             Refusal::SharesTooFine => 207,
-            Refusal::AreaNotKept => 208,
             Refusal::UnlikeUnits => 209,
             Refusal::TooMany => 210,
             Refusal::NotBank => 211,
@@ -76,6 +76,7 @@ impl Refusal {
             Refusal::ClockOut => 217,
             Refusal::LastAdministrator => 218,
             Refusal::SameParty => 219,
+            Refusal::NotMatched => 220,
             Refusal::NoMemory => 501,
         }
     }

@@ -1,12 +1,13 @@
 //! Subdividing a parcel.
 ghost use Rattle.std.specs.Prelude.{◌≡◌, ◌≤◌, ◌<◌, ◌+◌, ◌^◌, ◌∷◌, ◌++◌, [], length, map as map_list, IfOk, OnOk};
 ghost use Rattle.std.specs.Option.{option_map_or};
-ghost use Rattle.land_mutations.specs.Areas.{do_areas_differ, outlines_at};
+ghost use Rattle.land_mutations.specs.Areas.{outlines_at};
+ghost use Rattle.land_mutations.specs.Grounds.{are_same_ground};
 ghost use Rattle.land_mutations.specs.Numbering.{numbered};
 ghost use Rattle.land_mutations.specs.Planning.{first_that_holds};
 ghost use Rattle.land_mutations.specs.Subdividing.{all_parts, copies_made, entries_of, has_parcel_in, in_unit, origin_of, outlines_of, parcels_beside, parcels_made, staying, subdivision_change, subdivision_count, subdivision_refusals, units_made, would_have_many_parcels};
 
-use crate::areas::{area_at, area_of_parts};
+use crate::grounds::{are_same_ground, outlines_at, outlines_of_parts};
 use crate::planning::{Slice, lacks_numbers};
 use crate::refusal::Refusal;
 use crate::transfer::is_checked;
@@ -25,22 +26,28 @@ use land_shape::Ring;
 use std::alloc::{AllocError, Global};
 
 /// The least refusal of a subdivision whose condition holds.
-pub(crate) fn refusal(slice: &Slice, it: &Subdivision, stamp: Option<i64>) -> Option<Refusal>
-    ensures { result ≡ first_that_holds (subdivision_refusals slice.now it.now stamp) }
+pub(crate) fn refusal(
+    alloc: Global,
+    slice: &Slice,
+    it: &Subdivision,
+    stamp: Option<i64>,
+) -> Result<Option<Refusal>, AllocError>
+    ensures { IfOk result (λ first. first ≡ first_that_holds (subdivision_refusals slice.now it.now stamp)) }
 {
-    if !slice.stands(Kind::Unit, it.unit) {
+    let first = if !slice.stands(Kind::Unit, it.unit) {
         Some(Refusal::NoSuchUnit)
     } else if !has_parcel_in(slice, it.unit, it.parcel) {
         Some(Refusal::NoSuchParcel)
-    } else if is_area_lost(slice, it) {
-        Some(Refusal::AreaNotKept)
     } else if lacks_numbers(slice, count(slice, it)) || would_have_many_parcels(slice, it) {
         Some(Refusal::TooMany)
     } else if stamp.is_none() {
         Some(Refusal::ClockOut)
+    } else if !keeps_ground(alloc, slice, it)? {
+        Some(Refusal::NotMatched)
     } else {
         None
-    }
+    };
+    Ok(first)
 }
 
 /// Whether a parcel of a unit stands at a number.
@@ -53,11 +60,13 @@ fn has_parcel_in(slice: &Slice, unit: u64, number: u64) -> bool
     }
 }
 
-/// Whether the parts have not together the area of the parcel.
-fn is_area_lost(slice: &Slice, it: &Subdivision) -> bool
-    ensures { result ≡ do_areas_differ (outlines_at slice.now (it.now.parcel ∷ [])) (outlines_of (all_parts it.now)) }
+/// Whether the parts are the ground of the parcel.
+fn keeps_ground(alloc: Global, slice: &Slice, it: &Subdivision) -> Result<bool, AllocError>
+    ensures { IfOk result (λ same. same ≡ are_same_ground (outlines_at slice.now (it.now.parcel ∷ [])) (outlines_of (all_parts it.now))) }
 {
-    area_at(slice, &[it.parcel]) != area_of_parts(it)
+    let old = outlines_at(alloc, slice, &[it.parcel])?;
+    let new = outlines_of_parts(alloc, it)?;
+    are_same_ground(alloc, old.as_slice(), new.as_slice())
 }
 
 /// How many objects are new.

@@ -6,7 +6,8 @@
 //! - `%`: a mutation
 //! - `!`, `^`: a parcel, and its unit
 //! - `+`, `'`: the parcel after it, and its unit
-//! - `<`, `>`: half the width of the parcel, and the width of the two together
+//! - `«`, `<`, `»`: the left edge, the middle and the right edge of the parcel
+//! - `>`: the right edge of the parcel after it
 //! - `*`: 2, or now and then 3
 //! - `;`: a number, mostly a new one
 //! - `|`: a moment that has been
@@ -108,25 +109,25 @@ pub const DRAFTS: &[Draft] = &[
         35,
         "POST /acts/subdivision",
         SURVEYOR,
-        r#"{"reference":"R;","document":"Plan","unit":^,"parcel":!,"first":{"label":"b","outline":"POLYGON ((0 0, < 0, < 10000, 0 10000, 0 0))"},"rest":[{"label":"c","outline":"POLYGON ((0 0, < 0, < 10000, 0 10000, 0 0))","unit":"Part ;"}]}"#,
+        r#"{"reference":"R;","document":"Plan","unit":^,"parcel":!,"first":{"label":"b","outline":"POLYGON ((« 0, < 0, < 10000, « 10000, « 0))"},"rest":[{"label":"c","outline":"POLYGON ((< 0, » 0, » 10000, < 10000, < 0))","unit":"Part ;"}]}"#,
     ),
     Draft(
         36,
         "POST /acts/subdivision",
         SURVEYOR,
-        r#"{"reference":"R;","document":"Plan","unit":^,"parcel":!,"first":{"label":"b","outline":"POLYGON ((0 0, < 0, < 10000, 0 10000, 0 0))"},"rest":[{"label":"c","outline":"POLYGON ((0 0, < 0, < 10000, 0 10000, 0 0))"}]}"#,
+        r#"{"reference":"R;","document":"Plan","unit":^,"parcel":!,"first":{"label":"b","outline":"POLYGON ((« 0, < 0, < 10000, « 10000, « 0))"},"rest":[{"label":"c","outline":"POLYGON ((< 0, » 0, » 10000, < 10000, < 0))"}]}"#,
     ),
     Draft(
         37,
         "POST /acts/merger",
         SURVEYOR,
-        r#"{"reference":"R;","document":"Plan","unit":^,"others":[],"parcels":[!,+],"label":"d","outline":"POLYGON ((0 0, > 0, > 10000, 0 10000, 0 0))"}"#,
+        r#"{"reference":"R;","document":"Plan","unit":^,"others":[],"parcels":[!,+],"label":"d","outline":"POLYGON ((« 0, > 0, > 10000, « 10000, « 0))"}"#,
     ),
     Draft(
         39,
         "POST /acts/merger",
         SURVEYOR,
-        r#"{"reference":"R;","document":"Plan","unit":^,"others":['],"parcels":[!,+],"label":"d","outline":"POLYGON ((0 0, > 0, > 10000, 0 10000, 0 0))"}"#,
+        r#"{"reference":"R;","document":"Plan","unit":^,"others":['],"parcels":[!,+],"label":"d","outline":"POLYGON ((« 0, > 0, > 10000, « 10000, « 0))"}"#,
     ),
     Draft(41, "GET /units/#/sheet", CITIZEN, ""),
     Draft(42, "GET /units/~/sheet?at=|", CITIZEN, ""),

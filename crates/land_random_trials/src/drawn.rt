@@ -3,6 +3,7 @@ use crate::dice::Dice;
 use land_core::caller::Caller;
 use land_core::kind::Kind;
 use land_core::object::Object;
+use land_core::parcel::Parcel;
 use land_core::role::Role;
 use land_keep::keeper::Keeper;
 use land_scenario::stop::Stop;
@@ -40,12 +41,25 @@ pub struct Drawn {
     pub role: &'static str,
 }
 
-/// An entry or a parcel: its number, its unit, and half the width of a parcel.
+/// An entry or a parcel: its number, its unit, and of a parcel the left edge and half the width.
 #[derive(Clone, Copy)]
 struct Holding {
     number: u64,
     unit: u64,
+    left: u64,
     half: u64,
+}
+
+impl Holding {
+    /// Where a parcel has its middle.
+    fn middle(&self) -> u64 {
+        self.left.saturating_add(self.half)
+    }
+
+    /// Where it ends.
+    fn right(&self) -> u64 {
+        self.middle().saturating_add(self.half)
+    }
 }
 
 impl Drawn {
@@ -72,13 +86,10 @@ impl Drawn {
             '^' => Some(self.parcel.unit),
             '+' => Some(self.next.number),
             '\'' => Some(self.next.unit),
-            '<' => Some(self.parcel.half),
-            '>' => Some(
-                self.parcel
-                    .half
-                    .saturating_add(self.next.half)
-                    .saturating_mul(2),
-            ),
+            '«' => Some(self.parcel.left),
+            '<' => Some(self.parcel.middle()),
+            '»' => Some(self.parcel.right()),
+            '>' => Some(self.next.right()),
             _ => None,
         }
     }
@@ -111,14 +122,31 @@ fn one_of<K: Keeper>(
     Ok(number)
 }
 
+/// The left edge of a parcel: all are rectangles of one height that stand side by side, each begun at its left.
+fn left_of(parcel: &Parcel) -> u64 {
+    match parcel.outline.points().first() {
+        Some(point) => u64::try_from(point.x).unwrap_or(0),
+        None => 0,
+    }
+}
+
 /// What an object is as an entry or a parcel.
 fn holding_of(object: &Option<Object>, number: u64) -> Holding {
-    let (unit, half) = match object {
-        Some(Object::Parcel(parcel)) => (parcel.unit, parcel.outline.doubled_area() / 40_000),
-        Some(Object::Rrr(entry)) => (entry.unit, 0),
-        _ => (1, 0),
+    let (unit, left, half) = match object {
+        Some(Object::Parcel(parcel)) => (
+            parcel.unit,
+            left_of(parcel),
+            parcel.outline.doubled_area() / 40_000,
+        ),
+        Some(Object::Rrr(entry)) => (entry.unit, 0, 0),
+        _ => (1, 0, 0),
     };
-    Holding { number, unit, half }
+    Holding {
+        number,
+        unit,
+        left,
+        half,
+    }
 }
 
 /// The entry or the parcel of a number, as it stands now.

@@ -27,6 +27,7 @@ pub mod LawLemmas
 pub mod Tallies
 pub mod MatchingLaw
 pub mod LiesLaw
+pub mod MatchingTest
 pub mod SortLemmas
 pub mod Order
 pub mod Betweenness

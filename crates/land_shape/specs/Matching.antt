@@ -1,6 +1,6 @@
 -- Lists of rings that have the same ground, by their signed edges
-use Rattle.std.specs.Prelude.{◌≡◌, ◌↔◌, ℕ, ℤ, Bool, List, [], ◌∷◌, ◌++◌, pos, ◌&&◌, not, if◌then◌else◌, count_by, int_le, ◌-ℤ◌, ◌<ℤ◌, sum_by, IsTrue}
-use Rattle.std.specs.List.{AllByRecursion}
+use Rattle.std.specs.Prelude.{◌≡◌, ◌↔◌, ℕ, ℤ, Bool, List, [], ◌∷◌, ◌++◌, pos, ◌&&◌, not, if◌then◌else◌, count_by, int_le, int_lt, ◌-ℤ◌, ◌<ℤ◌, sum_by, IsTrue}
+use Rattle.std.specs.List.{AllByRecursion, list_all}
 use Rattle.std.specs.Ordering.{int_eq}
 use Rattle.std.specs.Int.{int_min, int_max}
 use Rattle.land_shape.specs.Coordinate.{cross_of}
@@ -78,7 +78,27 @@ Match rings others =
     let corners = places_of (rings ++ others) in
     LeadAlike (pieces corners (edges_of rings)) (pieces corners (edges_of others))
 
--- the ring runs counterclockwise, as each outline does
+-- whether two lists of edges lead alike along one edge
+abbrev pub do_agree : List Edge → List Edge → Edge → Bool
+do_agree ours theirs e = int_eq (count_along e ours) (count_along e theirs)
+
+-- The test of it: the pieces of both lead alike along each that stands among them.
+unfoldable pub do_match : List (List Place) → List (List Place) → Bool
+do_match rings others =
+    let corners = places_of (rings ++ others) in
+    let ours = pieces corners (edges_of rings) in
+    let theirs = pieces corners (edges_of others) in
+    list_all (do_agree ours theirs) (ours ++ theirs)
+
+-- The test tells whether lists of rings match.
+abbrev pub TestLaw : Type 0
+TestLaw = (rings others : List (List Place)) → IsTrue (do_match rings others) ↔ Match rings others
+
+-- whether a ring runs counterclockwise, as each outline does
+abbrev pub runs_counterclockwise : List Place → Bool
+runs_counterclockwise ring = int_lt (pos 0) (area_of (ring_edges ring))
+
+-- the ring runs counterclockwise
 abbrev pub IsCounterclockwise : List Place → Type 0
 IsCounterclockwise ring = pos 0 <ℤ area_of (ring_edges ring)
 

@@ -1,7 +1,7 @@
 //! Laws over the definitions alone, each the contract of a function that does nothing.
 
 ghost use Rattle.land_shape.specs.Laws.{PrintedLaw, OneAnswerLaw, AnswerLaw};
-ghost use Rattle.land_shape.specs.Matching.{MatchingLaw, LiesLaw};
+ghost use Rattle.land_shape.specs.Matching.{LiesLaw, MatchingLaw, TestLaw};
 
 /// The printed form of a ring stands for that ring and no other.
 pub fn printed_rings()
@@ -26,4 +26,9 @@ pub fn places_on_edges()
 /// Lists of rings that match have equal sums of doubled areas.
 pub fn matching_chains_have_equal_areas()
     ensures { MatchingLaw }
+{}
+
+/// Whether lists of rings match is told by their pieces alone.
+pub fn matching_is_told_by_pieces()
+    ensures { TestLaw }
 {}

@@ -1,6 +1,7 @@
 //! Rings: simple, counterclockwise, and not too large.
 
-ghost use Rattle.std.specs.Prelude.{◌≡◌, ◌<◌, ◌≤◌, ◌≤ℤ◌, IfOk, length, pos, string_bytes};
+ghost use Rattle.std.specs.Prelude.{◌≡◌, ◌<◌, ◌≤◌, ◌≤ℤ◌, IfOk, length, pos, string_bytes, true};
+ghost use Rattle.land_shape.specs.Matching.{runs_counterclockwise};
 ghost use Rattle.land_shape.specs.Outline.{IsOutline, counterclockwise, doubled_area};
 ghost use Rattle.land_shape.specs.Place.{area_of, is_same_ring, ring_edges};
 ghost use Rattle.land_shape.specs.Printed.{printed};
@@ -56,6 +57,13 @@ impl Ring {
         ensures bounded { result ≤ 1000000000000000000 }
     {
         self.doubled
+    }
+
+    /// A ring runs counterclockwise. Nothing is done: it is for callers that are to know it.
+    pub fn runs_counterclockwise(&self)
+        ensures { runs_counterclockwise self.now ≡ true }
+    {
+        let _points = &self.points;
     }
 
     /// The ring in well-known text: `POLYGON ((x y, x y, ...))`, closed by the first point again.

@@ -30,17 +30,30 @@ pub(super) fn crowd(alloc: Global, register: &mut Register, count: u64) -> Resul
     Ok(true)
 }
 
-/// A parcel of the unit 6.
-fn parcel(alloc: Global) -> Result<ParcelRecord, Stop> {
+/// A square of ten metres in a row of them.
+fn square_at(alloc: Global, place: u64) -> Result<String, AllocError> {
+    let left = place.saturating_mul(10_000);
+    let right = left.saturating_add(10_000);
+    let mut outline = String::new(alloc);
+    write!(
+        outline,
+        "POLYGON (({left} 0, {right} 0, {right} 10000, {left} 10000, {left} 0))"
+    )?;
+    Ok(outline)
+}
+
+/// A parcel of the unit 6, in a row of them.
+fn parcel(alloc: Global, place: u64) -> Result<ParcelRecord, Stop> {
+    let outline = square_at(alloc, place)?;
     Ok(ParcelRecord {
         unit: 6,
         label: text(alloc, "12")?,
-        outline: read_wkt(alloc, "POLYGON ((0 0, 10000 0, 10000 10000, 0 10000, 0 0))")?,
+        outline: read_wkt(alloc, outline.as_str())?,
         source: 5,
     })
 }
 
-/// Puts so many parcels into a register, under the numbers from 20 on, and makes 1000 the next number.
+/// Puts so many parcels, side by side, into a register, under the numbers from 20 on, and makes 1000 the next number.
 pub(super) fn crowd_parcels(
     alloc: Global,
     register: &mut Register,
@@ -49,7 +62,7 @@ pub(super) fn crowd_parcels(
     for place in 0..count {
         register
             .parcels
-            .insert(place.saturating_add(20), parcel(alloc)?)?;
+            .insert(place.saturating_add(20), parcel(alloc, place)?)?;
     }
     register.next = 1000;
     Ok(true)

@@ -19,8 +19,38 @@ const LEFT: &str = "POLYGON ((0 0, 5000 0, 5000 10000, 0 10000, 0 0))";
 
 const RIGHT: &str = "POLYGON ((5000 0, 10000 0, 10000 10000, 5000 10000, 5000 0))";
 
-/// A sixteenth of the square.
+/// A sixteenth of the square, and the others to its right.
 const STRIP: &str = "POLYGON ((0 0, 625 0, 625 10000, 0 10000, 0 0))";
+
+const SECOND: &str = "POLYGON ((625 0, 1250 0, 1250 10000, 625 10000, 625 0))";
+
+const THIRD: &str = "POLYGON ((1250 0, 1875 0, 1875 10000, 1250 10000, 1250 0))";
+
+const FOURTH: &str = "POLYGON ((1875 0, 2500 0, 2500 10000, 1875 10000, 1875 0))";
+
+const FIFTH: &str = "POLYGON ((2500 0, 3125 0, 3125 10000, 2500 10000, 2500 0))";
+
+const SIXTH: &str = "POLYGON ((3125 0, 3750 0, 3750 10000, 3125 10000, 3125 0))";
+
+const SEVENTH: &str = "POLYGON ((3750 0, 4375 0, 4375 10000, 3750 10000, 3750 0))";
+
+const EIGHTH: &str = "POLYGON ((4375 0, 5000 0, 5000 10000, 4375 10000, 4375 0))";
+
+const NINTH: &str = "POLYGON ((5000 0, 5625 0, 5625 10000, 5000 10000, 5000 0))";
+
+const TENTH: &str = "POLYGON ((5625 0, 6250 0, 6250 10000, 5625 10000, 5625 0))";
+
+const ELEVENTH: &str = "POLYGON ((6250 0, 6875 0, 6875 10000, 6250 10000, 6250 0))";
+
+const TWELFTH: &str = "POLYGON ((6875 0, 7500 0, 7500 10000, 6875 10000, 6875 0))";
+
+const THIRTEENTH: &str = "POLYGON ((7500 0, 8125 0, 8125 10000, 7500 10000, 7500 0))";
+
+const FOURTEENTH: &str = "POLYGON ((8125 0, 8750 0, 8750 10000, 8125 10000, 8125 0))";
+
+const FIFTEENTH: &str = "POLYGON ((8750 0, 9375 0, 9375 10000, 8750 10000, 8750 0))";
+
+const SIXTEENTH: &str = "POLYGON ((9375 0, 10000 0, 10000 10000, 9375 10000, 9375 0))";
 
 const FIRST_STRIP: RowParcel = RowParcel("12", STRIP);
 
@@ -81,21 +111,21 @@ fn a_unit_has_room_for_256_parcels(rt: HostRuntime) -> Result<(), Fail> {
 }
 
 const NEW_UNITS: &[RowPart] = &[
-    RowPart("12", STRIP, Some("Strip")),
-    RowPart("12", STRIP, Some("Strip")),
-    RowPart("12", STRIP, Some("Strip")),
-    RowPart("12", STRIP, Some("Strip")),
-    RowPart("12", STRIP, Some("Strip")),
-    RowPart("12", STRIP, Some("Strip")),
-    RowPart("12", STRIP, Some("Strip")),
-    RowPart("12", STRIP, Some("Strip")),
-    RowPart("12", STRIP, Some("Strip")),
-    RowPart("12", STRIP, Some("Strip")),
-    RowPart("12", STRIP, Some("Strip")),
-    RowPart("12", STRIP, Some("Strip")),
-    RowPart("12", STRIP, Some("Strip")),
-    RowPart("12", STRIP, Some("Strip")),
-    RowPart("12", STRIP, Some("Strip")),
+    RowPart("12", SECOND, Some("Strip")),
+    RowPart("12", THIRD, Some("Strip")),
+    RowPart("12", FOURTH, Some("Strip")),
+    RowPart("12", FIFTH, Some("Strip")),
+    RowPart("12", SIXTH, Some("Strip")),
+    RowPart("12", SEVENTH, Some("Strip")),
+    RowPart("12", EIGHTH, Some("Strip")),
+    RowPart("12", NINTH, Some("Strip")),
+    RowPart("12", TENTH, Some("Strip")),
+    RowPart("12", ELEVENTH, Some("Strip")),
+    RowPart("12", TWELFTH, Some("Strip")),
+    RowPart("12", THIRTEENTH, Some("Strip")),
+    RowPart("12", FOURTEENTH, Some("Strip")),
+    RowPart("12", FIFTEENTH, Some("Strip")),
+    RowPart("12", SIXTEENTH, Some("Strip")),
 ];
 
 /// A source, a parcel and fifteen times a unit, a parcel and a right.
@@ -129,21 +159,21 @@ fn sixteen_parts_go_to_as_many_units(rt: HostRuntime) -> Result<(), Fail> {
 }
 
 const STRIPS: &[RowPart] = &[
-    RowPart("12", STRIP, None),
-    RowPart("12", STRIP, None),
-    RowPart("12", STRIP, None),
-    RowPart("12", STRIP, None),
-    RowPart("12", STRIP, None),
-    RowPart("12", STRIP, None),
-    RowPart("12", STRIP, None),
-    RowPart("12", STRIP, None),
-    RowPart("12", STRIP, None),
-    RowPart("12", STRIP, None),
-    RowPart("12", STRIP, None),
-    RowPart("12", STRIP, None),
-    RowPart("12", STRIP, None),
-    RowPart("12", STRIP, None),
-    RowPart("12", STRIP, None),
+    RowPart("12", SECOND, None),
+    RowPart("12", THIRD, None),
+    RowPart("12", FOURTH, None),
+    RowPart("12", FIFTH, None),
+    RowPart("12", SIXTH, None),
+    RowPart("12", SEVENTH, None),
+    RowPart("12", EIGHTH, None),
+    RowPart("12", NINTH, None),
+    RowPart("12", TENTH, None),
+    RowPart("12", ELEVENTH, None),
+    RowPart("12", TWELFTH, None),
+    RowPart("12", THIRTEENTH, None),
+    RowPart("12", FOURTEENTH, None),
+    RowPart("12", FIFTEENTH, None),
+    RowPart("12", SIXTEENTH, None),
 ];
 
 /// Sixteen strips stay in the unit, and become one parcel again.
@@ -185,6 +215,50 @@ const SIXTEEN_PARCELS: &[Step] = &[
 #[test]
 fn sixteen_parcels_become_one(rt: HostRuntime) -> Result<(), Fail> {
     assert_steps(&rt, rt.alloc(), FIRST, SIXTEEN_PARCELS)
+}
+
+/// Ground is looked at last: after the counts, and after the moment.
+const OTHER_GROUND: &[Step] = &[
+    UNIT,
+    Parcels(255),
+    Row(
+        Lodge(
+            "A",
+            "Plan 1",
+            Subdivision(6, 7, FIRST_HALF, &[RowPart("12b", LEFT, None)]),
+        ),
+        STAMP,
+        "done 1001 made [1000, 1001] at 1000",
+    ),
+    Row(Approve(1001), STAMP, "refused 210"),
+    Row(
+        Lodge(
+            "B",
+            "Plan 1",
+            Subdivision(6, 7, FIRST_HALF, &[RowPart("12b", LEFT, Some("Orchard"))]),
+        ),
+        STAMP,
+        "done 1003 made [1002, 1003] at 1000",
+    ),
+    Row(Approve(1003), None, "refused 217"),
+    Row(Approve(1003), STAMP, "refused 220"),
+    Row(
+        Lodge(
+            "C",
+            "Plan 2",
+            Merger(6, &[], &[20, 22], RowParcel("12", DOUBLE)),
+        ),
+        STAMP,
+        "done 1005 made [1004, 1005] at 1000",
+    ),
+    Row(Approve(1005), None, "refused 217"),
+    Row(Approve(1005), STAMP, "refused 220"),
+    Sound,
+];
+
+#[test]
+fn ground_is_looked_at_last(rt: HostRuntime) -> Result<(), Fail> {
+    assert_steps(&rt, rt.alloc(), FIRST, OTHER_GROUND)
 }
 
 const TOO_MANY_STRIPS: &[RowPart] = &[
@@ -328,7 +402,7 @@ const OWNED: Step = Row(
     "done 10 made [9, 10, 11, 12] at 1000",
 );
 
-/// The unit 10 is not checked, as the unit 6 is; the unit 16 is.
+/// The unit 10 is not checked, as the unit 6 is; the unit 18, which is cut off from 6, is.
 const MARKS: &[Step] = &[
     UNIT,
     OWNED,
@@ -343,27 +417,32 @@ const MARKS: &[Step] = &[
     ),
     Row(Approve(14), STAMP, "refused 209"),
     Row(
-        Register(true, 1, &[(2, Ownership, 1, 1)]),
-        STAMP,
-        "done 16 made [15, 16, 17, 18] at 1000",
-    ),
-    Row(
         Lodge(
             "B",
             "Plan 1",
-            Merger(6, &[16], &[7, 17], RowParcel("12", DOUBLE)),
+            Subdivision(6, 7, FIRST_HALF, &[RowPart("12b", RIGHT, Some("Orchard"))]),
         ),
         STAMP,
-        "done 20 made [19, 20] at 1000",
+        "done 16 made [15, 16] at 1000",
     ),
-    Row(Approve(20), STAMP, "done 20 made [21] at 1000"),
+    Row(Approve(16), STAMP, "done 16 made [17, 18, 19, 20] at 1000"),
+    Row(
+        Lodge(
+            "C",
+            "Plan 1",
+            Merger(6, &[18], &[17, 19], RowParcel("12", SQUARE)),
+        ),
+        STAMP,
+        "done 22 made [21, 22] at 1000",
+    ),
+    Row(Approve(22), STAMP, "done 22 made [23] at 1000"),
     Stands(Unit, 6, true),
-    Stands(Unit, 16, false),
+    Stands(Unit, 18, false),
     Stands(Rrr, 8, true),
-    Stands(Rrr, 18, false),
-    Stands(Parcel, 7, false),
+    Stands(Rrr, 20, false),
     Stands(Parcel, 17, false),
-    Stands(Parcel, 21, true),
+    Stands(Parcel, 19, false),
+    Stands(Parcel, 23, true),
     Sound,
 ];
 

@@ -15,7 +15,10 @@ use std::test::Fail;
 const DENTED: &str =
     "POLYGON ((5000 0, 10000 0, 10000 10000, 9999 10001, 9998 10000, 5000 10000, 5000 0))";
 
-const AREAS: &[Row] = &[
+/// A part of the right half's area that reaches beyond the garden, and leaves a strip of it to nobody.
+const BESIDE: &str = "POLYGON ((6000 0, 11000 0, 11000 10000, 6000 10000, 6000 0))";
+
+const GROUNDS: &[Row] = &[
     Row(
         1000,
         SURVEYOR,
@@ -26,7 +29,7 @@ const AREAS: &[Row] = &[
         )),
         "done 23 made [22, 23] at 1016",
     ),
-    Row(1000, OFFICE, Do(Approve(23)), "refused 208"),
+    Row(1000, OFFICE, Do(Approve(23)), "refused 220"),
     Row(
         1000,
         SURVEYOR,
@@ -46,7 +49,29 @@ const AREAS: &[Row] = &[
         )),
         "done 25 made [24, 25] at 1017",
     ),
-    Row(1000, OFFICE, Do(Approve(25)), "refused 208"),
+    Row(1000, OFFICE, Do(Approve(25)), "refused 220"),
+    Row(
+        1000,
+        SURVEYOR,
+        Do(Lodge(
+            "S3",
+            "Plan 1",
+            Subdivision(9, 10, FIRST, &[RowPart("12b", BESIDE, Some("Orchard"))]),
+        )),
+        "done 27 made [26, 27] at 1018",
+    ),
+    Row(1000, OFFICE, Do(Approve(27)), "refused 220"),
+    Row(
+        1000,
+        SURVEYOR,
+        Do(Lodge(
+            "S4",
+            "Plan 1",
+            Subdivision(9, 10, FIRST, &[RowPart("12b", LEFT, None)]),
+        )),
+        "done 29 made [28, 29] at 1019",
+    ),
+    Row(1000, OFFICE, Do(Approve(29)), "refused 220"),
     Row(
         1000,
         NORA,
@@ -56,8 +81,8 @@ const AREAS: &[Row] = &[
 ];
 
 #[test]
-fn parts_have_the_area_of_the_parcel(rt: HostRuntime) -> Result<(), Fail> {
-    conclude(&rt, play_with_sale(rt.alloc(), AREAS))
+fn parts_are_the_ground_of_the_parcel(rt: HostRuntime) -> Result<(), Fail> {
+    conclude(&rt, play_with_sale(rt.alloc(), GROUNDS))
 }
 
 /// Who is no surveyor lodges none; a lodging looks at nothing that it names, and its approval does.
@@ -125,7 +150,8 @@ fn what_is_named_stands_when_it_is_approved(rt: HostRuntime) -> Result<(), Fail>
     conclude(&rt, play_with_sale(rt.alloc(), NAMED))
 }
 
-/// The garden is cut into halves that stay in it, and then the left half into quarters, one of which goes to the orchard.
+/// The garden's right half is cut into quarters, of which the outer one goes to the orchard. That the orchard would keep it is told
+/// before the ground is looked at: so whoever is told 220 knows that the units are alike.
 const KEPT: &[Row] = &[
     Row(
         1000,
@@ -140,12 +166,12 @@ const KEPT: &[Row] = &[
                 &[
                     RowPart(
                         "12b",
-                        "POLYGON ((5000 0, 7500 0, 7500 10000, 5000 10000, 5000 0))",
+                        "POLYGON ((7500 0, 10000 0, 10000 10000, 7500 10000, 7500 0))",
                         Some("Orchard"),
                     ),
                     RowPart(
                         "12c",
-                        "POLYGON ((7500 0, 10000 0, 10000 10000, 7500 10000, 7500 0))",
+                        "POLYGON ((5000 0, 7500 0, 7500 10000, 5000 10000, 5000 0))",
                         None,
                     ),
                 ],
@@ -169,7 +195,7 @@ const KEPT: &[Row] = &[
         )),
         "done 32 made [31, 32] at 1018",
     ),
-    Row(1000, OFFICE, Do(Approve(32)), "refused 208"),
+    Row(1000, OFFICE, Do(Approve(32)), "refused 209"),
     Row(
         1000,
         SURVEYOR,
@@ -196,23 +222,39 @@ const KEPT: &[Row] = &[
                 9,
                 &[],
                 &[24, 30],
-                RowParcel("12", "POLYGON ((0 0, 7500 0, 7500 10000, 0 10000, 0 0))"),
+                RowParcel("12", "POLYGON ((0 0, 10000 0, 10000 7500, 0 7500, 0 0))"),
             ),
         )),
         "done 36 made [35, 36] at 1020",
     ),
-    Row(1000, OFFICE, Do(Approve(36)), "done 36 made [37] at 1021"),
+    Row(1000, OFFICE, Do(Approve(36)), "refused 220"),
     Row(
         1000,
         SURVEYOR,
         Do(Lodge(
             "G4",
             "Plan 2",
-            Merger(9, &[25], &[26, 37], RowParcel("12", WHOLE)),
+            Merger(
+                9,
+                &[],
+                &[24, 30],
+                RowParcel("12", "POLYGON ((0 0, 7500 0, 7500 10000, 0 10000, 0 0))"),
+            ),
         )),
-        "done 39 made [38, 39] at 1022",
+        "done 38 made [37, 38] at 1021",
     ),
-    Row(1000, OFFICE, Do(Approve(39)), "done 39 made [40] at 1023"),
+    Row(1000, OFFICE, Do(Approve(38)), "done 38 made [39] at 1022"),
+    Row(
+        1000,
+        SURVEYOR,
+        Do(Lodge(
+            "G5",
+            "Plan 2",
+            Merger(9, &[25], &[26, 39], RowParcel("12", WHOLE)),
+        )),
+        "done 41 made [40, 41] at 1023",
+    ),
+    Row(1000, OFFICE, Do(Approve(41)), "done 41 made [42] at 1024"),
 ];
 
 #[test]

@@ -222,6 +222,52 @@ fn parts_stay_in_the_unit(rt: HostRuntime) -> Result<(), Fail> {
     conclude(&rt, play_with_sale(rt.alloc(), ONE_UNIT))
 }
 
+/// The right half is cut across: the corners of the quarters lie within an edge of the first part.
+const THREE: RowAsk = Do(Lodge(
+    "S1",
+    "Plan 1",
+    Subdivision(
+        9,
+        10,
+        FIRST,
+        &[
+            RowPart(
+                "12b",
+                "POLYGON ((5000 0, 10000 0, 10000 5000, 5000 5000, 5000 0))",
+                None,
+            ),
+            RowPart(
+                "12c",
+                "POLYGON ((5000 5000, 10000 5000, 10000 10000, 5000 10000, 5000 5000))",
+                None,
+            ),
+        ],
+    ),
+));
+
+const CUT_ACROSS: &[Row] = &[
+    Row(1000, SURVEYOR, THREE, "done 23 made [22, 23] at 1016"),
+    Row(
+        1000,
+        OFFICE,
+        Do(Approve(23)),
+        "done 23 made [24, 25, 26] at 1017",
+    ),
+    Row(
+        1000,
+        NORA,
+        View(Parcel, 26, None),
+        "parcel 26 in 9: 12c of 50000000 from 22: POLYGON ((5000 5000, 10000 5000, 10000 10000, 5000 10000, 5000 5000))",
+    ),
+    Row(1000, NORA, List(Parcel, None), "numbers [24, 25, 26]"),
+    Row(1000, NORA, List(Unit, None), "numbers [9]"),
+];
+
+#[test]
+fn a_corner_may_lie_within_an_edge(rt: HostRuntime) -> Result<(), Fail> {
+    conclude(&rt, play_with_sale(rt.alloc(), CUT_ACROSS))
+}
+
 /// The plan once more: with the outline in other words, begun at another point, without the orchard, and with a part more.
 const REPEATS: &[Row] = &[
     ORCHARD_LODGED,

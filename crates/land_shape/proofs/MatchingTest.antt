@@ -1,0 +1,55 @@
+-- Lists of edges that lead alike along each of their edges lead alike along every edge
+use Rattle.std.proofs.Common.{◌≡◌, ◌↔◌, ℕ, ◌+◌, ◌≤◌, true, List, [], ◌∷◌, ◌++◌, refl, arith, inl, inr, ◌⊎◌, subst}
+use Rattle.std.specs.List.{list_all}
+use Rattle.std.proofs.lemmas.Bool.Decides.{Decides-int_eq}
+use Rattle.std.proofs.lemmas.Int.{ints}
+use Rattle.land_shape.specs.Matching.{LeadAlike, Match, TestLaw, count_along, do_agree, do_match, edges_of, is_same_edge, pieces, places_of, reversed}
+use Rattle.land_shape.specs.Place.{Place, Edge}
+use Rattle.land_shape.proofs.MatchingLaw.{and_left, and_right, and_true, same_edge_is, tally-count}
+use Rattle.land_shape.proofs.Tallies.{either_way, tally, tally-append}
+
+abbrev LeadAlikeAlong : List Edge → List Edge → Edge → Type 0
+LeadAlikeAlong ours theirs e = count_along e ours ≡ count_along e theirs
+
+-- an edge that is counted passes a test that all listed edges pass
+counted : (ours theirs es : List Edge) (e : Edge) → 1 ≤ tally is_same_edge e es → list_all (do_agree ours theirs) es ≡ true → LeadAlikeAlong ours theirs e
+counted ours theirs [] e h all = absurd (omega arith)
+counted ours theirs (f ∷ es) e h all =
+    either_way (is_same_edge f e)
+    (λ t. subst (LeadAlikeAlong ours theirs) (same_edge_is f e t)
+    ((Decides-int_eq (count_along f ours) (count_along f theirs)).0 (and_left (do_agree ours theirs f) (list_all (do_agree ours theirs) es) all)))
+    (λ t. let g : 1 ≤ 0 + tally is_same_edge e es = rw t at h in
+    counted ours theirs es e (omega arith) (and_right (do_agree ours theirs f) (list_all (do_agree ours theirs) es) all))
+
+none_or_some : (n : ℕ) → (n ≡ 0) ⊎ (1 ≤ n)
+none_or_some n = grind arith
+
+-- an edge that stands nowhere, in neither direction, is led along by no list
+everywhere : (ours theirs : List Edge) → list_all (do_agree ours theirs) (ours ++ theirs) ≡ true → LeadAlike ours theirs
+everywhere ours theirs all e =
+    let split = tally-append is_same_edge e ours theirs in
+    let turned = tally-append is_same_edge (reversed e) ours theirs in
+    let t1 = tally-count e ours in let t2 = tally-count e theirs in let t3 = tally-count (reversed e) ours in let t4 = tally-count (reversed e) theirs in
+    elim (none_or_some (tally is_same_edge e (ours ++ theirs))) [
+      | inr some ↦ counted ours theirs (ours ++ theirs) e some all
+      | inl none ↦ elim (none_or_some (tally is_same_edge (reversed e) (ours ++ theirs))) [
+        | inr some ↦ (let back : LeadAlikeAlong ours theirs (reversed e) = counted ours theirs (ours ++ theirs) (reversed e) some all in omega (arith, ints))
+        | inl nowhere ↦ omega (arith, ints)
+      ]
+    ]
+
+-- what agrees everywhere agrees at each of some edges
+at_each : (ours theirs es : List Edge) → LeadAlike ours theirs → list_all (do_agree ours theirs) es ≡ true
+at_each ours theirs [] agree = refl
+at_each ours theirs (e ∷ es) agree =
+    and_true (do_agree ours theirs e) (list_all (do_agree ours theirs) es)
+    ((Decides-int_eq (count_along e ours) (count_along e theirs)).1 (agree e))
+    (at_each ours theirs es agree)
+
+pub test_law : TestLaw
+unfolding do_match Match
+test_law rings others =
+    let corners = places_of (rings ++ others) in
+    let ours = pieces corners (edges_of rings) in
+    let theirs = pieces corners (edges_of others) in
+    (λ yes. everywhere ours theirs yes, λ agree. at_each ours theirs (ours ++ theirs) agree)
