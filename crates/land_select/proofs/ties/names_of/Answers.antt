@@ -13,3 +13,13 @@ pub returns-then-not-is_citizen-clause-look : goal.returns-then-not-is_citizen-c
 returns-then-not-is_citizen-clause-look g c =
     looked_at_nothing _ _ (state g.S.Store c.args.conn.now) c.requires.open
     (λ clean moments h held r stands citizen. absurd (false≢true (sym c.if-not-is_citizen.true ∙ c.is_citizen.ensures ∙ citizen)))
+
+pub returns-clause-look : goal.returns-clause-look
+returns-clause-look g c =
+    let when : to_z w64 (of_z w64 c.args.at) ≡ c.args.at = search rules in
+    let look = rw when at c.in_ok-names.ensures.look in
+    let party = c.args.caller.party in
+    let grown : c.push.new.self ≡ c.in_ok-names.names ++ party ∷ [] = c.in_ok-push.ensures.ok in
+    look_told (state g.S.Store c.args.conn.now) (state g.S.Store c.groups_of.new.conn) _ look
+    (λ clean are moments h held r stands citizen.
+    subst (λ (names : List ℕ). (named : ℕ) → Contains names named ↔ (holds_as r party named ≡ true)) (sym grown) (names_are r party c.in_ok-names.names (are moments h held r stands)))
