@@ -41,6 +41,12 @@ def need(*commands):
             raise Missing(command)
 
 
+def has_networks():
+    """Whether this user may make a network of its own."""
+    words = ["unshare", *([] if ROOT else ["--user", "--map-root-user"]), "--net", "true"]
+    return subprocess.run(words, capture_output=True).returncode == 0
+
+
 def free_port():
     with socket.socket() as it:
         it.bind(("127.0.0.1", 0))
@@ -90,7 +96,8 @@ class Rig:
         for name in ("etc", "run", "log", "tmp"):
             os.makedirs(self.path(name), exist_ok=True)
         os.chmod(self.folder, 0o755)
-        shutil.copytree(os.path.join(DEPLOY, "gateway"), self.path("etc"), dirs_exist_ok=True)
+        shutil.copytree(os.path.join(DEPLOY, "gateway"), self.path("etc"), dirs_exist_ok=True, copy_function=shutil.copyfile)
+        shutil.copytree(os.path.join(DEPLOY, "page"), self.path("page"), dirs_exist_ok=True, copy_function=shutil.copyfile)
         for name in os.listdir(self.path("etc")):
             if name.endswith((".conf", ".cfg")):
                 self.rewrite(name, [it[1:] for it in edits if it[0] == name])
@@ -107,7 +114,7 @@ class Rig:
                 raise SystemExit(f"{name} has no {old!r} to be changed")
             text = text.replace(old, new)
         for old, new in (("/etc/land/", self.path("etc") + "/"), ("/run/land/", self.path("run") + "/"),
-                         ("/var/log/nginx/", self.path("log") + "/"), ("/usr/share/land/page", os.path.join(DEPLOY, "page")),
+                         ("/var/log/nginx/", self.path("log") + "/"), ("/usr/share/land/page", self.path("page")),
                          ("listen 443 ", f"listen 127.0.0.1:{self.port} "), (f":{REGISTER} ", f":{self.between or self.register} ")):
             text = text.replace(old, new)
         if not ROOT:
@@ -186,8 +193,9 @@ class Rig:
         """The words that run a command in the register's network."""
         if "network" not in self.running:
             as_user = [] if ROOT else ["--user", "--map-root-user"]
-            self.begin("network", ["unshare", *as_user, "--net", "sh", "-c", "ip link set lo up && echo up && exec sleep infinity"])
-            self.wait_for(lambda: "up" in self.said("network"), "no network of its own is to be had (log/network)")
+            self.begin("network", ["unshare", *as_user, "--net", "sh", "-c", "ip link set lo up && echo up $$ && exec sleep infinity"])
+            up = f"up {self.running['network'].pid}\n"
+            self.wait_for(lambda: up in self.said("network"), "no network of its own is to be had (log/network)", 10)
         as_user = [] if ROOT else ["--user", "--preserve-credentials"]
         return ["nsenter", "--target", str(self.running["network"].pid), *as_user, "--net", "--"]
 
@@ -252,11 +260,13 @@ class Rig:
     def ready(self, socket_name="queue.sock"):
         """Waits until the register answers: while it judges its file its port is closed. What it answers does not matter."""
         def answers():
+            if "register-town" in self.running and self.running["register-town"].poll() is not None:
+                raise SystemExit("the register has ended: " + self.said("register-town"))
             with contextlib.suppress(OSError, http.client.HTTPException), contextlib.closing(self.link(socket_name)) as link:
                 link.request("GET", "/")
                 return link.getresponse().status == 400
             return False
-        self.wait_for(answers, "the register does not answer (log/register-town)", 600)
+        self.wait_for(answers, "the register does not answer (log/register-town)")
 
     def link(self, socket_name="queue.sock"):
         """A connection to the queue, past the gateway: whoever has it is believed to be anybody."""
