@@ -63,7 +63,8 @@ function contrast() {
 function names() {
   const found = [];
   for (const e of document.querySelectorAll("a[href],button,input,select,textarea,svg[role],[role=region],nav")) {
-    const own = e.labels && e.tagName !== "BUTTON" ? [...e.labels].map((l) => l.textContent).join("") : e.tagName === "NAV" ? "" : e.textContent;
+    const labels = e.labels && e.tagName !== "BUTTON" ? [...e.labels].map((l) => l.textContent).join("") : null;
+    const own = labels !== null ? labels : e.tagName === "NAV" ? "" : e.textContent;
     const words = [e.getAttribute("aria-label"), own];
     if (!words.some((word) => word && word.trim())) found.push("no name: " + tell(e));
   }
