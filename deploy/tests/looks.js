@@ -1,0 +1,132 @@
+// What deploy/tests/page looks for in a page as it is shown. Each function gives a list of faults.
+
+const visible = (e) => e.checkVisibility({ opacityProperty: true, visibilityProperty: true }) && e.getClientRects().length > 0 &&
+  !e.closest(".unseen") && !(e.id === "skip");
+
+function colour(text) {
+  const [r, g, b, a = 1] = text.match(/[\d.]+/g).map(Number);
+  return [r, g, b, a];
+}
+
+// The colour behind an element: that of the nearest ancestor that has one.
+function behind(e) {
+  for (let one = e; one; one = one.parentElement) {
+    const found = colour(getComputedStyle(one).backgroundColor);
+    if (found[3] > 0) return found;
+  }
+  return [255, 255, 255, 1];
+}
+
+function luminance([r, g, b]) {
+  const [x, y, z] = [r, g, b].map((c) => (c / 255 <= 0.03928 ? c / 255 / 12.92 : ((c / 255 + 0.055) / 1.055) ** 2.4));
+  return 0.2126 * x + 0.7152 * y + 0.0722 * z;
+}
+
+function ratio(one, two) {
+  const [a, b] = [luminance(one), luminance(two)];
+  return (Math.max(a, b) + 0.05) / (Math.min(a, b) + 0.05);
+}
+
+const tell = (e) => e.outerHTML.slice(0, 90);
+
+// Texts against what is behind them, borders of fields, and words and lines of drawings.
+function contrast() {
+  const found = [];
+  const walk = document.createTreeWalker(document.body, NodeFilter.SHOW_TEXT);
+  while (walk.nextNode()) {
+    const e = walk.currentNode.parentElement;
+    if (!walk.currentNode.data.trim() || e.closest("svg,noscript,option,datalist") || !visible(e)) continue;
+    const style = getComputedStyle(e);
+    const size = parseFloat(style.fontSize);
+    const wanted = size >= 24 || (size >= 18.66 && Number(style.fontWeight) >= 700) ? 3 : 4.5;
+    const got = ratio(colour(style.color), behind(e));
+    if (got < wanted) found.push(got.toFixed(2) + " " + tell(e));
+  }
+  for (const e of document.querySelectorAll("input,select,button")) {
+    if (!visible(e)) continue;
+    const [border, back] = [colour(getComputedStyle(e).borderTopColor), behind(e.parentElement)];
+    const edge = Math.max(ratio(border, back), ratio(colour(getComputedStyle(e).backgroundColor), back));
+    if (e.type !== "range" && edge < 3) found.push("border " + tell(e));
+  }
+  for (const e of document.querySelectorAll("svg.plan path")) {
+    const style = getComputedStyle(e);
+    const paper = colour(getComputedStyle(e.closest("svg")).backgroundColor);
+    if (ratio(colour(style.stroke), paper) < 3) found.push("line " + tell(e));
+    const text = e.parentElement.querySelector("text");
+    if (!text || style.fill === "none") continue;
+    if (ratio(colour(getComputedStyle(text).fill), colour(style.fill)) < 4.5) found.push("label " + tell(text));
+  }
+  return found;
+}
+
+// Everything that is worked has a name, and every reference leads somewhere.
+function names() {
+  const found = [];
+  for (const e of document.querySelectorAll("a[href],button,input,select,textarea,svg[role],[role=region],nav")) {
+    const labels = e.labels && e.tagName !== "BUTTON" ? [...e.labels].map((l) => l.textContent).join("") : null;
+    const own = labels !== null ? labels : e.tagName === "NAV" ? "" : e.textContent;
+    const words = [e.getAttribute("aria-label"), own];
+    if (!words.some((word) => word && word.trim())) found.push("no name: " + tell(e));
+  }
+  for (const e of document.querySelectorAll("[aria-describedby],[for],[list]")) {
+    const ids = [e.getAttribute("aria-describedby"), e.getAttribute("for"), e.getAttribute("list")].filter(Boolean).join(" ").split(" ");
+    found.push(...ids.filter((id) => !document.getElementById(id)).map((id) => "no such id " + id));
+  }
+  const all = [...document.querySelectorAll("[id]")].map((e) => e.id);
+  found.push(...all.filter((id, n) => all.indexOf(id) !== n).map((id) => "twice: " + id));
+  return found;
+}
+
+// Headings in their order, landmarks, the language, a title, heads of tables.
+function order() {
+  const found = [];
+  const levels = [...document.querySelectorAll("h1,h2,h3,h4")].filter(visible).map((e) => Number(e.tagName[1]));
+  if (levels.filter((n) => n === 1).length !== 1) found.push("headings of the first order: " + levels);
+  if (levels.some((n, place) => n > (place ? levels[place - 1] : 0) + 1)) found.push("headings leave one out: " + levels);
+  for (const name of ["main", "header", "footer", "nav"]) if (!document.querySelector("body > " + name)) found.push("no " + name);
+  if (!document.documentElement.lang) found.push("no language");
+  if (!/\S - Land register$/.test(document.title)) found.push("title " + document.title);
+  for (const e of document.querySelectorAll("table")) {
+    if (!e.caption || [...e.querySelectorAll("th")].some((th) => th.scope !== "col")) found.push("a table without heads: " + tell(e));
+  }
+  if (document.querySelector("[tabindex]:not([tabindex='0']):not([tabindex='-1'])")) found.push("an order of its own for the keyboard");
+  return found;
+}
+
+// What is pressed is 24 by 24, or no other such thing is within 24 of its middle.
+function targets() {
+  const all = [...document.querySelectorAll("a[href],button,input,select")].filter(visible);
+  const boxes = all.map((e) => e.getBoundingClientRect());
+  const middle = (b) => [b.x + b.width / 2, b.y + b.height / 2];
+  const holder = (e) => e.closest("p:not(.tools),dd,td");
+  const inText = (e) => e.tagName === "A" && holder(e) && holder(e).textContent.trim() !== e.textContent.trim();
+  return all.filter((e, n) => {
+    const b = boxes[n];
+    if (b.width >= 24 && b.height >= 24 || inText(e) || e.closest("svg")) return false;
+    const [x, y] = middle(b);
+    return boxes.some((other, m) => m !== n && Math.hypot(x - middle(other)[0], y - middle(other)[1]) < 24);
+  }).map(tell);
+}
+
+// Nothing sticks out of the page, but what scrolls by itself.
+function reflow() {
+  const wide = document.documentElement.clientWidth;
+  if (document.documentElement.scrollWidth <= wide) return [];
+  return [...document.querySelectorAll("body *")].filter((e) => visible(e) && e.getBoundingClientRect().right > wide + 1 &&
+    !e.closest(".scroll,pre,svg")).slice(0, 3).map(tell).concat("wider than the page");
+}
+
+// The element that has the focus shows it.
+function focused() {
+  const e = document.activeElement;
+  const style = getComputedStyle(e);
+  const shown = style.outlineStyle !== "none" && parseFloat(style.outlineWidth) >= 2;
+  return shown || e === document.body ? [] : [tell(e)];
+}
+
+// More room between letters, words and lines, as readers may set it.
+function spacing() {
+  const rule = "line-height: 1.5 !important; letter-spacing: .12em !important; word-spacing: .16em !important;";
+  document.styleSheets[0].insertRule("* { " + rule + " }");
+  return reflow();
+}
