@@ -90,7 +90,6 @@ export const REFUSALS = {
   205: "There is no such party.",
   206: "The share is more than the right has, or the receiver would have more than the whole.",
   207: "The shares are too fine to be added.",
-  208: "The new outlines have together another area than the old ones.",
   209: "The units that would end are not like the one that stays.",
   210: "No more numbers, entries or parcels can be made.",
   211: "The creditor does not hold the role of a bank.",
@@ -102,6 +101,7 @@ export const REFUSALS = {
   217: "No moment is left for a change.",
   218: "The last state administrator stays one.",
   219: "A party is named twice.",
+  220: "The new outlines are not exactly the ground of the old ones.",
 };
 
 const AGAIN = "If you sent something, look whether it was taken up before you send it again. A lodging may be sent again as it is.";
