@@ -101,9 +101,7 @@ fn is_mortgage_for(party: u64, entry: &RrrRecord) -> bool
 fn has_right(names: &[u64], entries: &Records<RrrRecord>) -> bool
     ensures { result ≡ some (λ n e. is_right_in (λ named. list_any (nat_eq named) names.now) e) entries.now }
 {
-    entries
-        .iter()
-        .any(|(_, entry)| is_right_in(names, entry))
+    entries.iter().any(|(_, entry)| is_right_in(names, entry))
 }
 
 fn has_ownership(names: &[u64], entries: &Records<RrrRecord>) -> bool

@@ -176,10 +176,10 @@ module _ (one other : Register) (caller : Caller) (sound : IsSoundOrNothing one)
   same_entries unit =
       let AreNamedAlike : ℕ × RrrRecord → Type 0 = λ e. named_rrr one e.0 e.1 ≡ named_rrr other e.0 e.1 in
       let named : AllByRecursion AreNamedAlike (in_sight one caller) = all_more (IsInSight one caller) AreNamedAlike
-          (λ e is. ap (λ name. let it : NamedRrr = record { rrr = shown_rrr e; name = name } in it) (same_name e.1.party (party_in_sight one sound e.0 e.1 is.0 caller is.1)))
-          (in_sight one caller) (all_in_sight one caller) in
+      (λ e is. ap (λ name. let it : NamedRrr = record { rrr = shown_rrr e; name = name } in it) (same_name e.1.party (party_in_sight one sound e.0 e.1 is.0 caller is.1)))
+      (in_sight one caller) (all_in_sight one caller) in
       let of_unit = all_more (λ e. AreNamedAlike e × (nat_eq e.1.unit unit ≡ true)) AreNamedAlike (λ e is. is.0) (filter (λ e. nat_eq e.1.unit unit) (in_sight one caller))
-          (all_passing AreNamedAlike (λ e. nat_eq e.1.unit unit) (in_sight one caller) named) in
+      (all_passing AreNamedAlike (λ e. nat_eq e.1.unit unit) (in_sight one caller) named) in
       seen_entries one caller unit
       ∙ same_items (λ e. named_rrr one e.0 e.1) (λ e. named_rrr other e.0 e.1) (filter (λ e. nat_eq e.1.unit unit) (in_sight one caller)) of_unit
       ∙ ap (λ es. map_list (λ e. named_rrr other e.0 e.1) (filter (λ e. nat_eq e.1.unit unit) es)) same_in_sight
@@ -233,6 +233,6 @@ replies_tell_nothing_unseen clock other_clock request one other sound also read 
     let same_moment : register_at other t ≡ register_at other (moment_of a (now_of other_clock other)) = ap (λ n. register_at other (moment_of a n)) now in
     step_told clock request.caller a one read
     ∙ same_told (now_of clock one) (last_register one) (last_register other) (register_at one t) (register_at other t) request.caller a
-        (record { last = last; asked = at; one = sound_or_nothing one t sound; other = sound_or_nothing other t also }) read
+    (record { last = last; asked = at; one = sound_or_nothing one t sound; other = sound_or_nothing other t also }) read
     ∙ ap (λ (n : ℤ). told n (last_register other) (register_at other (moment_of a n)) request.caller a) now
     ∙ sym (step_told other_clock request.caller a other read)

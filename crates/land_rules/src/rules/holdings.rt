@@ -68,11 +68,7 @@ impl Holdings {
 }
 
 /// The names in which a citizen has rights: its own, and those of the groups of which it is a member.
-fn names_of_citizen(
-    alloc: Global,
-    at: &Register,
-    party: u64,
-) -> Result<BTreeSet<u64>, AllocError>
+fn names_of_citizen(alloc: Global, at: &Register, party: u64) -> Result<BTreeSet<u64>, AllocError>
     ensures { IfOk result (λ it. AreNames ties.Holder at.now party it) }
 {
     let mut names = BTreeSet::new(alloc);
@@ -116,9 +112,7 @@ fn tied_units(
 fn is_tied(at: &Register, names: &BTreeSet<u64>, tie: Tie, entry: &RrrRecord) -> bool
     ensures { result ≡ is_tied tie at.now (has_number names.now) entry.now.unit entry.now }
 {
-    at.stands(Kind::Unit, entry.unit)
-        && ties_by(tie, &entry.class)
-        && names.contains(&entry.party)
+    at.stands(Kind::Unit, entry.unit) && ties_by(tie, &entry.class) && names.contains(&entry.party)
 }
 
 /// Whether entries of a class tie so.
