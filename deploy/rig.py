@@ -101,6 +101,9 @@ class Rig:
         for name in os.listdir(self.path("etc")):
             if name.endswith((".conf", ".cfg")):
                 self.rewrite(name, [it[1:] for it in edits if it[0] == name])
+        if ROOT:    # what is written here is for nginx's group to read, as in /etc/land
+            shutil.chown(self.path("etc"), group="www-data")
+            os.chmod(self.path("etc"), 0o2755)
         self.keys()
         self.users()
         self.main_conf()
@@ -153,8 +156,6 @@ class Rig:
                 sink.write("cert 4 CN=machine,O=Bank North\noffice 127.0.0.1/32\n")
         subprocess.run([os.path.join(DEPLOY, "gateway", "make-users"), self.path("users"), self.path("etc")], check=True,
                        capture_output=True)
-        if ROOT:
-            shutil.chown(self.path("etc", "users.htpasswd"), group="www-data")
 
     def main_conf(self, *sites):
         """nginx.conf: a whole server of its own, over the files named, or that of one register."""

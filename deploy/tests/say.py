@@ -1,5 +1,6 @@
 """What the tests tell: a line for each look, and a last line that .ci/deploy reads: PASS, FAIL or LEFT OUT."""
 import os
+import signal
 import sys
 
 sys.path.insert(0, os.path.dirname(os.path.dirname(os.path.abspath(__file__))))
@@ -28,7 +29,8 @@ def end():
 
 
 def run(test):
-    """Runs a test, which is left out where something that it needs is not installed."""
+    """Runs a test, which is left out where something that it needs is not installed. Told to stop, it ends what it began."""
+    signal.signal(signal.SIGTERM, lambda *_: sys.exit(143))
     try:
         test()
     except Missing as what:
