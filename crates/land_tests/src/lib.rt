@@ -1,6 +1,6 @@
-//! Tests of `land_fraction` and `land_shape`, and of what in `land_core` needs no register: its small types, and the limits of
-//! acts and requests. There is nothing else here. A crate that has tests is proved twice: those three have none of their own,
-//! and this one has nothing to prove.
+//! Tests of `land_fraction`, `land_shape` and `land_tables_sweeps`, and of what in `land_core` needs no register: its small types,
+//! and the limits of acts and requests. There is nothing else here. A crate that has tests is proved twice: those four have none of
+//! their own, and this one has nothing to prove.
 //!
 //! The tests hold what no clause says: that the calls succeed up to the limits, worked examples, and what a refused
 //! allocation leaves. Want of memory ends a test with an `Err`, so that it fails unless an allocation was refused.
@@ -17,5 +17,7 @@ mod core_types;
 mod fraction;
 #[cfg(test)]
 mod shape;
+#[cfg(test)]
+mod sweeps;
 #[cfg(test)]
 mod tilings;

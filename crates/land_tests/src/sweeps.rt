@@ -1,0 +1,249 @@
+//! Spans of time, worked out by hand: what is asked for while it is offered, what stands together, and what is apart.
+ghost use Rattle.std.proofs.Common.{ap, sym};
+ghost use Rattle.std.proofs.lemmas.List.Sorted.{length_permutation};
+ghost use Rattle.std.specs.List.{list_all};
+ghost use Rattle.std.specs.Prelude.{◌≡◌, true, false, refl, int_lt, nat_le, length};
+
+use land_tables_sweeps::apart::{Span, are_apart};
+use land_tables_sweeps::cover::{Piece, is_covered};
+use land_tables_sweeps::sweep::{Judged, Lived, are_sound};
+use std::alloc::{AllocError, Global};
+use std::test::Fail;
+
+// ---- what is asked for while it is offered
+
+fn offered(key: u64, since: i64, until: i64) -> Piece
+    ensures { result ≡ record { first = key; second = 0; since = since; asked = false; until = until } }
+{
+    Piece {
+        first: key,
+        second: 0,
+        since,
+        asked: false,
+        until,
+    }
+}
+
+fn asked(key: u64, since: i64, until: i64) -> Piece
+    ensures { result ≡ record { first = key; second = 0; since = since; asked = true; until = until } }
+{
+    Piece {
+        first: key,
+        second: 0,
+        since,
+        asked: true,
+        until,
+    }
+}
+
+/// Whether each key is offered whenever it is asked for.
+fn covers(alloc: Global, pieces: &[Piece]) -> Result<bool, AllocError>
+    requires { list_all (λ x. int_lt x.since x.until) pieces.now ≡ true }
+{
+    let mut copies = pieces.to_vec(alloc)?;
+    Ok(is_covered(&mut copies))
+}
+
+#[test]
+fn nothing_is_asked_for(rt: HostRuntime) -> Result<(), Fail> {
+    assert!(&rt; covers(rt.alloc(), &[])?);
+    assert!(&rt; covers(rt.alloc(), &[offered(1, 10, 20)])?);
+    assert!(&rt; !covers(rt.alloc(), &[asked(1, 10, 20)])?);
+    Ok(())
+}
+
+/// An offer begins with what is asked for and ends with it, or a millisecond late or early.
+#[test]
+fn offers_begin_and_end_with_what_is_asked_for(rt: HostRuntime) -> Result<(), Fail> {
+    assert!(&rt; covers(rt.alloc(), &[asked(1, 10, 20), offered(1, 10, 20)])?);
+    assert!(&rt; !covers(rt.alloc(), &[asked(1, 10, 20), offered(1, 11, 20)])?);
+    assert!(&rt; !covers(rt.alloc(), &[asked(1, 10, 20), offered(1, 10, 19)])?);
+    assert!(&rt; !covers(rt.alloc(), &[asked(1, 20, 30), offered(1, 10, 20)])?);
+    Ok(())
+}
+
+/// Offers that touch leave no gap. A gap of a millisecond is seen where it is asked for, and only there.
+#[test]
+fn gaps_between_offers(rt: HostRuntime) -> Result<(), Fail> {
+    let (early, late) = (offered(1, 10, 15), offered(1, 15, 20));
+    let after_a_gap = offered(1, 16, 20);
+    assert!(&rt; covers(rt.alloc(), &[late, asked(1, 10, 20), early])?);
+    assert!(&rt; !covers(rt.alloc(), &[after_a_gap, asked(1, 10, 20), early])?);
+    assert!(&rt;
+        covers(
+            rt.alloc(),
+            &[asked(1, 16, 20), after_a_gap, asked(1, 10, 15), early]
+        )?
+    );
+    assert!(&rt; !covers(rt.alloc(), &[asked(1, 15, 16), after_a_gap, early])?);
+    Ok(())
+}
+
+/// What is offered of one key is not offered of another.
+#[test]
+fn offers_of_two_keys(rt: HostRuntime) -> Result<(), Fail> {
+    assert!(&rt;
+        covers(
+            rt.alloc(),
+            &[
+                asked(1, 10, 20),
+                offered(2, 10, 20),
+                offered(1, 5, 25),
+                asked(2, 12, 14)
+            ]
+        )?
+    );
+    assert!(&rt; !covers(rt.alloc(), &[asked(1, 10, 20), offered(2, 10, 20)])?);
+    assert!(&rt;
+        !covers(
+            rt.alloc(),
+            &[asked(1, 10, 20), offered(1, 10, 15), offered(2, 15, 20)]
+        )?
+    );
+    Ok(())
+}
+
+// ---- what stands together
+
+/// Of which at most two are sound together.
+#[derive(Clone, Copy, Debug, PartialEq, Eq, PartialOrd, Ord)]
+struct Seat(u64);
+
+impl Judged for Seat {
+    ghost is_sound = { λ there. nat_le (length there) 2 };
+
+    fn judge(_alloc: Global, there: &[Lived<Seat>]) -> Result<bool, AllocError> {
+        Ok(there.len() <= 2)
+    }
+
+    ghost empty_is_sound = { refl };
+
+    ghost in_any_order = { λ xs ys p. sym (ap (λ n. nat_le n 2) (length_permutation xs ys p)) };
+}
+
+fn taken(key: u64, since: i64, until: i64) -> Lived<Seat> {
+    Lived {
+        key,
+        since,
+        until,
+        what: Seat(since.unsigned_abs()),
+    }
+}
+
+/// Whether at most two stand together under each key.
+fn are_few(alloc: Global, seats: &[Lived<Seat>]) -> Result<bool, AllocError> {
+    let mut copies = seats.to_vec(alloc)?;
+    are_sound(alloc, &mut copies)
+}
+
+#[test]
+fn nothing_stands(rt: HostRuntime) -> Result<(), Fail> {
+    assert!(&rt; are_few(rt.alloc(), &[])?);
+    assert!(&rt; are_few(rt.alloc(), &[taken(1, 10, 20)])?);
+    Ok(())
+}
+
+/// What has ended when the third begins does not stand beside it, and a millisecond more is too much.
+#[test]
+fn a_third_begins_when_the_first_ends(rt: HostRuntime) -> Result<(), Fail> {
+    assert!(&rt;
+        are_few(
+            rt.alloc(),
+            &[taken(1, 15, 18), taken(1, 12, 20), taken(1, 10, 15)]
+        )?
+    );
+    assert!(&rt;
+        !are_few(
+            rt.alloc(),
+            &[taken(1, 15, 18), taken(1, 12, 20), taken(1, 10, 16)]
+        )?
+    );
+    Ok(())
+}
+
+/// Three stand at one time under three keys, and under two.
+#[test]
+fn keys_are_judged_apart(rt: HostRuntime) -> Result<(), Fail> {
+    assert!(&rt;
+        are_few(
+            rt.alloc(),
+            &[taken(1, 10, 20), taken(2, 10, 20), taken(3, 10, 20)]
+        )?
+    );
+    assert!(&rt;
+        are_few(
+            rt.alloc(),
+            &[taken(1, 10, 20), taken(2, 10, 20), taken(1, 11, 12)]
+        )?
+    );
+    assert!(&rt;
+        !are_few(
+            rt.alloc(),
+            &[
+                taken(1, 10, 20),
+                taken(2, 5, 9),
+                taken(1, 11, 12),
+                taken(1, 9, 12)
+            ]
+        )?
+    );
+    Ok(())
+}
+
+// ---- what is apart
+
+/// The span of a pair of a number and a text.
+fn span(number: u64, text: &'static str, since: i64, until: i64) -> Span<(u64, &'static str)>
+    ensures since { result.since ≡ since }
+    ensures until { result.until ≡ until }
+{
+    Span {
+        key: (number, text),
+        since,
+        until,
+    }
+}
+
+/// Whether no two of one key have a moment in common.
+fn apart(alloc: Global, spans: &[Span<(u64, &'static str)>]) -> Result<bool, AllocError>
+    requires { list_all (λ x. int_lt x.since x.until) spans.now ≡ true }
+{
+    let mut copies = spans.to_vec(alloc)?;
+    Ok(are_apart(&mut copies))
+}
+
+#[test]
+fn spans_touch_or_overlap(rt: HostRuntime) -> Result<(), Fail> {
+    assert!(&rt; apart(rt.alloc(), &[])?);
+    assert!(&rt; apart(rt.alloc(), &[span(1, "a", 15, 20), span(1, "a", 10, 15)])?);
+    assert!(&rt; !apart(rt.alloc(), &[span(1, "a", 15, 20), span(1, "a", 10, 16)])?);
+    assert!(&rt; !apart(rt.alloc(), &[span(1, "a", 12, 13), span(1, "a", 10, 20)])?);
+    Ok(())
+}
+
+/// Spans of two keys may have moments in common, whichever half of the key tells them apart.
+#[test]
+fn spans_of_two_keys(rt: HostRuntime) -> Result<(), Fail> {
+    assert!(&rt;
+        apart(
+            rt.alloc(),
+            &[
+                span(1, "a", 10, 20),
+                span(2, "a", 10, 20),
+                span(1, "b", 10, 20)
+            ]
+        )?
+    );
+    assert!(&rt;
+        !apart(
+            rt.alloc(),
+            &[
+                span(1, "a", 10, 20),
+                span(2, "a", 10, 20),
+                span(1, "b", 12, 14),
+                span(2, "a", 19, 30)
+            ]
+        )?
+    );
+    Ok(())
+}
