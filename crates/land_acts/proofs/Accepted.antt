@@ -3,6 +3,31 @@ use Rattle.std.proofs.Common.{◌≡◌, ◌≤◌, true, false, ◌&&◌, not, 
 use Rattle.std.specs.Prelude.{ℤ, ◌||◌, ◌+◌, map as map_list}
 use Rattle.std.specs.FinMap as map
 use Rattle.std.specs.Option.{option_map_or}
+use Rattle.land_acts.proofs.Approvals.{approve_grows, approve_once, approved_is_sound, caller_stands, refuse_grows, refuse_once, refused_is_sound}
+use Rattle.land_acts.proofs.BurdenedUnits.{burdened_is_sound}
+use Rattle.land_acts.proofs.GroupActs.{enrolled_is_sound, grouped_is_sound, regrouped_is_sound}
+use Rattle.land_acts.proofs.LiftedEntries.{lifted_is_sound}
+use Rattle.land_acts.proofs.LodgedMutations.{fresh, lodged_is_sound}
+use Rattle.land_acts.proofs.NewObjects.{numbered_once}
+use Rattle.land_acts.proofs.Outcomes.{IsPlanned, planned_from, unstamped}
+use Rattle.land_acts.proofs.Refusals.{first_none}
+use Rattle.land_acts.proofs.RegisteredUnits.{registered_is_sound}
+use Rattle.land_acts.proofs.RoleActs.{granted_is_sound, revoked_is_sound}
+use Rattle.land_acts.proofs.TransferLaws.{whole_law}
+use Rattle.land_acts.specs.Deciding.{is_lodged}
+use Rattle.land_acts.specs.FirstRights.{lists_absent, are_types_too_fine, are_types_whole, has_right_twice}
+use Rattle.land_acts.specs.Laws.{AcceptedKeepsSound, AcceptedNamesKeysOnce, AcceptedTellsStamp, NothingWithoutStamp}
+use Rattle.land_acts.specs.Lifting.{has_burden}
+use Rattle.land_acts.specs.Lodging.{has_lodged_other}
+use Rattle.land_acts.specs.Mutations.Asking.{content_refusals}
+use Rattle.land_acts.specs.Mutations.Planning.{would_crowd, first_that_holds, lacks_numbers}
+use Rattle.land_acts.specs.Outcome.{outcome_of, refusals_of, change_of, done_of, repeated_done}
+use Rattle.land_acts.specs.Registering.{new_count, parcel_of, right_of}
+use Rattle.land_acts.specs.Revoking.{has_administrator_beside}
+use Rattle.land_acts.specs.Sharing.{lists_stranger, are_too_fine, are_whole, lists_twice}
+use Rattle.land_acts.specs.declared.mutations.refusal.Planned.TheVariants.{New}
+use Rattle.land_acts.specs.declared.mutations.refusal.Refusal.TheVariants.{NotLodged, NoSuchUnit, NoSuchRight, NoSuchParty, SharesTooFine, TooMany, SharesNotWhole, ReferenceUsed, RoleHeld, RoleNotHeld, ClockOut, LastAdministrator, SameParty}
+use Rattle.land_core.proofs.Booleans.{both_of, or_false, not_false}
 use Rattle.land_core.specs.Acts.{is_well_formed, are_members, name_numbers}
 use Rattle.land_core.specs.Changes.{after, NamesKeysOnce}
 use Rattle.land_core.specs.Contents.{is_well_formed_content}
@@ -20,32 +45,7 @@ use Rattle.land_core.specs.declared.change.Change.{Change}
 use Rattle.land_core.specs.declared.change.Done.{Done}
 use Rattle.land_core.specs.declared.register.Register.{Register}
 use Rattle.land_core.specs.declared.role.Role.TheVariants.{StateAdministrator}
-use Rattle.land_core.proofs.Booleans.{both_of, or_false, not_false}
 use Rattle.land_fraction.specs.Laws.{WholenessLaw}
-use Rattle.land_mutations.specs.declared.refusal.Planned.TheVariants.{New}
-use Rattle.land_mutations.specs.declared.refusal.Refusal.TheVariants.{NotLodged, NoSuchUnit, NoSuchRight, NoSuchParty, SharesTooFine, TooMany, SharesNotWhole, ReferenceUsed, RoleHeld, RoleNotHeld, ClockOut, LastAdministrator, SameParty}
-use Rattle.land_mutations.specs.Planning.{would_crowd, first_that_holds, lacks_numbers}
-use Rattle.land_acts.specs.FirstRights.{lists_absent, are_types_too_fine, are_types_whole, has_right_twice}
-use Rattle.land_acts.specs.Laws.{AcceptedKeepsSound, AcceptedNamesKeysOnce, AcceptedTellsStamp, NothingWithoutStamp}
-use Rattle.land_mutations.specs.Asking.{content_refusals}
-use Rattle.land_acts.specs.Deciding.{is_lodged}
-use Rattle.land_acts.specs.Lifting.{has_burden}
-use Rattle.land_acts.specs.Lodging.{has_lodged_other}
-use Rattle.land_acts.specs.Outcome.{outcome_of, refusals_of, change_of, done_of, repeated_done}
-use Rattle.land_acts.specs.Revoking.{has_administrator_beside}
-use Rattle.land_acts.specs.Registering.{new_count, parcel_of, right_of}
-use Rattle.land_acts.specs.Sharing.{lists_stranger, are_too_fine, are_whole, lists_twice}
-use Rattle.land_acts.proofs.BurdenedUnits.{burdened_is_sound}
-use Rattle.land_acts.proofs.Approvals.{approve_grows, approve_once, approved_is_sound, caller_stands, refuse_grows, refuse_once, refused_is_sound}
-use Rattle.land_acts.proofs.GroupActs.{enrolled_is_sound, grouped_is_sound, regrouped_is_sound}
-use Rattle.land_acts.proofs.LiftedEntries.{lifted_is_sound}
-use Rattle.land_acts.proofs.LodgedMutations.{fresh, lodged_is_sound}
-use Rattle.land_mutations.proofs.NewObjects.{numbered_once}
-use Rattle.land_acts.proofs.Outcomes.{IsPlanned, planned_from, unstamped}
-use Rattle.land_mutations.proofs.Refusals.{first_none}
-use Rattle.land_acts.proofs.RegisteredUnits.{registered_is_sound}
-use Rattle.land_mutations.proofs.TransferLaws.{whole_law}
-use Rattle.land_acts.proofs.RoleActs.{granted_is_sound, revoked_is_sound}
 
 -- ---- each act, where none of its refusals holds
 

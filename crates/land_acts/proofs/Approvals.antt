@@ -6,6 +6,26 @@ use Rattle.std.specs.Cmp.{nat_cmp_total}
 use Rattle.std.specs.FinMap as map
 use Rattle.std.specs.FinMap.{nat_cmp-IsAntisymmetric}
 use Rattle.std.proofs.lemmas.Bool.{false≢true}
+use Rattle.land_acts.proofs.DecidedMutations.{decided_is_sound}
+use Rattle.land_acts.proofs.DischargedEntries.{discharged_is_sound}
+use Rattle.land_acts.proofs.MergedApprovals.{approved_merger_is_sound, approved_merger_once, tight_mutation}
+use Rattle.land_acts.proofs.MortgagedUnits.{mortgaged_is_sound}
+use Rattle.land_acts.proofs.SubdividedGrounds.{unrefused_subdivision}
+use Rattle.land_acts.proofs.SubdividedKeys.{subdivision_names_once}
+use Rattle.land_acts.proofs.SubdividedRegisters.{subdivided_is_sound, subdivision_grows}
+use Rattle.land_acts.proofs.Transfers.{sound_names_once, transferred_is_sound}
+use Rattle.land_acts.proofs.UnrefusedContents.{unrefused_discharge, unrefused_mortgage, unrefused_move}
+use Rattle.land_acts.specs.Deciding.{approve_change, refuse_change, with_state}
+use Rattle.land_acts.specs.Mutations.Asking.{content_change, content_refusals, transfer_change}
+use Rattle.land_acts.specs.Mutations.Discharging.{discharge_change}
+use Rattle.land_acts.specs.Mutations.Mortgaging.{mortgage_change}
+use Rattle.land_acts.specs.Mutations.Planning.{first_that_holds}
+use Rattle.land_acts.specs.Mutations.Subdividing.{subdivision_change}
+use Rattle.land_acts.specs.Mutations.Transferring.{grows_at, held_at, move_change, number_after}
+use Rattle.land_acts.specs.declared.mutations.transfer.Held.{Held}
+use Rattle.land_core.proofs.Booleans.{both_of, not_false}
+use Rattle.land_core.proofs.Reflection.{none_at}
+use Rattle.land_core.proofs.SoundRegisters.{refers, single_from, stands_from}
 use Rattle.land_core.specs.Changes.{NamesKeysOnce, after, no_change}
 use Rattle.land_core.specs.Contents.{is_well_formed_content}
 use Rattle.land_core.specs.Entries.{has}
@@ -20,27 +40,7 @@ use Rattle.land_core.specs.declared.mutation.MutationRecord.{MutationRecord}
 use Rattle.land_core.specs.declared.mutation.MutationState.TheVariants.{Approved, Refused}
 use Rattle.land_core.specs.declared.register.Register.{Register}
 use Rattle.land_core.specs.declared.soundness.Unsound.TheVariants.{Reference}
-use Rattle.land_core.proofs.Booleans.{both_of, not_false}
-use Rattle.land_core.proofs.Reflection.{none_at}
-use Rattle.land_core.proofs.SoundRegisters.{refers, single_from, stands_from}
 use Rattle.land_fraction.specs.Laws.{WholenessLaw}
-use Rattle.land_mutations.specs.Planning.{first_that_holds}
-use Rattle.land_acts.specs.Deciding.{approve_change, refuse_change, with_state}
-use Rattle.land_mutations.specs.Asking.{content_change, content_refusals, transfer_change}
-use Rattle.land_mutations.specs.Discharging.{discharge_change}
-use Rattle.land_mutations.specs.Mortgaging.{mortgage_change}
-use Rattle.land_mutations.specs.Subdividing.{subdivision_change}
-use Rattle.land_mutations.specs.Transferring.{grows_at, held_at, move_change, number_after}
-use Rattle.land_mutations.specs.declared.transfer.Held.{Held}
-use Rattle.land_acts.proofs.DecidedMutations.{decided_is_sound}
-use Rattle.land_mutations.proofs.DischargedEntries.{discharged_is_sound}
-use Rattle.land_mutations.proofs.UnrefusedContents.{unrefused_discharge, unrefused_mortgage, unrefused_move}
-use Rattle.land_acts.proofs.MergedApprovals.{approved_merger_is_sound, approved_merger_once, tight_mutation}
-use Rattle.land_mutations.proofs.MortgagedUnits.{mortgaged_is_sound}
-use Rattle.land_mutations.proofs.SubdividedGrounds.{unrefused_subdivision}
-use Rattle.land_mutations.proofs.SubdividedKeys.{subdivision_names_once}
-use Rattle.land_mutations.proofs.SubdividedRegisters.{subdivided_is_sound, subdivision_grows}
-use Rattle.land_mutations.proofs.Transfers.{sound_names_once, transferred_is_sound}
 
 -- who holds a role stands
 pub caller_stands : (r : Register) (caller : Caller) → IsSound r → holds r caller.party caller.role ≡ true → has r.parties caller.party ≡ true

@@ -3,6 +3,19 @@ use Rattle.std.proofs.Common.{◌≡◌, not, Some, None, List, [], ◌∷◌, s
 use Rattle.std.specs.Prelude.{ℤ, Ok}
 use Rattle.std.specs.Option.{option_map_or}
 use Rattle.std.specs.FinMap as map
+use Rattle.land_acts.proofs.Accepted.{planned}
+use Rattle.land_acts.proofs.MergedKeys.{merged_area, merged_ground}
+use Rattle.land_acts.proofs.Refusals.{first_none}
+use Rattle.land_acts.proofs.SubdividedGrounds.{subdivision_keeps_area, subdivision_keeps_ground}
+use Rattle.land_acts.specs.AreaLaws.{MergersKeepAreas, SubdivisionsKeepAreas, outlines_put}
+use Rattle.land_acts.specs.Deciding.{is_lodged, with_state}
+use Rattle.land_acts.specs.GroundLaws.{MergersKeepGround, SubdivisionsKeepGround}
+use Rattle.land_acts.specs.Mutations.Areas.{doubled_areas, outlines_at}
+use Rattle.land_acts.specs.Mutations.Asking.{content_change, content_refusals}
+use Rattle.land_acts.specs.Mutations.Planning.{first_that_holds}
+use Rattle.land_acts.specs.Outcome.{outcome_of}
+use Rattle.land_acts.specs.declared.mutations.refusal.Planned.TheVariants.{New}
+use Rattle.land_acts.specs.declared.mutations.refusal.Refusal.TheVariants.{NotLodged}
 use Rattle.land_core.specs.Changes.{no_change}
 use Rattle.land_core.specs.declared.act.Act.TheVariants.{Approve}
 use Rattle.land_core.specs.declared.act.Decision.{Decision}
@@ -16,19 +29,6 @@ use Rattle.land_core.specs.declared.mutation.MutationState.TheVariants.{Approved
 use Rattle.land_core.specs.declared.register.Register.{Register}
 use Rattle.land_shape.specs.Matching.{Match}
 use Rattle.land_shape.specs.Place.{Place}
-use Rattle.land_acts.specs.AreaLaws.{MergersKeepAreas, SubdivisionsKeepAreas, outlines_put}
-use Rattle.land_acts.specs.GroundLaws.{MergersKeepGround, SubdivisionsKeepGround}
-use Rattle.land_mutations.specs.Areas.{doubled_areas, outlines_at}
-use Rattle.land_mutations.specs.Asking.{content_change, content_refusals}
-use Rattle.land_acts.specs.Deciding.{is_lodged, with_state}
-use Rattle.land_mutations.specs.Planning.{first_that_holds}
-use Rattle.land_acts.specs.Outcome.{outcome_of}
-use Rattle.land_mutations.specs.declared.refusal.Planned.TheVariants.{New}
-use Rattle.land_mutations.specs.declared.refusal.Refusal.TheVariants.{NotLodged}
-use Rattle.land_acts.proofs.Accepted.{planned}
-use Rattle.land_mutations.proofs.MergedKeys.{merged_area, merged_ground}
-use Rattle.land_mutations.proofs.Refusals.{first_none}
-use Rattle.land_mutations.proofs.SubdividedGrounds.{subdivision_keeps_area, subdivision_keeps_ground}
 
 -- what is approved puts the parcels of its content, which is not refused
 record IsApproved (r : Register) (m : MutationRecord) (c : Content) (stamp : ℤ) (change : Change) : Type 0 where

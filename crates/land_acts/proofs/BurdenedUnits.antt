@@ -5,6 +5,11 @@ use Rattle.std.specs.Ordering.{nat_cmp}
 use Rattle.std.specs.FinMap as map
 use Rattle.std.specs.FinMap.{FinMap}
 use Rattle.std.proofs.lemmas.Bool.Decides.{nat_tests}
+use Rattle.land_acts.proofs.EnteredEntries.{each_record, entered, entered_is_sound, here, no_rank_right, there}
+use Rattle.land_acts.proofs.Growth.{used_grows, has_stays}
+use Rattle.land_acts.specs.Burdening.{burden_change, class_of}
+use Rattle.land_acts.specs.Mutations.Planning.{would_crowd, lacks_numbers}
+use Rattle.land_core.proofs.SoundRegisters.{refers, are_used, used_from, unused_from, used_bounds, next_above_zero}
 use Rattle.land_core.specs.Changes.{after}
 use Rattle.land_core.specs.Entries.{has}
 use Rattle.land_core.specs.Soundness.{IsSound, is_used, is_loose_rank}
@@ -14,14 +19,9 @@ use Rattle.land_core.specs.declared.act.BurdenClass.{BurdenClass}
 use Rattle.land_core.specs.declared.act.BurdenClass.TheVariants as burden
 use Rattle.land_core.specs.declared.register.Register.{Register}
 use Rattle.land_core.specs.declared.rrr.RrrRecord.{RrrRecord}
+use Rattle.land_core.specs.declared.soundness.Unsound.TheVariants.{Reference}
 use Rattle.land_core.specs.declared.source.SourceKind.TheVariants.{Administrative}
 use Rattle.land_core.specs.declared.source.SourceRecord.{SourceRecord}
-use Rattle.land_core.specs.declared.soundness.Unsound.TheVariants.{Reference}
-use Rattle.land_core.proofs.SoundRegisters.{refers, are_used, used_from, unused_from, used_bounds, next_above_zero}
-use Rattle.land_acts.specs.Burdening.{burden_change, class_of}
-use Rattle.land_mutations.specs.Planning.{would_crowd, lacks_numbers}
-use Rattle.land_mutations.proofs.Growth.{used_grows, has_stays}
-use Rattle.land_mutations.proofs.EnteredEntries.{each_record, entered, entered_is_sound, here, no_rank_right, there}
 
 -- a burden is no right and no mortgage
 no_type : (class : BurdenClass) (words : List ℕ) → type_of (class_of class words) ≡ None

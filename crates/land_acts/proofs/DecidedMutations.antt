@@ -5,16 +5,16 @@ use Rattle.std.specs.Ordering.{nat_cmp, eq_by_cmp}
 use Rattle.std.specs.Cmp.{nat_cmp_total}
 use Rattle.std.specs.FinMap as map
 use Rattle.std.specs.FinMap.{nat_cmp-IsAntisymmetric}
+use Rattle.land_acts.proofs.Numbers.{one_number}
+use Rattle.land_acts.specs.Deciding.{decided}
+use Rattle.land_core.proofs.Reflection.{none_at, none_passes}
+use Rattle.land_core.proofs.SoundRegisters.{are_used, are_used_back, refers, refers_back, unused_from, used_from}
 use Rattle.land_core.specs.Mutations.{share_a_reference}
 use Rattle.land_core.specs.Soundness.{IsSound, is_loose_mutation, is_reused_later}
 use Rattle.land_core.specs.declared.mutation.MutationRecord.{MutationRecord}
 use Rattle.land_core.specs.declared.mutation.MutationState.{MutationState}
 use Rattle.land_core.specs.declared.register.Register.{Register}
 use Rattle.land_core.specs.declared.soundness.Unsound.TheVariants.{Reference, Shares, Group, Bare, Crowded, Twice, Rank, Administrator, Reused, Memory}
-use Rattle.land_core.proofs.Reflection.{none_at, none_passes}
-use Rattle.land_core.proofs.SoundRegisters.{are_used, are_used_back, refers, refers_back, unused_from, used_from}
-use Rattle.land_acts.specs.Deciding.{decided}
-use Rattle.land_mutations.proofs.Numbers.{one_number}
 
 module _ (r : Register) (number : ℕ) (m : MutationRecord) (state : MutationState) where
   abbrev new : Register

@@ -3,18 +3,18 @@ use Rattle.std.proofs.Common.{◌≡◌, ℕ, Bool, true, false, cond, not, ◌&
 use Rattle.std.specs.Prelude.{ℤ, is_none, is_some, nat_eq}
 use Rattle.std.specs.Option.{option_map_or}
 use Rattle.std.specs.FinMap as map
+use Rattle.land_acts.proofs.MortgageSlices.{AgreeOnUnit}
+use Rattle.land_acts.proofs.NumberTests.{at_kept}
+use Rattle.land_acts.specs.Mutations.Discharging.{discharge_change, discharge_refusals, has_entry_in, has_mortgage}
+use Rattle.land_acts.specs.Mutations.Planning.{first_that_holds}
+use Rattle.land_acts.specs.declared.mutations.refusal.Refusal.{Refusal}
+use Rattle.land_acts.specs.declared.mutations.refusal.Refusal.TheVariants.{NoSuchUnit, NoSuchRight, NotMortgage, ClockOut}
+use Rattle.land_core.proofs.Booleans.{both_of}
 use Rattle.land_core.specs.Entries.{has}
 use Rattle.land_core.specs.Units.{rank_of}
 use Rattle.land_core.specs.declared.content.Discharge.{Discharge}
 use Rattle.land_core.specs.declared.register.Register.{Register}
 use Rattle.land_core.specs.declared.rrr.RrrRecord.{RrrRecord}
-use Rattle.land_core.proofs.Booleans.{both_of}
-use Rattle.land_mutations.specs.declared.refusal.Refusal.{Refusal}
-use Rattle.land_mutations.specs.declared.refusal.Refusal.TheVariants.{NoSuchUnit, NoSuchRight, NotMortgage, ClockOut}
-use Rattle.land_mutations.specs.Discharging.{discharge_change, discharge_refusals, has_entry_in, has_mortgage}
-use Rattle.land_mutations.specs.Planning.{first_that_holds}
-use Rattle.land_mutations.proofs.NumberTests.{at_kept}
-use Rattle.land_acts.proofs.MortgageSlices.{AgreeOnUnit}
 
 -- whether a mortgage of a unit stands at a number
 abbrev has_mortgage_in : Register → (unit number : ℕ) → Bool

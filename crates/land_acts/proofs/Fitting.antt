@@ -5,6 +5,23 @@ use Rattle.std.specs.Prelude.{ℤ, is_none, nat_lt}
 use Rattle.std.specs.Option.{option_map_or}
 use Rattle.std.specs.FinMap as map
 use Rattle.std.proofs.lemmas.Bool.{lt-ltb, ltb-false, ltb-true}
+use Rattle.land_acts.proofs.MergedApprovals.{merger_fits}
+use Rattle.land_acts.proofs.MortgageRanks.{next_rank_fits_kept}
+use Rattle.land_acts.proofs.Refusals.{first_none}
+use Rattle.land_acts.proofs.SubdividedGrounds.{unrefused_subdivision}
+use Rattle.land_acts.proofs.UnrefusedContents.{unrefused_mortgage, unrefused_move}
+use Rattle.land_acts.specs.Deciding.{approve_has_room, approve_refusals, is_lodged}
+use Rattle.land_acts.specs.Mutations.Asking.{Fits, content_refusals, has_room}
+use Rattle.land_acts.specs.Mutations.Mortgaging.{greatest, next_rank, ranks_in}
+use Rattle.land_acts.specs.Mutations.Planning.{first_that_holds, lacks_numbers}
+use Rattle.land_acts.specs.Mutations.Subdividing.{subdivision_count}
+use Rattle.land_acts.specs.Mutations.Transferring.{are_too_many, grows_at, move_change, number_after}
+use Rattle.land_acts.specs.Outcome.{IsUnrefused, has_room_for}
+use Rattle.land_acts.specs.Slices.{IsOfSound, looks_at_rrr}
+use Rattle.land_acts.specs.declared.mutations.refusal.Refusal.TheVariants.{NotLodged}
+use Rattle.land_acts.specs.declared.mutations.transfer.Held.{Held}
+use Rattle.land_core.proofs.Booleans.{both_of, or_false}
+use Rattle.land_core.proofs.SoundRegisters.{refers}
 use Rattle.land_core.specs.Changes.{after}
 use Rattle.land_core.specs.Units.{rrr_count}
 use Rattle.land_core.specs.declared.act.Act.{Act}
@@ -16,23 +33,6 @@ use Rattle.land_core.specs.declared.content.Content.TheVariants as content
 use Rattle.land_core.specs.declared.mutation.MutationRecord.{MutationRecord}
 use Rattle.land_core.specs.declared.register.Register.{Register}
 use Rattle.land_core.specs.declared.soundness.Unsound.TheVariants.{Reference}
-use Rattle.land_core.proofs.Booleans.{both_of, or_false}
-use Rattle.land_core.proofs.SoundRegisters.{refers}
-use Rattle.land_mutations.specs.Asking.{Fits, content_refusals, has_room}
-use Rattle.land_acts.specs.Deciding.{approve_has_room, approve_refusals, is_lodged}
-use Rattle.land_mutations.specs.Mortgaging.{greatest, next_rank, ranks_in}
-use Rattle.land_acts.specs.Outcome.{IsUnrefused, has_room_for}
-use Rattle.land_mutations.specs.Planning.{first_that_holds, lacks_numbers}
-use Rattle.land_acts.specs.Slices.{IsOfSound, looks_at_rrr}
-use Rattle.land_mutations.specs.Subdividing.{subdivision_count}
-use Rattle.land_mutations.specs.Transferring.{are_too_many, grows_at, move_change, number_after}
-use Rattle.land_mutations.specs.declared.refusal.Refusal.TheVariants.{NotLodged}
-use Rattle.land_mutations.specs.declared.transfer.Held.{Held}
-use Rattle.land_mutations.proofs.UnrefusedContents.{unrefused_mortgage, unrefused_move}
-use Rattle.land_acts.proofs.MergedApprovals.{merger_fits}
-use Rattle.land_mutations.proofs.MortgageRanks.{next_rank_fits_kept}
-use Rattle.land_mutations.proofs.Refusals.{first_none}
-use Rattle.land_mutations.proofs.SubdividedGrounds.{unrefused_subdivision}
 
 one_left : (s : Register) → lacks_numbers s 1 ≡ false → s.next ≤ 1000000000
 one_left s h = let most : s.next + 1 ≤ 1000000001 = ltb-false 1000000001 (s.next + 1) h in omega (arith, most)

@@ -6,6 +6,19 @@ use Rattle.std.specs.Cmp.{nat_cmp_total}
 use Rattle.std.specs.FinMap as map
 use Rattle.std.specs.FinMap.{FinMap}
 use Rattle.std.proofs.lemmas.Bool.{false≢true}
+use Rattle.land_acts.proofs.Growth.{has_stays, mutations_stay, ranks_grow}
+use Rattle.land_acts.proofs.ListedMembers.{group_shares, listed_single}
+use Rattle.land_acts.proofs.Numbers.{one_number}
+use Rattle.land_acts.proofs.PartyActs.{single_stays, tight_stays, stay, put_there, each_party, all_used, no_loose_grant, no_loose_rrr}
+use Rattle.land_acts.specs.Enrolment.{enrol_change}
+use Rattle.land_acts.specs.Grouping.{group_change}
+use Rattle.land_acts.specs.Mutations.Planning.{lacks_numbers}
+use Rattle.land_acts.specs.Regrouping.{regroup_change}
+use Rattle.land_acts.specs.Sharing.{lists_stranger, lists_twice, are_whole, members_of_list}
+use Rattle.land_core.proofs.Booleans.{not_false}
+use Rattle.land_core.proofs.FiniteMaps.{is_equal}
+use Rattle.land_core.proofs.FiniteSets.{grants_total, exact_grants}
+use Rattle.land_core.proofs.SoundRegisters.{AreTight, refers, refers_back, loose_from, single_from, loose_members_from, members_from, unbroken_from, whole_from, administrator_from, administrator_at, apart_itself}
 use Rattle.land_core.specs.Changes.{after}
 use Rattle.land_core.specs.Grants.{grant_cmp, grant_of}
 use Rattle.land_core.specs.Members.{Members, shares_in, is_group_size, are_group_shares}
@@ -20,19 +33,6 @@ use Rattle.land_core.specs.declared.register.Register.{Register}
 use Rattle.land_core.specs.declared.role.Role.TheVariants.{Citizen}
 use Rattle.land_core.specs.declared.roles.Grant.{Grant}
 use Rattle.land_core.specs.declared.soundness.Unsound.TheVariants.{Reference, Shares, Group, Bare, Crowded, Twice, Rank, Administrator, Reused, Memory}
-use Rattle.land_core.proofs.Booleans.{not_false}
-use Rattle.land_core.proofs.FiniteMaps.{is_equal}
-use Rattle.land_core.proofs.FiniteSets.{grants_total, exact_grants}
-use Rattle.land_core.proofs.SoundRegisters.{AreTight, refers, refers_back, loose_from, single_from, loose_members_from, members_from, unbroken_from, whole_from, administrator_from, administrator_at, apart_itself}
-use Rattle.land_acts.specs.Enrolment.{enrol_change}
-use Rattle.land_acts.specs.Grouping.{group_change}
-use Rattle.land_mutations.specs.Planning.{lacks_numbers}
-use Rattle.land_acts.specs.Regrouping.{regroup_change}
-use Rattle.land_acts.specs.Sharing.{lists_stranger, lists_twice, are_whole, members_of_list}
-use Rattle.land_mutations.proofs.Growth.{has_stays, mutations_stay, ranks_grow}
-use Rattle.land_acts.proofs.ListedMembers.{group_shares, listed_single}
-use Rattle.land_mutations.proofs.Numbers.{one_number}
-use Rattle.land_acts.proofs.PartyActs.{single_stays, tight_stays, stay, put_there, each_party, all_used, no_loose_grant, no_loose_rrr}
 
 -- ---- members that are put at a number
 

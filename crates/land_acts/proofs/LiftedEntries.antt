@@ -2,6 +2,8 @@
 use Rattle.std.proofs.Common.{◌≡◌, true, false, None, refl, sym, ap, ◌∙◌}
 use Rattle.std.specs.Option.{option_map_or}
 use Rattle.std.proofs.lemmas.Bool.{false≢true}
+use Rattle.land_acts.proofs.EndedEntries.{ended_is_sound}
+use Rattle.land_acts.specs.Lifting.{lift_change, has_burden, is_burden}
 use Rattle.land_core.specs.Changes.{after}
 use Rattle.land_core.specs.Soundness.{IsSound}
 use Rattle.land_core.specs.Units.{type_of}
@@ -9,8 +11,6 @@ use Rattle.land_core.specs.declared.act.Lift.{Lift}
 use Rattle.land_core.specs.declared.register.Register.{Register}
 use Rattle.land_core.specs.declared.rrr.Class.{Class}
 use Rattle.land_core.specs.declared.rrr.Class.TheVariants.{Right, Restriction, Responsibility, Mortgage}
-use Rattle.land_acts.specs.Lifting.{lift_change, has_burden, is_burden}
-use Rattle.land_mutations.proofs.EndedEntries.{ended_is_sound}
 
 -- a burden is no right
 burden_no_right : (class : Class) → is_burden class ≡ true → type_of class ≡ None

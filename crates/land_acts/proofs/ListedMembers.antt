@@ -12,18 +12,18 @@ use Rattle.std.specs.FinMap.{put}
 use Rattle.std.proofs.lemmas.Bool.{false≢true}
 use Rattle.std.proofs.lemmas.List.{length-map}
 use Rattle.std.proofs.lemmas.List.Sorted.{IsPermutation-refl, IsPermutation-trans, IsPermutation-sym, IsPermutation-cons, IsPermutation-middle, IsPermutation-append_right, IsPermutation-map, length_permutation}
+use Rattle.land_acts.proofs.Numbers.{one_number, tied_number, turned_number}
+use Rattle.land_acts.specs.Sharing.{listed_shares, lists_stranger, are_whole, lists_twice, same_party, members_of_list}
+use Rattle.land_core.proofs.Booleans.{both_of, or_false, not_false}
+use Rattle.land_core.proofs.FiniteMaps.{none_is_not_some, nothing_from_length}
 use Rattle.land_core.specs.Entries.{with_entries, are_distinct}
 use Rattle.land_core.specs.Members.{Members, shares_in, is_group_size, is_yes, are_group_shares}
 use Rattle.land_core.specs.Register.{has_single_party}
 use Rattle.land_core.specs.declared.member.Member.{Member}
 use Rattle.land_core.specs.declared.register.Register.{Register}
+use Rattle.land_fraction.proofs.Moves.{wholeness-permuted}
 use Rattle.land_fraction.specs.Ratio.{Ratio}
 use Rattle.land_fraction.specs.Wholeness.{wholeness}
-use Rattle.land_fraction.proofs.Moves.{wholeness-permuted}
-use Rattle.land_core.proofs.Booleans.{both_of, or_false, not_false}
-use Rattle.land_core.proofs.FiniteMaps.{none_is_not_some, nothing_from_length}
-use Rattle.land_acts.specs.Sharing.{listed_shares, lists_stranger, are_whole, lists_twice, same_party, members_of_list}
-use Rattle.land_mutations.proofs.Numbers.{one_number, tied_number, turned_number}
 
 abbrev entry : Member → ℕ × Ratio
 entry member = (member.party, member.share)

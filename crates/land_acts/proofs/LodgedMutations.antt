@@ -8,6 +8,12 @@ use Rattle.std.specs.FinMap as map
 use Rattle.std.specs.FinMap.{nat_cmp-IsAntisymmetric}
 use Rattle.std.proofs.lemmas.Bool.{false≢true}
 use Rattle.std.proofs.lemmas.Bool.Decides.{nat_tests}
+use Rattle.land_acts.proofs.EnteredEntries.{each_record, here, there}
+use Rattle.land_acts.proofs.Growth.{anchored, anchored_back, has_stays, mutations_stay, placed, placed_back, ranks_grow, unused_grows, used_grows}
+use Rattle.land_acts.specs.Lodging.{document_kind, has_lodged_other, is_same_lodging, lodge_change, lodge_repeat, lodged_record, lodged_told, lodged_under, repeat_of}
+use Rattle.land_acts.specs.Mutations.Planning.{lacks_numbers}
+use Rattle.land_core.proofs.Reflection.{none_at, none_passes}
+use Rattle.land_core.proofs.SoundRegisters.{are_used, are_used_back, next_above_zero, refers, refers_back, unused_from, used_bounds, used_from}
 use Rattle.land_core.specs.Changes.{after}
 use Rattle.land_core.specs.Contents.{is_well_formed_content}
 use Rattle.land_core.specs.Entries.{has}
@@ -19,12 +25,6 @@ use Rattle.land_core.specs.declared.mutation.MutationRecord.{MutationRecord}
 use Rattle.land_core.specs.declared.register.Register.{Register}
 use Rattle.land_core.specs.declared.soundness.Unsound.TheVariants.{Reference, Shares, Group, Bare, Crowded, Twice, Rank, Administrator, Reused, Memory}
 use Rattle.land_core.specs.declared.source.SourceRecord.{SourceRecord}
-use Rattle.land_core.proofs.Reflection.{none_at, none_passes}
-use Rattle.land_core.proofs.SoundRegisters.{are_used, are_used_back, next_above_zero, refers, refers_back, unused_from, used_bounds, used_from}
-use Rattle.land_acts.specs.Lodging.{document_kind, has_lodged_other, is_same_lodging, lodge_change, lodge_repeat, lodged_record, lodged_told, lodged_under, repeat_of}
-use Rattle.land_mutations.specs.Planning.{lacks_numbers}
-use Rattle.land_mutations.proofs.EnteredEntries.{each_record, here, there}
-use Rattle.land_mutations.proofs.Growth.{anchored, anchored_back, has_stays, mutations_stay, placed, placed_back, ranks_grow, unused_grows, used_grows}
 
 -- where nothing is found, nothing passes
 pub none_found : {X : Type 0} (p : X → Bool) (xs : List X) → find p xs ≡ None → list_any p xs ≡ false

@@ -5,6 +5,16 @@ use Rattle.std.specs.FinMap as map
 use Rattle.std.specs.FinMap.{nat_cmp-IsAntisymmetric}
 use Rattle.std.specs.Cmp.{nat_cmp_total}
 use Rattle.std.proofs.lemmas.Bool.{ltb-false}
+use Rattle.land_acts.proofs.DecidedMutations.{decided_is_sound}
+use Rattle.land_acts.proofs.MergedKeys.{merger_names_once, unrefused_merger}
+use Rattle.land_acts.proofs.MergedUnits.{merged_is_sound}
+use Rattle.land_acts.specs.Deciding.{with_state}
+use Rattle.land_acts.specs.Mutations.Asking.{Fits, content_refusals}
+use Rattle.land_acts.specs.Mutations.Merging.{merger_change}
+use Rattle.land_acts.specs.Mutations.Planning.{first_that_holds}
+use Rattle.land_core.proofs.Booleans.{both_of, not_false}
+use Rattle.land_core.proofs.Reflection.{none_at}
+use Rattle.land_core.proofs.SoundRegisters.{refers}
 use Rattle.land_core.specs.Changes.{NamesKeysOnce, after}
 use Rattle.land_core.specs.Contents.{is_well_formed_content}
 use Rattle.land_core.specs.Entries.{has}
@@ -15,16 +25,6 @@ use Rattle.land_core.specs.declared.mutation.MutationRecord.{MutationRecord}
 use Rattle.land_core.specs.declared.mutation.MutationState.TheVariants.{Approved}
 use Rattle.land_core.specs.declared.register.Register.{Register}
 use Rattle.land_core.specs.declared.soundness.Unsound.TheVariants.{Reference}
-use Rattle.land_core.proofs.Booleans.{both_of, not_false}
-use Rattle.land_core.proofs.Reflection.{none_at}
-use Rattle.land_core.proofs.SoundRegisters.{refers}
-use Rattle.land_mutations.specs.Asking.{Fits, content_refusals}
-use Rattle.land_acts.specs.Deciding.{with_state}
-use Rattle.land_mutations.specs.Merging.{merger_change}
-use Rattle.land_mutations.specs.Planning.{first_that_holds}
-use Rattle.land_acts.proofs.DecidedMutations.{decided_is_sound}
-use Rattle.land_mutations.proofs.MergedKeys.{merger_names_once, unrefused_merger}
-use Rattle.land_mutations.proofs.MergedUnits.{merged_is_sound}
 
 -- what a mutation of a sound register comes from stands, and its content is within its limits
 pub record IsTight (r : Register) (m : MutationRecord) : Type 0 where

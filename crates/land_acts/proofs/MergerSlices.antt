@@ -3,6 +3,18 @@ use Rattle.std.proofs.Common.{◌≡◌, ◌+◌, ℕ, Bool, true, false, cond, 
 use Rattle.std.specs.Prelude.{ℤ, Option, is_none, nat_eq, nat_lt, map as map_list}
 use Rattle.std.specs.List.{list_any}
 use Rattle.std.specs.Cmp.{eq_by_cmp_equiv, nat_cmp_total}
+use Rattle.land_acts.proofs.Numbers.{same_number, tied_number}
+use Rattle.land_acts.proofs.SlicedWords.{or_right}
+use Rattle.land_acts.proofs.SubdivisionSlices.{AgreeOnUnits, beside_agrees, checked_agrees, entries_agree, entries_passing_agree, later_lines, outlines_agree, parcel_agrees, stands_agrees}
+use Rattle.land_acts.specs.Mutations.Areas.{outlines_at}
+use Rattle.land_acts.specs.Mutations.Grounds.{are_same_ground}
+use Rattle.land_acts.specs.Mutations.Merging.{are_same_entries, entries_of_others, has_unlike, is_named, is_parcel_named, is_same_mark, is_unlike, lacks_parcel, lacks_unit, merger_change, merger_refusals, would_have_more_parcels}
+use Rattle.land_acts.specs.Mutations.Planning.{first_that_holds, lacks_numbers}
+use Rattle.land_acts.specs.Mutations.Subdividing.{entries_of, parcels_beside}
+use Rattle.land_acts.specs.Mutations.Transferring.{is_checked}
+use Rattle.land_acts.specs.declared.mutations.refusal.Refusal.{Refusal}
+use Rattle.land_acts.specs.declared.mutations.refusal.Refusal.TheVariants.{NoSuchUnit, NoSuchParcel, UnlikeUnits, TooMany, ClockOut, NotMatched}
+use Rattle.land_core.proofs.Pairs.{list_any_same}
 use Rattle.land_core.specs.Contents.{names_unit as content_names_unit}
 use Rattle.land_core.specs.Entries.{has}
 use Rattle.land_core.specs.Mergers.{lists_number}
@@ -10,18 +22,6 @@ use Rattle.land_core.specs.declared.content.Content.TheVariants as content
 use Rattle.land_core.specs.declared.merger.Merger.{Merger}
 use Rattle.land_core.specs.declared.register.Register.{Register}
 use Rattle.land_core.specs.declared.rrr.RrrRecord.{RrrRecord}
-use Rattle.land_core.proofs.Pairs.{list_any_same}
-use Rattle.land_mutations.specs.declared.refusal.Refusal.{Refusal}
-use Rattle.land_mutations.specs.declared.refusal.Refusal.TheVariants.{NoSuchUnit, NoSuchParcel, UnlikeUnits, TooMany, ClockOut, NotMatched}
-use Rattle.land_mutations.specs.Areas.{outlines_at}
-use Rattle.land_mutations.specs.Grounds.{are_same_ground}
-use Rattle.land_mutations.specs.Merging.{are_same_entries, entries_of_others, has_unlike, is_named, is_parcel_named, is_same_mark, is_unlike, lacks_parcel, lacks_unit, merger_change, merger_refusals, would_have_more_parcels}
-use Rattle.land_mutations.specs.Planning.{first_that_holds, lacks_numbers}
-use Rattle.land_mutations.specs.Subdividing.{entries_of, parcels_beside}
-use Rattle.land_mutations.specs.Transferring.{is_checked}
-use Rattle.land_mutations.proofs.Numbers.{same_number, tied_number}
-use Rattle.land_acts.proofs.SlicedWords.{or_right}
-use Rattle.land_acts.proofs.SubdivisionSlices.{AgreeOnUnits, beside_agrees, checked_agrees, entries_agree, entries_passing_agree, later_lines, outlines_agree, parcel_agrees, stands_agrees}
 
 -- tests that agree on the listed numbers pass alike
 any_listed : (p q : ℕ → Bool) (ns : List ℕ) → ((n : ℕ) → lists_number ns n ≡ true → p n ≡ q n) → list_any p ns ≡ list_any q ns

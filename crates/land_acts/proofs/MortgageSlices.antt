@@ -6,6 +6,9 @@ use Rattle.std.specs.Cmp.{nat_cmp_total}
 use Rattle.std.specs.FinMap as map
 use Rattle.std.specs.FinMap.{nat_cmp-IsAntisymmetric}
 use Rattle.std.proofs.lemmas.Bool.{false≢true}
+use Rattle.land_acts.proofs.EndedEntries.{filter_map-kept, filter_within}
+use Rattle.land_acts.specs.Mutations.Mortgaging.{greatest, mortgage_change, mortgage_refusals, next_rank, rank_in, ranks_in}
+use Rattle.land_core.proofs.Reflection.{entries-only}
 use Rattle.land_core.specs.Entries.{has, only}
 use Rattle.land_core.specs.Register.{holds}
 use Rattle.land_core.specs.Units.{rank_of, rrr_count}
@@ -13,9 +16,6 @@ use Rattle.land_core.specs.declared.content.Mortgage.{Mortgage}
 use Rattle.land_core.specs.declared.register.Register.{Register}
 use Rattle.land_core.specs.declared.role.Role.TheVariants.{Bank}
 use Rattle.land_core.specs.declared.rrr.RrrRecord.{RrrRecord}
-use Rattle.land_core.proofs.Reflection.{entries-only}
-use Rattle.land_mutations.specs.Mortgaging.{greatest, mortgage_change, mortgage_refusals, next_rank, rank_in, ranks_in}
-use Rattle.land_mutations.proofs.EndedEntries.{filter_map-kept, filter_within}
 
 -- a register has only some entries of another one, but all those of a unit; they agree whether the unit stands, and on the next number
 pub record AgreeOnUnit (s r : Register) (unit : ℕ) : Type 0 where

@@ -11,18 +11,36 @@ use Rattle.std.specs.FinMap.{nat_cmp-IsAntisymmetric}
 use Rattle.std.proofs.lemmas.Bool.{eqb-true, false≢true}
 use Rattle.std.proofs.lemmas.Bool.Decides.{nat_tests}
 use Rattle.std.proofs.lemmas.Slice.Eq.{bytes_eq-Decides}
-use Rattle.land_core.specs.Changes.{after, no_change}
-use Rattle.land_core.specs.Entries.{updated}
-use Rattle.land_core.specs.Contents.{is_same_content}
-use Rattle.land_core.specs.Mutations.{is_lodged_as, is_undecided}
-use Rattle.land_core.specs.Soundness.{IsSound}
-use Rattle.land_core.specs.Mergers.{are_same_numbers}
-use Rattle.land_core.specs.Subdivisions.{is_same_name, is_same_part}
-use Rattle.land_core.specs.declared.act.Act.{Act}
-use Rattle.land_core.specs.declared.subdivision.Part.{Part}
-use Rattle.land_shape.specs.Place.{Place, is_same_place, is_same_ring}
 use Rattle.std.specs.Cmp.Lexicographic.{pointwise}
 use Rattle.std.proofs.lemmas.Bool.Decides.{Decides-int_eq}
+use Rattle.land_acts.proofs.Accepted.{planned}
+use Rattle.land_acts.proofs.EnteredEntries.{here, there}
+use Rattle.land_acts.proofs.LodgedMutations.{none_found}
+use Rattle.land_acts.proofs.Numbers.{one_number, same_number}
+use Rattle.land_acts.proofs.Refusals.{first_none}
+use Rattle.land_acts.proofs.TransferLaws.{whole_law}
+use Rattle.land_acts.specs.Deciding.{decided, is_lodged, with_state}
+use Rattle.land_acts.specs.Lodging.{document_kind, in_order, is_same_lodging, lodge_repeat, lodged_record, lodged_told, lodged_under, repeat_of}
+use Rattle.land_acts.specs.MutationLaws.{DecisionsStay, LodgingsStand, LodgingsStay, RepeatsAreToldTheFirst, StandsAsLodged}
+use Rattle.land_acts.specs.Mutations.Asking.{content_change, content_refusals, transfer_change}
+use Rattle.land_acts.specs.Mutations.Planning.{first_that_holds}
+use Rattle.land_acts.specs.Mutations.Transferring.{held_at}
+use Rattle.land_acts.specs.Outcome.{change_of, done_of, refusals_of, refused_else, repeated_else, stamped}
+use Rattle.land_acts.specs.declared.mutations.refusal.Refusal.TheVariants.{ClockOut, NotLodged}
+use Rattle.land_acts.specs.declared.mutations.transfer.Held.{Held}
+use Rattle.land_core.proofs.Booleans.{both_of, not_false}
+use Rattle.land_core.proofs.FiniteMaps.{none_is_not_some}
+use Rattle.land_core.proofs.LookUps.{by_look_ups}
+use Rattle.land_core.proofs.Reflection.{each_there, some_at}
+use Rattle.land_core.proofs.SoundRegisters.{are_used, refers, used_bounds, used_from}
+use Rattle.land_core.specs.Changes.{after, no_change}
+use Rattle.land_core.specs.Contents.{is_same_content}
+use Rattle.land_core.specs.Entries.{updated}
+use Rattle.land_core.specs.Mergers.{are_same_numbers}
+use Rattle.land_core.specs.Mutations.{is_lodged_as, is_undecided}
+use Rattle.land_core.specs.Soundness.{IsSound}
+use Rattle.land_core.specs.Subdivisions.{is_same_name, is_same_part}
+use Rattle.land_core.specs.declared.act.Act.{Act}
 use Rattle.land_core.specs.declared.act.Act.TheVariants as act
 use Rattle.land_core.specs.declared.act.Lodging.{Lodging}
 use Rattle.land_core.specs.declared.caller.Caller.{Caller}
@@ -38,26 +56,8 @@ use Rattle.land_core.specs.declared.register.Register.{Register}
 use Rattle.land_core.specs.declared.soundness.Unsound.TheVariants.{Reference}
 use Rattle.land_core.specs.declared.source.SourceKind.TheVariants.{Administrative}
 use Rattle.land_core.specs.declared.source.SourceRecord.{SourceRecord}
-use Rattle.land_core.proofs.Booleans.{both_of, not_false}
-use Rattle.land_core.proofs.FiniteMaps.{none_is_not_some}
-use Rattle.land_core.proofs.LookUps.{by_look_ups}
-use Rattle.land_core.proofs.Reflection.{each_there, some_at}
-use Rattle.land_core.proofs.SoundRegisters.{are_used, refers, used_bounds, used_from}
-use Rattle.land_mutations.specs.Asking.{content_change, content_refusals, transfer_change}
-use Rattle.land_acts.specs.Deciding.{decided, is_lodged, with_state}
-use Rattle.land_acts.specs.Lodging.{document_kind, in_order, is_same_lodging, lodge_repeat, lodged_record, lodged_told, lodged_under, repeat_of}
-use Rattle.land_acts.specs.MutationLaws.{DecisionsStay, LodgingsStand, LodgingsStay, RepeatsAreToldTheFirst, StandsAsLodged}
-use Rattle.land_acts.specs.Outcome.{change_of, done_of, refusals_of, refused_else, repeated_else, stamped}
-use Rattle.land_mutations.specs.Planning.{first_that_holds}
-use Rattle.land_mutations.specs.Transferring.{held_at}
-use Rattle.land_mutations.specs.declared.transfer.Held.{Held}
-use Rattle.land_mutations.specs.declared.refusal.Refusal.TheVariants.{ClockOut, NotLodged}
-use Rattle.land_acts.proofs.Accepted.{planned}
-use Rattle.land_mutations.proofs.TransferLaws.{whole_law}
-use Rattle.land_mutations.proofs.EnteredEntries.{here, there}
-use Rattle.land_acts.proofs.LodgedMutations.{none_found}
-use Rattle.land_mutations.proofs.Numbers.{one_number, same_number}
-use Rattle.land_mutations.proofs.Refusals.{first_none}
+use Rattle.land_core.specs.declared.subdivision.Part.{Part}
+use Rattle.land_shape.specs.Place.{Place, is_same_place, is_same_ring}
 
 -- ---- what a change leaves
 

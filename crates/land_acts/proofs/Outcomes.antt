@@ -1,14 +1,14 @@
 -- What an outcome says of the refusals and of the change.
 use Rattle.std.proofs.Common.{◌≡◌, Bool, Option, Some, None, Ok, Err, List, refl}
 use Rattle.std.specs.Prelude.{ℤ, Result}
+use Rattle.land_acts.specs.Mutations.Planning.{first_that_holds}
+use Rattle.land_acts.specs.Outcome.{refused_else, repeated_else, stamped}
+use Rattle.land_acts.specs.declared.mutations.refusal.Planned.{Planned}
+use Rattle.land_acts.specs.declared.mutations.refusal.Planned.TheVariants.{New, Repeat}
+use Rattle.land_acts.specs.declared.mutations.refusal.Refusal.{Refusal}
+use Rattle.land_acts.specs.declared.mutations.refusal.Refusal.TheVariants.{ClockOut}
 use Rattle.land_core.specs.declared.change.Change.{Change}
 use Rattle.land_core.specs.declared.change.Done.{Done}
-use Rattle.land_mutations.specs.declared.refusal.Planned.{Planned}
-use Rattle.land_mutations.specs.declared.refusal.Planned.TheVariants.{New, Repeat}
-use Rattle.land_mutations.specs.declared.refusal.Refusal.{Refusal}
-use Rattle.land_mutations.specs.declared.refusal.Refusal.TheVariants.{ClockOut}
-use Rattle.land_mutations.specs.Planning.{first_that_holds}
-use Rattle.land_acts.specs.Outcome.{refused_else, repeated_else, stamped}
 
 -- a change that is planned comes of no refusal and is no repeat, and is told with its stamp
 pub record IsPlanned (repeat : Option Done) (lines : List (Refusal × Bool)) (made : ℤ → Change) (change : Change) (told : ℤ → Done) (done : Done) (stamp : ℤ) : Type 0 where

@@ -7,6 +7,9 @@ use Rattle.std.specs.Cmp.{nat_cmp_total, tied_itself}
 use Rattle.std.specs.FinMap as map
 use Rattle.std.proofs.lemmas.Bool.{false≢true}
 use Rattle.std.proofs.lemmas.Bool.Decides.{nat_tests}
+use Rattle.land_acts.proofs.Growth.{used_grows, unused_grows, has_stays, anchored, anchored_back}
+use Rattle.land_acts.proofs.Numbers.{one_number, lesser_apart}
+use Rattle.land_core.proofs.SoundRegisters.{are_used, are_used_back, refers, used_from, unused_from, used_bounds, next_above_zero, loose_from, single_from, AreTight}
 use Rattle.land_core.specs.Entries.{has}
 use Rattle.land_core.specs.Members.{Members}
 use Rattle.land_core.specs.Register.{has_single_party, has_group, is_single}
@@ -14,9 +17,6 @@ use Rattle.land_core.specs.Soundness.{IsSound, has_unused, has_unused_number, ha
 use Rattle.land_core.specs.declared.party.PartyRecord.{PartyRecord}
 use Rattle.land_core.specs.declared.register.Register.{Register}
 use Rattle.land_core.specs.declared.soundness.Unsound.TheVariants.{Reference}
-use Rattle.land_core.proofs.SoundRegisters.{are_used, are_used_back, refers, used_from, unused_from, used_bounds, next_above_zero, loose_from, single_from, AreTight}
-use Rattle.land_mutations.proofs.Growth.{used_grows, unused_grows, has_stays, anchored, anchored_back}
-use Rattle.land_mutations.proofs.Numbers.{one_number, lesser_apart}
 
 -- each party that stands in a register stands in another one too, as it was
 abbrev pub StayParties : Register → Register → Type 0

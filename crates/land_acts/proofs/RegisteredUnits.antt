@@ -10,6 +10,17 @@ use Rattle.std.proofs.lemmas.Bool.Decides.{nat_tests}
 use Rattle.std.proofs.lemmas.List.{length-map}
 use Rattle.std.proofs.lemmas.List.Elements.{filter-append, filter_map-append}
 use Rattle.std.proofs.lemmas.List.Folds.{list_any-append}
+use Rattle.land_acts.proofs.EnteredEntries.{here, there, each_record}
+use Rattle.land_acts.proofs.Growth.{used_grows, unused_grows, ranks_grow, has_stays, mutations_stay, anchored, placed}
+use Rattle.land_acts.proofs.NewObjects.{below_later, entries-numbered, below_next}
+use Rattle.land_acts.proofs.Numbers.{same_number, turned_number}
+use Rattle.land_acts.specs.FirstRights.{lists_absent, listed_of_type, share_listed, are_types_whole, is_same_right, has_right_twice}
+use Rattle.land_acts.specs.Mutations.Numbering.{numbered}
+use Rattle.land_acts.specs.Mutations.Planning.{lacks_numbers}
+use Rattle.land_acts.specs.Registering.{new_count, parcel_of, right_of, register_change}
+use Rattle.land_core.proofs.Booleans.{both_of, or_false, not_false}
+use Rattle.land_core.proofs.Reflection.{none_passes, none_at}
+use Rattle.land_core.proofs.SoundRegisters.{refers, refers_back, are_used, are_used_back, used_from, unused_from, used_bounds, next_above_zero}
 use Rattle.land_core.specs.Acts.{is_new_unit, are_parcels, are_rights, is_first_count, have_labels, have_parties, have_owner}
 use Rattle.land_core.specs.Changes.{after}
 use Rattle.land_core.specs.Entries.{has, are_distinct}
@@ -24,22 +35,11 @@ use Rattle.land_core.specs.declared.register.Register.{Register}
 use Rattle.land_core.specs.declared.rrr.RightType.{RightType}
 use Rattle.land_core.specs.declared.rrr.RightType.TheVariants.{Ownership, Lease, Usufruct}
 use Rattle.land_core.specs.declared.rrr.RrrRecord.{RrrRecord}
+use Rattle.land_core.specs.declared.soundness.Unsound.TheVariants.{Reference, Shares, Group, Bare, Crowded, Twice, Rank, Administrator, Reused, Memory}
 use Rattle.land_core.specs.declared.source.SourceKind.TheVariants.{Administrative}
 use Rattle.land_core.specs.declared.source.SourceRecord.{SourceRecord}
-use Rattle.land_core.specs.declared.soundness.Unsound.TheVariants.{Reference, Shares, Group, Bare, Crowded, Twice, Rank, Administrator, Reused, Memory}
 use Rattle.land_core.specs.declared.unit.UnitRecord.{UnitRecord}
-use Rattle.land_core.proofs.Booleans.{both_of, or_false, not_false}
-use Rattle.land_core.proofs.Reflection.{none_passes, none_at}
-use Rattle.land_core.proofs.SoundRegisters.{refers, refers_back, are_used, are_used_back, used_from, unused_from, used_bounds, next_above_zero}
 use Rattle.land_fraction.specs.Ratio.{Ratio}
-use Rattle.land_acts.specs.FirstRights.{lists_absent, listed_of_type, share_listed, are_types_whole, is_same_right, has_right_twice}
-use Rattle.land_mutations.specs.Numbering.{numbered}
-use Rattle.land_mutations.specs.Planning.{lacks_numbers}
-use Rattle.land_acts.specs.Registering.{new_count, parcel_of, right_of, register_change}
-use Rattle.land_mutations.proofs.EnteredEntries.{here, there, each_record}
-use Rattle.land_mutations.proofs.Growth.{used_grows, unused_grows, ranks_grow, has_stays, mutations_stay, anchored, placed}
-use Rattle.land_mutations.proofs.NewObjects.{below_later, entries-numbered, below_next}
-use Rattle.land_mutations.proofs.Numbers.{same_number, turned_number}
 
 and_false : (b : Bool) → (b && false) ≡ false
 and_false true = refl

@@ -4,6 +4,14 @@ use Rattle.std.specs.Prelude.{nat_eq}
 use Rattle.std.specs.Ordering.{eq_by_cmp}
 use Rattle.std.specs.FinMap as map
 use Rattle.std.proofs.lemmas.Bool.{false≢true}
+use Rattle.land_acts.proofs.Numbers.{same_number}
+use Rattle.land_acts.specs.Granting.{grant_change}
+use Rattle.land_acts.specs.Revoking.{has_administrator_beside, revoke_change}
+use Rattle.land_core.proofs.Booleans.{both_of, not_false}
+use Rattle.land_core.proofs.FiniteMaps.{is_equal, none_is_not_some}
+use Rattle.land_core.proofs.FiniteSets.{grants_total, exact_grants}
+use Rattle.land_core.proofs.Reflection.{Passes, some_passes, list_any-map}
+use Rattle.land_core.proofs.SoundRegisters.{refers, refers_back, loose_from, single_from, administrator_from, administrator_at}
 use Rattle.land_core.specs.Changes.{after}
 use Rattle.land_core.specs.Grants.{grants_in, grant_cmp}
 use Rattle.land_core.specs.Register.{has_single_party}
@@ -13,14 +21,6 @@ use Rattle.land_core.specs.declared.register.Register.{Register}
 use Rattle.land_core.specs.declared.role.Role.TheVariants.{StateAdministrator}
 use Rattle.land_core.specs.declared.roles.Grant.{Grant}
 use Rattle.land_core.specs.declared.soundness.Unsound.TheVariants.{Reference, Shares, Group, Bare, Crowded, Twice, Rank, Administrator, Reused, Memory}
-use Rattle.land_core.proofs.Booleans.{both_of, not_false}
-use Rattle.land_core.proofs.FiniteMaps.{is_equal, none_is_not_some}
-use Rattle.land_core.proofs.FiniteSets.{grants_total, exact_grants}
-use Rattle.land_core.proofs.Reflection.{Passes, some_passes, list_any-map}
-use Rattle.land_core.proofs.SoundRegisters.{refers, refers_back, loose_from, single_from, administrator_from, administrator_at}
-use Rattle.land_acts.specs.Granting.{grant_change}
-use Rattle.land_acts.specs.Revoking.{has_administrator_beside, revoke_change}
-use Rattle.land_mutations.proofs.Numbers.{same_number}
 
 unit_is : (u : Unit {0}) → u ≡ tt
 unit_is u = refl

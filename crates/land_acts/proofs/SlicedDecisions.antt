@@ -6,6 +6,23 @@ use Rattle.std.proofs.lemmas.Bool.{or_left}
 use Rattle.std.specs.Cmp.{nat_cmp_total}
 use Rattle.std.specs.FinMap as map
 use Rattle.std.specs.FinMap.{nat_cmp-IsAntisymmetric}
+use Rattle.land_acts.proofs.DischargeSlices.{discharge_change_agrees, discharge_refusal_agrees}
+use Rattle.land_acts.proofs.MergerSlices.{merger_change_agrees, merger_refusal_agrees, named_in_content}
+use Rattle.land_acts.proofs.MortgageSlices.{AgreeOnUnit, mortgage_change_agrees, mortgage_refusals_agree}
+use Rattle.land_acts.proofs.Numbers.{one_number, same_number, tied_number}
+use Rattle.land_acts.proofs.SlicedWords.{holds_same, stands_same, unit_same}
+use Rattle.land_acts.proofs.SubdivisionSlices.{AgreeOnUnits, subdivision_change_agrees, subdivision_made_agrees, subdivision_refusal_agrees}
+use Rattle.land_acts.proofs.TransferSlices.{transfer_agrees}
+use Rattle.land_acts.specs.Deciding.{with_state}
+use Rattle.land_acts.specs.Mutations.Asking.{content_change, content_made, content_refusals}
+use Rattle.land_acts.specs.Mutations.Merging.{is_named}
+use Rattle.land_acts.specs.Mutations.Planning.{first_that_holds, told_of}
+use Rattle.land_acts.specs.Outcome.{outcome_of, refused_else, stamped}
+use Rattle.land_acts.specs.Slices.{content_names_party, looks_at_mutation, looks_at_rrr, names_party, names_rrr, names_unit, slice_of}
+use Rattle.land_acts.specs.declared.mutations.refusal.Planned.{Planned}
+use Rattle.land_acts.specs.declared.mutations.refusal.Refusal.{Refusal}
+use Rattle.land_acts.specs.declared.mutations.refusal.Refusal.TheVariants.{ClockOut, NotLodged}
+use Rattle.land_core.proofs.Reflection.{get-only}
 use Rattle.land_core.specs.Changes.{no_change}
 use Rattle.land_core.specs.Contents.{names_unit as content_names_unit}
 use Rattle.land_core.specs.Mutations.{is_undecided}
@@ -19,23 +36,6 @@ use Rattle.land_core.specs.declared.mutation.MutationRecord.{MutationRecord}
 use Rattle.land_core.specs.declared.mutation.MutationState.TheVariants.{Approved, Refused}
 use Rattle.land_core.specs.declared.register.Register.{Register}
 use Rattle.land_core.specs.declared.role.Role.TheVariants.{Bank}
-use Rattle.land_core.proofs.Reflection.{get-only}
-use Rattle.land_mutations.specs.Asking.{content_change, content_made, content_refusals}
-use Rattle.land_acts.specs.Deciding.{with_state}
-use Rattle.land_mutations.specs.Merging.{is_named}
-use Rattle.land_mutations.specs.Planning.{first_that_holds, told_of}
-use Rattle.land_acts.specs.Outcome.{outcome_of, refused_else, stamped}
-use Rattle.land_acts.specs.Slices.{content_names_party, looks_at_mutation, looks_at_rrr, names_party, names_rrr, names_unit, slice_of}
-use Rattle.land_mutations.specs.declared.refusal.Planned.{Planned}
-use Rattle.land_mutations.specs.declared.refusal.Refusal.{Refusal}
-use Rattle.land_mutations.specs.declared.refusal.Refusal.TheVariants.{ClockOut, NotLodged}
-use Rattle.land_acts.proofs.DischargeSlices.{discharge_change_agrees, discharge_refusal_agrees}
-use Rattle.land_acts.proofs.MergerSlices.{merger_change_agrees, merger_refusal_agrees, named_in_content}
-use Rattle.land_acts.proofs.MortgageSlices.{AgreeOnUnit, mortgage_change_agrees, mortgage_refusals_agree}
-use Rattle.land_mutations.proofs.Numbers.{one_number, same_number, tied_number}
-use Rattle.land_acts.proofs.SubdivisionSlices.{AgreeOnUnits, subdivision_change_agrees, subdivision_made_agrees, subdivision_refusal_agrees}
-use Rattle.land_acts.proofs.TransferSlices.{transfer_agrees}
-use Rattle.land_acts.proofs.SlicedWords.{holds_same, stands_same, unit_same}
 
 -- the mutation that is decided is in the slice
 mutation_same : (r : Register) (caller : Caller) (a : Act) (n : ℕ) → ((m : MutationRecord) → looks_at_mutation caller a n m ≡ true) → map.get (slice_of r caller a).mutations n ≡ map.get r.mutations n

@@ -7,6 +7,10 @@ use Rattle.std.specs.Str.{bytes_eq}
 use Rattle.std.specs.Cmp.{nat_cmp_total}
 use Rattle.std.specs.FinMap as map
 use Rattle.std.specs.FinMap.{nat_cmp-IsAntisymmetric}
+use Rattle.land_acts.proofs.Numbers.{same_number}
+use Rattle.land_acts.specs.Lodging.{has_lodged_other, is_same_lodging, lodge_repeat, lodged_under, lodged_told, repeat_of}
+use Rattle.land_acts.specs.Slices.{looks_at_source, slice_of}
+use Rattle.land_core.proofs.Reflection.{entries-only, get-only}
 use Rattle.land_core.specs.Contents.{is_same_content}
 use Rattle.land_core.specs.Mutations.{is_lodged_as}
 use Rattle.land_core.specs.declared.act.Act.TheVariants as act
@@ -14,10 +18,6 @@ use Rattle.land_core.specs.declared.act.Lodging.{Lodging}
 use Rattle.land_core.specs.declared.caller.Caller.{Caller}
 use Rattle.land_core.specs.declared.mutation.MutationRecord.{MutationRecord}
 use Rattle.land_core.specs.declared.register.Register.{Register}
-use Rattle.land_core.proofs.Reflection.{entries-only, get-only}
-use Rattle.land_acts.specs.Lodging.{has_lodged_other, is_same_lodging, lodge_repeat, lodged_under, lodged_told, repeat_of}
-use Rattle.land_acts.specs.Slices.{looks_at_source, slice_of}
-use Rattle.land_mutations.proofs.Numbers.{same_number}
 
 -- what is found among what passes
 find_kept : {X : Type 0} (p : X → Bool) (xs : List X) → find p (filter p xs) ≡ find p xs

@@ -7,13 +7,23 @@ use Rattle.std.specs.Cmp.{nat_cmp_total}
 use Rattle.std.specs.FinMap as map
 use Rattle.std.specs.FinMap.{nat_cmp-IsAntisymmetric}
 use Rattle.std.proofs.lemmas.Bool.{false≢true}
+use Rattle.land_acts.proofs.EndedEntries.{filter_within}
+use Rattle.land_acts.proofs.Numbers.{same_number, one_number, tied_number}
+use Rattle.land_acts.specs.FirstRights.{have_party, lists_absent}
+use Rattle.land_acts.specs.Lifting.{has_burden, is_burden}
+use Rattle.land_acts.specs.Revoking.{has_administrator_beside}
+use Rattle.land_acts.specs.Sharing.{lists_party, lists_stranger}
+use Rattle.land_acts.specs.Slices.{slice_of, looks_at_party, looks_at_rrr, names_party, names_rrr, names_unit}
+use Rattle.land_core.proofs.Booleans.{both_of}
+use Rattle.land_core.proofs.FiniteSets.{grants_total, exact_grants}
+use Rattle.land_core.proofs.Reflection.{get-only, entries-only, each_there, list_any-filter, list_any-map}
 use Rattle.land_core.specs.Entries.{only, has}
 use Rattle.land_core.specs.Grants.{grants_in, has_grant, grant_of}
 use Rattle.land_core.specs.Register.{has_single_party, has_group, holds, is_single}
 use Rattle.land_core.specs.Role.{is_role}
+use Rattle.land_core.specs.Units.{rrr_count}
 use Rattle.land_core.specs.declared.act.Act.{Act}
 use Rattle.land_core.specs.declared.act.Act.TheVariants as act
-use Rattle.land_core.specs.Units.{rrr_count}
 use Rattle.land_core.specs.declared.act.NewRight.{NewRight}
 use Rattle.land_core.specs.declared.act.Regroup.{Regroup}
 use Rattle.land_core.specs.declared.caller.Caller.{Caller}
@@ -22,16 +32,6 @@ use Rattle.land_core.specs.declared.register.Register.{Register}
 use Rattle.land_core.specs.declared.role.Role.{Role}
 use Rattle.land_core.specs.declared.role.Role.TheVariants.{StateAdministrator, Citizen, Conveyancer, Notary, Bank, CertifiedSurveyor}
 use Rattle.land_core.specs.declared.roles.Grant.{Grant}
-use Rattle.land_core.proofs.Booleans.{both_of}
-use Rattle.land_core.proofs.FiniteSets.{grants_total, exact_grants}
-use Rattle.land_core.proofs.Reflection.{get-only, entries-only, each_there, list_any-filter, list_any-map}
-use Rattle.land_acts.specs.FirstRights.{have_party, lists_absent}
-use Rattle.land_acts.specs.Lifting.{has_burden, is_burden}
-use Rattle.land_acts.specs.Revoking.{has_administrator_beside}
-use Rattle.land_acts.specs.Sharing.{lists_party, lists_stranger}
-use Rattle.land_acts.specs.Slices.{slice_of, looks_at_party, looks_at_rrr, names_party, names_rrr, names_unit}
-use Rattle.land_mutations.proofs.EndedEntries.{filter_within}
-use Rattle.land_mutations.proofs.Numbers.{same_number, one_number, tied_number}
 
 pub or_right : (x y : Bool) → y ≡ true → (x || y) ≡ true
 or_right true y h = refl

@@ -6,26 +6,26 @@ use Rattle.std.specs.List.{cons_option, list_any}
 use Rattle.std.specs.Cmp.{nat_cmp_total}
 use Rattle.std.specs.FinMap as map
 use Rattle.std.specs.FinMap.{nat_cmp-IsAntisymmetric}
+use Rattle.land_acts.proofs.EndedEntries.{filter_within}
+use Rattle.land_acts.proofs.KeptEntries.{get-kept, kept_at}
+use Rattle.land_acts.proofs.NumberTests.{at_kept}
+use Rattle.land_acts.proofs.Numbers.{one_of}
+use Rattle.land_acts.specs.Mutations.Areas.{outlines_at}
+use Rattle.land_acts.specs.Mutations.Grounds.{are_same_ground}
+use Rattle.land_acts.specs.Mutations.Numbering.{numbers_from}
+use Rattle.land_acts.specs.Mutations.Planning.{first_that_holds, lacks_numbers}
+use Rattle.land_acts.specs.Mutations.Subdividing.{all_parts, count_for, cut_change, entries_of, has_parcel_in, origin_of, outlines_of, parcels_beside, staying, subdivision_change, subdivision_count, subdivision_made, subdivision_refusals, would_have_many_parcels}
+use Rattle.land_acts.specs.Mutations.Transferring.{is_checked}
+use Rattle.land_acts.specs.declared.mutations.refusal.Refusal.{Refusal}
+use Rattle.land_acts.specs.declared.mutations.refusal.Refusal.TheVariants.{NoSuchUnit, NoSuchParcel, TooMany, ClockOut, NotMatched}
+use Rattle.land_core.proofs.Booleans.{both_of, not_false, or_false}
+use Rattle.land_core.proofs.Reflection.{entries-only}
 use Rattle.land_core.specs.Entries.{has, only}
 use Rattle.land_core.specs.Mergers.{lists_number}
 use Rattle.land_core.specs.declared.parcel.ParcelRecord.{ParcelRecord}
 use Rattle.land_core.specs.declared.register.Register.{Register}
 use Rattle.land_core.specs.declared.rrr.RrrRecord.{RrrRecord}
 use Rattle.land_core.specs.declared.subdivision.Subdivision.{Subdivision}
-use Rattle.land_core.proofs.Booleans.{both_of, not_false, or_false}
-use Rattle.land_core.proofs.Reflection.{entries-only}
-use Rattle.land_mutations.specs.declared.refusal.Refusal.{Refusal}
-use Rattle.land_mutations.specs.declared.refusal.Refusal.TheVariants.{NoSuchUnit, NoSuchParcel, TooMany, ClockOut, NotMatched}
-use Rattle.land_mutations.specs.Areas.{outlines_at}
-use Rattle.land_mutations.specs.Grounds.{are_same_ground}
-use Rattle.land_mutations.specs.Numbering.{numbers_from}
-use Rattle.land_mutations.specs.Planning.{first_that_holds, lacks_numbers}
-use Rattle.land_mutations.specs.Subdividing.{all_parts, count_for, cut_change, entries_of, has_parcel_in, origin_of, outlines_of, parcels_beside, staying, subdivision_change, subdivision_count, subdivision_made, subdivision_refusals, would_have_many_parcels}
-use Rattle.land_mutations.specs.Transferring.{is_checked}
-use Rattle.land_mutations.proofs.NumberTests.{at_kept}
-use Rattle.land_mutations.proofs.Numbers.{one_of}
-use Rattle.land_mutations.proofs.KeptEntries.{get-kept, kept_at}
-use Rattle.land_mutations.proofs.EndedEntries.{filter_within}
 
 -- a register has only some units, parcels and entries of another one, but all those of the units that are named; they agree on the
 -- next number

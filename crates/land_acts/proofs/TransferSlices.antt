@@ -8,6 +8,14 @@ use Rattle.std.specs.FinMap as map
 use Rattle.std.specs.FinMap.{FinMap, nat_cmp-IsAntisymmetric}
 use Rattle.std.specs.Ordering.{nat_cmp}
 use Rattle.std.proofs.lemmas.Bool.{false≢true}
+use Rattle.land_acts.proofs.EndedEntries.{filter_map-kept, filter_within}
+use Rattle.land_acts.proofs.KeptEntries.{get-kept, kept_at, updated-kept}
+use Rattle.land_acts.proofs.MortgageSlices.{AgreeOnUnit}
+use Rattle.land_acts.proofs.Numbers.{same_number}
+use Rattle.land_acts.specs.Mutations.Asking.{transfer_change, transfer_made}
+use Rattle.land_acts.specs.Mutations.Transferring.{are_too_fine, are_too_many, given_up, grown, grows_at, has_right_where, held_at, held_in, held_of, is_held_by, is_itself, is_too_large, kept, move_change, received, share_grown, share_left, transfer_refusals}
+use Rattle.land_acts.specs.declared.mutations.transfer.Held.{Held}
+use Rattle.land_core.proofs.Reflection.{entries-only}
 use Rattle.land_core.specs.Changes.{after}
 use Rattle.land_core.specs.Entries.{has, only, updated}
 use Rattle.land_core.specs.Units.{rrr_count, share_in, share_of, type_shares}
@@ -15,16 +23,8 @@ use Rattle.land_core.specs.declared.content.Transfer.{Transfer}
 use Rattle.land_core.specs.declared.register.Register.{Register}
 use Rattle.land_core.specs.declared.rrr.RightType.{RightType}
 use Rattle.land_core.specs.declared.rrr.RrrRecord.{RrrRecord}
-use Rattle.land_core.proofs.Reflection.{entries-only}
 use Rattle.land_fraction.specs.Ratio.{Ratio}
 use Rattle.land_fraction.specs.declared.fault.FractionFault.{FractionFault}
-use Rattle.land_mutations.specs.declared.transfer.Held.{Held}
-use Rattle.land_mutations.specs.Asking.{transfer_change, transfer_made}
-use Rattle.land_mutations.specs.Transferring.{are_too_fine, are_too_many, given_up, grown, grows_at, has_right_where, held_at, held_in, held_of, is_held_by, is_itself, is_too_large, kept, move_change, received, share_grown, share_left, transfer_refusals}
-use Rattle.land_mutations.proofs.KeptEntries.{get-kept, kept_at, updated-kept}
-use Rattle.land_mutations.proofs.EndedEntries.{filter_map-kept, filter_within}
-use Rattle.land_acts.proofs.MortgageSlices.{AgreeOnUnit}
-use Rattle.land_mutations.proofs.Numbers.{same_number}
 
 module _ (s r : Register) (it : Transfer) (agree : AgreeOnUnit s r it.unit) where
   -- what is not kept is of another unit

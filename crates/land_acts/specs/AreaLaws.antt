@@ -1,6 +1,9 @@
 -- Laws of areas, over the definitions alone: what an approval puts in the place of parcels has together their area.
 use Rattle.std.specs.Prelude.{◌≡◌, ℤ, List, map as map_list, Some, Ok}
 use Rattle.std.specs.FinMap as map
+use Rattle.land_acts.specs.Mutations.Areas.{doubled_areas, outlines_at}
+use Rattle.land_acts.specs.Outcome.{outcome_of}
+use Rattle.land_acts.specs.declared.mutations.refusal.Planned.TheVariants.{New}
 use Rattle.land_core.specs.declared.act.Act.TheVariants.{Approve}
 use Rattle.land_core.specs.declared.act.Decision.{Decision}
 use Rattle.land_core.specs.declared.caller.Caller.{Caller}
@@ -14,9 +17,6 @@ use Rattle.land_core.specs.declared.register.Register.{Register}
 use Rattle.land_core.specs.declared.subdivision.Subdivision.{Subdivision}
 use Rattle.land_shape.specs.Outline.{doubled_area}
 use Rattle.land_shape.specs.Place.{Place}
-use Rattle.land_mutations.specs.Areas.{doubled_areas, outlines_at}
-use Rattle.land_acts.specs.Outcome.{outcome_of}
-use Rattle.land_mutations.specs.declared.refusal.Planned.TheVariants.{New}
 
 -- the outlines of the parcels that a change puts
 abbrev pub outlines_put : Change → List (List Place)

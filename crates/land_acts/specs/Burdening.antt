@@ -1,5 +1,8 @@
 -- Burdening: a unit gets a restriction or a responsibility of a party.
 use Rattle.std.specs.Prelude.{ℕ, ◌+◌, ℤ, Bool, not, ◌||◌, List, [], ◌∷◌, Option, is_none}
+use Rattle.land_acts.specs.Mutations.Planning.{document_source, lacks_numbers, would_crowd}
+use Rattle.land_acts.specs.declared.mutations.refusal.Refusal.{Refusal}
+use Rattle.land_acts.specs.declared.mutations.refusal.Refusal.TheVariants.{NoSuchUnit, NoSuchParty, TooMany, ClockOut}
 use Rattle.land_core.specs.Changes.{no_put, no_ended}
 use Rattle.land_core.specs.Entries.{has}
 use Rattle.land_core.specs.declared.act.Burden.{Burden}
@@ -11,9 +14,6 @@ use Rattle.land_core.specs.declared.register.Register.{Register}
 use Rattle.land_core.specs.declared.rrr.Class.{Class}
 use Rattle.land_core.specs.declared.rrr.Class.TheVariants as class
 use Rattle.land_core.specs.declared.source.SourceKind.TheVariants.{Administrative}
-use Rattle.land_mutations.specs.declared.refusal.Refusal.{Refusal}
-use Rattle.land_mutations.specs.declared.refusal.Refusal.TheVariants.{NoSuchUnit, NoSuchParty, TooMany, ClockOut}
-use Rattle.land_mutations.specs.Planning.{document_source, lacks_numbers, would_crowd}
 
 -- its refusals, each with whether its condition holds, the least number first
 abbrev pub burden_refusals : Register → Burden → Option ℤ → List (Refusal × Bool)

@@ -2,6 +2,9 @@
 use Rattle.std.specs.Prelude.{ℕ, ℤ, Bool, true, false, not, List, [], ◌∷◌, Option, is_none}
 use Rattle.std.specs.Option.{option_map_or}
 use Rattle.std.specs.FinMap as map
+use Rattle.land_acts.specs.Mutations.Asking.{content_change, content_made, content_refusals, has_room}
+use Rattle.land_acts.specs.declared.mutations.refusal.Refusal.{Refusal}
+use Rattle.land_acts.specs.declared.mutations.refusal.Refusal.TheVariants.{NotLodged, ClockOut}
 use Rattle.land_core.specs.Changes.{no_change}
 use Rattle.land_core.specs.Mutations.{is_undecided}
 use Rattle.land_core.specs.declared.act.Decision.{Decision}
@@ -11,9 +14,6 @@ use Rattle.land_core.specs.declared.mutation.MutationRecord.{MutationRecord}
 use Rattle.land_core.specs.declared.mutation.MutationState.{MutationState}
 use Rattle.land_core.specs.declared.mutation.MutationState.TheVariants.{Approved, Refused}
 use Rattle.land_core.specs.declared.register.Register.{Register}
-use Rattle.land_mutations.specs.Asking.{content_change, content_made, content_refusals, has_room}
-use Rattle.land_mutations.specs.declared.refusal.Refusal.{Refusal}
-use Rattle.land_mutations.specs.declared.refusal.Refusal.TheVariants.{NotLodged, ClockOut}
 
 -- whether an undecided mutation stands at a number
 abbrev pub is_lodged : Register → ℕ → Bool

@@ -1,15 +1,15 @@
 -- Enrolling: a natural or non-natural person gets the next number and becomes a citizen.
 use Rattle.std.specs.Prelude.{◌+◌, Bool, List, [], ◌∷◌, Option, is_none, ℤ}
+use Rattle.land_acts.specs.Mutations.Planning.{lacks_numbers}
+use Rattle.land_acts.specs.declared.mutations.refusal.Refusal.{Refusal}
+use Rattle.land_acts.specs.declared.mutations.refusal.Refusal.TheVariants.{TooMany, ClockOut}
 use Rattle.land_core.specs.Changes.{no_put, no_ended}
 use Rattle.land_core.specs.Grants.{grant_of}
-use Rattle.land_core.specs.declared.role.Role.TheVariants.{Citizen}
 use Rattle.land_core.specs.declared.act.Enrol.{Enrol}
 use Rattle.land_core.specs.declared.change.Change.{Change}
 use Rattle.land_core.specs.declared.change.Done.{Done}
 use Rattle.land_core.specs.declared.register.Register.{Register}
-use Rattle.land_mutations.specs.declared.refusal.Refusal.{Refusal}
-use Rattle.land_mutations.specs.declared.refusal.Refusal.TheVariants.{TooMany, ClockOut}
-use Rattle.land_mutations.specs.Planning.{lacks_numbers}
+use Rattle.land_core.specs.declared.role.Role.TheVariants.{Citizen}
 
 -- its refusals, each with whether its condition holds, the least number first
 abbrev pub enrol_refusals : Register → Option ℤ → List (Refusal × Bool)

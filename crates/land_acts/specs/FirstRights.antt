@@ -1,6 +1,7 @@
 -- The rights with which a unit is entered, and what is asked of them.
 use Rattle.std.specs.Prelude.{ℕ, Bool, not, ◌&&◌, ◌||◌, List, Option, Some, None, nat_eq, if◌then◌else◌}
 use Rattle.std.specs.List.{list_any, filter_map}
+use Rattle.land_acts.specs.Sharing.{is_too_fine}
 use Rattle.land_core.specs.Entries.{has, are_distinct}
 use Rattle.land_core.specs.Units.{is_type, are_whole_or_none}
 use Rattle.land_core.specs.declared.act.NewRight.{NewRight}
@@ -9,7 +10,6 @@ use Rattle.land_core.specs.declared.rrr.RightType.{RightType}
 use Rattle.land_core.specs.declared.rrr.RightType.TheVariants.{Ownership, Lease, Usufruct}
 use Rattle.land_fraction.specs.Ratio.{Ratio}
 use Rattle.land_fraction.specs.Wholeness.{wholeness}
-use Rattle.land_acts.specs.Sharing.{is_too_fine}
 
 -- whether a party has one of the rights
 abbrev pub have_party : List NewRight → ℕ → Bool

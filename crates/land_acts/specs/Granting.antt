@@ -1,14 +1,14 @@
 -- Granting: a single party gets a role that it does not hold.
 use Rattle.std.specs.Prelude.{ℤ, Bool, not, List, [], ◌∷◌, Option, is_none}
+use Rattle.land_acts.specs.Mutations.Planning.{told_of}
+use Rattle.land_acts.specs.declared.mutations.refusal.Refusal.{Refusal}
+use Rattle.land_acts.specs.declared.mutations.refusal.Refusal.TheVariants.{NoSuchParty, RoleHeld, ClockOut}
 use Rattle.land_core.specs.Changes.{no_put, no_ended}
 use Rattle.land_core.specs.Register.{has_single_party, holds}
 use Rattle.land_core.specs.declared.change.Change.{Change}
 use Rattle.land_core.specs.declared.change.Done.{Done}
 use Rattle.land_core.specs.declared.register.Register.{Register}
-use Rattle.land_mutations.specs.declared.refusal.Refusal.{Refusal}
-use Rattle.land_mutations.specs.declared.refusal.Refusal.TheVariants.{NoSuchParty, RoleHeld, ClockOut}
 use Rattle.land_core.specs.declared.roles.Grant.{Grant}
-use Rattle.land_mutations.specs.Planning.{told_of}
 
 -- its refusals, each with whether its condition holds, the least number first
 abbrev pub grant_refusals : Register → Grant → Option ℤ → List (Refusal × Bool)

@@ -1,6 +1,10 @@
 -- Laws of grounds, over the definitions alone: what an approval puts in the place of parcels is their ground, no more and no less.
 use Rattle.std.specs.Prelude.{◌≡◌, ℤ, [], ◌∷◌, Some, Ok}
 use Rattle.std.specs.FinMap as map
+use Rattle.land_acts.specs.AreaLaws.{outlines_put}
+use Rattle.land_acts.specs.Mutations.Areas.{outlines_at}
+use Rattle.land_acts.specs.Outcome.{outcome_of}
+use Rattle.land_acts.specs.declared.mutations.refusal.Planned.TheVariants.{New}
 use Rattle.land_core.specs.declared.act.Act.TheVariants.{Approve}
 use Rattle.land_core.specs.declared.act.Decision.{Decision}
 use Rattle.land_core.specs.declared.caller.Caller.{Caller}
@@ -13,10 +17,6 @@ use Rattle.land_core.specs.declared.parcel.ParcelRecord.{ParcelRecord}
 use Rattle.land_core.specs.declared.register.Register.{Register}
 use Rattle.land_core.specs.declared.subdivision.Subdivision.{Subdivision}
 use Rattle.land_shape.specs.Matching.{Match}
-use Rattle.land_mutations.specs.Areas.{outlines_at}
-use Rattle.land_mutations.specs.declared.refusal.Planned.TheVariants.{New}
-use Rattle.land_acts.specs.AreaLaws.{outlines_put}
-use Rattle.land_acts.specs.Outcome.{outcome_of}
 
 -- the parcels of an approved subdivision are the ground of the old parcel
 abbrev pub SubdivisionsKeepGround : Type 0

@@ -1,16 +1,16 @@
 -- Laws over the definitions alone.
 use Rattle.std.specs.Prelude.{◌≡◌, ◌≢◌, ◌≤◌, true, Option, Some, None, Ok, ℤ}
-use Rattle.land_core.specs.Acts.{is_well_formed}
-use Rattle.land_core.specs.Register.{holds}
-use Rattle.land_core.specs.Soundness.{IsSound}
-use Rattle.land_core.specs.Changes.{after, NamesKeysOnce}
 use Rattle.land_acts.specs.Outcome.{outcome_of}
 use Rattle.land_acts.specs.Slices.{slice_of}
-use Rattle.land_core.specs.declared.caller.Caller.{Caller}
+use Rattle.land_acts.specs.declared.mutations.refusal.Planned.TheVariants.{New}
+use Rattle.land_core.specs.Acts.{is_well_formed}
+use Rattle.land_core.specs.Changes.{after, NamesKeysOnce}
+use Rattle.land_core.specs.Register.{holds}
+use Rattle.land_core.specs.Soundness.{IsSound}
 use Rattle.land_core.specs.declared.act.Act.{Act}
+use Rattle.land_core.specs.declared.caller.Caller.{Caller}
 use Rattle.land_core.specs.declared.change.Change.{Change}
 use Rattle.land_core.specs.declared.change.Done.{Done}
-use Rattle.land_mutations.specs.declared.refusal.Planned.TheVariants.{New}
 use Rattle.land_core.specs.declared.register.Register.{Register}
 
 -- an act has the same outcome over a register and over its slice: the same refusal, the same change, the same done

@@ -11,6 +11,7 @@ pub mod Laws
 pub mod Lifting
 pub mod Lodging
 pub mod MutationLaws
+pub mod Mutations
 pub mod Outcome
 pub mod Registering
 pub mod Regrouping

@@ -4,6 +4,9 @@ use Rattle.std.specs.List.{find}
 use Rattle.std.specs.Option.{option_map_or}
 use Rattle.std.specs.Str.{bytes_eq}
 use Rattle.std.specs.FinMap as map
+use Rattle.land_acts.specs.Mutations.Planning.{document_source, lacks_numbers}
+use Rattle.land_acts.specs.declared.mutations.refusal.Refusal.{Refusal}
+use Rattle.land_acts.specs.declared.mutations.refusal.Refusal.TheVariants.{TooMany, ReferenceUsed, ClockOut}
 use Rattle.land_core.specs.Changes.{no_put, no_ended}
 use Rattle.land_core.specs.Contents.{is_same_content}
 use Rattle.land_core.specs.Mutations.{is_lodged_as}
@@ -18,9 +21,6 @@ use Rattle.land_core.specs.declared.mutation.MutationState.TheVariants.{Lodged}
 use Rattle.land_core.specs.declared.register.Register.{Register}
 use Rattle.land_core.specs.declared.source.SourceKind.{SourceKind}
 use Rattle.land_core.specs.declared.source.SourceKind.TheVariants.{Administrative, Spatial}
-use Rattle.land_mutations.specs.declared.refusal.Refusal.{Refusal}
-use Rattle.land_mutations.specs.declared.refusal.Refusal.TheVariants.{TooMany, ReferenceUsed, ClockOut}
-use Rattle.land_mutations.specs.Planning.{document_source, lacks_numbers}
 
 -- the mutation that a party has lodged under a reference, with its number: there is at most one
 abbrev pub lodged_under : Register → (lodger : ℕ) → (reference : List ℕ) → Option (ℕ × MutationRecord)

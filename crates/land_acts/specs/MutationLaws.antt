@@ -3,6 +3,11 @@
 -- receiver has one right.
 use Rattle.std.specs.Prelude.{◌≡◌, ℕ, ◌+◌, false, Option, Some, Ok, ℤ}
 use Rattle.std.specs.FinMap as map
+use Rattle.land_acts.specs.Deciding.{decided}
+use Rattle.land_acts.specs.Laws.{IsAccepted}
+use Rattle.land_acts.specs.Lodging.{document_kind, lodged_record}
+use Rattle.land_acts.specs.Outcome.{outcome_of}
+use Rattle.land_acts.specs.declared.mutations.refusal.Planned.TheVariants.{New, Repeat}
 use Rattle.land_core.specs.Changes.{after}
 use Rattle.land_core.specs.Mutations.{is_undecided}
 use Rattle.land_core.specs.Soundness.{IsSound}
@@ -14,11 +19,6 @@ use Rattle.land_core.specs.declared.change.Done.{Done}
 use Rattle.land_core.specs.declared.mutation.MutationRecord.{MutationRecord}
 use Rattle.land_core.specs.declared.mutation.MutationState.{MutationState}
 use Rattle.land_core.specs.declared.register.Register.{Register}
-use Rattle.land_acts.specs.Deciding.{decided}
-use Rattle.land_acts.specs.Laws.{IsAccepted}
-use Rattle.land_acts.specs.Lodging.{document_kind, lodged_record}
-use Rattle.land_acts.specs.Outcome.{outcome_of}
-use Rattle.land_mutations.specs.declared.refusal.Planned.TheVariants.{New, Repeat}
 
 -- a mutation stands, with all but its state as it was lodged, and so does its document
 pub record StandsAsLodged (r : Register) (caller : Caller) (it : Lodging) (source number : ℕ) (stamp : ℤ) : Type 0 where

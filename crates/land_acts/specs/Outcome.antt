@@ -7,20 +7,20 @@ use Rattle.land_acts.specs.Granting.{grant_refusals, grant_change, grant_done}
 use Rattle.land_acts.specs.Grouping.{group_refusals, group_change, group_done}
 use Rattle.land_acts.specs.Lifting.{lift_refusals, lift_change, lift_done}
 use Rattle.land_acts.specs.Lodging.{lodge_repeat, lodge_refusals, lodge_change, lodge_done}
-use Rattle.land_mutations.specs.Planning.{first_that_holds, told_of}
+use Rattle.land_acts.specs.Mutations.Planning.{first_that_holds, told_of}
 use Rattle.land_acts.specs.Registering.{register_refusals, register_change, register_done}
 use Rattle.land_acts.specs.Regrouping.{regroup_refusals, regroup_change, regroup_done}
 use Rattle.land_acts.specs.Revoking.{revoke_refusals, revoke_change, revoke_done}
-use Rattle.land_core.specs.declared.caller.Caller.{Caller}
+use Rattle.land_acts.specs.declared.mutations.refusal.Planned.{Planned}
+use Rattle.land_acts.specs.declared.mutations.refusal.Planned.TheVariants.{New, Repeat}
+use Rattle.land_acts.specs.declared.mutations.refusal.Refusal.{Refusal}
+use Rattle.land_acts.specs.declared.mutations.refusal.Refusal.TheVariants.{ClockOut}
 use Rattle.land_core.specs.declared.act.Act.{Act}
 use Rattle.land_core.specs.declared.act.Act.TheVariants.{Enrol, Group, Regroup, Grant, Revoke, Register as RegisterUnit, Burden, Lift, Lodge, Approve, Refuse}
+use Rattle.land_core.specs.declared.caller.Caller.{Caller}
 use Rattle.land_core.specs.declared.change.Change.{Change}
 use Rattle.land_core.specs.declared.change.Done.{Done}
 use Rattle.land_core.specs.declared.register.Register.{Register}
-use Rattle.land_mutations.specs.declared.refusal.Refusal.{Refusal}
-use Rattle.land_mutations.specs.declared.refusal.Refusal.TheVariants.{ClockOut}
-use Rattle.land_mutations.specs.declared.refusal.Planned.{Planned}
-use Rattle.land_mutations.specs.declared.refusal.Planned.TheVariants.{New, Repeat}
 
 -- the refusals of an act, each with whether its condition holds, the least number first
 abbrev pub refusals_of : Register → Caller → Act → Option ℤ → List (Refusal × Bool)

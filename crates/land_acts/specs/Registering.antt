@@ -1,5 +1,10 @@
 -- Registering: a unit is entered with its first parcels and rights.
 use Rattle.std.specs.Prelude.{ℕ, ◌+◌, ℤ, Bool, not, ◌&&◌, List, [], ◌∷◌, length, map as map_list, Option, is_none}
+use Rattle.land_acts.specs.FirstRights.{lists_absent, are_types_too_fine, are_types_whole, has_right_twice}
+use Rattle.land_acts.specs.Mutations.Numbering.{numbered, numbers_from}
+use Rattle.land_acts.specs.Mutations.Planning.{document_source, lacks_numbers}
+use Rattle.land_acts.specs.declared.mutations.refusal.Refusal.{Refusal}
+use Rattle.land_acts.specs.declared.mutations.refusal.Refusal.TheVariants.{NoSuchParty, SharesTooFine, TooMany, SharesNotWhole, ClockOut, SameParty}
 use Rattle.land_core.specs.Changes.{no_put, no_ended}
 use Rattle.land_core.specs.declared.act.NewParcel.{NewParcel}
 use Rattle.land_core.specs.declared.act.NewRight.{NewRight}
@@ -11,11 +16,6 @@ use Rattle.land_core.specs.declared.register.Register.{Register}
 use Rattle.land_core.specs.declared.rrr.Class.TheVariants.{Right}
 use Rattle.land_core.specs.declared.rrr.RrrRecord.{RrrRecord}
 use Rattle.land_core.specs.declared.source.SourceKind.TheVariants.{Administrative}
-use Rattle.land_mutations.specs.declared.refusal.Refusal.{Refusal}
-use Rattle.land_mutations.specs.declared.refusal.Refusal.TheVariants.{NoSuchParty, SharesTooFine, TooMany, SharesNotWhole, ClockOut, SameParty}
-use Rattle.land_acts.specs.FirstRights.{lists_absent, are_types_too_fine, are_types_whole, has_right_twice}
-use Rattle.land_mutations.specs.Numbering.{numbered, numbers_from}
-use Rattle.land_mutations.specs.Planning.{document_source, lacks_numbers}
 
 -- how many objects are new: the source, the unit, the parcels and the rights
 abbrev pub new_count : NewUnit → ℕ

@@ -1,15 +1,15 @@
 -- Regrouping: the listed members take the place of those that a group has.
 use Rattle.std.specs.Prelude.{ℤ, Bool, not, ◌||◌, List, [], ◌∷◌, Option, is_none}
+use Rattle.land_acts.specs.Mutations.Planning.{told_of}
+use Rattle.land_acts.specs.Sharing.{lists_stranger, are_too_fine, are_whole, lists_twice, members_of_list}
+use Rattle.land_acts.specs.declared.mutations.refusal.Refusal.{Refusal}
+use Rattle.land_acts.specs.declared.mutations.refusal.Refusal.TheVariants.{NoSuchParty, SharesTooFine, SharesNotWhole, ClockOut, SameParty}
 use Rattle.land_core.specs.Changes.{no_put, no_ended}
 use Rattle.land_core.specs.Register.{has_group}
 use Rattle.land_core.specs.declared.act.Regroup.{Regroup}
 use Rattle.land_core.specs.declared.change.Change.{Change}
 use Rattle.land_core.specs.declared.change.Done.{Done}
 use Rattle.land_core.specs.declared.register.Register.{Register}
-use Rattle.land_mutations.specs.declared.refusal.Refusal.{Refusal}
-use Rattle.land_mutations.specs.declared.refusal.Refusal.TheVariants.{NoSuchParty, SharesTooFine, SharesNotWhole, ClockOut, SameParty}
-use Rattle.land_mutations.specs.Planning.{told_of}
-use Rattle.land_acts.specs.Sharing.{lists_stranger, are_too_fine, are_whole, lists_twice, members_of_list}
 
 -- its refusals, each with whether its condition holds, the least number first
 abbrev pub regroup_refusals : Register → Regroup → Option ℤ → List (Refusal × Bool)

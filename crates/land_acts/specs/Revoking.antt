@@ -1,6 +1,9 @@
 -- Revoking: a role of a single party ends. The last state administrator stays one.
 use Rattle.std.specs.Prelude.{ℕ, ℤ, Bool, not, ◌&&◌, nat_eq, List, [], ◌∷◌, Option, is_none}
 use Rattle.std.specs.List.{list_any}
+use Rattle.land_acts.specs.Mutations.Planning.{told_of}
+use Rattle.land_acts.specs.declared.mutations.refusal.Refusal.{Refusal}
+use Rattle.land_acts.specs.declared.mutations.refusal.Refusal.TheVariants.{NoSuchParty, RoleNotHeld, ClockOut, LastAdministrator}
 use Rattle.land_core.specs.Changes.{no_put, no_ended}
 use Rattle.land_core.specs.Grants.{grants_in}
 use Rattle.land_core.specs.Register.{has_single_party, holds}
@@ -8,11 +11,8 @@ use Rattle.land_core.specs.Role.{is_role}
 use Rattle.land_core.specs.declared.change.Change.{Change}
 use Rattle.land_core.specs.declared.change.Done.{Done}
 use Rattle.land_core.specs.declared.register.Register.{Register}
-use Rattle.land_mutations.specs.declared.refusal.Refusal.{Refusal}
-use Rattle.land_mutations.specs.declared.refusal.Refusal.TheVariants.{NoSuchParty, RoleNotHeld, ClockOut, LastAdministrator}
 use Rattle.land_core.specs.declared.role.Role.TheVariants.{StateAdministrator}
 use Rattle.land_core.specs.declared.roles.Grant.{Grant}
-use Rattle.land_mutations.specs.Planning.{told_of}
 
 -- whether some other party is state administrator
 abbrev pub has_administrator_beside : Register → ℕ → Bool

@@ -4,22 +4,22 @@ use Rattle.std.specs.FinMap as map
 use Rattle.std.specs.FinMap.{FinMap}
 use Rattle.std.specs.Option.{option_map_or}
 use Rattle.std.specs.Ordering.{nat_cmp}
+use Rattle.land_acts.specs.FirstRights.{have_party}
+use Rattle.land_acts.specs.Sharing.{lists_party}
 use Rattle.land_core.specs.Contents.{names_unit as content_names_unit}
 use Rattle.land_core.specs.Entries.{only, some}
 use Rattle.land_core.specs.Mutations.{is_lodged_as}
 use Rattle.land_core.specs.Register.{holds}
 use Rattle.land_core.specs.Soundness.{IsSound}
-use Rattle.land_core.specs.declared.caller.Caller.{Caller}
-use Rattle.land_core.specs.declared.role.Role.TheVariants.{StateAdministrator}
 use Rattle.land_core.specs.declared.act.Act.{Act}
 use Rattle.land_core.specs.declared.act.Act.TheVariants as act
+use Rattle.land_core.specs.declared.caller.Caller.{Caller}
 use Rattle.land_core.specs.declared.content.Content.{Content}
 use Rattle.land_core.specs.declared.content.Content.TheVariants as content
 use Rattle.land_core.specs.declared.mutation.MutationRecord.{MutationRecord}
 use Rattle.land_core.specs.declared.register.Register.{Register}
+use Rattle.land_core.specs.declared.role.Role.TheVariants.{StateAdministrator}
 use Rattle.land_core.specs.declared.rrr.RrrRecord.{RrrRecord}
-use Rattle.land_acts.specs.FirstRights.{have_party}
-use Rattle.land_acts.specs.Sharing.{lists_party}
 
 -- whether a party stands in a content: who receives, or who lends
 abbrev pub content_names_party : (party : ℕ) → Content → Bool

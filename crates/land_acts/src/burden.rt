@@ -1,8 +1,10 @@
 //! Burdening a unit.
 ghost use Rattle.std.specs.Prelude.{◌≡◌, ◌≤◌, IfOk};
 ghost use Rattle.land_acts.specs.Burdening.{burden_refusals, burden_change, burden_done, class_of};
-ghost use Rattle.land_mutations.specs.Planning.{would_crowd, first_that_holds};
+ghost use Rattle.land_acts.specs.Mutations.Planning.{would_crowd, first_that_holds};
 
+use crate::mutations::planning::{document_source, lacks_numbers, would_crowd};
+use crate::mutations::refusal::Refusal;
 use crate::slice::Slice;
 use land_core::act::{Burden, BurdenClass};
 use land_core::change::{Change, Done};
@@ -12,8 +14,6 @@ use land_core::rrr::{Class, RrrRecord};
 use land_core::sequence::Sequence;
 use land_core::source::SourceKind;
 use land_core::text::Text;
-use land_mutations::planning::{document_source, lacks_numbers, would_crowd};
-use land_mutations::refusal::Refusal;
 use std::alloc::{AllocError, Global};
 
 /// The least refusal of a burden whose condition holds.

@@ -1,19 +1,19 @@
 //! Deciding a mutation.
 ghost use Rattle.std.specs.Prelude.{◌≡◌, ◌∷◌, [], Some, IfOk};
 ghost use Rattle.std.specs.FinMap as map;
-ghost use Rattle.land_mutations.specs.Asking.{Fits};
 ghost use Rattle.land_acts.specs.Deciding.{approve_change, approve_done, approve_has_room, approve_refusals, decided, is_lodged, refuse_change, refuse_refusals};
-ghost use Rattle.land_mutations.specs.Planning.{first_that_holds, told_of};
+ghost use Rattle.land_acts.specs.Mutations.Asking.{Fits};
+ghost use Rattle.land_acts.specs.Mutations.Planning.{first_that_holds, told_of};
 
+use crate::mutations::asking;
+use crate::mutations::planning::told_of;
+use crate::mutations::refusal::Refusal;
 use crate::slice::Slice;
 use land_core::act::Decision;
 use land_core::change::{Change, Done};
 use land_core::duplicate::Duplicate;
 use land_core::mutation::{MutationRecord, MutationState};
 use land_core::sequence::Sequence;
-use land_mutations::asking;
-use land_mutations::planning::told_of;
-use land_mutations::refusal::Refusal;
 use std::alloc::{AllocError, Global};
 
 /// The least refusal of an approval whose condition holds.

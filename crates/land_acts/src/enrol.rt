@@ -1,8 +1,10 @@
 //! Enrolling a party.
 ghost use Rattle.std.specs.Prelude.{◌≡◌, ◌≤◌, ◌+◌, IfOk};
 ghost use Rattle.land_acts.specs.Enrolment.{enrol_refusals, enrol_change, enrol_done};
-ghost use Rattle.land_mutations.specs.Planning.{first_that_holds};
+ghost use Rattle.land_acts.specs.Mutations.Planning.{first_that_holds};
 
+use crate::mutations::planning::lacks_numbers;
+use crate::mutations::refusal::Refusal;
 use crate::slice::Slice;
 use land_core::act::Enrol;
 use land_core::change::{Change, Done};
@@ -11,8 +13,6 @@ use land_core::party::PartyRecord;
 use land_core::role::Role;
 use land_core::roles::Grant;
 use land_core::sequence::Sequence;
-use land_mutations::planning::lacks_numbers;
-use land_mutations::refusal::Refusal;
 use std::alloc::{AllocError, Global};
 
 /// The least refusal of an enrolment whose condition holds.

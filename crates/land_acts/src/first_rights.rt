@@ -1,11 +1,11 @@
 //! The rights with which a unit is entered.
 ghost use Rattle.std.specs.Prelude.{◌≡◌, IfOk};
 ghost use Rattle.std.specs.List.{list_any};
+ghost use Rattle.land_acts.specs.FirstRights.{are_types_too_fine, are_types_whole, has_right_twice, have_party, is_same_right, listed_of_type, lists_absent};
+ghost use Rattle.land_acts.specs.Sharing.{is_too_fine};
 ghost use Rattle.land_core.specs.Entries.{are_distinct};
 ghost use Rattle.land_core.specs.Units.{are_whole_or_none};
 ghost use Rattle.land_fraction.specs.Wholeness.{wholeness};
-ghost use Rattle.land_acts.specs.FirstRights.{are_types_too_fine, are_types_whole, has_right_twice, have_party, is_same_right, listed_of_type, lists_absent};
-ghost use Rattle.land_acts.specs.Sharing.{is_too_fine};
 
 use crate::slice::Slice;
 use land_core::act::NewRight;

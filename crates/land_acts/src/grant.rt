@@ -1,14 +1,14 @@
 //! Giving a party a role.
 ghost use Rattle.std.specs.Prelude.{◌≡◌, IfOk};
 ghost use Rattle.land_acts.specs.Granting.{grant_refusals, grant_change, grant_done};
-ghost use Rattle.land_mutations.specs.Planning.{first_that_holds};
+ghost use Rattle.land_acts.specs.Mutations.Planning.{first_that_holds};
 
+use crate::mutations::planning::told_of;
+use crate::mutations::refusal::Refusal;
 use crate::slice::Slice;
 use land_core::change::{Change, Done};
 use land_core::roles::Grant;
 use land_core::sequence::Sequence;
-use land_mutations::planning::told_of;
-use land_mutations::refusal::Refusal;
 use std::alloc::{AllocError, Global};
 
 /// The least refusal of a grant whose condition holds.

@@ -1,8 +1,10 @@
 //! Making a group of parties.
 ghost use Rattle.std.specs.Prelude.{◌≡◌, ◌≤◌, IfOk};
 ghost use Rattle.land_acts.specs.Grouping.{group_refusals, group_change, group_done};
-ghost use Rattle.land_mutations.specs.Planning.{first_that_holds};
+ghost use Rattle.land_acts.specs.Mutations.Planning.{first_that_holds};
 
+use crate::mutations::planning::lacks_numbers;
+use crate::mutations::refusal::Refusal;
 use crate::sharing::{lists_stranger, lists_twice, members_of_list, wholeness};
 use crate::slice::Slice;
 use land_core::act::NewGroup;
@@ -12,8 +14,6 @@ use land_core::kind::PartyKind;
 use land_core::party::PartyRecord;
 use land_core::sequence::Sequence;
 use land_fraction::Whole;
-use land_mutations::planning::lacks_numbers;
-use land_mutations::refusal::Refusal;
 use std::alloc::{AllocError, Global};
 
 /// The least refusal of a new group whose condition holds.

@@ -10,6 +10,7 @@ mod group;
 pub mod laws;
 mod lift;
 mod lodge;
+pub mod mutations;
 pub mod plan;
 mod register;
 mod regroup;
@@ -17,4 +18,4 @@ mod revoke;
 mod sharing;
 pub mod slice;
 
-pub use land_mutations::refusal;
+pub use crate::mutations::refusal;

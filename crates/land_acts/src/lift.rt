@@ -1,15 +1,15 @@
 //! Lifting a burden.
 ghost use Rattle.std.specs.Prelude.{◌≡◌, IfOk};
 ghost use Rattle.land_acts.specs.Lifting.{has_burden, is_burden, lift_refusals, lift_change, lift_done};
-ghost use Rattle.land_mutations.specs.Planning.{first_that_holds};
+ghost use Rattle.land_acts.specs.Mutations.Planning.{first_that_holds};
 
+use crate::mutations::planning::told_of;
+use crate::mutations::refusal::Refusal;
 use crate::slice::Slice;
 use land_core::act::Lift;
 use land_core::change::{Change, Done};
 use land_core::rrr::Class;
 use land_core::sequence::Sequence;
-use land_mutations::planning::told_of;
-use land_mutations::refusal::Refusal;
 use std::alloc::{AllocError, Global};
 
 /// The least refusal of a lift whose condition holds.

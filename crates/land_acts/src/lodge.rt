@@ -1,8 +1,10 @@
 //! Lodging a mutation.
 ghost use Rattle.std.specs.Prelude.{◌≡◌, ◌≤◌, ◌∷◌, [], IfOk};
 ghost use Rattle.land_acts.specs.Lodging.{document_kind, has_lodged_other, has_title, in_order, is_same_lodging, lodge_change, lodge_done, lodge_refusals, lodge_repeat, lodged_record, lodged_told};
-ghost use Rattle.land_mutations.specs.Planning.{first_that_holds};
+ghost use Rattle.land_acts.specs.Mutations.Planning.{first_that_holds};
 
+use crate::mutations::planning::{document_source, lacks_numbers};
+use crate::mutations::refusal::Refusal;
 use crate::slice::Slice;
 use land_core::act::Lodging;
 use land_core::caller::Caller;
@@ -12,8 +14,6 @@ use land_core::duplicate::Duplicate;
 use land_core::mutation::{MutationRecord, MutationState};
 use land_core::sequence::{NumberList, Sequence};
 use land_core::source::SourceKind;
-use land_mutations::planning::{document_source, lacks_numbers};
-use land_mutations::refusal::Refusal;
 use std::alloc::{AllocError, Global};
 
 /// What was told of an earlier lodging that this one repeats: one of the same caller under the same reference, with the

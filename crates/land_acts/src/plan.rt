@@ -1,16 +1,16 @@
 //! The plan of an act.
 ghost use Rattle.std.specs.Prelude.{◌≡◌, ◌≢◌, true, IfOk};
-ghost use Rattle.land_core.specs.Acts.{is_well_formed};
+ghost use Rattle.land_acts.specs.Mutations.Planning.{first_that_holds};
 ghost use Rattle.land_acts.specs.Outcome.{outcome_of, refusals_of, change_of, done_of, has_room_for, repeated_done, IsUnrefused};
-ghost use Rattle.land_mutations.specs.Planning.{first_that_holds};
 ghost use Rattle.land_acts.specs.Slices.{IsOfSound};
+ghost use Rattle.land_core.specs.Acts.{is_well_formed};
 
+use crate::mutations::refusal::{Planned, Refusal};
 use crate::slice::Slice;
 use crate::{burden, decide, enrol, grant, group, lift, lodge, register, regroup, revoke};
 use land_core::act::Act;
 use land_core::caller::Caller;
 use land_core::change::{Change, Done};
-use land_mutations::refusal::{Planned, Refusal};
 use std::alloc::{AllocError, Global};
 
 /// What an act leads to, over a slice of a sound register: the least refusal whose condition holds, else the change and

@@ -1,11 +1,13 @@
 //! Entering a unit with its first parcels and rights.
 ghost use Rattle.std.specs.Prelude.{◌≡◌, ◌≤◌, ◌+◌, true, length, map as map_list, IfOk};
-ghost use Rattle.land_core.specs.Acts.{is_new_unit};
-ghost use Rattle.land_mutations.specs.Numbering.{numbered, numbers_from};
-ghost use Rattle.land_mutations.specs.Planning.{first_that_holds};
+ghost use Rattle.land_acts.specs.Mutations.Numbering.{numbered, numbers_from};
+ghost use Rattle.land_acts.specs.Mutations.Planning.{first_that_holds};
 ghost use Rattle.land_acts.specs.Registering.{new_count, parcel_of, register_refusals, register_change, register_done, right_of};
+ghost use Rattle.land_core.specs.Acts.{is_new_unit};
 
 use crate::first_rights::{are_types_too_fine, are_types_whole, has_right_twice, lists_absent};
+use crate::mutations::planning::{document_source, lacks_numbers, numbers_from};
+use crate::mutations::refusal::Refusal;
 use crate::slice::Slice;
 use land_core::act::{NewParcel, NewRight, NewUnit};
 use land_core::change::{Change, Done};
@@ -15,8 +17,6 @@ use land_core::rrr::{Class, RrrRecord};
 use land_core::sequence::Sequence;
 use land_core::source::SourceKind;
 use land_core::unit::UnitRecord;
-use land_mutations::planning::{document_source, lacks_numbers, numbers_from};
-use land_mutations::refusal::Refusal;
 use land_shape::Ring;
 use std::alloc::{AllocError, Global};
 

@@ -1,16 +1,16 @@
 //! Giving a group other members.
 ghost use Rattle.std.specs.Prelude.{◌≡◌, IfOk};
+ghost use Rattle.land_acts.specs.Mutations.Planning.{first_that_holds};
 ghost use Rattle.land_acts.specs.Regrouping.{regroup_refusals, regroup_change, regroup_done};
-ghost use Rattle.land_mutations.specs.Planning.{first_that_holds};
 
+use crate::mutations::planning::told_of;
+use crate::mutations::refusal::Refusal;
 use crate::sharing::{lists_stranger, lists_twice, members_of_list, wholeness};
 use crate::slice::Slice;
 use land_core::act::Regroup;
 use land_core::change::{Change, Done};
 use land_core::sequence::Sequence;
 use land_fraction::Whole;
-use land_mutations::planning::told_of;
-use land_mutations::refusal::Refusal;
 use std::alloc::{AllocError, Global};
 
 /// The least refusal of a regrouping whose condition holds.

@@ -1,15 +1,15 @@
 //! Ending a role of a party.
 ghost use Rattle.std.specs.Prelude.{◌≡◌, IfOk};
+ghost use Rattle.land_acts.specs.Mutations.Planning.{first_that_holds};
 ghost use Rattle.land_acts.specs.Revoking.{revoke_refusals, revoke_change, revoke_done, has_administrator_beside};
-ghost use Rattle.land_mutations.specs.Planning.{first_that_holds};
 
+use crate::mutations::planning::told_of;
+use crate::mutations::refusal::Refusal;
 use crate::slice::Slice;
 use land_core::change::{Change, Done};
 use land_core::role::Role;
 use land_core::roles::Grant;
 use land_core::sequence::Sequence;
-use land_mutations::planning::told_of;
-use land_mutations::refusal::Refusal;
 use std::alloc::{AllocError, Global};
 
 /// The least refusal of a revocation whose condition holds.

@@ -1,9 +1,10 @@
 //! Slices: the records that planning may look at.
 ghost use Rattle.std.specs.Prelude.{◌≡◌, nat_eq, IfOk};
-ghost use Rattle.land_core.specs.Entries.{only, some};
 ghost use Rattle.land_acts.specs.Slices.{content_names_party, slice_of, looks_at_mutation, looks_at_party, looks_at_rrr, mutations_looked_at, names_party, names_rrr, names_unit};
+ghost use Rattle.land_core.specs.Entries.{only, some};
 
 use crate::first_rights::have_party;
+pub use crate::mutations::planning::Slice;
 use crate::sharing::lists_party;
 use land_core::act::Act;
 use land_core::caller::Caller;
@@ -18,7 +19,6 @@ use land_core::roles::Roles;
 use land_core::rrr::RrrRecord;
 use land_core::source::SourceRecord;
 use land_core::unit::UnitRecord;
-pub use land_mutations::planning::Slice;
 use std::alloc::{AllocError, Global};
 
 /// The slice of a register for an act: the parties that the act names, or the mutation that it decides, and all state

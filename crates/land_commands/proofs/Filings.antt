@@ -1,12 +1,12 @@
 -- Commands over files, by what their last call gives.
 use Rattle.std.proofs.Common.{◌≡◌, inr, subst, ℕ, ℤ, Result, Ok, Err}
 use Rattle.std.specs.Prelude.{IfErr}
-use Rattle.land_tables.specs.Office.{Office}
-use Rattle.sqlite.specs.State.{State}
-use Rattle.sqlite.specs.Store.{Ghosts}
 use Rattle.land_commands.specs.Filed.{IsFileService, IsMade, IsMaking, IsServedFrom}
 use Rattle.land_commands.specs.ProgramFaults.{IsFaultOfClosing}
 use Rattle.land_commands.specs.declared.program_fault.ProgramFault.{ProgramFault}
+use Rattle.land_tables.specs.Office.{Office}
+use Rattle.sqlite.specs.State.{State}
+use Rattle.sqlite.specs.Store.{Ghosts}
 
 -- a register that was made is told as made, if its file is closed
 pub made_and_closed : {S T : Type 0} (g : Ghosts S) (holds : State → Type 0) (o : Office S) (r : Result T ProgramFault) → IsMade g holds o

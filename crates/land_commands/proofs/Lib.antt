@@ -1,2 +1,10 @@
 -- Lemmas of the program.
+pub mod BuiltCommands
+pub mod FaultlessExtract
+pub mod FaultlessWords
 mod Filings
+pub mod GivenOptions
+pub mod NumberRows
+pub mod PlainExtracts
+pub mod PlainWords
+pub mod WalkKeeps

@@ -1,23 +1,23 @@
 -- Extracts of the register in a file.
 use Rattle.std.specs.Prelude.{◌≡◌, ◌⊎◌, ℕ, ℤ, List, [], Option, Result, Ok, Err, unwrap_or}
 use Rattle.std.specs.Io.KnownBytes.{Appends}
-use Rattle.land_core.specs.declared.kind.Kind.{Kind}
-use Rattle.land_core.specs.declared.role.Role.{Role}
-use Rattle.land_extracts.specs.Extracts.{extract_of, list_reply}
-use Rattle.land_extracts.specs.Writing.{IsExtracted, of_store}
-use Rattle.land_extracts.specs.declared.fault.ExtractFault.{ExtractFault}
-use Rattle.land_keep.specs.Keeping.{Closes, IsLive}
-use Rattle.land_keep.specs.Machine.{now_of}
-use Rattle.land_keep.specs.Timeline.{Timeline, register_at}
-use Rattle.land_tables.specs.Office.{IsHonest, Office, held}
-use Rattle.sqlite.specs.State.{State}
-use Rattle.sqlite.specs.Store.{Ghosts}
 use Rattle.land_commands.specs.Filed.{IsNotFound, IsTaken}
 use Rattle.land_commands.specs.Refusals.{refusal_of}
 use Rattle.land_commands.specs.declared.extracting.Wanted.{Wanted}
 use Rattle.land_commands.specs.declared.program_fault.ProgramFault.{ProgramFault}
 use Rattle.land_commands.specs.declared.refusal.Refusal.{Refusal}
 use Rattle.land_commands.specs.declared.refusal.Refusal.TheVariants.{Fault}
+use Rattle.land_core.specs.declared.kind.Kind.{Kind}
+use Rattle.land_core.specs.declared.role.Role.{Role}
+use Rattle.land_keep.specs.Keeping.{Closes, IsLive}
+use Rattle.land_keep.specs.Machine.{now_of}
+use Rattle.land_keep.specs.Timeline.{Timeline, register_at}
+use Rattle.land_sheet.specs.Extracts.{extract_of, list_reply}
+use Rattle.land_sheet.specs.Extracts.Writing.{IsExtracted, of_store}
+use Rattle.land_sheet.specs.declared.extracts.fault.ExtractFault.{ExtractFault}
+use Rattle.land_tables.specs.Office.{IsHonest, Office, held}
+use Rattle.sqlite.specs.State.{State}
+use Rattle.sqlite.specs.Store.{Ghosts}
 
 -- what an extract is asked for
 abbrev pub wanted_of : (clock : ℤ) → (party : ℕ) → Role → Kind → (at : Option ℤ) → Wanted

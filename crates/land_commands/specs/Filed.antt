@@ -2,11 +2,14 @@
 use Rattle.std.specs.Prelude.{◌≡◌, ◌≢◌, ◌⊎◌, ◌<◌, ℕ, ℤ, List, [], ◌++◌, codes, decimal, length, take, Option, Result, Ok, Err}
 use Rattle.std.specs.Fmt.{signed_decimal}
 use Rattle.std.specs.Io.KnownBytes.{Appends}
+use Rattle.land_commands.specs.ProgramFaults.{IsFaultOfClosing, IsFaultOfFinding, IsFaultOfOpening, fault_of_adopting, fault_of_making, fault_of_service}
+use Rattle.land_commands.specs.declared.program_fault.ProgramFault.{ProgramFault}
+use Rattle.land_commands.specs.declared.program_fault.ProgramFault.TheVariants as program
+use Rattle.land_desk.specs.Service.{IsService, TellsClosed}
+use Rattle.land_desk.specs.declared.service.serving.ServiceFault.{ServiceFault}
 use Rattle.land_keep.specs.Keeping.{IsAt}
 use Rattle.land_keep.specs.Timeline.{new_timeline}
 use Rattle.land_keep.specs.declared.store_fault.StoreFault.{StoreFault}
-use Rattle.land_service.specs.Service.{IsService, TellsClosed}
-use Rattle.land_service.specs.declared.service.ServiceFault.{ServiceFault}
 use Rattle.land_tables.specs.Adopting.{IsAdopted, IsRefused}
 use Rattle.land_tables.specs.Calls.{IsSame}
 use Rattle.land_tables.specs.Office.{IsCreated, IsHonest, IsKept, Office, held}
@@ -16,9 +19,6 @@ use Rattle.land_tables.specs.declared.fault.AdoptFault.TheVariants as adopt
 use Rattle.sqlite.specs.Held.{Held, state}
 use Rattle.sqlite.specs.State.{HasCleanDisk, State, Survives}
 use Rattle.sqlite.specs.Store.{Ghosts}
-use Rattle.land_commands.specs.ProgramFaults.{IsFaultOfClosing, IsFaultOfFinding, IsFaultOfOpening, fault_of_adopting, fault_of_making, fault_of_service}
-use Rattle.land_commands.specs.declared.program_fault.ProgramFault.{ProgramFault}
-use Rattle.land_commands.specs.declared.program_fault.ProgramFault.TheVariants as program
 
 -- a store shows what is held, if its disk is honest
 abbrev pub Shows : {S : Type 0} → Ghosts S → (holds : State → Type 0) → Held S → Type 0

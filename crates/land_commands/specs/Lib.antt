@@ -4,3 +4,4 @@ pub mod Filed
 pub mod Program
 pub mod ProgramFaults
 pub mod Refusals
+pub mod Words

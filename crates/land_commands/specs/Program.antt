@@ -1,27 +1,27 @@
 -- What the program does with its words, the bytes of its input, and files.
 use Rattle.std.specs.Prelude.{◌≡◌, ◌⊎◌, ℕ, ℤ, false, List, [], take, string_bytes, Option, Result, Ok, Err, IfSome}
 use Rattle.std.specs.Io.KnownBytes.{Appends}
-use Rattle.land_keep.specs.Machine as machine
-use Rattle.land_keep.specs.Timeline.{new_timeline}
-use Rattle.land_desk.specs.Serving.{IsServing}
-use Rattle.land_desk.specs.declared.serve.DeskFault.{DeskFault}
-use Rattle.land_desk.specs.declared.serve.Served.{Served}
-use Rattle.land_words.specs.Names.{IsReading}
-use Rattle.land_words.specs.Orders.{Order, to_talk, to_make, to_serve, to_check, to_extract, order_of}
-use Rattle.land_words.specs.declared.command.Command.{Command}
-use Rattle.land_words.specs.declared.words_fault.WordsFault.{WordsFault}
-use Rattle.land_words.specs.declared.words_fault.WordsFault.TheVariants as words
-use Rattle.sqlite.specs.State.{State}
-use Rattle.sqlite.specs.Store.{Ghosts}
 use Rattle.land_commands.specs.Extracting.{IsExtracting, wanted_of}
 use Rattle.land_commands.specs.Filed.{IsChecking, IsFileService, IsMaking}
 use Rattle.land_commands.specs.ProgramFaults.{fault_of, line_of, status_of}
 use Rattle.land_commands.specs.Refusals.{denied_text}
+use Rattle.land_commands.specs.Words.Names.{IsReading}
+use Rattle.land_commands.specs.Words.Orders.{Order, to_talk, to_make, to_serve, to_check, to_extract, order_of}
 use Rattle.land_commands.specs.declared.program_fault.ProgramFault.{ProgramFault}
 use Rattle.land_commands.specs.declared.program_fault.ProgramFault.TheVariants.{NoMemory}
 use Rattle.land_commands.specs.declared.refusal.Refusal.{Refusal}
 use Rattle.land_commands.specs.declared.refusal.Refusal.TheVariants as refusal
 use Rattle.land_commands.specs.declared.set_clock.SetClock.{SetClock}
+use Rattle.land_commands.specs.declared.words.command.Command.{Command}
+use Rattle.land_commands.specs.declared.words.words_fault.WordsFault.{WordsFault}
+use Rattle.land_commands.specs.declared.words.words_fault.WordsFault.TheVariants as words
+use Rattle.land_desk.specs.Serving.{IsServing}
+use Rattle.land_desk.specs.declared.serve.DeskFault.{DeskFault}
+use Rattle.land_desk.specs.declared.serve.Served.{Served}
+use Rattle.land_keep.specs.Machine as machine
+use Rattle.land_keep.specs.Timeline.{new_timeline}
+use Rattle.sqlite.specs.State.{State}
+use Rattle.sqlite.specs.Store.{Ghosts}
 
 -- a clock that is set reads what it is set to, each time
 abbrev pub reads_as_set : SetClock → ℤ → SetClock → Type 0

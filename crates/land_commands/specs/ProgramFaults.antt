@@ -2,16 +2,16 @@
 use Rattle.std.specs.Prelude.{◌≡◌, ◌≢◌, ◌⊎◌, ℕ, List, codes}
 use Rattle.std.specs.declared.io.ErrorKind.{ErrorKind}
 use Rattle.std.specs.declared.io.ErrorKind.TheVariants.{OutOfMemory}
-use Rattle.land_desk.specs.declared.serve.DeskFault.{DeskFault}
-use Rattle.land_desk.specs.declared.serve.DeskFault.TheVariants as desk
-use Rattle.land_keep.specs.declared.store_fault.StoreFault.{StoreFault}
-use Rattle.land_keep.specs.declared.store_fault.StoreFault.TheVariants as store
-use Rattle.land_service.specs.declared.service.ServiceFault.{ServiceFault}
-use Rattle.land_service.specs.declared.service.ServiceFault.TheVariants as service
-use Rattle.land_tables.specs.declared.fault.AdoptFault.{AdoptFault}
-use Rattle.land_tables.specs.declared.fault.AdoptFault.TheVariants as adopt
 use Rattle.land_commands.specs.declared.program_fault.ProgramFault.{ProgramFault}
 use Rattle.land_commands.specs.declared.program_fault.ProgramFault.TheVariants as program
+use Rattle.land_desk.specs.declared.serve.DeskFault.{DeskFault}
+use Rattle.land_desk.specs.declared.serve.DeskFault.TheVariants as desk
+use Rattle.land_desk.specs.declared.service.serving.ServiceFault.{ServiceFault}
+use Rattle.land_desk.specs.declared.service.serving.ServiceFault.TheVariants as service
+use Rattle.land_keep.specs.declared.store_fault.StoreFault.{StoreFault}
+use Rattle.land_keep.specs.declared.store_fault.StoreFault.TheVariants as store
+use Rattle.land_tables.specs.declared.fault.AdoptFault.{AdoptFault}
+use Rattle.land_tables.specs.declared.fault.AdoptFault.TheVariants as adopt
 
 -- what is said of a stream that could not be served
 abbrev pub fault_of : DeskFault → ProgramFault

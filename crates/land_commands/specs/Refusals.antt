@@ -1,11 +1,11 @@
 -- Why a command is refused of which the policy decides.
 use Rattle.std.specs.Prelude.{ℕ, List, ◌++◌, codes, decimal}
-use Rattle.land_extracts.specs.declared.fault.ExtractFault.{ExtractFault}
-use Rattle.land_extracts.specs.declared.fault.ExtractFault.TheVariants as extract
 use Rattle.land_commands.specs.ProgramFaults.{fault_of_making}
 use Rattle.land_commands.specs.declared.program_fault.ProgramFault.TheVariants as program
 use Rattle.land_commands.specs.declared.refusal.Refusal.{Refusal}
 use Rattle.land_commands.specs.declared.refusal.Refusal.TheVariants.{Denied, Fault}
+use Rattle.land_sheet.specs.declared.extracts.fault.ExtractFault.{ExtractFault}
+use Rattle.land_sheet.specs.declared.extracts.fault.ExtractFault.TheVariants as extract
 
 -- what is said of an extract that was not written to its end
 abbrev pub refusal_of : ExtractFault → Refusal

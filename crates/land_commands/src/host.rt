@@ -5,7 +5,7 @@ ghost use Rattle.land_commands.specs.ProgramFaults.{IsFaultOfClosing, IsFaultOfF
 ghost use Rattle.sqlite.specs.State.{State};
 
 use crate::program_fault::ProgramFault;
-use land_service::connections::Connections;
+use land_desk::service::connections::Connections;
 use sqlite::{Alter, Connection};
 use std::alloc::Global;
 use std::io;

@@ -4,9 +4,11 @@
 pub mod extracting;
 pub mod filed;
 pub mod host;
+pub mod local;
 pub mod local_host;
 pub mod obey;
 pub mod program_fault;
 pub mod refusal;
 pub mod run;
 pub mod set_clock;
+pub mod words;

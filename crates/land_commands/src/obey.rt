@@ -5,9 +5,9 @@ ghost use Rattle.land_commands.specs.Program.{IsObeyed};
 use crate::host::Host;
 use crate::program_fault::ProgramFault;
 use crate::run::{complain, run_command, say};
+use crate::words::read_words;
+use crate::words::words_fault::WordsFault;
 use land_keep::clock::Clock;
-use land_words::read_words;
-use land_words::words_fault::WordsFault;
 use std::io::{Read, Write};
 
 /// Does what these words ask for, of which the first is the program's name, over the streams and the machine's clock that are handed in, and

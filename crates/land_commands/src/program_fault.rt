@@ -4,8 +4,8 @@ ghost use Rattle.std.specs.IoError.{error_kind};
 ghost use Rattle.land_commands.specs.ProgramFaults.{fault_of, fault_of_adopting, fault_of_making, fault_of_service, IsFaultOfWords, line_of, status_of};
 
 use land_desk::serve::DeskFault;
+use land_desk::service::serving::ServiceFault;
 use land_keep::store_fault::StoreFault;
-use land_service::service::ServiceFault;
 use land_tables::fault::AdoptFault;
 use std::alloc::AllocError;
 use std::io;

@@ -3,7 +3,7 @@ ghost use Rattle.std.specs.Prelude.{◌≡◌};
 ghost use Rattle.land_commands.specs.Refusals.{refusal_of};
 
 use crate::program_fault::ProgramFault;
-use land_extracts::fault::ExtractFault;
+use land_sheet::extracts::fault::ExtractFault;
 
 /// Why a command is refused of which the policy decides.
 #[derive(Clone, Copy, Debug, PartialEq, Eq)]

@@ -11,10 +11,10 @@ use Rattle.std.specs.FinMap as map
 use Rattle.std.specs.FinMap.{IsAntisymmetric}
 use Rattle.std.proofs.lemmas.Cmp.{on_total, then_total}
 use Rattle.std.proofs.lemmas.Map.Lookups.{exact_pairs, exact_unsigned}
+use Rattle.land_core.proofs.FiniteMaps.{one_inserted, one_removed}
 use Rattle.land_core.specs.Grants.{grant_cmp, marks}
 use Rattle.land_core.specs.Role.{place_of, role_at, role_at_place}
 use Rattle.land_core.specs.declared.roles.Grant.{Grant}
-use Rattle.land_core.proofs.FiniteMaps.{one_inserted, one_removed}
 
 pub grants_total : IsTotalOrder grant_cmp
 grants_total = then_total (on_total (λ g. g.party) nat_cmp_total) (on_total (λ g. place_of g.role) nat_cmp_total)

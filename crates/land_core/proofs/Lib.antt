@@ -4,5 +4,7 @@ pub mod FiniteSets
 pub mod LookUps
 pub mod NewRegister
 pub mod Pairs
+pub mod References
 pub mod Reflection
 pub mod SoundRegisters
+pub mod UnitLists

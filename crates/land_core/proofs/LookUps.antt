@@ -8,6 +8,9 @@ use Rattle.std.specs.Str.{bytes_eq}
 use Rattle.std.specs.FinMap as map
 use Rattle.std.specs.FinMap.{FinMap, nat_cmp-IsAntisymmetric}
 use Rattle.std.specs.Ordering.{nat_cmp}
+use Rattle.land_core.proofs.Booleans.{both_of, not_false, or_false}
+use Rattle.land_core.proofs.Reflection.{none_at, none_passes, some_at, some_passes}
+use Rattle.land_core.proofs.SoundRegisters.{are_used, are_used_back, administrator_at, administrator_from, loose_from, loose_members_from, members_from, refers, refers_back, single_from, unbroken_from, unused_from, used_bounds, used_from, whole_from}
 use Rattle.land_core.specs.Contents.{is_well_formed_content}
 use Rattle.land_core.specs.Entries.{has, some}
 use Rattle.land_core.specs.Grants.{grant_of}
@@ -35,9 +38,6 @@ use Rattle.land_fraction.specs.Ratio.{Ratio}
 use Rattle.land_fraction.specs.Wholeness.{IsWhole, wholeness}
 use Rattle.land_fraction.specs.declared.lists.Whole.{Whole}
 use Rattle.land_fraction.specs.declared.lists.Whole.TheVariants.{Yes, No, TooFine}
-use Rattle.land_core.proofs.Booleans.{both_of, not_false, or_false}
-use Rattle.land_core.proofs.Reflection.{none_at, none_passes, some_at, some_passes}
-use Rattle.land_core.proofs.SoundRegisters.{are_used, are_used_back, administrator_at, administrator_from, loose_from, loose_members_from, members_from, refers, refers_back, single_from, unbroken_from, unused_from, used_bounds, used_from, whole_from}
 
 -- where no entry passes a test, none at a number does, and the other way round
 at : {V : Type 0} (p : ℕ → V → Bool) (m : FinMap nat_cmp V) → some p m ≡ false → (n : ℕ) (v : V) → map.get m n ≡ Some v → p n v ≡ false

@@ -7,8 +7,8 @@ use Rattle.std.specs.FinMap.Entries.{below_all}
 use Rattle.std.specs.List.{AllByRecursion, list_any}
 use Rattle.std.specs.Ordering.{nat_cmp, is_lt}
 use Rattle.std.specs.declared.cmp.Ordering.TheVariants.{Less, Equal, Greater}
-use Rattle.land_core.specs.Entries.{some}
 use Rattle.land_core.proofs.Booleans.{T_true, both_of}
+use Rattle.land_core.specs.Entries.{some}
 
 -- tests that agree pass alike
 pub list_any_same : {X : Type 0} (p q : X → Bool) → ((x : X) → p x ≡ q x) → (xs : List X) → list_any p xs ≡ list_any q xs

@@ -2,7 +2,6 @@
 use Rattle.std.proofs.Common.{◌≡◌, Bool, true, false, cond, ◌||◌, ◌&&◌, List, [], ◌∷◌, ◌++◌, Some, None, refl, sym, ap, ◌∙◌, subst, append_assoc, append-nil}
 use Rattle.std.proofs.lemmas.Bool.{false≢true}
 use Rattle.std.specs.Prelude.{filter, map as map_list}
-use Rattle.land_core.specs.Entries.{with_entries, only}
 use Rattle.std.specs.List.{list_any, AllByRecursion}
 use Rattle.std.specs.Ordering.{eq_by_cmp, is_eq, is_lt, ordering_reverse}
 use Rattle.std.specs.declared.cmp.Ordering.{Ordering}
@@ -12,6 +11,7 @@ use Rattle.std.specs.FinMap as map
 use Rattle.std.specs.FinMap.{FinMap, find, put, is_sorted, IsAntisymmetric}
 use Rattle.land_core.proofs.Booleans.{T_true, both_of, or_true}
 use Rattle.land_core.proofs.FiniteMaps.{is_equal, nothing_from_length}
+use Rattle.land_core.specs.Entries.{with_entries, only}
 
 less_apart : (r : Ordering) → is_lt r ≡ true → is_eq r ≡ false
 less_apart Less h = refl

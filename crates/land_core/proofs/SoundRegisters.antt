@@ -7,6 +7,10 @@ use Rattle.std.specs.FinMap as map
 use Rattle.std.specs.FinMap.{FinMap, nat_cmp-IsAntisymmetric}
 use Rattle.std.proofs.lemmas.Bool.{false≢true}
 use Rattle.std.proofs.lemmas.Bool.Decides.{nat_tests}
+use Rattle.land_core.proofs.Booleans.{or_false, not_false}
+use Rattle.land_core.proofs.FiniteMaps.{none_is_not_some}
+use Rattle.land_core.proofs.FiniteSets.{grants_total, exact_grants}
+use Rattle.land_core.proofs.Reflection.{Passes, some_passes, some_at, none_passes, none_at, list_any-map}
 use Rattle.land_core.specs.Entries.{some}
 use Rattle.land_core.specs.Grants.{grants_in}
 use Rattle.land_core.specs.Members.{Members, are_group_shares}
@@ -19,10 +23,6 @@ use Rattle.land_core.specs.declared.role.Role.TheVariants.{StateAdministrator}
 use Rattle.land_core.specs.declared.roles.Grant.{Grant}
 use Rattle.land_core.specs.declared.soundness.Unsound.TheVariants.{Reference, Administrator}
 use Rattle.land_fraction.specs.Ratio.{Ratio}
-use Rattle.land_core.proofs.Booleans.{or_false, not_false}
-use Rattle.land_core.proofs.FiniteMaps.{none_is_not_some}
-use Rattle.land_core.proofs.FiniteSets.{grants_total, exact_grants}
-use Rattle.land_core.proofs.Reflection.{Passes, some_passes, some_at, none_passes, none_at, list_any-map}
 
 -- what a register without faults of reference has: the seven parts of that fault
 pub record Refers (r : Register) : Type 0 where

@@ -1,5 +1,6 @@
 -- Definitions of the register.
 pub mod Acts
+pub mod ByUnit
 pub mod Changes
 pub mod Contents
 pub mod Entries
@@ -15,3 +16,4 @@ pub mod Soundness
 pub mod Subdivisions
 pub mod Texts
 pub mod Units
+pub mod Words

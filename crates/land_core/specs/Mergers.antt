@@ -3,10 +3,10 @@ use Rattle.std.specs.Prelude.{ℕ, Bool, true, not, ◌&&◌, nat_eq, nat_le, na
 use Rattle.std.specs.Cmp.Lexicographic.{pointwise}
 use Rattle.std.specs.List.{list_all, list_any}
 use Rattle.std.specs.Str.{bytes_eq}
-use Rattle.land_shape.specs.Place.{is_same_ring}
 use Rattle.land_core.specs.Numbers.{is_number}
 use Rattle.land_core.specs.Texts.{is_label}
 use Rattle.land_core.specs.declared.merger.Merger.{Merger}
+use Rattle.land_shape.specs.Place.{is_same_ring}
 
 -- ---- limits
 

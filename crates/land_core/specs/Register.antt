@@ -11,17 +11,17 @@ use Rattle.land_core.specs.declared.kind.Kind.TheVariants as kind
 use Rattle.land_core.specs.declared.kind.PartyKind.{PartyKind}
 use Rattle.land_core.specs.declared.kind.PartyKind.TheVariants.{NaturalPerson, NonNaturalPerson, Group}
 use Rattle.land_core.specs.declared.member.Member.{Member}
-use Rattle.land_core.specs.declared.role.Role.{Role}
-use Rattle.land_core.specs.declared.role.Role.TheVariants.{StateAdministrator}
 use Rattle.land_core.specs.declared.mutation.Mutation.{Mutation}
-use Rattle.land_core.specs.declared.register.Register.{Register}
 use Rattle.land_core.specs.declared.object.Object.{Object}
+use Rattle.land_core.specs.declared.object.Object.TheVariants as object
 use Rattle.land_core.specs.declared.parcel.Parcel.{Parcel}
 use Rattle.land_core.specs.declared.party.Party.{Party}
+use Rattle.land_core.specs.declared.register.Register.{Register}
+use Rattle.land_core.specs.declared.role.Role.{Role}
+use Rattle.land_core.specs.declared.role.Role.TheVariants.{StateAdministrator}
 use Rattle.land_core.specs.declared.rrr.Rrr.{Rrr}
 use Rattle.land_core.specs.declared.source.Source.{Source}
 use Rattle.land_core.specs.declared.unit.Unit.{Unit as UnitShown}
-use Rattle.land_core.specs.declared.object.Object.TheVariants as object
 use Rattle.land_fraction.specs.Ratio.{Ratio}
 
 -- the register that holds nothing, as it was before the office began

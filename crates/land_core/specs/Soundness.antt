@@ -4,18 +4,18 @@ use Rattle.std.specs.Prelude.{ℕ, ◌≡◌, Bool, false, not, ◌&&◌, ◌||�
 use Rattle.std.specs.FinMap.{FinMap}
 use Rattle.std.specs.List.{list_any}
 use Rattle.std.specs.Ordering.{nat_cmp}
-use Rattle.land_core.specs.Entries.{some, has}
 use Rattle.land_core.specs.Contents.{is_well_formed_content}
+use Rattle.land_core.specs.Entries.{some, has}
 use Rattle.land_core.specs.Grants.{grants_in}
 use Rattle.land_core.specs.Members.{Members, are_group_shares}
 use Rattle.land_core.specs.Mutations.{share_a_reference}
 use Rattle.land_core.specs.Register.{has_single_party, has_group, is_single, shares_of}
 use Rattle.land_core.specs.Role.{is_role}
-use Rattle.land_core.specs.declared.role.Role.TheVariants.{StateAdministrator}
+use Rattle.land_core.specs.Units.{has_whole_shares, has_parcel, has_owner, parcel_count, rrr_count, do_clash, rank_of}
 use Rattle.land_core.specs.declared.mutation.MutationRecord.{MutationRecord}
 use Rattle.land_core.specs.declared.register.Register.{Register}
+use Rattle.land_core.specs.declared.role.Role.TheVariants.{StateAdministrator}
 use Rattle.land_core.specs.declared.rrr.RrrRecord.{RrrRecord}
-use Rattle.land_core.specs.Units.{has_whole_shares, has_parcel, has_owner, parcel_count, rrr_count, do_clash, rank_of}
 use Rattle.land_core.specs.declared.soundness.Unsound.{Unsound}
 use Rattle.land_core.specs.declared.soundness.Unsound.TheVariants.{Reference, Shares, Group, Bare, Crowded, Twice, Rank, Administrator, Reused, Memory}
 

@@ -28,3 +28,4 @@ pub mod source;
 pub mod subdivision;
 pub mod text;
 pub mod unit;
+pub mod words;

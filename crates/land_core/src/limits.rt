@@ -5,6 +5,9 @@ ghost use Rattle.std.specs.Str.{chars};
 ghost use Rattle.land_core.specs.Numbers.{is_number};
 ghost use Rattle.land_core.specs.Texts.{are_words, is_label, is_reference, is_title, is_text, is_name, is_plain};
 
+/// The last moment that there is, in milliseconds since 1970 UTC: the end of the year 2099.
+pub const LAST_MOMENT: i64 = 4_102_444_799_999;
+
 /// Whether a text is a name: 1 to 200 characters, no control character of ASCII among them.
 pub fn is_name(text: &str) -> bool
     ensures { result ≡ is_name text.now }

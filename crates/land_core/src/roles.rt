@@ -2,9 +2,9 @@
 ghost use Rattle.std.specs.Prelude.{◌≡◌, OnOk, OnErr, IfOk};
 ghost use Rattle.std.specs.FinMap as map;
 ghost use Rattle.std.specs.Map.Iter.{ShowsInOrder, deref};
-ghost use Rattle.land_core.specs.declared.roles.Grant.{Grant};
-ghost use Rattle.land_core.specs.Grants.{has_grant, grants_in, marks};
 ghost use Rattle.land_core.specs.Entries.{updated, with_entries, without};
+ghost use Rattle.land_core.specs.Grants.{has_grant, grants_in, marks};
+ghost use Rattle.land_core.specs.declared.roles.Grant.{Grant};
 
 use crate::duplicate::Duplicate;
 use crate::role::Role;

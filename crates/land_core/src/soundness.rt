@@ -3,6 +3,13 @@ ghost use Rattle.std.specs.Prelude.{◌≡◌};
 
 use std::alloc::AllocError;
 
+mod by_unit;
+pub mod check;
+mod claim;
+mod groups;
+mod mutations;
+mod units;
+
 /// Why a register is not sound.
 #[derive(Clone, Copy, Debug, PartialEq, Eq)]
 pub enum Unsound {

@@ -3,6 +3,8 @@ use Rattle.std.proofs.Common.{◌≡◌, Bool, true, false, refl, sym, ap, ◌�
 use Rattle.std.specs.Prelude.{ℤ, ◌⊎◌, MatchOption}
 use Rattle.std.proofs.lemmas.Bool.{false≢true}
 use Rattle.land_core.specs.declared.ask.Request.{Request}
+use Rattle.land_desk.specs.Responses.{HasMoment}
+use Rattle.land_desk.specs.Serving.{Brings, HearsIf, Told}
 use Rattle.land_keep.proofs.Steps.{finished_element}
 use Rattle.land_keep.specs.Keeping.{IsAt, IsPrepared, ShowsAsked, TellsOf, after_writing}
 use Rattle.land_keep.specs.Machine.{Element, State, at_of}
@@ -12,11 +14,9 @@ use Rattle.land_keep.specs.declared.prepared.Prepared.{Prepared}
 use Rattle.land_keep.specs.declared.reply.Reply.{Reply}
 use Rattle.land_keep.specs.declared.reply.Reply.TheVariants as reply
 use Rattle.land_keep.specs.declared.view.View.{View}
-use Rattle.land_bodies.specs.WireFaults.{fault_number}
-use Rattle.land_bodies.specs.declared.wire_fault.WireFault.{WireFault}
 use Rattle.land_wire.specs.Laws.{IsStated}
-use Rattle.land_desk.specs.Responses.{HasMoment}
-use Rattle.land_desk.specs.Serving.{Brings, HearsIf, Told}
+use Rattle.land_wire_json.specs.Bodies.WireFaults.{fault_number}
+use Rattle.land_wire_json.specs.declared.bodies.wire_fault.WireFault.{WireFault}
 
 module _ {C : Type 0} (reads : C → ℤ → C → Type 0) (was_honest honest : Type 0) (before closed : Bool) (shown after : Timeline)
     (clock clock_after : C) (reading : ℤ) (q : Request) (rd : reads clock reading clock_after) where

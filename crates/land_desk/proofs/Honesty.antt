@@ -2,13 +2,7 @@
 use Rattle.std.proofs.Common.{◌≡◌, ℕ, ℤ, ◌+◌, List, [], ◌∷◌, inl, inr, Result, Ok, Err, Option, Some, None, IfSome}
 use Rattle.std.specs.Io.KnownBytes.{prepend_known}
 use Rattle.land_core.specs.declared.ask.Request.{Request}
-use Rattle.land_keep.specs.Machine.{State}
-use Rattle.land_keep.specs.declared.reply.Reply.{Reply}
-use Rattle.land_bodies.specs.declared.wire_fault.WireFault.{WireFault}
-use Rattle.land_wire.specs.Fields.{field_map}
-use Rattle.land_wire.specs.Reading.{reading}
-use Rattle.land_framing.specs.Frame.{fields_of}
-use Rattle.land_framing.specs.Items.{Item, request, faulty}
+use Rattle.land_desk.proofs.ServingLemmas.{begins, goes_on, nothing_done, serves_out}
 use Rattle.land_desk.specs.Serving.{Answers, Brings, Exchange, Goes, Hears, HearsIf, IsServed, IsServing, One, Serves, ServesTo, SoFar, Told}
 use Rattle.land_desk.specs.Turns.{IfBoth, IsTurn}
 use Rattle.land_desk.specs.declared.serve.DeskFault.{DeskFault}
@@ -16,7 +10,13 @@ use Rattle.land_desk.specs.declared.serve.DeskFault.TheVariants as desk
 use Rattle.land_desk.specs.declared.serve.Served.{Served}
 use Rattle.land_desk.specs.declared.turn.Turn.{Turn}
 use Rattle.land_desk.specs.declared.turn.Turn.TheVariants as turn
-use Rattle.land_desk.proofs.ServingLemmas.{begins, goes_on, nothing_done, serves_out}
+use Rattle.land_keep.specs.Machine.{State}
+use Rattle.land_keep.specs.declared.reply.Reply.{Reply}
+use Rattle.land_wire.specs.Fields.{field_map}
+use Rattle.land_wire.specs.Framing.Frame.{fields_of}
+use Rattle.land_wire.specs.Framing.Items.{Item, request, faulty}
+use Rattle.land_wire.specs.Reading.{reading}
+use Rattle.land_wire_json.specs.declared.bodies.wire_fault.WireFault.{WireFault}
 
 -- what held while the store was honest holds while it is honest from then on
 pub heard_later : {C : Type 0} (reads : C → ℤ → C → Type 0) (honest later : Type 0) → (later → honest)

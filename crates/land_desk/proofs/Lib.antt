@@ -6,3 +6,4 @@ pub mod ResponseLemmas
 pub mod ServingLemmas
 pub mod StoreHeads
 pub mod TurnLemmas
+pub mod Turns

@@ -1,14 +1,14 @@
 -- What the machine hears of a stream, whether its bytes are known or not.
 use Rattle.std.proofs.Common.{◌≡◌, ℕ, List, [], ◌∷◌, ◌++◌, inl, inr, refl, subst, sym, Result, Ok, Err}
 use Rattle.land_core.specs.declared.ask.Request.{Request}
+use Rattle.land_desk.specs.Serving.{Answers, Brings, Exchange, HearsAll, MayHear, Moves, MovesTo, One, Told}
 use Rattle.land_keep.specs.Machine.{State}
 use Rattle.land_keep.specs.declared.reply.Reply.{Reply}
-use Rattle.land_bodies.specs.declared.wire_fault.WireFault.{WireFault}
 use Rattle.land_wire.specs.Fields.{field_map}
+use Rattle.land_wire.specs.Framing.Frame.{fields_of}
+use Rattle.land_wire.specs.Framing.Items.{Item, request, faulty}
 use Rattle.land_wire.specs.Reading.{reading}
-use Rattle.land_framing.specs.Frame.{fields_of}
-use Rattle.land_framing.specs.Items.{Item, request, faulty}
-use Rattle.land_desk.specs.Serving.{Answers, Brings, Exchange, HearsAll, MayHear, Moves, MovesTo, One, Told}
+use Rattle.land_wire_json.specs.declared.bodies.wire_fault.WireFault.{WireFault}
 
 module _ {C : Type 0} (hears : State C → Request → Reply → State C → Type 0) where
   told_heard : (q : Result Request WireFault) (from : State C) (r : Reply) (to : State C) → Told hears q from r to → MayHear hears from to

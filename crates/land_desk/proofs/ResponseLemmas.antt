@@ -1,12 +1,12 @@
 -- A reply has one response.
 use Rattle.std.proofs.Common.{◌≡◌, List, ℕ, Some, None, sym, ◌∙◌, ap, subst, inl, inr}
+use Rattle.land_desk.specs.Responses.{IsBody, OneResponse, medium_of, response, status_of}
 use Rattle.land_keep.specs.declared.reply.Reply.{Reply}
 use Rattle.land_keep.specs.declared.reply.Reply.TheVariants as reply
 use Rattle.land_keep.specs.declared.view.View.{View}
 use Rattle.land_sheet.specs.Laws.{OneSheetLaw}
 use Rattle.land_sheet.specs.Sheets.{IsSheet}
 use Rattle.land_wire.specs.Replies.{reply_text}
-use Rattle.land_desk.specs.Responses.{IsBody, OneResponse, medium_of, response, status_of}
 
 some_same : (a b : List ℕ) → Some a ≡ Some b → a ≡ b
 some_same a b same = cc

@@ -5,16 +5,16 @@ use Rattle.std.specs.Io.KnownBytes.{Appends, prepend_known}
 use Rattle.std.proofs.KnownBytes.{Appends-trans, Appends-nil}
 use Rattle.std.proofs.lemmas.Bool.{false≢true}
 use Rattle.land_core.specs.declared.ask.Request.{Request}
-use Rattle.land_keep.specs.Machine.{State}
-use Rattle.land_keep.specs.declared.reply.Reply.{Reply}
-use Rattle.land_framing.specs.Items.{Item, request, faulty, AreItems, IsItem, is_last}
 use Rattle.land_desk.specs.Serving.{Exchange, One, Goes, IsServed, Serves, ServedItems, SoFar, closes, closing, said_all}
 use Rattle.land_desk.specs.Turns.{IfBoth, IsTurn}
 use Rattle.land_desk.specs.declared.serve.DeskFault.{DeskFault}
 use Rattle.land_desk.specs.declared.serve.DeskFault.TheVariants as desk
 use Rattle.land_desk.specs.declared.turn.Turn.{Turn}
 use Rattle.land_desk.specs.declared.turn.Turn.TheVariants as turn
-use Rattle.land_framing.proofs.ItemLemmas.{head_some, item_unique}
+use Rattle.land_keep.specs.Machine.{State}
+use Rattle.land_keep.specs.declared.reply.Reply.{Reply}
+use Rattle.land_wire.proofs.ItemLemmas.{head_some, item_unique}
+use Rattle.land_wire.specs.Framing.Items.{Item, request, faulty, AreItems, IsItem, is_last}
 
 module _ {C : Type 0} (hears : State C → Request → Reply → State C → Type 0) where
   goes_more : (bytes rest mid : List ℕ) (from now to : State C) (xs : List Exchange) (x : Exchange)

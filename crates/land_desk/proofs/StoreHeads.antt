@@ -1,12 +1,12 @@
 -- The replies that tell a store fault. To a HEAD its number does not show.
 use Rattle.std.proofs.Common.{◌≡◌, ℕ, zero, suc, ◌+◌, ◌-◌, ◌≤◌, List, Bool, true, false, refl, inl, codes, arith}
 use Rattle.std.specs.Fmt.{digits}
-use Rattle.land_keep.specs.declared.reply.Reply.TheVariants as reply
-use Rattle.land_wire.specs.Replies.{IsStoreFault, short_text}
 use Rattle.land_desk.specs.Responses.{response, IsResponse}
 use Rattle.land_desk.specs.declared.response.Medium.TheVariants.{Json}
 use Rattle.land_desk.specs.declared.response.Status.TheVariants.{Unavailable}
+use Rattle.land_keep.specs.declared.reply.Reply.TheVariants as reply
 use Rattle.land_wire.proofs.ReplyTexts.{store_text}
+use Rattle.land_wire.specs.Replies.{IsStoreFault, short_text}
 
 abbrev pub store_response : ℕ → (closing head : Bool) → List ℕ
 store_response n closing head = response Unavailable Json (short_text (codes "store") n) closing head

@@ -6,25 +6,25 @@ use Rattle.std.proofs.KnownBytes.{Appends-nil}
 use Rattle.httparse.specs.declared.spans.HeaderSpan.{HeaderSpan}
 use Rattle.httparse.specs.declared.spans.RequestSpans.{RequestSpans}
 use Rattle.land_core.specs.declared.ask.Request.{Request}
-use Rattle.land_keep.specs.Machine.{State}
-use Rattle.land_keep.specs.declared.reply.Reply.{Reply}
-use Rattle.land_keep.specs.declared.reply.Reply.TheVariants as reply
-use Rattle.land_wire.specs.Fields.{field_map}
-use Rattle.land_wire.specs.Reading.{reading}
-use Rattle.land_framing.specs.FrameFaults.{number_of}
-use Rattle.land_framing.specs.Frame.{fields_of, ends, is_head}
-use Rattle.land_framing.specs.Items.{request, faulty, IsItem, IsFrontOf, IsRequestIn}
 use Rattle.land_desk.specs.Serving.{Brings, Told}
 use Rattle.land_desk.specs.Turns.{IsAnswer, Spoken, IsTurn, IsWritten, answer_bytes, turn_after}
 use Rattle.land_desk.specs.declared.exchange.Answer.{Answer}
-use Rattle.land_framing.specs.declared.frame_fault.FrameFault.{FrameFault}
-use Rattle.land_framing.specs.declared.item.Front.{Front}
-use Rattle.land_framing.specs.declared.item.Front.TheVariants as front
 use Rattle.land_desk.specs.declared.serve.DeskFault.{DeskFault}
 use Rattle.land_desk.specs.declared.serve.DeskFault.TheVariants as desk
 use Rattle.land_desk.specs.declared.turn.Turn.{Turn}
 use Rattle.land_desk.specs.declared.turn.Turn.TheVariants as turn
-use Rattle.land_framing.proofs.ItemLemmas.{request_of}
+use Rattle.land_keep.specs.Machine.{State}
+use Rattle.land_keep.specs.declared.reply.Reply.{Reply}
+use Rattle.land_keep.specs.declared.reply.Reply.TheVariants as reply
+use Rattle.land_wire.proofs.ItemLemmas.{request_of}
+use Rattle.land_wire.specs.Fields.{field_map}
+use Rattle.land_wire.specs.Framing.Frame.{fields_of, ends, is_head}
+use Rattle.land_wire.specs.Framing.FrameFaults.{number_of}
+use Rattle.land_wire.specs.Framing.Items.{request, faulty, IsItem, IsFrontOf, IsRequestIn}
+use Rattle.land_wire.specs.Reading.{reading}
+use Rattle.land_wire.specs.declared.framing.frame_fault.FrameFault.{FrameFault}
+use Rattle.land_wire.specs.declared.framing.item.Front.{Front}
+use Rattle.land_wire.specs.declared.framing.item.Front.TheVariants as front
 
 module _ {C : Type 0} (hears : State C → Request → Reply → State C → Type 0) where
   -- a request at the front of the buffer, with its answer

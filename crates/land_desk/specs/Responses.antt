@@ -1,15 +1,15 @@
 -- The bytes of a reply on the wire (RFC 9112, sections 4 and 5).
 use Rattle.std.specs.Prelude.{◌≡◌, ℕ, Bool, List, [], ◌++◌, length, codes, decimal, Some, ◌⊎◌, if◌then◌else◌}
+use Rattle.land_desk.specs.declared.response.Medium.{Medium}
+use Rattle.land_desk.specs.declared.response.Medium.TheVariants.{Json, Sheet}
+use Rattle.land_desk.specs.declared.response.Status.{Status}
+use Rattle.land_desk.specs.declared.response.Status.TheVariants.{Ok, BadRequest, Forbidden, Conflict, Unavailable}
 use Rattle.land_keep.specs.Moments.{IsMoment}
 use Rattle.land_keep.specs.declared.reply.Reply.{Reply}
 use Rattle.land_keep.specs.declared.reply.Reply.TheVariants as reply
 use Rattle.land_keep.specs.declared.view.View.{View}
 use Rattle.land_sheet.specs.Sheets.{IsSheet}
 use Rattle.land_wire.specs.Replies.{reply_text}
-use Rattle.land_desk.specs.declared.response.Medium.{Medium}
-use Rattle.land_desk.specs.declared.response.Medium.TheVariants.{Json, Sheet}
-use Rattle.land_desk.specs.declared.response.Status.{Status}
-use Rattle.land_desk.specs.declared.response.Status.TheVariants.{Ok, BadRequest, Forbidden, Conflict, Unavailable}
 
 -- code and phrase of a status (RFC 9110, section 15)
 abbrev pub status_text : Status → List ℕ

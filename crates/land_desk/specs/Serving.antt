@@ -3,21 +3,21 @@ use Rattle.std.specs.Prelude.{◌≡◌, ℕ, ℤ, Bool, true, false, ◌||◌, 
 use Rattle.std.specs.List.{flat_map}
 use Rattle.std.specs.Io.KnownBytes.{Appends}
 use Rattle.land_core.specs.declared.ask.Request.{Request}
-use Rattle.land_keep.specs.Keeping.{TellsOf}
-use Rattle.land_keep.specs.Machine.{State, Element}
-use Rattle.land_keep.specs.declared.reply.Reply.{Reply}
-use Rattle.land_keep.specs.declared.reply.Reply.TheVariants as reply
-use Rattle.land_bodies.specs.WireFaults.{fault_number}
-use Rattle.land_bodies.specs.declared.wire_fault.WireFault.{WireFault}
-use Rattle.land_wire.specs.Fields.{field_map}
-use Rattle.land_wire.specs.Reading.{reading}
-use Rattle.land_framing.specs.FrameFaults.{number_of}
-use Rattle.land_framing.specs.Frame.{fields_of, is_head}
-use Rattle.land_framing.specs.Items.{Item, request, faulty, IsItem, AreItems, is_last}
 use Rattle.land_desk.specs.Responses.{IsResponse}
 use Rattle.land_desk.specs.declared.serve.DeskFault.{DeskFault}
 use Rattle.land_desk.specs.declared.serve.DeskFault.TheVariants as desk
 use Rattle.land_desk.specs.declared.serve.Served.{Served}
+use Rattle.land_keep.specs.Keeping.{TellsOf}
+use Rattle.land_keep.specs.Machine.{State, Element}
+use Rattle.land_keep.specs.declared.reply.Reply.{Reply}
+use Rattle.land_keep.specs.declared.reply.Reply.TheVariants as reply
+use Rattle.land_wire.specs.Fields.{field_map}
+use Rattle.land_wire.specs.Framing.Frame.{fields_of, is_head}
+use Rattle.land_wire.specs.Framing.FrameFaults.{number_of}
+use Rattle.land_wire.specs.Framing.Items.{Item, request, faulty, IsItem, AreItems, is_last}
+use Rattle.land_wire.specs.Reading.{reading}
+use Rattle.land_wire_json.specs.Bodies.WireFaults.{fault_number}
+use Rattle.land_wire_json.specs.declared.bodies.wire_fault.WireFault.{WireFault}
 
 -- a store fault that closes the store ends the connection
 abbrev pub closes : Reply → Bool

@@ -2,8 +2,6 @@
 use Rattle.std.specs.Prelude.{◌≡◌, ℕ, Bool, true, false, ◌||◌, List, [], take, Option, Some, None, Result, Ok, Err}
 use Rattle.std.specs.Io.KnownBytes.{Appends}
 use Rattle.land_core.specs.declared.ask.Request.{Request}
-use Rattle.land_keep.specs.Machine.{State}
-use Rattle.land_keep.specs.declared.reply.Reply.{Reply}
 use Rattle.land_desk.specs.Responses.{IsResponse}
 use Rattle.land_desk.specs.Serving.{Exchange, One, closes, closing}
 use Rattle.land_desk.specs.declared.exchange.Answer.{Answer}
@@ -13,6 +11,8 @@ use Rattle.land_desk.specs.declared.serve.DeskFault.{DeskFault}
 use Rattle.land_desk.specs.declared.serve.DeskFault.TheVariants as desk
 use Rattle.land_desk.specs.declared.turn.Turn.{Turn}
 use Rattle.land_desk.specs.declared.turn.Turn.TheVariants as turn
+use Rattle.land_keep.specs.Machine.{State}
+use Rattle.land_keep.specs.declared.reply.Reply.{Reply}
 
 -- the bytes of an answer
 abbrev pub answer_bytes : AnswerBytes → List ℕ

@@ -2,26 +2,26 @@
 ghost use Rattle.std.specs.Prelude.{◌≡◌, ◌||◌, ◌⊎◌, true, false, MatchOption, IfOk, Result};
 ghost use Rattle.land_core.specs.Acts.{is_well_formed_request};
 ghost use Rattle.land_core.specs.declared.ask.Request.{Request as AskedRequest};
-ghost use Rattle.land_keep.specs.Keeping.{IsAt};
-ghost use Rattle.land_keep.specs.Machine.{at_of};
-ghost use Rattle.land_keep.specs.declared.reply.Reply.TheVariants as reply;
-ghost use Rattle.land_framing.specs.FrameFaults.{number_of};
-ghost use Rattle.land_bodies.specs.WireFaults.{Gives};
-ghost use Rattle.land_keep.specs.Faults.{number_of as keep_number};
-ghost use Rattle.land_wire.specs.Laws.{IsStated};
 ghost use Rattle.land_desk.specs.Responses.{HasMoment};
 ghost use Rattle.land_desk.specs.Serving.{Brings, closes, Heard, HearsIf, Told};
 ghost use Rattle.land_desk.specs.Turns.{IsAnswer, answer_bytes};
+ghost use Rattle.land_keep.specs.Faults.{number_of as keep_number};
+ghost use Rattle.land_keep.specs.Keeping.{IsAt};
+ghost use Rattle.land_keep.specs.Machine.{at_of};
+ghost use Rattle.land_keep.specs.declared.reply.Reply.TheVariants as reply;
+ghost use Rattle.land_wire.specs.Framing.FrameFaults.{number_of};
+ghost use Rattle.land_wire.specs.Laws.{IsStated};
+ghost use Rattle.land_wire_json.specs.Bodies.WireFaults.{Gives};
 
 use crate::response::{Medium, Status, body_text, response_bytes, store_response};
-use land_bodies::wire_fault::WireFault;
 use land_core::ask::Request;
-use land_framing::frame_fault::FrameFault;
 use land_keep::clock::Clock;
 use land_keep::keeper::Keeper;
 use land_keep::machine::{finish, prepare};
 use land_keep::reply::Reply;
 use land_keep::store_fault::StoreFault;
+use land_wire::framing::frame_fault::FrameFault;
+use land_wire_json::bodies::wire_fault::WireFault;
 use std::alloc::Global;
 
 /// The bytes of an answer.

@@ -4,6 +4,6 @@
 pub mod exchange;
 pub mod laws;
 pub mod response;
-pub mod send;
 pub mod serve;
+pub mod service;
 mod turn;

@@ -1,8 +1,8 @@
 //! The bytes of replies on the wire.
 ghost use Rattle.std.specs.Prelude.{◌≡◌, ℕ, IfOk, true, false, string_bytes};
-ghost use Rattle.land_wire.specs.Replies.{IsStoreFault};
 ghost use Rattle.land_desk.specs.Responses.{HasMoment, IsBody, IsResponse, medium_of, medium_text, response, status_of, status_text};
 ghost use Rattle.land_keep.specs.declared.reply.Reply.TheVariants as reply;
+ghost use Rattle.land_wire.specs.Replies.{IsStoreFault};
 
 use land_keep::reply::Reply;
 use land_sheet::sheet::title_sheet;

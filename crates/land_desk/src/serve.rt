@@ -1,16 +1,16 @@
 //! Serving a stream: its items one after another, from their bytes to the bytes of their replies.
 ghost use Rattle.std.specs.Prelude.{◌≤◌, length, IfSome};
-ghost use Rattle.land_keep.specs.Keeping.{IsAt};
-ghost use Rattle.land_routes.specs.Table.{FindsRoutes};
 ghost use Rattle.land_desk.specs.Serving.{HearsIf, MovesTo, ServesTo};
+ghost use Rattle.land_keep.specs.Keeping.{IsAt};
+ghost use Rattle.land_wire.specs.Routes.Table.{FindsRoutes};
 
 use crate::turn::{Turn, take_turn};
 use httparse::spans::{EMPTY_HEADER_SPAN, HeaderSpan};
-use land_framing::counted_reader::CountedReader;
-use land_framing::head::FIELD_ROOM;
 use land_keep::clock::Clock;
 use land_keep::keeper::Keeper;
-use land_routes::table::{Goal, routes};
+use land_streams::counted_reader::CountedReader;
+use land_wire::framing::head::FIELD_ROOM;
+use land_wire::routes::table::{Goal, routes};
 use matchit::Router;
 use std::alloc::Global;
 use std::io::{Read, Write};

@@ -3,33 +3,33 @@ use Rattle.std.proofs.Common.{◌≡◌, Bool, true, false, not, drop, List, [],
 use Rattle.std.specs.Prelude.{ℤ, ◌≤ℤ◌, ◌<ℤ◌, int_lt, unwrap_or, MatchOption}
 use Rattle.std.proofs.lemmas.Bool.{false≢true}
 use Rattle.std.proofs.lemmas.Int.{ints, clamps}
-use Rattle.land_core.specs.Acts.{is_well_formed}
-use Rattle.land_core.specs.Register.{holds, stands}
+use Rattle.land_acts.proofs.Accepted.{nothing_unstamped, tells_stamp}
 use Rattle.land_acts.specs.Laws.{IsAccepted}
 use Rattle.land_acts.specs.Outcome.{outcome_of}
-use Rattle.land_acts.proofs.Accepted.{nothing_unstamped, tells_stamp}
-use Rattle.land_core.specs.declared.caller.Caller.{Caller}
-use Rattle.land_core.specs.declared.kind.Kind.TheVariants as kind
+use Rattle.land_acts.specs.declared.mutations.refusal.Planned.{Planned}
+use Rattle.land_acts.specs.declared.mutations.refusal.Planned.TheVariants.{New, Repeat}
+use Rattle.land_acts.specs.declared.mutations.refusal.Refusal.{Refusal}
+use Rattle.land_core.specs.Acts.{is_well_formed}
+use Rattle.land_core.specs.Register.{holds, stands}
 use Rattle.land_core.specs.declared.act.Act.{Act}
 use Rattle.land_core.specs.declared.ask.Ask.{Ask}
 use Rattle.land_core.specs.declared.ask.Ask.TheVariants as ask
 use Rattle.land_core.specs.declared.ask.Request.{Request}
-use Rattle.land_rules.specs.Rules.{Rules, first_denial, rules_on}
-use Rattle.land_rules.specs.declared.verdict.Verdict.TheVariants.{Allowed, Denied}
-use Rattle.land_mutations.specs.declared.refusal.Refusal.{Refusal}
-use Rattle.land_mutations.specs.declared.refusal.Planned.{Planned}
-use Rattle.land_mutations.specs.declared.refusal.Planned.TheVariants.{New, Repeat}
+use Rattle.land_core.specs.declared.caller.Caller.{Caller}
+use Rattle.land_core.specs.declared.kind.Kind.TheVariants as kind
 use Rattle.land_keep.specs.Faults.{number_of}
+use Rattle.land_keep.specs.Keeping.{CanWrite, Closes, IsAnswered, IsPrepared, Leads, RunsTo, ShowsAsked, ShowsAt, TellsOf, after_writing, preparation}
+use Rattle.land_keep.specs.Machine.{Run, State, Element, Next, step, allowed, acted, verdict_at, at_of, moment_of, now_of, stamp_of}
+use Rattle.land_keep.specs.Moments.{IsMoment, last_moment, now_after, stamp_after}
+use Rattle.land_keep.specs.Timeline.{Timeline, last_stamp, last_register, register_at}
 use Rattle.land_keep.specs.declared.prepared.Prepared.{Prepared}
 use Rattle.land_keep.specs.declared.prepared.Writing.{Writing}
 use Rattle.land_keep.specs.declared.reply.Reply.{Reply}
 use Rattle.land_keep.specs.declared.reply.Reply.TheVariants as reply
 use Rattle.land_keep.specs.declared.store_fault.StoreFault.{StoreFault}
 use Rattle.land_keep.specs.declared.store_fault.StoreFault.TheVariants.{NoMemory, Store, Closed}
-use Rattle.land_keep.specs.Timeline.{Timeline, last_stamp, last_register, register_at}
-use Rattle.land_keep.specs.Machine.{Run, State, Element, Next, step, allowed, acted, verdict_at, at_of, moment_of, now_of, stamp_of}
-use Rattle.land_keep.specs.Keeping.{CanWrite, Closes, IsAnswered, IsPrepared, Leads, RunsTo, ShowsAsked, ShowsAt, TellsOf, after_writing, preparation}
-use Rattle.land_keep.specs.Moments.{IsMoment, last_moment, now_after, stamp_after}
+use Rattle.land_rules.specs.Rules.{Rules, first_denial, rules_on}
+use Rattle.land_rules.specs.declared.verdict.Verdict.TheVariants.{Allowed, Denied}
 
 -- a run goes on by one request
 pub run_more : {C : Type 0} (reads : C → ℤ → C → Type 0) (from mid to : State C) (reading : ℤ) (qs : List Request) (q : Request) (rs : List Reply) (r : Reply)

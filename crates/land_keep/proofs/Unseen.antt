@@ -8,6 +8,8 @@ use Rattle.std.specs.List.{AllByRecursion}
 use Rattle.std.specs.Option.{option_map, option_map_or}
 use Rattle.std.specs.Ordering.{nat_cmp}
 use Rattle.std.proofs.lemmas.Bool.{false≢true}
+use Rattle.land_core.proofs.Booleans.{both_of}
+use Rattle.land_core.proofs.Reflection.{each_there}
 use Rattle.land_core.specs.Entries.{has}
 use Rattle.land_core.specs.Register.{nothing, object_at, parcel_at, party_at, unit_at}
 use Rattle.land_core.specs.Soundness.{IsSound}
@@ -25,8 +27,7 @@ use Rattle.land_core.specs.declared.party.PartyRecord.{PartyRecord}
 use Rattle.land_core.specs.declared.register.Register.{Register}
 use Rattle.land_core.specs.declared.rrr.Rrr.{Rrr}
 use Rattle.land_core.specs.declared.rrr.RrrRecord.{RrrRecord}
-use Rattle.land_core.proofs.Booleans.{both_of}
-use Rattle.land_core.proofs.Reflection.{each_there}
+use Rattle.land_keep.proofs.Timelines.{sound_or_nothing}
 use Rattle.land_keep.proofs.TwoRegisters.{by_verdict, shows, step_told, told}
 use Rattle.land_keep.specs.Laws.{RepliesTellNothingUnseen}
 use Rattle.land_keep.specs.Machine.{moment_of, now_of, shown_sheet, step, viewed}
@@ -37,7 +38,6 @@ use Rattle.land_keep.specs.declared.reply.Reply.TheVariants as reply
 use Rattle.land_keep.specs.declared.timeline.Version.{Version}
 use Rattle.land_keep.specs.declared.view.NamedRrr.{NamedRrr}
 use Rattle.land_keep.specs.declared.view.View.{View}
-use Rattle.land_keep.proofs.Timelines.{sound_or_nothing}
 use Rattle.land_rules.proofs.Alike.{flip, inside, parcel_in_sight, party_in_sight, same_objects, same_sight, same_verdicts}
 use Rattle.land_rules.specs.Alike.{IsRead, LookAlike, WorldsLookAlike, shown_of}
 use Rattle.land_rules.specs.Laws.{IsSoundOrNothing}

@@ -6,19 +6,19 @@ use Rattle.std.specs.Option.{option_map}
 use Rattle.std.specs.Cmp.{nat_cmp_total}
 use Rattle.std.specs.FinMap.{get-empty, nat_cmp-IsAntisymmetric}
 use Rattle.std.specs.Ordering.{nat_cmp}
+use Rattle.land_core.proofs.Booleans.{not_false}
+use Rattle.land_core.proofs.Reflection.{none_at}
 use Rattle.land_core.specs.Members.{are_group_shares}
 use Rattle.land_core.specs.Register.{is_single, nothing, shares_of}
 use Rattle.land_core.specs.Soundness.{IsSound}
 use Rattle.land_core.specs.Units.{has_whole_shares}
 use Rattle.land_core.specs.declared.register.Register.{Register}
 use Rattle.land_core.specs.declared.soundness.Unsound.TheVariants.{Group, Shares}
-use Rattle.land_core.proofs.Booleans.{not_false}
-use Rattle.land_core.proofs.Reflection.{none_at}
+use Rattle.land_keep.proofs.Timelines.{written_sound}
 use Rattle.land_keep.specs.Laws.{ChangesKeepSharesWhole, HasWholeShares, SharesAreWhole}
 use Rattle.land_keep.specs.Machine.{written}
 use Rattle.land_keep.specs.Timeline.{Timeline}
 use Rattle.land_keep.specs.declared.timeline.Version.{Version}
-use Rattle.land_keep.proofs.Timelines.{written_sound}
 
 -- a sound register has whole shares, and so has one that holds nothing
 sound_whole : (r : Register) → IsSound r → HasWholeShares r

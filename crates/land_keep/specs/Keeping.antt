@@ -1,13 +1,13 @@
 -- What a keeper of the timeline may be asked, how its faults go, and what is prepared for a request.
 use Rattle.std.specs.Prelude.{◌≡◌, Bool, true, false, List, Option, Some, None, Result, Ok, Err, ℤ, ◌<ℤ◌, ◌≤ℤ◌, MatchOption}
 use Rattle.land_acts.specs.Laws.{IsAccepted}
-use Rattle.land_mutations.specs.Planning.{number_of}
+use Rattle.land_acts.specs.Mutations.Planning.{number_of}
+use Rattle.land_acts.specs.declared.mutations.refusal.Planned.{Planned}
+use Rattle.land_acts.specs.declared.mutations.refusal.Planned.TheVariants.{New, Repeat}
+use Rattle.land_acts.specs.declared.mutations.refusal.Refusal.{Refusal}
 use Rattle.land_core.specs.declared.ask.Ask.{Ask}
 use Rattle.land_core.specs.declared.ask.Request.{Request}
 use Rattle.land_core.specs.declared.change.Change.{Change}
-use Rattle.land_mutations.specs.declared.refusal.Planned.{Planned}
-use Rattle.land_mutations.specs.declared.refusal.Planned.TheVariants.{New, Repeat}
-use Rattle.land_mutations.specs.declared.refusal.Refusal.{Refusal}
 use Rattle.land_keep.specs.Machine.{Element, Next, Run, State, at_of, step, written}
 use Rattle.land_keep.specs.Moments.{IsMoment, last_moment}
 use Rattle.land_keep.specs.Timeline.{Timeline, last_stamp, last_register}

@@ -13,9 +13,9 @@ use Rattle.land_core.specs.declared.unit.UnitRecord.{UnitRecord}
 use Rattle.land_keep.specs.Keeping.{CanWrite, Closes}
 use Rattle.land_keep.specs.Machine.{step, written, now_of, moment_of}
 use Rattle.land_keep.specs.Timeline.{Timeline, IsSoundTimeline, register_at, last_register}
-use Rattle.land_rules.specs.Alike.{IsRead, LookAlike}
 use Rattle.land_keep.specs.declared.store_fault.StoreFault.{StoreFault}
 use Rattle.land_keep.specs.declared.store_fault.StoreFault.TheVariants.{NoMemory}
+use Rattle.land_rules.specs.Alike.{IsRead, LookAlike}
 
 -- a timeline stays sound after a change that may be written
 abbrev pub WritingKeepsSound : Type 0

@@ -1,8 +1,11 @@
 -- The register machine: what it replies to a request, and the timeline that it leaves.
 use Rattle.std.specs.Prelude.{◌≡◌, ℕ, Bool, true, false, List, [], ◌∷◌, ◌++◌, Option, Some, None, Result, Ok, Err, ℤ, int_lt, unwrap_or, ◌⊎◌, if◌then◌else◌}
-use Rattle.land_core.specs.Changes.{after}
+use Rattle.land_acts.specs.Mutations.Planning.{number_of}
 use Rattle.land_acts.specs.Outcome.{outcome_of}
-use Rattle.land_mutations.specs.Planning.{number_of}
+use Rattle.land_acts.specs.declared.mutations.refusal.Planned.{Planned}
+use Rattle.land_acts.specs.declared.mutations.refusal.Planned.TheVariants.{New, Repeat}
+use Rattle.land_acts.specs.declared.mutations.refusal.Refusal.{Refusal}
+use Rattle.land_core.specs.Changes.{after}
 use Rattle.land_core.specs.Register.{object_at}
 use Rattle.land_core.specs.declared.ask.Ask.{Ask}
 use Rattle.land_core.specs.declared.ask.Ask.TheVariants as ask
@@ -11,17 +14,14 @@ use Rattle.land_core.specs.declared.caller.Caller.{Caller}
 use Rattle.land_core.specs.declared.change.Change.{Change}
 use Rattle.land_core.specs.declared.kind.Kind.{Kind}
 use Rattle.land_core.specs.declared.object.Object.{Object}
-use Rattle.land_mutations.specs.declared.refusal.Planned.{Planned}
-use Rattle.land_mutations.specs.declared.refusal.Planned.TheVariants.{New, Repeat}
-use Rattle.land_mutations.specs.declared.refusal.Refusal.{Refusal}
 use Rattle.land_core.specs.declared.register.Register.{Register}
-use Rattle.land_rules.specs.Rules.{verdict_of, seen_of}
 use Rattle.land_keep.specs.Moments.{now_after, stamp_after}
-use Rattle.land_keep.specs.Timeline.{Timeline, register_at, last_stamp, last_register}
 use Rattle.land_keep.specs.Sheets.{view_at}
+use Rattle.land_keep.specs.Timeline.{Timeline, register_at, last_stamp, last_register}
 use Rattle.land_keep.specs.declared.reply.Reply.{Reply}
 use Rattle.land_keep.specs.declared.reply.Reply.TheVariants as reply
 use Rattle.land_keep.specs.declared.view.View.{View}
+use Rattle.land_rules.specs.Rules.{verdict_of, seen_of}
 use Rattle.land_rules.specs.declared.verdict.Verdict.{Verdict}
 use Rattle.land_rules.specs.declared.verdict.Verdict.TheVariants.{Allowed, Denied}
 

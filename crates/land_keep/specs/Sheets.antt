@@ -9,9 +9,9 @@ use Rattle.land_core.specs.declared.parcel.Parcel.{Parcel}
 use Rattle.land_core.specs.declared.parcel.ParcelRecord.{ParcelRecord}
 use Rattle.land_core.specs.declared.register.Register.{Register}
 use Rattle.land_core.specs.declared.rrr.RrrRecord.{RrrRecord}
-use Rattle.land_rules.specs.Rules.{sees}
 use Rattle.land_keep.specs.declared.view.NamedRrr.{NamedRrr}
 use Rattle.land_keep.specs.declared.view.View.{View}
+use Rattle.land_rules.specs.Rules.{sees}
 
 -- a parcel with its number
 abbrev pub shown_parcel : ℕ → ParcelRecord → Parcel

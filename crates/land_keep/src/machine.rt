@@ -1,7 +1,7 @@
 //! The register machine over any keeper: a request is prepared, finished, answered; requests are run in turn.
 ghost use Rattle.std.specs.Prelude.{◌≡◌, ◌≢◌, ℤ, true, false, IfOk, OnOk, OnErr, All, IsTrue, ◌↔◌};
-ghost use Rattle.land_core.specs.Acts.{is_well_formed, is_well_formed_request};
 ghost use Rattle.land_acts.specs.Outcome.{outcome_of};
+ghost use Rattle.land_core.specs.Acts.{is_well_formed, is_well_formed_request};
 ghost use Rattle.land_core.specs.Register.{holds};
 ghost use Rattle.land_keep.specs.Keeping.{Closes, CanFinish, IsAnswered, IsLive, IsPrepared, Leads, RunsTo, ShowsAsked, ShowsAt, TellsOf, preparation, after_writing};
 ghost use Rattle.land_keep.specs.Machine.{stamp_of, allowed, acted};

@@ -4,9 +4,7 @@ ghost use Rattle.land_keep.specs.Machine.{at_of};
 ghost use Rattle.land_keep.specs.Moments.{last_moment, now_after, stamp_after};
 
 use land_core::ask::Ask;
-
-/// The last moment that there is: the end of the year 2099 in UTC.
-pub const LAST_MOMENT: i64 = 4_102_444_799_999;
+use land_core::limits::LAST_MOMENT;
 
 /// Now, for a read, by the clock and the last stamp.
 pub(crate) fn now_at(clock: i64, last: i64) -> i64

@@ -106,8 +106,8 @@ impl PlainKeeper {
 }
 
 impl Keeper for PlainKeeper {
-    ghost use Rattle.land_core.specs.Register.{object_at};
     ghost use Rattle.land_acts.specs.Slices.{slice_of};
+    ghost use Rattle.land_core.specs.Register.{object_at};
     ghost use Rattle.land_keep.specs.Sheets.{view_at};
     ghost use Rattle.land_keep.specs.Timeline.{last_stamp};
 

@@ -2,7 +2,7 @@
 use Rattle.std.proofs.Common.{◌≡◌, ℕ, Bool, true, false, refl, sym, ◌∙◌}
 use Rattle.std.specs.Prelude.{◌||◌}
 use Rattle.std.proofs.lemmas.Bool.{false≢true}
-use Rattle.land_rules.proofs.Denials.{none_from_allowed}
+use Rattle.land_rules.proofs.Denied.{none_from_allowed}
 use Rattle.land_rules.proofs.SightLaws.{may_ask}
 use Rattle.land_rules.specs.ActLaws.{AdministratorsDecideForOthers, LodgersDoNotDecide, to_approve, to_refuse}
 use Rattle.land_rules.specs.Rules.{Rules, denies, first_denial, is_allowed, rules_on}

@@ -7,6 +7,8 @@ use Rattle.std.specs.FinMap.{nat_cmp-IsAntisymmetric}
 use Rattle.std.specs.List.{list_any}
 use Rattle.std.specs.Option.{option_map, option_map_or}
 use Rattle.std.proofs.lemmas.Bool.{false≢true}
+use Rattle.land_core.proofs.Booleans.{both_of}
+use Rattle.land_core.proofs.Reflection.{some_at, some_passes}
 use Rattle.land_core.specs.Entries.{has}
 use Rattle.land_core.specs.Register.{is_member, mutation_at, object_at}
 use Rattle.land_core.specs.declared.ask.Ask.TheVariants as ask
@@ -18,14 +20,12 @@ use Rattle.land_core.specs.declared.mutation.MutationRecord.{MutationRecord}
 use Rattle.land_core.specs.declared.object.Object.TheVariants as object
 use Rattle.land_core.specs.declared.register.Register.{Register}
 use Rattle.land_core.specs.declared.role.Role.{Role}
-use Rattle.land_core.specs.declared.rrr.RrrRecord.{RrrRecord}
 use Rattle.land_core.specs.declared.role.Role.TheVariants.{Citizen, Conveyancer, Notary, Bank, CertifiedSurveyor, StateAdministrator}
-use Rattle.land_core.proofs.Booleans.{both_of}
-use Rattle.land_core.proofs.Reflection.{some_at, some_passes}
+use Rattle.land_core.specs.declared.rrr.RrrRecord.{RrrRecord}
 use Rattle.land_rules.proofs.Booleans.{same_tests}
+use Rattle.land_rules.proofs.Denied.{eq-itself}
 use Rattle.land_rules.proofs.Seeing.{number_is, seen_exactly}
 use Rattle.land_rules.proofs.SightDenials.{party_stands, told_by_references}
-use Rattle.land_rules.proofs.Denials.{eq-itself}
 use Rattle.land_rules.proofs.SightLaws.{sees_lodged}
 use Rattle.land_rules.specs.Alike.{LookAlike, VerdictsTellNothingUnseen}
 use Rattle.land_rules.specs.Laws.{IsSoundOrNothing, is_itself, is_named_by_itself, rule_of_role}

@@ -1,8 +1,13 @@
 pub mod ActLaws
 pub mod Alike
+pub mod Awaited
 pub mod Booleans
-pub mod Denials
+pub mod Denied
+pub mod Enough
+pub mod LookedUp
 pub mod Seeing
 pub mod SightDenials
 pub mod SightLaws
+pub mod Telling
+pub mod Tied
 pub mod Ties

@@ -11,15 +11,15 @@ use Rattle.std.specs.Cmp.{nat_cmp_total}
 use Rattle.std.specs.FinMap as map
 use Rattle.std.specs.FinMap.{FinMap, nat_cmp-IsAntisymmetric}
 use Rattle.std.specs.FinMap.Entries.{is_sorted, below_all}
+use Rattle.land_core.proofs.Booleans.{T_true, both_of, or_false, not_false}
+use Rattle.land_core.proofs.Reflection.{some_at, none_passes, list_any-map}
 use Rattle.land_core.specs.Entries.{has, numbers_where}
 use Rattle.land_core.specs.Register.{stands}
 use Rattle.land_core.specs.declared.caller.Caller.{Caller}
 use Rattle.land_core.specs.declared.kind.Kind.{Kind}
 use Rattle.land_core.specs.declared.kind.Kind.TheVariants as kind
 use Rattle.land_core.specs.declared.register.Register.{Register}
-use Rattle.land_core.proofs.Booleans.{T_true, both_of, or_false, not_false}
-use Rattle.land_core.proofs.Reflection.{some_at, none_passes, list_any-map}
-use Rattle.land_rules.proofs.Denials.{none_from_allowed, eq-itself}
+use Rattle.land_rules.proofs.Denied.{none_from_allowed, eq-itself}
 use Rattle.land_rules.specs.Laws.{SeenIsExactly}
 use Rattle.land_rules.specs.Rules.{denies, first_denial, view_rules, ascends, sees, is_allowed}
 use Rattle.land_rules.specs.declared.verdict.Verdict.{Verdict}

@@ -7,6 +7,10 @@ use Rattle.std.specs.FinMap as map
 use Rattle.std.specs.FinMap.{nat_cmp-IsAntisymmetric}
 use Rattle.std.proofs.lemmas.Bool.{false≢true}
 use Rattle.std.proofs.lemmas.Bool.Decides.{nat_tests}
+use Rattle.land_core.proofs.Booleans.{both_of, or_false, not_false}
+use Rattle.land_core.proofs.FiniteMaps.{none_is_not_some}
+use Rattle.land_core.proofs.Reflection.{none_at, some_passes}
+use Rattle.land_core.proofs.SoundRegisters.{Refers, are_used_back, loose_from, none_in_empty, refers}
 use Rattle.land_core.specs.Entries.{has}
 use Rattle.land_core.specs.Grants.{grant_cmp}
 use Rattle.land_core.specs.Members.{Members}
@@ -20,10 +24,6 @@ use Rattle.land_core.specs.declared.register.Register.{Register}
 use Rattle.land_core.specs.declared.role.Role.{Role}
 use Rattle.land_core.specs.declared.role.Role.TheVariants.{Citizen, Conveyancer, Notary, Bank, CertifiedSurveyor, StateAdministrator}
 use Rattle.land_core.specs.declared.soundness.Unsound.TheVariants.{Reference}
-use Rattle.land_core.proofs.Booleans.{both_of, or_false, not_false}
-use Rattle.land_core.proofs.Reflection.{none_at, some_passes}
-use Rattle.land_core.proofs.FiniteMaps.{none_is_not_some}
-use Rattle.land_core.proofs.SoundRegisters.{Refers, are_used_back, loose_from, none_in_empty, refers}
 use Rattle.land_rules.specs.Laws.{DenialsTellSight, IsSoundOrNothing, told_by_sight}
 use Rattle.land_rules.specs.Relations.{is_lodger_of, is_lodger_on, is_told_to_holder, names_holding}
 use Rattle.land_rules.specs.Rules.{first_denial, is_allowed, is_party_in_sight, is_rrr_in_sight, is_told_to_bank, is_told_to_conveyancer, view_rules}

@@ -7,22 +7,22 @@ use Rattle.std.specs.FinMap as map
 use Rattle.std.specs.FinMap.{nat_cmp-IsAntisymmetric}
 use Rattle.std.proofs.lemmas.Bool.{false≢true}
 use Rattle.std.proofs.lemmas.Bool.Decides.{nat_tests}
+use Rattle.land_core.proofs.Booleans.{both_of}
+use Rattle.land_core.proofs.Reflection.{some_at, some_passes, none_passes}
 use Rattle.land_core.specs.Entries.{has, some}
 use Rattle.land_core.specs.Register.{stands, is_member}
 use Rattle.land_core.specs.Units.{is_right_of}
+use Rattle.land_core.specs.declared.caller.Caller.{Caller}
 use Rattle.land_core.specs.declared.kind.Kind.TheVariants as kind
 use Rattle.land_core.specs.declared.mutation.MutationRecord.{MutationRecord}
 use Rattle.land_core.specs.declared.register.Register.{Register}
 use Rattle.land_core.specs.declared.role.Role.{Role}
 use Rattle.land_core.specs.declared.role.Role.TheVariants.{Citizen, Conveyancer, Notary, Bank, CertifiedSurveyor, StateAdministrator}
-use Rattle.land_core.specs.declared.caller.Caller.{Caller}
 use Rattle.land_core.specs.declared.rrr.Class.{Class}
 use Rattle.land_core.specs.declared.rrr.Class.TheVariants.{Right, Restriction, Responsibility, Mortgage}
 use Rattle.land_core.specs.declared.rrr.RightType.TheVariants.{Ownership}
 use Rattle.land_core.specs.declared.rrr.RrrRecord.{RrrRecord}
-use Rattle.land_core.proofs.Booleans.{both_of}
-use Rattle.land_core.proofs.Reflection.{some_at, some_passes, none_passes}
-use Rattle.land_rules.proofs.Denials.{eq-itself}
+use Rattle.land_rules.proofs.Denied.{eq-itself}
 use Rattle.land_rules.specs.Laws.{citizen}
 use Rattle.land_rules.specs.Relations.{holds_as, is_credit, is_creditor_on, is_held_ownership, is_held_right, is_holder, is_lodger_of, is_lodger_on, is_mortgage, is_mutation_where, is_owner, is_pending_on, is_right, is_told_to_creditor, is_told_to_holder}
 use Rattle.land_rules.specs.Rules.{first_denial, is_allowed, is_of_the_present, is_told_to_bank, is_unit_in_sight, rrr_rules, sees, unit_rules}

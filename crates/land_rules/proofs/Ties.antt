@@ -8,17 +8,17 @@ use Rattle.std.specs.FinMap.{nat_cmp-IsAntisymmetric}
 use Rattle.std.specs.List.{list_any}
 use Rattle.std.specs.Option.{option_map_or}
 use Rattle.std.specs.Prelude.{nat_eq}
+use Rattle.land_core.proofs.Booleans.{both_of}
+use Rattle.land_core.proofs.Pairs.{list_any_same}
+use Rattle.land_core.proofs.Reflection.{some_at, some_passes}
 use Rattle.land_core.specs.Entries.{has, some}
 use Rattle.land_core.specs.Members.{Members}
 use Rattle.land_core.specs.Register.{is_member, stands}
 use Rattle.land_core.specs.declared.kind.Kind.TheVariants as kind
 use Rattle.land_core.specs.declared.register.Register.{Register}
 use Rattle.land_core.specs.declared.rrr.RrrRecord.{RrrRecord}
-use Rattle.land_core.proofs.Booleans.{both_of}
-use Rattle.land_core.proofs.Pairs.{list_any_same}
-use Rattle.land_core.proofs.Reflection.{some_at, some_passes}
 use Rattle.land_rules.proofs.Booleans.{any_where, same_tests}
-use Rattle.land_rules.proofs.Denials.{eq-itself}
+use Rattle.land_rules.proofs.Denied.{eq-itself}
 use Rattle.land_rules.proofs.Seeing.{number_is}
 use Rattle.land_rules.specs.Holdings.{AreNames, has_number, has_tie, is_tied, is_tied_as, ties_by}
 use Rattle.land_rules.specs.Relations.{holds_as}

@@ -2,6 +2,7 @@
 pub mod ActLaws
 pub mod Acts
 pub mod Alike
+pub mod Denials
 pub mod Holdings
 pub mod Laws
 pub mod Relations

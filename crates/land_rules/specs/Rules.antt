@@ -4,14 +4,14 @@ use Rattle.std.specs.List.{list_any, list_all}
 use Rattle.land_core.specs.Entries.{some, numbers_where}
 use Rattle.land_core.specs.Register.{stands, holds}
 use Rattle.land_core.specs.Role.{is_role}
-use Rattle.land_core.specs.declared.caller.Caller.{Caller}
-use Rattle.land_core.specs.declared.kind.Kind.{Kind}
-use Rattle.land_core.specs.declared.kind.Kind.TheVariants as kind
-use Rattle.land_core.specs.declared.role.Role.TheVariants.{Citizen, Conveyancer, Notary, Bank, CertifiedSurveyor, StateAdministrator}
 use Rattle.land_core.specs.declared.act.Act.{Act}
 use Rattle.land_core.specs.declared.ask.Ask.{Ask}
 use Rattle.land_core.specs.declared.ask.Ask.TheVariants as ask
+use Rattle.land_core.specs.declared.caller.Caller.{Caller}
+use Rattle.land_core.specs.declared.kind.Kind.{Kind}
+use Rattle.land_core.specs.declared.kind.Kind.TheVariants as kind
 use Rattle.land_core.specs.declared.register.Register.{Register}
+use Rattle.land_core.specs.declared.role.Role.TheVariants.{Citizen, Conveyancer, Notary, Bank, CertifiedSurveyor, StateAdministrator}
 use Rattle.land_core.specs.declared.rrr.RrrRecord.{RrrRecord}
 use Rattle.land_rules.specs.Acts.{decides, is_discharge_of_another, is_mortgage_of_another, is_of_a_mortgage, is_of_mortgages, is_of_outlines, is_of_transfers, is_office_act, is_transfer, lodges}
 use Rattle.land_rules.specs.Relations.{has_lodged, is_creditor_on, is_holder, is_lodger_on, is_member_of, is_mutation_where, is_rrr_where, is_told_to_creditor, is_told_to_holder, names_holding}

@@ -1,6 +1,7 @@
 //! The policy: who may see and do what, rule by rule.
 #![tactic(auto)]
 
+pub mod denials;
 pub mod laws;
 mod relations;
 pub mod rules;

@@ -3,11 +3,6 @@ ghost use Rattle.std.specs.Prelude.{◌≡◌, IfOk};
 ghost use Rattle.land_core.specs.Entries.{numbers_where};
 ghost use Rattle.land_rules.specs.Rules.{verdict_of, first_denial, sight_rules, sees, seen_of};
 
-mod holdings;
-mod lists;
-mod sight;
-mod standing;
-
 use crate::verdict::Verdict;
 use land_core::ask::Ask;
 use land_core::caller::Caller;
@@ -16,6 +11,11 @@ use land_core::records::Records;
 use land_core::register::Register;
 use land_core::sequence::{NumberList, Sequence};
 use std::alloc::{AllocError, Global};
+
+mod holdings;
+mod lists;
+mod sight;
+mod standing;
 
 /// What the policy says of an ask: the least rule that denies it, or that it is allowed. Standing rules read the
 /// register now, sight rules the register at the asked moment; `past` says that this moment is before now.

@@ -10,16 +10,16 @@ use Rattle.land_core.specs.declared.caller.Caller.{Caller}
 use Rattle.land_core.specs.declared.kind.Kind.{Kind}
 use Rattle.land_core.specs.declared.kind.Kind.TheVariants as kind
 use Rattle.land_core.specs.declared.register.Register.{Register}
-use Rattle.land_denials.specs.Sight.{SightTellsVerdicts, is_unit_of_conveyancer, told_by}
-use Rattle.land_denials.specs.Standing.{FewAreEnough, LookedUpIsEnough, decided, discharged}
-use Rattle.land_lookups.specs.Parts.{IsPart}
-use Rattle.land_rows.specs.Looks.{IsLook}
+use Rattle.land_rules.specs.Denials.Sight.{SightTellsVerdicts, is_unit_of_conveyancer, told_by}
+use Rattle.land_rules.specs.Denials.Standing.{FewAreEnough, LookedUpIsEnough, decided, discharged}
 use Rattle.land_rules.specs.Laws.{IsSoundOrNothing, is_itself, rule_of_role}
 use Rattle.land_rules.specs.Relations.{is_lodger_on}
 use Rattle.land_rules.specs.Rules.{Rules, first_denial, is_allowed, sees, sight_rules, standing_rules, verdict_of, view_rules}
 use Rattle.land_rules.specs.declared.verdict.Verdict.{Verdict}
 use Rattle.land_rules.specs.declared.verdict.Verdict.TheVariants.{Allowed, Denied}
 use Rattle.land_select.specs.Verdicts.{few_in, record_at, roles_in}
+use Rattle.land_select_joins.specs.Lookups.Parts.{IsPart}
+use Rattle.land_tables_schema.specs.Rows.Looks.{IsLook}
 use Rattle.sqlite.specs.State.{HasCleanDisk, State}
 use Rattle.sqlite_trees.specs.Tree.{Trees}
 

@@ -4,10 +4,10 @@ use Rattle.std.proofs.lemmas.Int.{ints}
 use Rattle.std.specs.Prelude.{ℤ, pos, ◌≤ℤ◌, int_le, int_lt, fold, unwrap_or, if◌then◌else◌}
 use Rattle.std.specs.List.{AllByRecursion}
 use Rattle.std.specs.Option.{option_map}
+use Rattle.land_acts.specs.Slices.{slice_of}
 use Rattle.land_core.specs.Laws.{SoundnessByLookUps}
 use Rattle.land_core.specs.Register.{nothing}
 use Rattle.land_core.specs.Soundness.{IsSound}
-use Rattle.land_acts.specs.Slices.{slice_of}
 use Rattle.land_core.specs.declared.act.Act.{Act}
 use Rattle.land_core.specs.declared.ask.Ask.{Ask}
 use Rattle.land_core.specs.declared.caller.Caller.{Caller}
@@ -22,14 +22,14 @@ use Rattle.land_keep.specs.declared.store_fault.StoreFault.{StoreFault}
 use Rattle.land_keep.specs.declared.timeline.Version.{Version}
 use Rattle.land_rules.specs.Rules.{seen_of, verdict_of}
 use Rattle.land_rules.specs.declared.verdict.Verdict.{Verdict}
-use Rattle.land_joins.specs.Sight.{IsSight}
-use Rattle.land_lookups.specs.Parts.{IsPart}
+use Rattle.land_select.specs.Slices.Gathered.{IsSo}
 use Rattle.land_select.specs.Verdicts.{IsVerdict}
 use Rattle.land_select.specs.Views.{IsShown}
-use Rattle.land_slices.specs.Gathered.{IsSo}
-use Rattle.land_standing.proofs.One.{have_members}
-use Rattle.land_standing.proofs.WrittenTimelines.{stays_last}
+use Rattle.land_select_joins.specs.Joins.Sight.{IsSight}
+use Rattle.land_select_joins.specs.Lookups.Parts.{IsPart}
+use Rattle.land_tables.proofs.One.{have_members}
 use Rattle.land_tables.proofs.ReadBack.{IsReadAt}
+use Rattle.land_tables.proofs.WrittenTimelines.{stays_last}
 use Rattle.land_tables.specs.Office.{IsAnswer}
 use Rattle.land_tables.specs.Standing.{timeline_in}
 use Rattle.sqlite.specs.State.{State}

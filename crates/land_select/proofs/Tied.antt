@@ -16,20 +16,20 @@ use Rattle.land_core.specs.declared.caller.Caller.{Caller}
 use Rattle.land_core.specs.declared.kind.Kind.TheVariants.{Rrr}
 use Rattle.land_core.specs.declared.register.Register.{Register}
 use Rattle.land_core.specs.declared.rrr.RrrRecord.{RrrRecord}
-use Rattle.land_denials.specs.Ties.{TiesTellSight, entries_of, sees_by_ties, shows_entry, tie_at}
-use Rattle.land_history.specs.History.{StandsAt}
-use Rattle.land_history.specs.declared.history.History.{History}
-use Rattle.land_joins.specs.Running.{AreAll}
 use Rattle.land_rules.proofs.Booleans.{same_tests}
+use Rattle.land_rules.specs.Denials.Ties.{TiesTellSight, entries_of, sees_by_ties, shows_entry, tie_at}
 use Rattle.land_rules.specs.Laws.{IsSoundOrNothing}
 use Rattle.land_rules.specs.Relations.{holds_as, is_member_of}
 use Rattle.land_rules.specs.Rules.{sees}
 use Rattle.land_select.proofs.Viewed.{agreed, twice}
 use Rattle.land_select.specs.Views.{in_sight, shown_of}
-use Rattle.land_sights.proofs.Naming.{member_decides}
-use Rattle.land_sights.proofs.Standing.{entry_there}
-use Rattle.land_sights.specs.Selections.{selects}
-use Rattle.land_sights.specs.declared.selection.Selection.TheVariants.{ItsGroups}
+use Rattle.land_select_joins.proofs.Naming.{member_decides}
+use Rattle.land_select_joins.proofs.Standing.{entry_there}
+use Rattle.land_select_joins.specs.Joins.Running.{AreAll}
+use Rattle.land_select_joins.specs.Sights.Selections.{selects}
+use Rattle.land_select_joins.specs.declared.sights.selection.Selection.TheVariants.{ItsGroups}
+use Rattle.land_tables_history.specs.History.{StandsAt}
+use Rattle.land_tables_history.specs.declared.history.History.{History}
 
 -- the groups that are selected are those of which the party is a member
 pub groups_are : (r : Register) (t : ℤ) (h : History) → StandsAt t h r → (party : ℕ) (groups : List ℕ) → AreAll groups (selects ItsGroups t h party)

@@ -1,17 +1,17 @@
 -- What the texts of a role's sight give together is what the rules let the caller see.
 use Rattle.std.proofs.Common.{inl, inr, List, [], ◌∷◌, map, sym, subst}
-use Rattle.land_history.specs.declared.history.History.{History}
-use Rattle.land_history.specs.declared.moment.Moment.{Moment}
-use Rattle.land_joins.specs.Meaning.{TextsSelect}
-use Rattle.land_joins.specs.Texts.{text_of}
-use Rattle.land_keep.specs.Timeline.{register_at}
 use Rattle.land_keep.proofs.Timelines.{sound_or_nothing}
+use Rattle.land_keep.specs.Timeline.{register_at}
 use Rattle.land_select.specs.Laws.{AreAnswer, Asked, GiveTogether, SightTextsAreTheRules}
-use Rattle.land_sights.proofs.Containing.{first, first_or_later, in_nothing, later}
-use Rattle.land_sights.specs.Laws.{SelectionsAreTheRules}
-use Rattle.land_sights.specs.Sights.{AnySelects, selections_of}
-use Rattle.land_sights.specs.declared.selection.Selection.{Selection}
-use Rattle.land_writes.specs.History.{HoldsHistory}
+use Rattle.land_select_joins.proofs.Containing.{first, first_or_later, in_nothing, later}
+use Rattle.land_select_joins.specs.Joins.Meaning.{TextsSelect}
+use Rattle.land_select_joins.specs.Joins.Texts.{text_of}
+use Rattle.land_select_joins.specs.Sights.{AnySelects, selections_of}
+use Rattle.land_select_joins.specs.Sights.Laws.{SelectionsAreTheRules}
+use Rattle.land_select_joins.specs.declared.sights.selection.Selection.{Selection}
+use Rattle.land_tables_history.specs.declared.history.History.{History}
+use Rattle.land_tables_history.specs.declared.moment.Moment.{Moment}
+use Rattle.land_tables_rows.specs.Writing.History.{HoldsHistory}
 use Rattle.sqlite_rules.specs.Lists.{Has}
 use Rattle.sqlite_value.specs.Order.{Row}
 

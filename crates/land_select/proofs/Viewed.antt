@@ -5,35 +5,35 @@ use Rattle.std.specs.FinMap as map
 use Rattle.std.specs.FinMap.{FinMap, nat_cmp-IsAntisymmetric}
 use Rattle.std.specs.List.{Contains, list_any}
 use Rattle.std.specs.Ordering.{nat_cmp}
+use Rattle.std.specs.Option.{option_map}
 use Rattle.land_core.proofs.Reflection.{entries-only}
 use Rattle.land_core.specs.Entries.{only, with_entries}
 use Rattle.land_core.specs.Laws.{SoundnessByLookUps}
+use Rattle.land_core.specs.Register.{unit_at}
 use Rattle.land_core.specs.declared.caller.Caller.{Caller}
 use Rattle.land_core.specs.declared.kind.Kind.TheVariants.{Rrr}
 use Rattle.land_core.specs.declared.parcel.ParcelRecord.{ParcelRecord}
 use Rattle.land_core.specs.declared.register.Register.{Register}
 use Rattle.land_core.specs.declared.rrr.RrrRecord.{RrrRecord}
-use Rattle.land_denials.specs.Sight.{AllThatStandsIsSeen, sees_all}
-use Rattle.land_history.specs.Groups.{HaveMembers}
-use Rattle.land_history.specs.History.{StandsAt}
-use Rattle.land_joins.specs.Running.{OfHeld}
-use Rattle.land_joins.specs.Sight.{IsSight}
-use Rattle.land_core.specs.Register.{unit_at}
 use Rattle.land_core.specs.declared.unit.Unit.{Unit as UnitShown}
 use Rattle.land_core.specs.declared.unit.UnitRecord.{UnitRecord}
 use Rattle.land_keep.specs.Sheets.{entries_seen, named_rrr, parcels_at, shown_parcel, view_at}
-use Rattle.std.specs.Option.{option_map}
 use Rattle.land_keep.specs.declared.view.NamedRrr.{NamedRrr}
-use Rattle.land_lookups.specs.Parts.{IsPart}
-use Rattle.land_rows.proofs.Looking.{look_told}
-use Rattle.land_rows.specs.Looks.{IsLook}
+use Rattle.land_rules.specs.Denials.Sight.{AllThatStandsIsSeen, sees_all}
 use Rattle.land_rules.specs.Laws.{SeenIsExactly}
+use Rattle.land_rules.specs.Laws.{IsSoundOrNothing}
 use Rattle.land_rules.specs.Rules.{seen_of, sees}
 use Rattle.land_select.specs.Views.{IsShown, in_sight, named_at, named_of, view_from}
-use Rattle.land_rules.specs.Laws.{IsSoundOrNothing}
-use Rattle.land_sights.proofs.Containing.{first, later}
-use Rattle.land_sights.proofs.Standing.{entry_there}
-use Rattle.land_standing.proofs.Members.{no_members, sound_members}
+use Rattle.land_select_joins.proofs.Containing.{first, later}
+use Rattle.land_select_joins.proofs.Standing.{entry_there}
+use Rattle.land_select_joins.specs.Joins.Running.{OfHeld}
+use Rattle.land_select_joins.specs.Joins.Sight.{IsSight}
+use Rattle.land_select_joins.specs.Lookups.Parts.{IsPart}
+use Rattle.land_tables.proofs.Members.{no_members, sound_members}
+use Rattle.land_tables_history.specs.Groups.{HaveMembers}
+use Rattle.land_tables_history.specs.History.{StandsAt}
+use Rattle.land_tables_schema.proofs.Looking.{look_told}
+use Rattle.land_tables_schema.specs.Rows.Looks.{IsLook}
 use Rattle.sqlite.specs.State.{State}
 use Rattle.sqlite_trees.specs.Tree.{Trees}
 

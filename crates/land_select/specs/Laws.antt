@@ -4,14 +4,14 @@ use Rattle.std.specs.List.{Contains}
 use Rattle.land_core.specs.declared.caller.Caller.{Caller}
 use Rattle.land_core.specs.declared.kind.Kind.{Kind}
 use Rattle.land_core.specs.declared.role.Role.{Role}
-use Rattle.land_joins.specs.Meaning.{command_in, given}
-use Rattle.land_joins.specs.Texts.{text_of}
 use Rattle.land_keep.specs.Moments.{IsMoment}
 use Rattle.land_keep.specs.Timeline.{IsSoundTimeline, Timeline, register_at}
 use Rattle.land_rules.specs.Rules.{seen_of}
-use Rattle.land_schema.specs.Land.{land_with}
-use Rattle.land_sights.specs.Sights.{selections_of}
+use Rattle.land_select_joins.specs.Joins.Meaning.{command_in, given}
+use Rattle.land_select_joins.specs.Joins.Texts.{text_of}
+use Rattle.land_select_joins.specs.Sights.{selections_of}
 use Rattle.land_tables.specs.Standing.{HoldsTimeline}
+use Rattle.land_tables_schema.specs.Land.{land_with}
 use Rattle.sqlite.specs.Effect.{Reads}
 use Rattle.sqlite.specs.Listing.{understood}
 use Rattle.sqlite.specs.declared.types.Value.TheVariants.{Int}

@@ -8,14 +8,14 @@ use Rattle.land_core.specs.Grants.{Grants}
 use Rattle.land_core.specs.declared.ask.Ask.{Ask}
 use Rattle.land_core.specs.declared.caller.Caller.{Caller}
 use Rattle.land_core.specs.declared.register.Register.{Register}
-use Rattle.land_denials.specs.Standing.{decided, discharged, few_of}
-use Rattle.land_history.specs.Groups.{HaveMembers}
-use Rattle.land_history.specs.History.{StandsAt}
-use Rattle.land_joins.specs.Running.{OfHeld}
 use Rattle.land_keep.specs.Moments.{last_moment}
+use Rattle.land_rules.specs.Denials.Standing.{decided, discharged, few_of}
+use Rattle.land_rules.specs.Laws.{IsSoundOrNothing}
 use Rattle.land_rules.specs.Rules.{verdict_of}
 use Rattle.land_rules.specs.declared.verdict.Verdict.{Verdict}
-use Rattle.land_rules.specs.Laws.{IsSoundOrNothing}
+use Rattle.land_select_joins.specs.Joins.Running.{OfHeld}
+use Rattle.land_tables_history.specs.Groups.{HaveMembers}
+use Rattle.land_tables_history.specs.History.{StandsAt}
 use Rattle.sqlite_trees.specs.Tree.{Trees}
 
 -- the record at a number, none where there is no number

@@ -3,24 +3,24 @@ use Rattle.std.specs.FinMap as map
 use Rattle.std.specs.Prelude.{◌≡◌, ◌↔◌, ℕ, ℤ, true, ◌&&◌, nat_eq, List, [], map as map_list, Option, if◌then◌else◌}
 use Rattle.std.specs.FinMap.{FinMap}
 use Rattle.std.specs.Ordering.{nat_cmp}
+use Rattle.std.specs.List.{Contains}
+use Rattle.std.specs.Option.{option_map, option_map_or}
 use Rattle.land_core.specs.Entries.{only}
 use Rattle.land_core.specs.declared.caller.Caller.{Caller}
 use Rattle.land_core.specs.declared.kind.Kind.TheVariants.{Rrr}
-use Rattle.land_rules.specs.Relations.{holds_as, is_lodger_on, is_member_of}
-use Rattle.land_rules.specs.Rules.{sees}
-use Rattle.std.specs.List.{Contains}
-use Rattle.std.specs.Option.{option_map, option_map_or}
 use Rattle.land_core.specs.declared.party.PartyRecord.{PartyRecord}
 use Rattle.land_core.specs.declared.register.Register.{Register}
 use Rattle.land_core.specs.declared.rrr.RrrRecord.{RrrRecord}
-use Rattle.land_history.specs.History.{StandsAt}
-use Rattle.land_joins.specs.Running.{OfHeld}
 use Rattle.land_core.specs.declared.unit.UnitRecord.{UnitRecord}
-use Rattle.land_denials.specs.Ties.{AreNamesOf, Entries, shows_entry, tie_of}
 use Rattle.land_keep.specs.Sheets.{entries_seen, named_rrr, parcels_at}
-use Rattle.land_keep.specs.declared.view.View.{View}
 use Rattle.land_keep.specs.declared.view.NamedRrr.{NamedRrr}
+use Rattle.land_keep.specs.declared.view.View.{View}
+use Rattle.land_rules.specs.Denials.Ties.{AreNamesOf, Entries, shows_entry, tie_of}
 use Rattle.land_rules.specs.Laws.{IsSoundOrNothing}
+use Rattle.land_rules.specs.Relations.{holds_as, is_lodger_on, is_member_of}
+use Rattle.land_rules.specs.Rules.{sees}
+use Rattle.land_select_joins.specs.Joins.Running.{OfHeld}
+use Rattle.land_tables_history.specs.History.{StandsAt}
 use Rattle.sqlite_trees.specs.Tree.{Trees}
 
 -- where the tables hold a history that at the moment stands for a register, sound or with nothing in it, this is what is shown of it

@@ -3,12 +3,12 @@ ghost use Rattle.std.specs.FinMap as map;
 ghost use Rattle.std.specs.List.{list_any};
 ghost use Rattle.std.specs.Prelude.{◌≡◌, false, if◌then◌else◌, IsTrue};
 ghost use Rattle.land_core.specs.declared.kind.Kind.TheVariants as kinds;
-ghost use Rattle.land_denials.specs.Sight.{is_awaited};
-ghost use Rattle.land_lookups.specs.Parts.{IsPart};
-ghost use Rattle.land_rows.specs.Looks.{IsLook};
+ghost use Rattle.land_rules.specs.Denials.Sight.{is_awaited};
 ghost use Rattle.land_rules.specs.Relations.{is_lodger_on, is_mutation_where, is_pending_on};
-ghost use Rattle.land_schema.specs.Land.{IsLand};
 ghost use Rattle.land_select.specs.Views.{awaited_of};
+ghost use Rattle.land_select_joins.specs.Lookups.Parts.{IsPart};
+ghost use Rattle.land_tables_schema.specs.Land.{IsLand};
+ghost use Rattle.land_tables_schema.specs.Rows.Looks.{IsLook};
 ghost use Rattle.sqlite.specs.Held.{state};
 ghost use Rattle.sqlite.specs.State.{HasCleanDisk};
 
@@ -17,8 +17,8 @@ use land_core::kind::Kind;
 use land_core::mutation::MutationRecord;
 use land_core::records::Records;
 use land_core::rrr::RrrRecord;
-use land_listing::fault::ReadFault;
-use land_lookups::{by_number, of_unit};
+use land_select_joins::lookups::{by_number, of_unit};
+use land_tables_rows::listing::fault::ReadFault;
 use sqlite::{Alter, Connection};
 use std::alloc::Global;
 

@@ -1,10 +1,10 @@
 //! The verdict on what is asked, by look-ups and joins.
 ghost use Rattle.std.specs.Prelude.{◌≡◌, false, IsTrue};
-ghost use Rattle.land_rows.specs.Looks.{IsLook};
 ghost use Rattle.land_rules.specs.Rules.{first_denial, sight_rules};
-ghost use Rattle.land_schema.specs.Land.{IsLand};
 ghost use Rattle.land_select.specs.Verdicts.{IsVerdict};
 ghost use Rattle.land_select.specs.Views.{IsShown};
+ghost use Rattle.land_tables_schema.specs.Land.{IsLand};
+ghost use Rattle.land_tables_schema.specs.Rows.Looks.{IsLook};
 ghost use Rattle.sqlite.specs.Held.{state};
 ghost use Rattle.sqlite.specs.State.{HasCleanDisk};
 
@@ -13,10 +13,10 @@ use crate::viewing::viewing;
 use land_core::ask::Ask;
 use land_core::caller::Caller;
 use land_core::kind::Kind;
-use land_keep::moments::LAST_MOMENT;
-use land_listing::fault::ReadFault;
+use land_core::limits::LAST_MOMENT;
 use land_rules::verdict::Verdict;
 use land_tables::question::Question;
+use land_tables_rows::listing::fault::ReadFault;
 use sqlite::{Alter, Connection};
 use std::alloc::Global;
 

@@ -1,8 +1,8 @@
 //! Laws, each stated over the definitions alone.
 ghost use Rattle.land_select.specs.Laws.{SightTextsAreTheRules};
 
-use land_joins::laws::texts_select;
-use land_sights::laws::selections_are_the_rules;
+use land_select_joins::joins::laws::texts_select;
+use land_select_joins::sights::laws::selections_are_the_rules;
 
 /// Over tables that stand for a sound timeline, whatever indexes they have, the texts of a role's sight of a kind together give at each
 /// moment the numbers that the rules let the caller see then: none is missing, and none is more.

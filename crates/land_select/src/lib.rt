@@ -10,6 +10,7 @@ mod object;
 mod shown;
 mod sight;
 pub mod sight_text;
+pub mod slices;
 mod slicing;
 pub mod sql_keeper;
 mod standing;

@@ -1,15 +1,15 @@
 //! Whether a caller lodged a mutation, by a look-up.
 ghost use Rattle.std.specs.Prelude.{◌≡◌, false};
-ghost use Rattle.land_lookups.specs.Parts.{IsPart};
-ghost use Rattle.land_rows.specs.Looks.{IsLook};
 ghost use Rattle.land_rules.specs.Relations.{has_lodged, is_lodger_of};
-ghost use Rattle.land_schema.specs.Land.{IsLand};
+ghost use Rattle.land_select_joins.specs.Lookups.Parts.{IsPart};
+ghost use Rattle.land_tables_schema.specs.Land.{IsLand};
+ghost use Rattle.land_tables_schema.specs.Rows.Looks.{IsLook};
 ghost use Rattle.sqlite.specs.Held.{state};
 ghost use Rattle.sqlite.specs.State.{HasCleanDisk};
 
 use land_core::mutation::MutationRecord;
-use land_listing::fault::ReadFault;
-use land_lookups::by_number;
+use land_select_joins::lookups::by_number;
+use land_tables_rows::listing::fault::ReadFault;
 use sqlite::{Alter, Connection};
 use std::alloc::Global;
 

@@ -2,10 +2,10 @@
 ghost use Rattle.std.specs.List.{list_any};
 ghost use Rattle.std.specs.Prelude.{◌≡◌, ◌||◌, false, IsTrue};
 ghost use Rattle.land_core.specs.declared.kind.Kind.TheVariants as kinds;
-ghost use Rattle.land_denials.specs.Ties.{is_shown_by_tie, names_shown, shows_unit, tie_at};
-ghost use Rattle.land_lookups.specs.Parts.{IsPart};
-ghost use Rattle.land_rows.specs.Looks.{IsLook};
-ghost use Rattle.land_schema.specs.Land.{IsLand};
+ghost use Rattle.land_rules.specs.Denials.Ties.{is_shown_by_tie, names_shown, shows_unit, tie_at};
+ghost use Rattle.land_select_joins.specs.Lookups.Parts.{IsPart};
+ghost use Rattle.land_tables_schema.specs.Land.{IsLand};
+ghost use Rattle.land_tables_schema.specs.Rows.Looks.{IsLook};
 ghost use Rattle.sqlite.specs.Held.{state};
 ghost use Rattle.sqlite.specs.State.{HasCleanDisk};
 
@@ -14,8 +14,8 @@ use land_core::caller::Caller;
 use land_core::content::Content;
 use land_core::merger::Merger;
 use land_core::mutation::MutationRecord;
-use land_listing::fault::ReadFault;
-use land_lookups::by_number;
+use land_select_joins::lookups::by_number;
+use land_tables_rows::listing::fault::ReadFault;
 use sqlite::{Alter, Connection};
 use std::alloc::Global;
 

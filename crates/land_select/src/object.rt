@@ -3,9 +3,9 @@ ghost use Rattle.std.specs.Prelude.{◌≡◌};
 
 use land_core::kind::Kind;
 use land_core::object::Object;
-use land_listing::fault::ReadFault;
-use land_lookups::objects::object;
+use land_select_joins::lookups::objects::object;
 use land_tables::question::Question;
+use land_tables_rows::listing::fault::ReadFault;
 use sqlite::{Alter, Connection};
 use std::alloc::Global;
 
@@ -22,7 +22,7 @@ pub(crate) struct ObjectAt {
 
 impl Question<Option<Object>> for ObjectAt {
     ghost use Rattle.land_core.specs.Register.{object_at};
-    ghost use Rattle.land_lookups.specs.Parts.{IsPart};
+    ghost use Rattle.land_select_joins.specs.Lookups.Parts.{IsPart};
 
     ghost answers = { λ it db found. IsPart (λ r. object_at r it.kind it.number) it.moment db found };
 

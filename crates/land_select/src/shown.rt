@@ -1,9 +1,9 @@
 //! Whether an object is shown to a caller at a moment by what ties it to a unit.
 ghost use Rattle.std.specs.Prelude.{◌≡◌, false, IsTrue};
-ghost use Rattle.land_denials.specs.Ties.{is_shown_by_tie};
-ghost use Rattle.land_lookups.specs.Parts.{IsPart};
-ghost use Rattle.land_rows.specs.Looks.{IsLook};
-ghost use Rattle.land_schema.specs.Land.{IsLand};
+ghost use Rattle.land_rules.specs.Denials.Ties.{is_shown_by_tie};
+ghost use Rattle.land_select_joins.specs.Lookups.Parts.{IsPart};
+ghost use Rattle.land_tables_schema.specs.Land.{IsLand};
+ghost use Rattle.land_tables_schema.specs.Rows.Looks.{IsLook};
 ghost use Rattle.sqlite.specs.Held.{state};
 ghost use Rattle.sqlite.specs.State.{HasCleanDisk};
 
@@ -11,7 +11,7 @@ use crate::naming::is_mutation_shown;
 use crate::ties::{is_number_shown, is_unit_shown};
 use land_core::caller::Caller;
 use land_core::kind::Kind;
-use land_listing::fault::ReadFault;
+use land_tables_rows::listing::fault::ReadFault;
 use sqlite::{Alter, Connection};
 use std::alloc::Global;
 

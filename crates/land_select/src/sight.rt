@@ -4,9 +4,9 @@ ghost use Rattle.std.specs.Prelude.{◌≡◌};
 use land_core::caller::Caller;
 use land_core::kind::Kind;
 use land_core::sequence::NumberList;
-use land_joins::sight::sight;
-use land_listing::fault::ReadFault;
+use land_select_joins::joins::sight::sight;
 use land_tables::question::Question;
+use land_tables_rows::listing::fault::ReadFault;
 use sqlite::{Alter, Connection};
 use std::alloc::Global;
 
@@ -22,7 +22,7 @@ pub(crate) struct Sight {
 }
 
 impl Question<NumberList> for Sight {
-    ghost use Rattle.land_joins.specs.Sight.{IsSight};
+    ghost use Rattle.land_select_joins.specs.Joins.Sight.{IsSight};
 
     ghost answers = { λ it db numbers. IsSight it.caller it.kind it.moment db numbers };
 

@@ -1,12 +1,12 @@
 //! The slice of the last register for an act, by look-ups.
 ghost use Rattle.std.specs.Prelude.{◌≡◌};
 
+use crate::slices::slice::slice_at;
 use land_acts::slice::Slice;
 use land_core::act::Act;
 use land_core::caller::Caller;
-use land_listing::fault::ReadFault;
-use land_slices::slice::slice_at;
 use land_tables::question::Question;
+use land_tables_rows::listing::fault::ReadFault;
 use sqlite::{Alter, Connection};
 use std::alloc::Global;
 
@@ -25,7 +25,7 @@ pub(crate) struct Sliced<'a> {
 
 impl Question<Slice> for Sliced<'_> {
     ghost use Rattle.land_acts.specs.Slices.{slice_of};
-    ghost use Rattle.land_slices.specs.Gathered.{IsSo};
+    ghost use Rattle.land_select.specs.Slices.Gathered.{IsSo};
 
     ghost answers = { λ it db slice. IsSo (λ r. r.next ≡ it.next → slice ≡ slice_of r it.caller it.act.now) it.moment db };
 

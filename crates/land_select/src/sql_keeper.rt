@@ -14,10 +14,11 @@ use land_core::caller::Caller;
 use land_core::change::Change;
 use land_core::kind::Kind;
 use land_core::laws::soundness_by_look_ups;
+use land_core::limits::LAST_MOMENT;
 use land_core::object::Object;
 use land_core::sequence::NumberList;
 use land_keep::keeper::Keeper;
-use land_keep::moments::{LAST_MOMENT, named_moment};
+use land_keep::moments::named_moment;
 use land_keep::store_fault::StoreFault;
 use land_keep::view::View;
 use land_rules::verdict::Verdict;
@@ -59,8 +60,8 @@ impl<S: Alter> SqlKeeper<S> {
 }
 
 impl<S: Alter> Keeper for SqlKeeper<S> {
-    ghost use Rattle.land_core.specs.Register.{object_at};
     ghost use Rattle.land_acts.specs.Slices.{slice_of};
+    ghost use Rattle.land_core.specs.Register.{object_at};
     ghost use Rattle.land_keep.specs.Sheets.{view_at};
     ghost use Rattle.land_keep.specs.Timeline.{last_stamp};
     ghost use Rattle.land_tables.specs.Office.{IsHonest, held};

@@ -1,12 +1,12 @@
 //! Who may ask, by look-ups.
 ghost use Rattle.std.specs.FinMap as map;
 ghost use Rattle.std.specs.Prelude.{◌≡◌, false, IsTrue};
-ghost use Rattle.land_denials.specs.Standing.{decided, discharged};
-ghost use Rattle.land_lookups.specs.Parts.{IsPart};
-ghost use Rattle.land_rows.specs.Looks.{IsLook};
+ghost use Rattle.land_rules.specs.Denials.Standing.{decided, discharged};
 ghost use Rattle.land_rules.specs.Rules.{first_denial, standing_rules};
-ghost use Rattle.land_schema.specs.Land.{IsLand};
 ghost use Rattle.land_select.specs.Verdicts.{few_in, record_at, roles_in};
+ghost use Rattle.land_select_joins.specs.Lookups.Parts.{IsPart};
+ghost use Rattle.land_tables_schema.specs.Land.{IsLand};
+ghost use Rattle.land_tables_schema.specs.Rows.Looks.{IsLook};
 ghost use Rattle.sqlite.specs.Held.{state};
 ghost use Rattle.sqlite.specs.State.{HasCleanDisk};
 
@@ -17,12 +17,12 @@ use land_core::party::PartyRecord;
 use land_core::register::Register;
 use land_core::roles::Roles;
 use land_core::rrr::RrrRecord;
-use land_denials::few::few_of;
-use land_denials::laws::{few_are_enough, looked_up_is_enough};
-use land_denials::standing::{decided, discharged, standing_verdict};
-use land_listing::fault::ReadFault;
-use land_lookups::{by_number, of_party};
+use land_rules::denials::few::few_of;
+use land_rules::denials::laws::{few_are_enough, looked_up_is_enough};
+use land_rules::denials::standing::{decided, discharged, standing_verdict};
 use land_rules::verdict::Verdict;
+use land_select_joins::lookups::{by_number, of_party};
+use land_tables_rows::listing::fault::ReadFault;
 use sqlite::{Alter, Connection};
 use std::alloc::Global;
 

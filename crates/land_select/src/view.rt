@@ -4,10 +4,10 @@ ghost use Rattle.std.specs.List.{list_any};
 ghost use Rattle.std.specs.Prelude.{◌≡◌, false, nat_eq, map as map_list, [], IfOk, IsTrue, Some};
 ghost use Rattle.land_core.specs.Entries.{only};
 ghost use Rattle.land_keep.specs.Sheets.{entries_seen, named_rrr, parcels_at, shown_parcel, view_at};
-ghost use Rattle.land_lookups.specs.Parts.{IsPart};
-ghost use Rattle.land_rows.specs.Looks.{IsLook};
-ghost use Rattle.land_schema.specs.Land.{IsLand};
 ghost use Rattle.land_select.specs.Views.{IsShown, in_sight, named_at, named_of, view_from, with_name};
+ghost use Rattle.land_select_joins.specs.Lookups.Parts.{IsPart};
+ghost use Rattle.land_tables_schema.specs.Land.{IsLand};
+ghost use Rattle.land_tables_schema.specs.Rows.Looks.{IsLook};
 ghost use Rattle.sqlite.specs.Held.{state};
 ghost use Rattle.sqlite.specs.State.{HasCleanDisk};
 
@@ -24,16 +24,18 @@ use land_core::rrr::{Rrr, RrrRecord};
 use land_core::sequence::Sequence;
 use land_core::text::Text;
 use land_core::unit::{Unit, UnitRecord};
-use land_denials::laws::{all_that_stands_is_seen, ties_tell_sight, what_is_awaited_is_seen};
-use land_denials::sight::{sees_all, sees_by_awaiting};
-use land_denials::ties::sees_by_ties;
-use land_joins::sight::sight;
 use land_keep::view::{NamedRrr, View};
-use land_listing::fault::ReadFault;
-use land_lookups::{by_number, of_unit};
+use land_rules::denials::laws::{
+    all_that_stands_is_seen, ties_tell_sight, what_is_awaited_is_seen,
+};
+use land_rules::denials::sight::{sees_all, sees_by_awaiting};
+use land_rules::denials::ties::sees_by_ties;
 use land_rules::laws::seen_is_exact;
+use land_select_joins::joins::sight::sight;
+use land_select_joins::lookups::{by_number, of_unit};
 use land_shape::Ring;
 use land_tables::question::Question;
+use land_tables_rows::listing::fault::ReadFault;
 use sqlite::{Alter, Connection};
 use std::alloc::{AllocError, Global};
 

@@ -1,12 +1,12 @@
 //! Whether an object is in a caller's sight, and the verdict on its view, by look-ups and joins.
 ghost use Rattle.std.specs.Prelude.{◌≡◌, ◌&&◌, false, IsTrue};
-ghost use Rattle.land_denials.specs.Sight.{is_unit_of_conveyancer};
-ghost use Rattle.land_lookups.specs.Parts.{IsPart};
-ghost use Rattle.land_rows.specs.Looks.{IsLook};
+ghost use Rattle.land_rules.specs.Denials.Sight.{is_unit_of_conveyancer};
 ghost use Rattle.land_rules.specs.Relations.{is_lodger_on};
 ghost use Rattle.land_rules.specs.Rules.{first_denial, sees, view_rules};
-ghost use Rattle.land_schema.specs.Land.{IsLand};
 ghost use Rattle.land_select.specs.Views.{IsShown};
+ghost use Rattle.land_select_joins.specs.Lookups.Parts.{IsPart};
+ghost use Rattle.land_tables_schema.specs.Land.{IsLand};
+ghost use Rattle.land_tables_schema.specs.Rows.Looks.{IsLook};
 ghost use Rattle.sqlite.specs.Held.{state};
 ghost use Rattle.sqlite.specs.State.{HasCleanDisk};
 
@@ -17,19 +17,19 @@ use crate::view::is_listed;
 use land_core::caller::Caller;
 use land_core::kind::Kind;
 use land_core::laws::soundness_by_look_ups;
-use land_denials::laws::{
+use land_rules::denials::laws::{
     all_that_stands_is_seen, lodgers_see_their_own, sight_tells_verdicts, ties_tell_sight,
     what_is_awaited_is_seen,
 };
-use land_denials::sight::{
+use land_rules::denials::sight::{
     is_unit_of_conveyancer, sees_all, sees_by_awaiting, sees_own_lodgings, view_verdict,
 };
-use land_denials::ties::sees_by_ties;
-use land_joins::sight::sight;
-use land_listing::fault::ReadFault;
-use land_lookups::objects::object;
+use land_rules::denials::ties::sees_by_ties;
 use land_rules::laws::seen_is_exact;
 use land_rules::verdict::Verdict;
+use land_select_joins::joins::sight::sight;
+use land_select_joins::lookups::objects::object;
+use land_tables_rows::listing::fault::ReadFault;
 use sqlite::{Alter, Connection};
 use std::alloc::Global;
 

@@ -2,13 +2,13 @@
 use Rattle.std.proofs.Common.{◌≡◌, ℕ, ℤ, List, pos, sym, arith, inl, inr}
 use Rattle.std.proofs.lemmas.Bool.{cases_order}
 use Rattle.std.proofs.lemmas.Int.{by_lt_z}
-use Rattle.jiff_core.specs.Calendar.{IsCivilDate, days_from_civil, day_count}
 use Rattle.jiff_core.proofs.CalendarLemmas.{days_from_civil-day_count, day_count-lt_year, day_count-lt_month, day_count-day}
 use Rattle.jiff_core.proofs.SignedLemmas.{signed_arith}
+use Rattle.jiff_core.specs.Calendar.{IsCivilDate, days_from_civil, day_count}
 use Rattle.land_sheet.specs.Dates.{CivilDate}
 use Rattle.land_sheet.specs.Dates.{day_number}
-use Rattle.land_sheet.specs.Sheets.{moment_of, sheet_text}
 use Rattle.land_sheet.specs.Laws.{OneDateLaw, OneSheetLaw}
+use Rattle.land_sheet.specs.Sheets.{moment_of, sheet_text}
 
 same_count : (y y₂ : ℤ) (m d m₂ d₂ n : ℕ) → days_from_civil y m d ≡ pos n → days_from_civil y₂ m₂ d₂ ≡ pos n → day_count y m d ≡ day_count y₂ m₂ d₂
 same_count y y₂ m d m₂ d₂ n e f =

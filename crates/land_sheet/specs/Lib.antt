@@ -1,6 +1,7 @@
 -- Definitions of sheets and extracts.
 pub mod Areas
 pub mod Dates
+pub mod Extracts
 pub mod Laws
 pub mod Rows
 pub mod Sheets

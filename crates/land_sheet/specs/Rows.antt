@@ -2,6 +2,7 @@
 use Rattle.std.specs.Prelude.{List, [], ◌∷◌, ◌++◌, ℕ, codes, decimal}
 use Rattle.std.specs.Fmt.{signed_decimal}
 use Rattle.csv.specs.Writing.{default_writer, row_text}
+use Rattle.land_core.specs.Words.{act_word, class_word, party_word, source_word, state_word}
 use Rattle.land_core.specs.declared.kind.Kind.{Kind}
 use Rattle.land_core.specs.declared.kind.Kind.TheVariants as kind
 use Rattle.land_core.specs.declared.mutation.Mutation.{Mutation}
@@ -19,7 +20,7 @@ use Rattle.land_shape.specs.Outline.{doubled_area}
 use Rattle.land_shape.specs.Place.{Place}
 use Rattle.land_shape.specs.Printed.{printed}
 use Rattle.land_sheet.specs.Areas.{square_metres}
-use Rattle.land_sheet.specs.Words.{act_word, checked_word, class_word, party_word, source_word, state_word}
+use Rattle.land_sheet.specs.Words.{checked_word}
 
 -- the names of a kind's columns
 abbrev pub columns_of : Kind → List (List ℕ)

@@ -1,5 +1,6 @@
 -- Title sheets: the lines in order, each with the line feed that ends it.
 use Rattle.std.specs.Prelude.{◌≡◌, ◌++◌, Bool, true, false, List, [], ◌∷◌, ℕ, codes, decimal, length, unsigned_abs}
+use Rattle.land_core.specs.Words.{class_word}
 use Rattle.land_core.specs.declared.parcel.Parcel.{Parcel}
 use Rattle.land_core.specs.declared.rrr.Class.{Class}
 use Rattle.land_core.specs.declared.rrr.Class.TheVariants.{Right, Restriction, Responsibility, Mortgage}
@@ -11,7 +12,6 @@ use Rattle.land_shape.specs.Outline.{doubled_area}
 use Rattle.land_sheet.specs.Areas.{doubled_areas, square_metres}
 use Rattle.land_sheet.specs.Dates.{CivilDate, IsDateOf, date_text, day_number, time_text}
 use Rattle.land_sheet.specs.Widths.{number_right, text_left, text_right}
-use Rattle.land_sheet.specs.Words.{class_word}
 
 -- ---- the head
 

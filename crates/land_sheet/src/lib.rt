@@ -3,6 +3,7 @@
 
 pub mod areas;
 pub mod dates;
+pub mod extracts;
 pub mod laws;
 pub mod rows;
 pub mod sheet;

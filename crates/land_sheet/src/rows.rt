@@ -9,7 +9,7 @@ ghost use Rattle.land_sheet.specs.Areas.{square_metres};
 ghost use Rattle.land_sheet.specs.Rows.{class_fields, columns_of, entry_start, fields_of, header_text, mutation_fields, object_row, outline_fields, parcel_fields, parcel_start, party_fields, rrr_fields, source_fields, unit_fields};
 
 use crate::areas::square_metres;
-use crate::words::{act_word, checked_word, class_word, party_word, source_word, state_word};
+use crate::words::checked_word;
 use csv::WriterBuilder;
 use land_core::kind::Kind;
 use land_core::mutation::Mutation;
@@ -19,6 +19,7 @@ use land_core::party::Party;
 use land_core::rrr::{Class, Rrr};
 use land_core::source::Source;
 use land_core::unit::Unit;
+use land_core::words::{act_word, class_word, party_word, source_word, state_word};
 use land_fraction::Fraction;
 use land_shape::Ring;
 use std::alloc::{AllocError, Global};

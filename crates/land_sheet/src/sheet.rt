@@ -6,11 +6,11 @@ ghost use Rattle.land_sheet.specs.Sheets.{IsSheet, area_line, checked_line, clas
 
 use crate::areas::{doubled_areas, square_metres};
 use crate::dates::date_of;
-use crate::words::class_word;
 use jiff_core::civil::Date;
 use land_core::parcel::Parcel;
 use land_core::rrr::Class;
 use land_core::unit::Unit;
+use land_core::words::class_word;
 use land_keep::view::{NamedRrr, View};
 use std::alloc::{AllocError, Global};
 

@@ -6,34 +6,34 @@ use Rattle.std.proofs.lemmas.Int.{ints}
 use Rattle.std.proofs.lemmas.List.Elements.{All-cons, All-nil, All-from_recursion, recursion_from_All}
 use Rattle.std.proofs.lemmas.List.Sorted.{All-permutation, IsPermutation-sym, length_permutation}
 use Rattle.std.specs.List.{All, AllByRecursion}
-use Rattle.land_bodies.specs.WireFaults.{◌>>=◌}
-use Rattle.land_bodies.specs.declared.wire_fault.WireFault.{WireFault}
-use Rattle.land_bodies.specs.declared.wire_fault.WireFault.TheVariants as wire
 use Rattle.land_core.proofs.Booleans.{both_of}
-use Rattle.land_history.specs.Intervals.{has_intervals}
-use Rattle.land_history.specs.declared.moment.Moment.{Moment}
 use Rattle.land_keep.specs.Moments.{IsMoment, last_moment}
 use Rattle.land_keep.specs.Timeline.{last_register, last_stamp}
-use Rattle.land_listing.proofs.Tellings.{told_is}
-use Rattle.land_listing.specs.Reading.{Says, editions, moments}
-use Rattle.land_listing.specs.Told.{history_in, told_by}
-use Rattle.land_rowids.specs.Rowids.{AreAllKeyed}
-use Rattle.land_schema.specs.Land.{IsLand}
-use Rattle.land_standing.specs.Judging.{OrderKeepsIntervals, SoundTimelinesAreLawful}
-use Rattle.land_standing.specs.Laws.{LastMomentIsTheLastStamp, LawfulVersionsStand, OrderDoesNotMatter, VersionsStandForOne}
-use Rattle.land_standing.specs.Timelines.{timeline_of}
 use Rattle.land_tables.proofs.Tellings.{read_stands, tells, told_reordered}
 use Rattle.land_tables.specs.Adopting.{AreFirst, AreIntervals, AreOurs, HoldsNone, IsRefused, IsRegisterTo}
 use Rattle.land_tables.specs.Findings.{Finds, IsJudged, IsPassed, Misses, SaysAll, is_first_version, is_one_edition}
 use Rattle.land_tables.specs.Standing.{HoldsTimeline, timeline_in}
+use Rattle.land_tables.specs.Timelines.{timeline_of}
+use Rattle.land_tables.specs.Timelines.Judging.{OrderKeepsIntervals, SoundTimelinesAreLawful}
+use Rattle.land_tables.specs.Timelines.Laws.{LastMomentIsTheLastStamp, LawfulVersionsStand, OrderDoesNotMatter, VersionsStandForOne}
 use Rattle.land_tables.specs.declared.fault.AdoptFault.{AdoptFault}
 use Rattle.land_tables.specs.declared.fault.AdoptFault.TheVariants.{NotOurs, Interval, Unsound, Version, NoMemory, Store}
 use Rattle.land_tables.specs.declared.finding.Findings.{Findings}
-use Rattle.land_versions.specs.Cells.{moment_in, next_in}
-use Rattle.land_versions.specs.Moment.{change_in}
-use Rattle.land_versions.specs.declared.edition.Edition.{Edition}
-use Rattle.land_writes.proofs.Cells.{moment_cell}
-use Rattle.land_writes.specs.History.{HoldsHistory}
+use Rattle.land_tables_history.specs.Intervals.{has_intervals}
+use Rattle.land_tables_history.specs.declared.moment.Moment.{Moment}
+use Rattle.land_tables_rows.proofs.ToldTables.{told_is}
+use Rattle.land_tables_rows.proofs.WrittenCells.{moment_cell}
+use Rattle.land_tables_rows.specs.Listing.Reading.{Says, editions, moments}
+use Rattle.land_tables_rows.specs.Listing.Told.{history_in, told_by}
+use Rattle.land_tables_rows.specs.Moment.Reading.{change_in}
+use Rattle.land_tables_rows.specs.Reading.Cells.{moment_in, next_in}
+use Rattle.land_tables_rows.specs.Rowids.{AreAllKeyed}
+use Rattle.land_tables_rows.specs.Writing.History.{HoldsHistory}
+use Rattle.land_tables_rows.specs.declared.edition.reading.Edition.{Edition}
+use Rattle.land_tables_schema.specs.Land.{IsLand}
+use Rattle.land_wire_json.specs.Bodies.WireFaults.{◌>>=◌}
+use Rattle.land_wire_json.specs.declared.bodies.wire_fault.WireFault.{WireFault}
+use Rattle.land_wire_json.specs.declared.bodies.wire_fault.WireFault.TheVariants as wire
 use Rattle.sqlite.specs.Effect.{Database}
 use Rattle.sqlite_trees.specs.Tree.{Trees}
 use Rattle.sqlite_value.specs.Order.{Row, column}

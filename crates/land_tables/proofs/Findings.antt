@@ -1,13 +1,13 @@
 -- What is found in tables by looks, one after another.
 use Rattle.std.proofs.Common.{Ok, Err, Result, IfErr, refl, subst}
-use Rattle.land_listing.specs.Reading.{CannotSay, SaysHistory}
-use Rattle.land_listing.specs.declared.fault.ReadFault.{ReadFault}
-use Rattle.land_history.specs.declared.history.History.{History}
-use Rattle.land_rowids.specs.Rowids.{AreAllKeyed}
-use Rattle.land_rows.proofs.Looking.{look_fails, look_then, was_clean}
-use Rattle.land_rows.specs.Looks.{IsLook}
 use Rattle.land_tables.specs.Findings.{Finds, SaysAll}
 use Rattle.land_tables.specs.declared.finding.Findings.{Findings}
+use Rattle.land_tables_history.specs.declared.history.History.{History}
+use Rattle.land_tables_rows.specs.Listing.Reading.{CannotSay, SaysHistory}
+use Rattle.land_tables_rows.specs.Rowids.{AreAllKeyed}
+use Rattle.land_tables_rows.specs.declared.listing.fault.ReadFault.{ReadFault}
+use Rattle.land_tables_schema.proofs.Looking.{look_fails, look_then, was_clean}
+use Rattle.land_tables_schema.specs.Rows.Looks.{IsLook}
 use Rattle.sqlite.specs.State.{HasCleanDisk, State}
 use Rattle.sqlite_trees.specs.Tree.{Trees}
 

@@ -1,14 +1,14 @@
 -- What is found passes its tests, or misses the first that it misses.
 use Rattle.std.proofs.Common.{◌≡◌, Bool, true, false, cond, List, [], ◌∷◌, Some, None, Result, Ok, Err}
-use Rattle.land_history.specs.Intervals.{has_intervals}
-use Rattle.land_history.specs.Lawful.{IsLawful}
-use Rattle.land_history.specs.Moments.{follows, last, latest_from}
-use Rattle.land_history.specs.declared.history.History.{History}
-use Rattle.land_history.specs.declared.moment.Moment.{Moment}
 use Rattle.land_tables.specs.Findings.{IsJudged, IsLatest, is_first_version, is_one_edition}
 use Rattle.land_tables.specs.declared.fault.AdoptFault.{AdoptFault}
 use Rattle.land_tables.specs.declared.fault.AdoptFault.TheVariants.{NotOurs, Interval, Unsound, Version, NoMemory, Store}
 use Rattle.land_tables.specs.declared.finding.Findings.{Findings}
+use Rattle.land_tables_history.specs.Intervals.{has_intervals}
+use Rattle.land_tables_history.specs.Lawful.{IsLawful}
+use Rattle.land_tables_history.specs.Moments.{follows, last, latest_from}
+use Rattle.land_tables_history.specs.declared.history.History.{History}
+use Rattle.land_tables_history.specs.declared.moment.Moment.{Moment}
 
 -- of some moments one is the latest
 some_last : (m : Moment) (ms : List Moment) → latest_from (λ m. true) (Some m) ms ≡ None → ⊥

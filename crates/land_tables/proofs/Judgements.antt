@@ -1,13 +1,13 @@
 -- A store that was looked at, and is open, is as it was.
 use Rattle.std.proofs.Common.{◌≡◌, ◌≢◌, ◌⊎◌, inl, inr, Ok, Err, Result, IsTrue, sym, ap, ◌∙◌, subst}
-use Rattle.land_history.specs.declared.moment.Moment.{Moment}
-use Rattle.land_rows.proofs.Looking.{was_clean}
-use Rattle.land_rows.specs.Looks.{IsLook}
 use Rattle.land_tables.specs.Adopting.{IsJudgement, IsRefused, IsRegisterTo}
 use Rattle.land_tables.specs.Calls.{IsSame}
 use Rattle.land_tables.specs.Office.{IsOffice}
 use Rattle.land_tables.specs.declared.fault.AdoptFault.{AdoptFault}
 use Rattle.land_tables.specs.declared.fault.AdoptFault.TheVariants.{Store}
+use Rattle.land_tables_history.specs.declared.moment.Moment.{Moment}
+use Rattle.land_tables_schema.proofs.Looking.{was_clean}
+use Rattle.land_tables_schema.specs.Rows.Looks.{IsLook}
 use Rattle.sqlite.proofs.StateLemmas.{survives_then}
 use Rattle.sqlite.specs.State.{HasCleanDisk, IsUnchanged, State, Survives}
 

@@ -11,7 +11,7 @@ use Rattle.land_keep.specs.declared.store_fault.StoreFault.{StoreFault}
 use Rattle.land_keep.specs.declared.store_fault.StoreFault.TheVariants.{Closed, NoMemory, Store}
 use Rattle.land_rules.specs.Rules.{verdict_of}
 use Rattle.land_rules.specs.declared.verdict.Verdict.{Verdict}
-use Rattle.land_standing.proofs.WrittenTimelines.{stays_last}
+use Rattle.land_tables.proofs.WrittenTimelines.{stays_last}
 
 -- one call after another that left a keeper open
 pub closes_next : {T U : Type 0} (a b c : Bool) (x : T) (r : Result U StoreFault) → Closes {T = T} a b (Ok x) → Closes b c r → Closes a c r

@@ -2,26 +2,26 @@
 use Rattle.std.proofs.Common.{◌≡◌, ℕ, true, IsTrue, List, [], flat_map, map as map_list, pos, refl, sym, ap, ◌∙◌, arith}
 use Rattle.std.specs.FinMap as map
 use Rattle.std.specs.Ordering.{nat_cmp}
-use Rattle.land_core.specs.declared.mutation.MutationRecord.{MutationRecord}
-use Rattle.land_history.proofs.Orders.{no_more}
-use Rattle.land_history.specs.History.{named_units, namings_of}
-use Rattle.land_history.specs.Standing.{standing}
 use Rattle.std.proofs.lemmas.List.Elements.{All-cons, All-nil}
 use Rattle.land_core.proofs.NewRegister.{new_is_sound}
 use Rattle.land_core.specs.Register.{new_register}
-use Rattle.land_history.specs.History.{register_at}
-use Rattle.land_history.specs.Lawful.{IsLawful, IsLawfulAt, are_same_namings}
-use Rattle.land_history.specs.declared.moment.Moment.{Moment}
+use Rattle.land_core.specs.declared.mutation.MutationRecord.{MutationRecord}
 use Rattle.land_keep.specs.Moments.{IsMoment}
 use Rattle.land_keep.specs.Timeline.{IsSoundTimeline, new_timeline}
-use Rattle.land_rows.specs.Rows.{HoldsRows, IsNew, new_rows}
-use Rattle.land_standing.specs.Laws.{LawfulVersionsStand, OrderDoesNotMatter, VersionsStandForOne}
-use Rattle.land_standing.specs.Timelines.{StandsFor}
 use Rattle.land_tables.proofs.Tellings.{tells}
 use Rattle.land_tables.specs.Office.{IsNewOffice}
 use Rattle.land_tables.specs.Standing.{HoldsTimeline, timeline_in}
-use Rattle.land_writes.specs.Laws.{NewRegistersAreHeld}
-use Rattle.land_writes.specs.NewHistory.{new_history, new_moments}
+use Rattle.land_tables.specs.Timelines.{StandsFor}
+use Rattle.land_tables.specs.Timelines.Laws.{LawfulVersionsStand, OrderDoesNotMatter, VersionsStandForOne}
+use Rattle.land_tables_history.proofs.Orders.{no_more}
+use Rattle.land_tables_history.specs.History.{named_units, namings_of}
+use Rattle.land_tables_history.specs.History.{register_at}
+use Rattle.land_tables_history.specs.Lawful.{IsLawful, IsLawfulAt, are_same_namings}
+use Rattle.land_tables_history.specs.Standing.{standing}
+use Rattle.land_tables_history.specs.declared.moment.Moment.{Moment}
+use Rattle.land_tables_rows.specs.Writing.Laws.{NewRegistersAreHeld}
+use Rattle.land_tables_rows.specs.Writing.NewHistory.{new_history, new_moments}
+use Rattle.land_tables_schema.specs.Rows.Held.{HoldsRows, IsNew, new_rows}
 use Rattle.sqlite.specs.State.{State}
 use Rattle.sqlite_schema.specs.declared.schema.Schema.{Schema}
 use Rattle.sqlite_trees.specs.Tree.{Trees}

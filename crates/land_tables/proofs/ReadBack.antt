@@ -13,13 +13,13 @@ use Rattle.land_keep.specs.Moments.{IsMoment, last_moment}
 use Rattle.land_keep.specs.Timeline.{IsSoundTimeline, Timeline, last_register, last_stamp, register_at}
 use Rattle.land_keep.specs.declared.store_fault.StoreFault.{StoreFault}
 use Rattle.land_keep.specs.declared.timeline.Version.{Version}
-use Rattle.land_standing.proofs.WrittenTimelines.{stays_last}
-use Rattle.land_standing.specs.Laws.{OrderDoesNotMatter, ReadingIsTheRegister, VersionsStandForOne}
-use Rattle.land_rows.proofs.Looking.{was_clean}
 use Rattle.land_tables.proofs.Tellings.{read_stands}
+use Rattle.land_tables.proofs.WrittenTimelines.{stays_last}
 use Rattle.land_tables.specs.Calls.{IsSafeRead}
 use Rattle.land_tables.specs.Office.{HoldsRegister}
 use Rattle.land_tables.specs.Standing.{ReadsAt, timeline_in}
+use Rattle.land_tables.specs.Timelines.Laws.{OrderDoesNotMatter, ReadingIsTheRegister, VersionsStandForOne}
+use Rattle.land_tables_schema.proofs.Looking.{was_clean}
 use Rattle.sqlite.specs.State.{HasCleanDisk, State}
 
 is_before : (t stamp : ℤ) → pos 0 ≤ℤ stamp → t <ℤ pos 0 → int_le stamp t ≡ false

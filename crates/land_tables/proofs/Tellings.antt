@@ -1,15 +1,15 @@
 -- What tables say is one history, in whatever order, and they stand for one timeline.
 use Rattle.std.proofs.Common.{◌≡◌, List}
-use Rattle.land_history.specs.declared.history.History.{History}
-use Rattle.land_history.specs.declared.moment.Moment.{Moment}
 use Rattle.land_keep.specs.Timeline.{IsSoundTimeline, Timeline}
-use Rattle.land_listing.proofs.Tellings.{says_same, told_is}
-use Rattle.land_listing.specs.Reading.{Says, SaysHistory, members, moments, mutations, namings, parcels, parties, roles, rrrs, sources, units}
-use Rattle.land_listing.specs.Told.{history_in, told_by}
-use Rattle.land_standing.specs.Laws.{IsReordered, OrderDoesNotMatter, VersionsStandForOne}
-use Rattle.land_standing.specs.Timelines.{StandsFor}
 use Rattle.land_tables.specs.Standing.{HoldsTimeline, timeline_in}
-use Rattle.land_writes.specs.History.{HoldsHistory}
+use Rattle.land_tables.specs.Timelines.{StandsFor}
+use Rattle.land_tables.specs.Timelines.Laws.{IsReordered, OrderDoesNotMatter, VersionsStandForOne}
+use Rattle.land_tables_history.specs.declared.history.History.{History}
+use Rattle.land_tables_history.specs.declared.moment.Moment.{Moment}
+use Rattle.land_tables_rows.proofs.ToldTables.{says_same, told_is}
+use Rattle.land_tables_rows.specs.Listing.Reading.{Says, SaysHistory, members, moments, mutations, namings, parcels, parties, roles, rrrs, sources, units}
+use Rattle.land_tables_rows.specs.Listing.Told.{history_in, told_by}
+use Rattle.land_tables_rows.specs.Writing.History.{HoldsHistory}
 use Rattle.sqlite_trees.specs.Tree.{Trees}
 
 -- histories that the tables say are one, in whatever order

@@ -4,30 +4,30 @@ use Rattle.std.specs.Prelude.{ℤ, ◌≤ℤ◌}
 use Rattle.std.proofs.lemmas.Int.{ints}
 use Rattle.land_core.specs.declared.change.Change.{Change}
 use Rattle.land_core.specs.declared.register.Register.{Register}
-use Rattle.land_history.specs.Changed.{changed}
-use Rattle.land_keep.specs.Keeping.{CanWrite, IsLive}
 use Rattle.land_keep.proofs.Past.{change_stands}
+use Rattle.land_keep.specs.Keeping.{CanWrite, IsLive}
 use Rattle.land_keep.specs.Laws.{WritingKeepsSound}
 use Rattle.land_keep.specs.Machine.{written}
 use Rattle.land_keep.specs.Moments.{last_moment}
 use Rattle.land_keep.specs.Timeline.{IsSoundTimeline, Timeline, last_register, last_stamp}
-use Rattle.land_recording.specs.Whole.{Records}
 use Rattle.land_keep.specs.declared.store_fault.StoreFault.{StoreFault}
 use Rattle.land_keep.specs.declared.store_fault.StoreFault.TheVariants.{Store}
-use Rattle.land_schema.specs.Land.{IsLand}
-use Rattle.land_standing.proofs.WrittenTimelines.{stays_last, written_last}
-use Rattle.land_standing.specs.Laws.{OrderDoesNotMatter, VersionsStandForOne}
-use Rattle.land_standing.specs.Writing.{WritesStand}
 use Rattle.land_tables.proofs.Tellings.{tells}
+use Rattle.land_tables.proofs.WrittenTimelines.{stays_last, written_last}
 use Rattle.land_tables.specs.Calls.{IsSafeWrite, IsSame, MayRecord}
 use Rattle.land_tables.specs.Office.{HoldsRegister, IsHonest, IsOffice, IsWhole, Office, held}
 use Rattle.land_tables.specs.Standing.{HoldsTimeline, timeline_in}
-use Rattle.land_writes.specs.History.{HoldsHistory}
-use Rattle.sqlite.specs.Held.{Held, state}
-use Rattle.sqlite.specs.Store.{Ghosts}
-use Rattle.sqlite.specs.Effect.{Database}
-use Rattle.sqlite.specs.State.{HasCleanDisk, IsUnchanged, State, Survives}
+use Rattle.land_tables.specs.Timelines.Laws.{OrderDoesNotMatter, VersionsStandForOne}
+use Rattle.land_tables.specs.Timelines.Writing.{WritesStand}
+use Rattle.land_tables_history.specs.Changed.{changed}
+use Rattle.land_tables_rows.specs.Recording.Whole.{Records}
+use Rattle.land_tables_rows.specs.Writing.History.{HoldsHistory}
+use Rattle.land_tables_schema.specs.Land.{IsLand}
 use Rattle.sqlite.proofs.StateLemmas.{survives_then, survives_weaker}
+use Rattle.sqlite.specs.Effect.{Database}
+use Rattle.sqlite.specs.Held.{Held, state}
+use Rattle.sqlite.specs.State.{HasCleanDisk, IsUnchanged, State, Survives}
+use Rattle.sqlite.specs.Store.{Ghosts}
 use Rattle.sqlite_trees.specs.Tree.{Trees}
 
 least : (a b : ℤ) → a ≡ b → a ≤ℤ b

@@ -1,11 +1,6 @@
 -- Which stores are taken for a register's, and why others are not.
 use Rattle.std.specs.Prelude.{◌≡◌, ◌≢◌, true, false, IfErr, IfOk, Result, Err, ⊤}
-use Rattle.land_history.specs.Intervals.{has_intervals}
-use Rattle.land_history.specs.declared.moment.Moment.{Moment}
 use Rattle.land_keep.specs.Timeline.{IsSoundTimeline, Timeline, last_register, last_stamp}
-use Rattle.land_listing.specs.Reading.{editions, moments}
-use Rattle.land_listing.specs.Told.{history_in, told_by}
-use Rattle.land_schema.specs.Land.{IsLand}
 use Rattle.land_tables.specs.Calls.{IsSame}
 use Rattle.land_tables.specs.Findings.{SaysAll, is_first_version, is_one_edition}
 use Rattle.land_tables.specs.Office.{IsHonest, IsOffice, Office}
@@ -13,6 +8,11 @@ use Rattle.land_tables.specs.Standing.{HoldsTimeline, timeline_in}
 use Rattle.land_tables.specs.declared.fault.AdoptFault.{AdoptFault}
 use Rattle.land_tables.specs.declared.fault.AdoptFault.TheVariants as fault
 use Rattle.land_tables.specs.declared.finding.Findings.{Findings}
+use Rattle.land_tables_history.specs.Intervals.{has_intervals}
+use Rattle.land_tables_history.specs.declared.moment.Moment.{Moment}
+use Rattle.land_tables_rows.specs.Listing.Reading.{editions, moments}
+use Rattle.land_tables_rows.specs.Listing.Told.{history_in, told_by}
+use Rattle.land_tables_schema.specs.Land.{IsLand}
 use Rattle.sqlite.specs.Effect.{Database}
 use Rattle.sqlite.specs.Held.{Held, state}
 use Rattle.sqlite.specs.State.{HasCleanDisk, State, Survives}

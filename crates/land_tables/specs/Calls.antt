@@ -3,7 +3,7 @@ use Rattle.std.specs.Prelude.{◌≡◌, ◌≢◌, ℕ, ℤ, IfErr, IfOk, IsTru
 use Rattle.land_core.specs.declared.change.Change.{Change}
 use Rattle.land_keep.specs.declared.store_fault.StoreFault.{StoreFault}
 use Rattle.land_keep.specs.declared.store_fault.StoreFault.TheVariants.{Store}
-use Rattle.land_recording.specs.Whole.{Records}
+use Rattle.land_tables_rows.specs.Recording.Whole.{Records}
 use Rattle.sqlite.specs.Effect.{Database}
 use Rattle.sqlite.specs.State.{HasCleanDisk, State, Survives}
 use Rattle.sqlite_trees.specs.Tree.{Trees}

@@ -1,9 +1,9 @@
 -- The numbers of the faults of stores that are taken for a register's, and which fault a failed read is.
 use Rattle.std.specs.Prelude.{ℕ}
-use Rattle.land_listing.specs.declared.fault.ReadFault.{ReadFault}
-use Rattle.land_listing.specs.declared.fault.ReadFault.TheVariants as read
 use Rattle.land_tables.specs.declared.fault.AdoptFault.{AdoptFault}
 use Rattle.land_tables.specs.declared.fault.AdoptFault.TheVariants.{NotOurs, Interval, Unsound, Version, NoMemory, Store}
+use Rattle.land_tables_rows.specs.declared.listing.fault.ReadFault.{ReadFault}
+use Rattle.land_tables_rows.specs.declared.listing.fault.ReadFault.TheVariants as read
 
 abbrev pub number_of : AdoptFault → ℕ
 number_of NotOurs = 520

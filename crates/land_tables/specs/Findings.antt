@@ -1,16 +1,16 @@
 -- What is found in the tables of a store, and the tests that it passes.
 use Rattle.std.specs.Prelude.{◌≡◌, ◌<ℤ◌, ◌==◌, Bool, true, false, List, [], ◌∷◌, Result, Ok, Err, Some, None, ⊤}
-use Rattle.land_history.specs.Intervals.{has_intervals}
-use Rattle.land_history.specs.Lawful.{IsLawful}
-use Rattle.land_history.specs.Moments.{last}
-use Rattle.land_history.specs.declared.moment.Moment.{Moment}
 use Rattle.land_keep.specs.Moments.{last_moment}
-use Rattle.land_listing.specs.Reading.{Says, SaysHistory, editions, moments}
-use Rattle.land_rowids.specs.Rowids.{AreAllKeyed}
 use Rattle.land_tables.specs.declared.fault.AdoptFault.{AdoptFault}
 use Rattle.land_tables.specs.declared.fault.AdoptFault.TheVariants as fault
 use Rattle.land_tables.specs.declared.finding.Findings.{Findings}
-use Rattle.land_versions.specs.declared.edition.Edition.{Edition}
+use Rattle.land_tables_history.specs.Intervals.{has_intervals}
+use Rattle.land_tables_history.specs.Lawful.{IsLawful}
+use Rattle.land_tables_history.specs.Moments.{last}
+use Rattle.land_tables_history.specs.declared.moment.Moment.{Moment}
+use Rattle.land_tables_rows.specs.Listing.Reading.{Says, SaysHistory, editions, moments}
+use Rattle.land_tables_rows.specs.Rowids.{AreAllKeyed}
+use Rattle.land_tables_rows.specs.declared.edition.reading.Edition.{Edition}
 use Rattle.sqlite_trees.specs.Tree.{Trees}
 
 -- all rows of all tables say this

@@ -5,3 +5,4 @@ pub mod Faults
 pub mod Findings
 pub mod Office
 pub mod Standing
+pub mod Timelines

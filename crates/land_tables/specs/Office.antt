@@ -4,8 +4,8 @@ use Rattle.std.specs.Coded.{Coded, code_by, coded×, coded_ℕ, coded_ℤ, coded
 use Rattle.land_keep.specs.Keeping.{IsLive}
 use Rattle.land_keep.specs.Moments.{last_moment}
 use Rattle.land_keep.specs.Timeline.{IsSoundTimeline, Timeline, last_register, last_stamp, new_timeline}
-use Rattle.land_schema.specs.Land.{IsLand}
 use Rattle.land_tables.specs.Standing.{HoldsTimeline, timeline_in}
+use Rattle.land_tables_schema.specs.Land.{IsLand}
 use Rattle.sqlite.specs.Held.{Held, held_code, state}
 use Rattle.sqlite.specs.State.{HasCleanDisk, State}
 use Rattle.sqlite.specs.Store.{Ghosts}

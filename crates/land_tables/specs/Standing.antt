@@ -1,15 +1,15 @@
 -- The timeline that tables stand for.
 use Rattle.std.specs.Prelude.{◌≡◌, ℤ, List}
 use Rattle.land_core.specs.declared.register.Register.{Register}
-use Rattle.land_history.specs.History.{register_at}
-use Rattle.land_history.specs.Moments.{next_at}
-use Rattle.land_history.specs.declared.history.History.{History}
-use Rattle.land_history.specs.declared.moment.Moment.{Moment}
 use Rattle.land_keep.specs.Timeline.{Timeline}
-use Rattle.land_standing.specs.Timelines.{StandsFor, timeline_of}
-use Rattle.land_listing.specs.Reading.{Says, SaysHistory, moments}
-use Rattle.land_listing.specs.Told.{history_in, told_by}
-use Rattle.land_writes.specs.History.{HoldsHistory}
+use Rattle.land_tables.specs.Timelines.{StandsFor, timeline_of}
+use Rattle.land_tables_history.specs.History.{register_at}
+use Rattle.land_tables_history.specs.Moments.{next_at}
+use Rattle.land_tables_history.specs.declared.history.History.{History}
+use Rattle.land_tables_history.specs.declared.moment.Moment.{Moment}
+use Rattle.land_tables_rows.specs.Listing.Reading.{Says, SaysHistory, moments}
+use Rattle.land_tables_rows.specs.Listing.Told.{history_in, told_by}
+use Rattle.land_tables_rows.specs.Writing.History.{HoldsHistory}
 use Rattle.sqlite_trees.specs.Tree.{Trees}
 
 -- the timeline that tables stand for, if they stand for one

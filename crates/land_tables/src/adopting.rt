@@ -1,23 +1,23 @@
 //! A store is taken for a register's.
 ghost use Rattle.std.specs.Prelude.{◌≡◌, ◌≢◌, ◌⊎◌, ◌≤ℤ◌, false, IfErr, IfOk, IsTrue};
 ghost use Rattle.land_keep.specs.Moments.{last_moment};
-ghost use Rattle.land_rows.specs.Looks.{IsLook};
 ghost use Rattle.land_tables.specs.Adopting.{IsJudgement, IsRefused, IsRegisterTo};
 ghost use Rattle.land_tables.specs.declared.fault.AdoptFault.TheVariants as why;
+ghost use Rattle.land_tables_schema.specs.Rows.Looks.{IsLook};
 ghost use Rattle.sqlite.specs.Held.{state};
 ghost use Rattle.sqlite.specs.State.{HasCleanDisk, IsUnchanged, Survives};
 
 use crate::fault::AdoptFault;
 use crate::finding::find_all;
 use crate::judging::judge;
-use land_history::moment::Moment;
-use land_rows::openness::is_open;
-use land_schema::schema::is_land;
-use land_standing::judging_laws::{order_keeps_intervals, sound_timelines_are_lawful};
-use land_standing::laws::{
+use crate::timelines::judging_laws::{order_keeps_intervals, sound_timelines_are_lawful};
+use crate::timelines::laws::{
     lawful_versions_stand, order_does_not_matter, the_last_moment_is_the_last_stamp,
     versions_stand_for_one,
 };
+use land_tables_history::moment::Moment;
+use land_tables_schema::rows::openness::is_open;
+use land_tables_schema::schema::is_land;
 use sqlite::{Alter, Connection};
 use std::alloc::Global;
 

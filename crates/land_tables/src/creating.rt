@@ -2,17 +2,19 @@
 ghost use Rattle.std.specs.Prelude.{◌≡◌, ◌≢◌, false, IsTrue, OnErr, OnOk};
 ghost use Rattle.land_keep.specs.Timeline.{new_timeline};
 ghost use Rattle.land_keep.specs.declared.store_fault.StoreFault.TheVariants as store;
-ghost use Rattle.land_schema.specs.Land.{no_schema};
 ghost use Rattle.land_tables.specs.Office.{IsNewOffice};
 ghost use Rattle.land_tables.specs.Standing.{HoldsTimeline};
+ghost use Rattle.land_tables_schema.specs.Land.{no_schema};
 ghost use Rattle.sqlite.specs.Held.{state};
 ghost use Rattle.sqlite.specs.State.{HasCleanDisk, Survives};
 
 use crate::fault::store_fault;
+use crate::timelines::laws::{
+    lawful_versions_stand, order_does_not_matter, versions_stand_for_one,
+};
 use land_keep::store_fault::StoreFault;
-use land_rows::creation::make_register;
-use land_standing::laws::{lawful_versions_stand, order_does_not_matter, versions_stand_for_one};
-use land_writes::laws::new_registers_are_held;
+use land_tables_rows::writing::laws::new_registers_are_held;
+use land_tables_schema::rows::creation::make_register;
 use sqlite::{Alter, Connection};
 
 /// Makes the tables with a new register, in one transaction. A store that is open after a failure is as it was.

@@ -3,7 +3,7 @@ ghost use Rattle.std.specs.Prelude.{◌≡◌, ◌≢◌};
 ghost use Rattle.land_keep.specs.declared.store_fault.StoreFault.TheVariants as store;
 
 use land_keep::store_fault::StoreFault;
-use land_listing::fault::ReadFault;
+use land_tables_rows::listing::fault::ReadFault;
 use sqlite::{Error, ErrorCode};
 use std::alloc::AllocError;
 

@@ -1,21 +1,21 @@
 //! What is found in the tables of a store.
 ghost use Rattle.std.specs.Prelude.{◌≡◌, ◌≢◌, false, IfErr};
-ghost use Rattle.land_listing.specs.Reading.{CannotSay};
-ghost use Rattle.land_listing.specs.declared.fault.ReadFault.TheVariants.{Unreadable};
-ghost use Rattle.land_rowids.specs.Rowids.{AreAllKeyed};
-ghost use Rattle.land_rows.specs.Looks.{IsLook};
-ghost use Rattle.land_schema.specs.Land.{IsLand};
 ghost use Rattle.land_tables.specs.Findings.{Finds, SaysAll};
+ghost use Rattle.land_tables_rows.specs.Listing.Reading.{CannotSay};
+ghost use Rattle.land_tables_rows.specs.Rowids.{AreAllKeyed};
+ghost use Rattle.land_tables_rows.specs.declared.listing.fault.ReadFault.TheVariants.{Unreadable};
+ghost use Rattle.land_tables_schema.specs.Land.{IsLand};
+ghost use Rattle.land_tables_schema.specs.Rows.Looks.{IsLook};
 ghost use Rattle.sqlite.specs.Held.{state};
 ghost use Rattle.sqlite.specs.State.{HasCleanDisk};
 
 use land_core::sequence::Sequence;
-use land_history::history::History;
-use land_history::moment::Moment;
-use land_listing::fault::ReadFault;
-use land_listing::{history, reading};
-use land_rowids::rowids::are_keyed;
-use land_versions::edition::Edition;
+use land_tables_history::history::History;
+use land_tables_history::moment::Moment;
+use land_tables_rows::edition::reading::Edition;
+use land_tables_rows::listing::fault::ReadFault;
+use land_tables_rows::listing::{history, reading};
+use land_tables_rows::rowids::rowids::are_keyed;
 use sqlite::{Alter, Connection};
 use std::alloc::Global;
 

@@ -5,12 +5,12 @@ ghost use Rattle.land_tables.specs.Findings.{IsJudged, IsLatest, is_first_versio
 
 use crate::fault::AdoptFault;
 use crate::finding::Findings;
-use land_history::intervals::has_intervals;
-use land_history::lawful::is_lawful;
-use land_history::moment::Moment;
-use land_history::moments::last;
-use land_keep::moments::LAST_MOMENT;
-use land_versions::edition::Edition;
+use land_core::limits::LAST_MOMENT;
+use land_tables_history::intervals::has_intervals;
+use land_tables_history::lawful::is_lawful;
+use land_tables_history::moment::Moment;
+use land_tables_history::moments::last;
+use land_tables_rows::edition::reading::Edition;
 use std::alloc::Global;
 
 /// Judges what was found by its tests, in their order, and answers the latest moment. 520: there is not one edition. 523: it is another

@@ -10,4 +10,5 @@ pub mod question;
 mod register;
 pub mod table_keeper;
 pub mod tables;
+pub mod timelines;
 mod writing;

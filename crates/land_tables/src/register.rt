@@ -1,26 +1,28 @@
 //! The register at a moment, read from whole tables.
 ghost use Rattle.std.specs.Prelude.{◌≡◌, ◌≢◌, false, Err};
-ghost use Rattle.land_rows.specs.Looks.{IsLook};
-ghost use Rattle.land_schema.specs.Land.{IsLand};
-ghost use Rattle.land_tables.specs.Calls.{IsSafeRead};
 ghost use Rattle.land_keep.specs.Timeline.{register_at};
 ghost use Rattle.land_keep.specs.declared.store_fault.StoreFault.TheVariants as store;
+ghost use Rattle.land_tables.specs.Calls.{IsSafeRead};
 ghost use Rattle.land_tables.specs.Office.{HoldsRegister};
 ghost use Rattle.land_tables.specs.Standing.{ReadsAt, timeline_in};
+ghost use Rattle.land_tables_schema.specs.Land.{IsLand};
+ghost use Rattle.land_tables_schema.specs.Rows.Looks.{IsLook};
 ghost use Rattle.sqlite.specs.Held.{state};
 ghost use Rattle.sqlite.specs.State.{HasCleanDisk, IsUnchanged, Survives};
 
 use crate::question::Question;
+use crate::timelines::laws::{
+    order_does_not_matter, reading_is_the_register, versions_stand_for_one,
+};
+use land_core::limits::LAST_MOMENT;
 use land_core::register::Register;
-use land_history::moments::next_at;
-use land_history::register;
-use land_keep::moments::LAST_MOMENT;
 use land_keep::store_fault::StoreFault;
-use land_listing::fault::ReadFault;
-use land_listing::history::history;
-use land_listing::reading::moments;
-use land_rows::openness::is_open;
-use land_standing::laws::{order_does_not_matter, reading_is_the_register, versions_stand_for_one};
+use land_tables_history::moments::next_at;
+use land_tables_history::register;
+use land_tables_rows::listing::fault::ReadFault;
+use land_tables_rows::listing::history::history;
+use land_tables_rows::listing::reading::moments;
+use land_tables_schema::rows::openness::is_open;
 use sqlite::{Alter, Connection};
 use std::alloc::Global;
 

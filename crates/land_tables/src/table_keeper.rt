@@ -50,8 +50,8 @@ impl<S: Alter> TableKeeper<S> {
 }
 
 impl<S: Alter> Keeper for TableKeeper<S> {
-    ghost use Rattle.land_core.specs.Register.{object_at};
     ghost use Rattle.land_acts.specs.Slices.{slice_of as slice_in};
+    ghost use Rattle.land_core.specs.Register.{object_at};
     ghost use Rattle.land_keep.specs.Sheets.{view_at};
     ghost use Rattle.land_keep.specs.Timeline.{last_stamp};
     ghost use Rattle.land_tables.specs.Office.{IsHonest, held};

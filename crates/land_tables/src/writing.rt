@@ -2,20 +2,20 @@
 ghost use Rattle.std.specs.Prelude.{◌≡◌, ◌≢◌, ◌&&◌, ◌≤ℤ◌, pos, false, int_le, IsTrue, Err, OnErr, OnOk};
 ghost use Rattle.land_keep.specs.Moments.{last_moment};
 ghost use Rattle.land_keep.specs.declared.store_fault.StoreFault.TheVariants as store;
-ghost use Rattle.land_recording.specs.Whole.{Records, fits_change};
-ghost use Rattle.land_schema.specs.Land.{IsLand};
 ghost use Rattle.land_tables.specs.Calls.{IsSafeWrite, MayRecord};
 ghost use Rattle.land_tables.specs.Office.{HoldsRegister};
-ghost use Rattle.land_writes.specs.Holding.{IsMoment};
+ghost use Rattle.land_tables_rows.specs.Recording.Whole.{Records, fits_change};
+ghost use Rattle.land_tables_rows.specs.Writing.Holding.{IsMoment};
+ghost use Rattle.land_tables_schema.specs.Land.{IsLand};
 ghost use Rattle.sqlite.specs.Held.{state};
 ghost use Rattle.sqlite.specs.State.{HasCleanDisk, Survives};
 
 use crate::register::told;
 use land_core::change::Change;
-use land_keep::moments::LAST_MOMENT;
+use land_core::limits::LAST_MOMENT;
 use land_keep::store_fault::StoreFault;
-use land_listing::fault::ReadFault;
-use land_recording::change::{fits, record_change};
+use land_tables_rows::listing::fault::ReadFault;
+use land_tables_rows::recording::change::{fits, record_change};
 use sqlite::{Alter, Connection, Error};
 use std::alloc::Global;
 

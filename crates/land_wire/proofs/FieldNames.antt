@@ -1,11 +1,11 @@
 -- Names of fields in a header map.
 use Rattle.std.proofs.Common.{◌≡◌, ℕ, List, [], ◌∷◌, ◌++◌, map, Bool, true, false, refl, sym, ◌∙◌, ap, bytes_eq, append-nil, append_assoc, if◌then◌else◌}
 use Rattle.std.proofs.lemmas.Slice.Eq.{bytes_eq-Decides}
+use Rattle.std.specs.List.{fold}
+use Rattle.std.specs.Str.{str_eq_ignore_ascii_case}
 use Rattle.http_header.specs.FieldValue.{FieldValue, plain_value}
 use Rattle.http_header.specs.HeaderMap.{Entry, Entries, append, get_all}
 use Rattle.http_header.specs.Token.{lowercase}
-use Rattle.std.specs.List.{fold}
-use Rattle.std.specs.Str.{str_eq_ignore_ascii_case}
 use Rattle.land_wire.specs.Fields.{with_field, field_map, values_named}
 
 abbrev if_named : Bool → FieldValue → List FieldValue

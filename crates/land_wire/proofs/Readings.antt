@@ -10,18 +10,18 @@ use Rattle.land_core.specs.declared.ask.Request.{Request}
 use Rattle.land_core.specs.declared.caller.Caller.{Caller}
 use Rattle.land_keep.specs.Machine.{at_of}
 use Rattle.land_keep.specs.Moments.{IsMoment, last_moment}
-use Rattle.land_routes.specs.Routes.{Resource, list, view, sheet, act}
-use Rattle.land_routes.specs.Targets.{path_of, query_of}
-use Rattle.land_routes.specs.declared.act_word.ActWord.{ActWord}
-use Rattle.land_bodies.specs.WireFaults.{◌>>=◌}
-use Rattle.land_bodies.specs.declared.wire_fault.WireFault.{WireFault}
-use Rattle.land_bodies.specs.declared.wire_fault.WireFault.TheVariants as fault
 use Rattle.land_wire.specs.Acts.{act_in}
 use Rattle.land_wire.specs.Fields.{caller_in}
 use Rattle.land_wire.specs.Laws.{BodiesOfReadsDoNotCount, GetsDoNothing, OtherMethodsAskForActs, StatedMomentsAreMoments, AskedMomentsAreMoments, IsStated, is_done}
 use Rattle.land_wire.specs.Numbers.{decimal_in, number_in, moment_in}
 use Rattle.land_wire.specs.Queries.{no_query, at_in}
 use Rattle.land_wire.specs.Reading.{allowed, ask_of, parts_reading, reading, resource_at}
+use Rattle.land_wire.specs.Routes.{Resource, list, view, sheet, act}
+use Rattle.land_wire.specs.Routes.Targets.{path_of, query_of}
+use Rattle.land_wire.specs.declared.routes.act_word.ActWord.{ActWord}
+use Rattle.land_wire_json.specs.Bodies.WireFaults.{◌>>=◌}
+use Rattle.land_wire_json.specs.declared.bodies.wire_fault.WireFault.{WireFault}
+use Rattle.land_wire_json.specs.declared.bodies.wire_fault.WireFault.TheVariants as fault
 
 -- what is read has the property, if it is read
 record Ensures {A : Type 0} (P : A → Type 0) (r : Result A WireFault) : Type 0 where

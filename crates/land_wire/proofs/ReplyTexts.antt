@@ -1,15 +1,15 @@
 -- The texts of replies, without the words of JSON.
 use Rattle.std.proofs.Common.{◌≡◌, ℕ, List, ◌++◌, refl, ap, codes, false, Bool, Option, Some, None, decimal, pos}
-use Rattle.serde_json.specs.Data.{Data}
-use Rattle.serde_json.specs.Written.{compact_text, has_float}
-use Rattle.serde_json.proofs.OnLiterals.{serde_json_on_literals}
 use Rattle.land_core.specs.declared.object.Object.{Object}
 use Rattle.land_keep.specs.declared.reply.Reply.{Reply}
 use Rattle.land_keep.specs.declared.reply.Reply.TheVariants as reply
-use Rattle.land_texts.specs.Objects.{object_text}
-use Rattle.land_texts.proofs.Floats.{numbers_have_no_float, integer_is_no_float, object_has_no_float}
-use Rattle.land_texts.proofs.PartyTexts.{all_numbers}
 use Rattle.land_wire.specs.Replies.{reply_data, reply_text, short_text, numbers_text, done_text, shown_text}
+use Rattle.land_wire_json.proofs.Floats.{numbers_have_no_float, integer_is_no_float, object_has_no_float}
+use Rattle.land_wire_json.proofs.PartyTexts.{all_numbers}
+use Rattle.land_wire_json.specs.Texts.Objects.{object_text}
+use Rattle.serde_json.proofs.OnLiterals.{serde_json_on_literals}
+use Rattle.serde_json.specs.Data.{Data}
+use Rattle.serde_json.specs.Written.{compact_text, has_float}
 
 -- ---- no reply has a float
 

@@ -1,20 +1,20 @@
 -- A text tells its reply.
 use Rattle.std.proofs.Common.{◌≡◌, ◌≤◌, ℕ, ℤ, List, [], true, codes, Some, refl, sym, ap, ◌∙◌, arith}
-use Rattle.serde_json.specs.Data.{Data, null, Members, no_members, member, depth}
-use Rattle.serde_json.specs.Read.{max_depth}
-use Rattle.serde_json.specs.Written.{compact_text}
 use Rattle.land_core.specs.declared.change.Done.{Done}
 use Rattle.land_keep.specs.declared.reply.Reply.{Reply}
 use Rattle.land_keep.specs.declared.reply.Reply.TheVariants as reply
 use Rattle.land_shape.specs.Laws.{PrintedLaw}
-use Rattle.land_texts.specs.Exact.{is_exact}
-use Rattle.land_texts.specs.Objects.{object_data}
-use Rattle.land_texts.specs.Values.{number_data, numbers_data, one_member}
-use Rattle.land_texts.proofs.ExactTexts.{number_is_exact, moment_is_exact, numbers_are_exact, numbers_depth, object_is_exact, object_depth}
-use Rattle.land_texts.proofs.SameFields.{fields_in, at, head_byte, number_in, items_in, apart, same_numbers, same_moment}
-use Rattle.land_texts.proofs.SameTexts.{same_data, same_object}
 use Rattle.land_wire.specs.Replies.{done_data, reply_text}
 use Rattle.land_wire.specs.ReplyLimits.{IsDoneWithin, IsReplyWithin}
+use Rattle.land_wire_json.proofs.ExactTexts.{number_is_exact, moment_is_exact, numbers_are_exact, numbers_depth, object_is_exact, object_depth}
+use Rattle.land_wire_json.proofs.SameFields.{fields_in, at, head_byte, number_in, items_in, apart, same_numbers, same_moment}
+use Rattle.land_wire_json.proofs.SameTexts.{same_data, same_object}
+use Rattle.land_wire_json.specs.Texts.Exact.{is_exact}
+use Rattle.land_wire_json.specs.Texts.Objects.{object_data}
+use Rattle.land_wire_json.specs.Texts.Values.{number_data, numbers_data, one_member}
+use Rattle.serde_json.specs.Data.{Data, null, Members, no_members, member, depth}
+use Rattle.serde_json.specs.Read.{max_depth}
+use Rattle.serde_json.specs.Written.{compact_text}
 
 -- what a reply says, where it is no sheet
 abbrev told_data : Reply → Data

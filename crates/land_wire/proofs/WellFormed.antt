@@ -1,6 +1,5 @@
 -- Each request that is read keeps the limits of its fields.
 use Rattle.std.proofs.Common.{◌≡◌, ℕ, List, true, Result, Ok, Err, refl, IfOk}
-use Rattle.serde_json.specs.Data.{Data}
 use Rattle.http_header.specs.FieldValue.{FieldValue}
 use Rattle.http_header.specs.HeaderMap.{Entries}
 use Rattle.land_core.specs.Acts.{is_well_formed, is_well_formed_ask, is_well_formed_request}
@@ -8,25 +7,26 @@ use Rattle.land_core.specs.declared.act.Act.{Act}
 use Rattle.land_core.specs.declared.act.Act.TheVariants as act
 use Rattle.land_core.specs.declared.ask.Ask.{Ask}
 use Rattle.land_core.specs.declared.ask.Request.{Request}
-use Rattle.land_routes.specs.Routes.{Resource, list, view, sheet, act as act_path}
-use Rattle.land_routes.specs.Targets.{path_of, query_of}
-use Rattle.land_routes.specs.declared.act_word.ActWord.{ActWord}
-use Rattle.land_routes.specs.declared.act_word.ActWord.TheVariants as word
-use Rattle.land_bodies.specs.Fields.{value_in}
-use Rattle.land_bodies.specs.Laws.{BodiesAreWellFormed}
-use Rattle.land_bodies.specs.Mutations.{decision_of, lodging_of}
-use Rattle.land_bodies.specs.Parties.{enrol_of, group_of, regroup_of, grant_of}
-use Rattle.land_bodies.specs.Units.{unit_of, burden_of, lift_of}
-use Rattle.land_bodies.specs.WireFaults.{◌>>=◌, Gives}
-use Rattle.land_bodies.specs.declared.content_kind.ContentKind.{ContentKind}
-use Rattle.land_bodies.specs.declared.content_kind.ContentKind.TheVariants as content
-use Rattle.land_bodies.specs.declared.wire_fault.WireFault.{WireFault}
 use Rattle.land_wire.specs.Acts.{act_in, act_of, lodged}
 use Rattle.land_wire.specs.Fields.{caller_in}
 use Rattle.land_wire.specs.Laws.{ReadingsAreWellFormed}
 use Rattle.land_wire.specs.Numbers.{number_in}
 use Rattle.land_wire.specs.Queries.{no_query, at_in}
 use Rattle.land_wire.specs.Reading.{allowed, ask_of, parts_reading, reading, resource_at}
+use Rattle.land_wire.specs.Routes.{Resource, list, view, sheet, act as act_path}
+use Rattle.land_wire.specs.Routes.Targets.{path_of, query_of}
+use Rattle.land_wire.specs.declared.routes.act_word.ActWord.{ActWord}
+use Rattle.land_wire.specs.declared.routes.act_word.ActWord.TheVariants as word
+use Rattle.land_wire_json.specs.Bodies.Fields.{value_in}
+use Rattle.land_wire_json.specs.Bodies.Laws.{BodiesAreWellFormed}
+use Rattle.land_wire_json.specs.Bodies.Mutations.{decision_of, lodging_of}
+use Rattle.land_wire_json.specs.Bodies.Parties.{enrol_of, group_of, regroup_of, grant_of}
+use Rattle.land_wire_json.specs.Bodies.Units.{unit_of, burden_of, lift_of}
+use Rattle.land_wire_json.specs.Bodies.WireFaults.{◌>>=◌, Gives}
+use Rattle.land_wire_json.specs.declared.bodies.content_kind.ContentKind.{ContentKind}
+use Rattle.land_wire_json.specs.declared.bodies.content_kind.ContentKind.TheVariants as content
+use Rattle.land_wire_json.specs.declared.bodies.wire_fault.WireFault.{WireFault}
+use Rattle.serde_json.specs.Data.{Data}
 
 -- what is read has the property, if it is read
 record Ensures {A : Type 0} (P : A → Type 0) (r : Result A WireFault) : Type 0 where

@@ -1,18 +1,18 @@
 -- Acts, by their words in paths and the JSON of their bodies.
 use Rattle.std.specs.Prelude.{ℕ, List, Result, Ok}
-use Rattle.serde_json.specs.Data.{Data}
 use Rattle.land_core.specs.declared.act.Act.{Act}
 use Rattle.land_core.specs.declared.act.Act.TheVariants as act
-use Rattle.land_routes.specs.declared.act_word.ActWord.{ActWord}
-use Rattle.land_routes.specs.declared.act_word.ActWord.TheVariants as word
-use Rattle.land_bodies.specs.Fields.{value_in}
-use Rattle.land_bodies.specs.Mutations.{decision_of, lodging_of}
-use Rattle.land_bodies.specs.Parties.{enrol_of, group_of, regroup_of, grant_of}
-use Rattle.land_bodies.specs.Units.{unit_of, burden_of, lift_of}
-use Rattle.land_bodies.specs.WireFaults.{◌>>=◌}
-use Rattle.land_bodies.specs.declared.content_kind.ContentKind.{ContentKind}
-use Rattle.land_bodies.specs.declared.content_kind.ContentKind.TheVariants as content
-use Rattle.land_bodies.specs.declared.wire_fault.WireFault.{WireFault}
+use Rattle.land_wire.specs.declared.routes.act_word.ActWord.{ActWord}
+use Rattle.land_wire.specs.declared.routes.act_word.ActWord.TheVariants as word
+use Rattle.land_wire_json.specs.Bodies.Fields.{value_in}
+use Rattle.land_wire_json.specs.Bodies.Mutations.{decision_of, lodging_of}
+use Rattle.land_wire_json.specs.Bodies.Parties.{enrol_of, group_of, regroup_of, grant_of}
+use Rattle.land_wire_json.specs.Bodies.Units.{unit_of, burden_of, lift_of}
+use Rattle.land_wire_json.specs.Bodies.WireFaults.{◌>>=◌}
+use Rattle.land_wire_json.specs.declared.bodies.content_kind.ContentKind.{ContentKind}
+use Rattle.land_wire_json.specs.declared.bodies.content_kind.ContentKind.TheVariants as content
+use Rattle.land_wire_json.specs.declared.bodies.wire_fault.WireFault.{WireFault}
+use Rattle.serde_json.specs.Data.{Data}
 
 -- a mutation that is lodged
 abbrev pub lodged : ContentKind → Data → Result Act WireFault

@@ -8,11 +8,11 @@ use Rattle.http_header.specs.HeaderMap.{Entries, append, get_all}
 use Rattle.http_header.specs.Token.{lowercase}
 use Rattle.land_core.specs.declared.caller.Caller.{Caller}
 use Rattle.land_core.specs.declared.role.Role.{Role}
-use Rattle.land_bodies.specs.WireFaults.{◌>>=◌}
-use Rattle.land_bodies.specs.Words.{role_of}
-use Rattle.land_bodies.specs.declared.wire_fault.WireFault.{WireFault}
-use Rattle.land_bodies.specs.declared.wire_fault.WireFault.TheVariants as fault
 use Rattle.land_wire.specs.Numbers.{number_in}
+use Rattle.land_wire_json.specs.Bodies.WireFaults.{◌>>=◌}
+use Rattle.land_wire_json.specs.Bodies.Words.{role_of}
+use Rattle.land_wire_json.specs.declared.bodies.wire_fault.WireFault.{WireFault}
+use Rattle.land_wire_json.specs.declared.bodies.wire_fault.WireFault.TheVariants as fault
 
 -- a header map takes the name and the value
 abbrev pub IsTaken : (List ℕ × List ℕ) → Type 0

@@ -11,12 +11,12 @@ use Rattle.land_keep.specs.Machine.{at_of}
 use Rattle.land_keep.specs.Moments.{IsMoment}
 use Rattle.land_keep.specs.declared.reply.Reply.{Reply}
 use Rattle.land_keep.specs.declared.reply.Reply.TheVariants as reply
-use Rattle.land_texts.specs.Objects.{object_text}
 use Rattle.land_wire.specs.Fields.{field_map, values_named}
 use Rattle.land_wire.specs.Queries.{at_in}
 use Rattle.land_wire.specs.Reading.{reading}
 use Rattle.land_wire.specs.Replies.{reply_text, short_text, numbers_text, done_text, shown_text}
 use Rattle.land_wire.specs.ReplyLimits.{IsReplyWithin}
+use Rattle.land_wire_json.specs.Texts.Objects.{object_text}
 
 -- each request that is read keeps the limits of its fields
 abbrev pub ReadingsAreWellFormed : Type 0

@@ -2,10 +2,10 @@
 use Rattle.std.specs.Prelude.{ℕ, ℤ, pos, int_lt, List, Result, Ok, Err, if◌then◌else◌}
 use Rattle.land_core.specs.Numbers.{is_number}
 use Rattle.land_keep.specs.Moments.{last_moment}
-use Rattle.land_bodies.specs.Decimals.{digits_in}
-use Rattle.land_bodies.specs.WireFaults.{◌>>=◌, or_fault}
-use Rattle.land_bodies.specs.declared.wire_fault.WireFault.{WireFault}
-use Rattle.land_bodies.specs.declared.wire_fault.WireFault.TheVariants as fault
+use Rattle.land_wire_json.specs.Bodies.Decimals.{digits_in}
+use Rattle.land_wire_json.specs.Bodies.WireFaults.{◌>>=◌, or_fault}
+use Rattle.land_wire_json.specs.declared.bodies.wire_fault.WireFault.{WireFault}
+use Rattle.land_wire_json.specs.declared.bodies.wire_fault.WireFault.TheVariants as fault
 
 -- the value of 1 to 13 decimal digits, leading zeros allowed; any other text is fault 132
 abbrev pub decimal_in : List ℕ → Result ℕ WireFault

@@ -1,9 +1,9 @@
 -- The queries of targets.
 use Rattle.std.specs.Prelude.{ℕ, ℤ, List, [], ◌∷◌, take, drop, codes, bytes_eq, Option, Some, None, Result, Ok, Err, if◌then◌else◌, ⊤}
-use Rattle.land_bodies.specs.WireFaults.{◌>>=◌}
-use Rattle.land_bodies.specs.declared.wire_fault.WireFault.{WireFault}
-use Rattle.land_bodies.specs.declared.wire_fault.WireFault.TheVariants as fault
 use Rattle.land_wire.specs.Numbers.{moment_in}
+use Rattle.land_wire_json.specs.Bodies.WireFaults.{◌>>=◌}
+use Rattle.land_wire_json.specs.declared.bodies.wire_fault.WireFault.{WireFault}
+use Rattle.land_wire_json.specs.declared.bodies.wire_fault.WireFault.TheVariants as fault
 
 -- an act has no query, else fault 131
 abbrev pub no_query : List ℕ → Result ⊤ WireFault

@@ -5,15 +5,15 @@ use Rattle.http_header.specs.HeaderMap.{Entries}
 use Rattle.land_core.specs.declared.ask.Ask.{Ask}
 use Rattle.land_core.specs.declared.ask.Ask.TheVariants as ask
 use Rattle.land_core.specs.declared.ask.Request.{Request}
-use Rattle.land_routes.specs.Routes.{Resource, list, view, sheet, act, route_of, allows}
-use Rattle.land_routes.specs.Targets.{path_of, query_of}
-use Rattle.land_bodies.specs.WireFaults.{◌>>=◌, or_fault}
-use Rattle.land_bodies.specs.declared.wire_fault.WireFault.{WireFault}
-use Rattle.land_bodies.specs.declared.wire_fault.WireFault.TheVariants as fault
 use Rattle.land_wire.specs.Acts.{act_in}
 use Rattle.land_wire.specs.Fields.{caller_in}
 use Rattle.land_wire.specs.Numbers.{number_in}
 use Rattle.land_wire.specs.Queries.{no_query, at_in}
+use Rattle.land_wire.specs.Routes.{Resource, list, view, sheet, act, route_of, allows}
+use Rattle.land_wire.specs.Routes.Targets.{path_of, query_of}
+use Rattle.land_wire_json.specs.Bodies.WireFaults.{◌>>=◌, or_fault}
+use Rattle.land_wire_json.specs.declared.bodies.wire_fault.WireFault.{WireFault}
+use Rattle.land_wire_json.specs.declared.bodies.wire_fault.WireFault.TheVariants as fault
 
 -- what a path names; a path that names nothing is fault 136
 abbrev pub resource_at : (path : List ℕ) → Result Resource WireFault

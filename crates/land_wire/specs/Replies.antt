@@ -1,14 +1,14 @@
 -- The texts of replies: compact JSON, the keys of each object in the order of their bytes.
 use Rattle.std.specs.Prelude.{ℕ, Bool, true, false, List, ◌++◌, map, codes, decimal, ◌≤◌, Option, Some, None}
 use Rattle.std.specs.Option.{option_map}
-use Rattle.serde_json.specs.Data.{Data, number, object, no_members, member}
-use Rattle.serde_json.specs.Find.{of_integer}
-use Rattle.serde_json.specs.Written.{compact_text}
 use Rattle.land_core.specs.declared.change.Done.{Done}
 use Rattle.land_keep.specs.declared.reply.Reply.{Reply}
 use Rattle.land_keep.specs.declared.reply.Reply.TheVariants as reply
-use Rattle.land_texts.specs.Objects.{object_data}
-use Rattle.land_texts.specs.Values.{number_data, numbers_data, one_member, with_commas}
+use Rattle.land_wire_json.specs.Texts.Objects.{object_data}
+use Rattle.land_wire_json.specs.Texts.Values.{number_data, numbers_data, one_member, with_commas}
+use Rattle.serde_json.specs.Data.{Data, number, object, no_members, member}
+use Rattle.serde_json.specs.Find.{of_integer}
+use Rattle.serde_json.specs.Written.{compact_text}
 
 abbrev pub done_data : Done → Data
 done_data done =

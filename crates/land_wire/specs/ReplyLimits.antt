@@ -3,7 +3,7 @@ use Rattle.std.specs.List.{AllByRecursion}
 use Rattle.land_core.specs.declared.change.Done.{Done}
 use Rattle.land_keep.specs.declared.reply.Reply.{Reply}
 use Rattle.land_keep.specs.declared.reply.Reply.TheVariants as reply
-use Rattle.land_texts.specs.Limits.{IsShort, IsShortMoment, IsObjectWithin}
+use Rattle.land_wire_json.specs.Texts.Limits.{IsShort, IsShortMoment, IsObjectWithin}
 
 pub record IsDoneWithin (done : Done) : Type 0 where
   pub number : IsShort done.number

@@ -1,17 +1,17 @@
 //! Acts, by their words in paths and the JSON of their bodies.
 ghost use Rattle.std.specs.Prelude.{◌≡◌};
-ghost use Rattle.serde_json.specs.View.{view};
-ghost use Rattle.land_bodies.specs.WireFaults.{Gives};
 ghost use Rattle.land_wire.specs.Acts.{act_in, act_of, lodged};
+ghost use Rattle.land_wire_json.specs.Bodies.WireFaults.{Gives};
+ghost use Rattle.serde_json.specs.View.{view};
 
-use land_bodies::content_kind::ContentKind;
-use land_bodies::fields::read_value;
-use land_bodies::lodging::{decision_of, lodging_of};
-use land_bodies::party::{enrol_of, grant_of, group_of, regroup_of};
-use land_bodies::unit::{burden_of, lift_of, unit_of};
-use land_bodies::wire_fault::WireFault;
+use crate::routes::act_word::ActWord;
 use land_core::act::Act;
-use land_routes::act_word::ActWord;
+use land_wire_json::bodies::content_kind::ContentKind;
+use land_wire_json::bodies::fields::read_value;
+use land_wire_json::bodies::lodging::{decision_of, lodging_of};
+use land_wire_json::bodies::party::{enrol_of, grant_of, group_of, regroup_of};
+use land_wire_json::bodies::unit::{burden_of, lift_of, unit_of};
+use land_wire_json::bodies::wire_fault::WireFault;
 use serde_json::Value;
 use std::alloc::Global;
 

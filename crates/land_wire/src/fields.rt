@@ -5,17 +5,17 @@ ghost use Rattle.http_header.specs.FieldName.{IsFieldName};
 ghost use Rattle.http_header.specs.FieldValue.{IsFieldValue};
 ghost use Rattle.http_header.specs.HeaderMap.{RefusesAppend, get_all};
 ghost use Rattle.http_header.specs.Token.{lowercase};
-ghost use Rattle.land_bodies.specs.WireFaults.{seen_by};
 ghost use Rattle.land_wire.specs.Fields.{caller_in, only_value, party_in, role_in, with_field};
+ghost use Rattle.land_wire_json.specs.Bodies.WireFaults.{seen_by};
 
 use crate::numbers::read_number;
 use http_header::{
     HeaderMap, HeaderMapError, HeaderName, HeaderNameError, HeaderValue, HeaderValueError,
 };
-use land_bodies::wire_fault::WireFault;
-use land_bodies::words::role_of;
 use land_core::caller::Caller;
 use land_core::role::Role;
+use land_wire_json::bodies::wire_fault::WireFault;
+use land_wire_json::bodies::words::role_of;
 use std::alloc::Global;
 
 /// Why a field is not taken.

@@ -5,7 +5,7 @@ ghost use Rattle.land_wire.specs.Laws.{ReadingsAreWellFormed, BodiesOfReadsDoNot
 pub fn readings_are_well_formed()
     ensures { ReadingsAreWellFormed }
 {
-    land_bodies::laws::readings_are_well_formed();
+    land_wire_json::bodies::laws::readings_are_well_formed();
 }
 
 /// The body of a GET is not looked at.

@@ -2,9 +2,9 @@
 ghost use Rattle.std.specs.Prelude.{◌≡◌};
 ghost use Rattle.land_wire.specs.Numbers.{decimal_in, moment_in, number_in};
 
-use land_bodies::decimals::read_digits;
-use land_bodies::wire_fault::WireFault;
 use land_core::limits::is_number;
+use land_wire_json::bodies::decimals::read_digits;
+use land_wire_json::bodies::wire_fault::WireFault;
 
 /// A number or a moment has at most so many digits.
 const MOST_DIGITS: usize = 13;

@@ -3,8 +3,8 @@ ghost use Rattle.std.specs.Prelude.{◌≡◌};
 ghost use Rattle.land_wire.specs.Queries.{at_in, no_query, stated};
 
 use crate::numbers::read_moment;
-use crate::words::is_word;
-use land_bodies::wire_fault::WireFault;
+use land_wire_json::bodies::wire_fault::WireFault;
+use land_wire_json::bodies::words::is_word;
 
 /// The moment of a read, in milliseconds since 1970 UTC: none without a query, else the one that follows `at=`. 131:
 /// the query does not begin with `at=`. 132: what follows is no moment.

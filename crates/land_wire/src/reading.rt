@@ -2,25 +2,25 @@
 ghost use Rattle.std.specs.Prelude.{◌≡◌, [], IfOk, true};
 ghost use Rattle.land_core.specs.Acts.{is_well_formed_request};
 ghost use Rattle.land_keep.specs.Machine.{at_of};
-ghost use Rattle.land_routes.specs.Routes.{act, list, resource, sheet, view};
-ghost use Rattle.land_routes.specs.Table.{FindsRoutes};
-ghost use Rattle.land_bodies.specs.WireFaults.{Gives, seen_by};
 ghost use Rattle.land_wire.specs.Laws.{IsStated};
 ghost use Rattle.land_wire.specs.Reading.{allowed, ask_of, parts_reading, reading, resource_at};
+ghost use Rattle.land_wire.specs.Routes.{act, list, resource, sheet, view};
+ghost use Rattle.land_wire.specs.Routes.Table.{FindsRoutes};
+ghost use Rattle.land_wire_json.specs.Bodies.WireFaults.{Gives, seen_by};
 
 use crate::act::read_act;
 use crate::fields::read_caller;
 use crate::laws;
 use crate::numbers::read_number;
 use crate::query::{check_no_query, read_at};
+use crate::routes::act_word::ActWord;
+use crate::routes::route::{Route, allows, find_route};
+use crate::routes::table::{Goal, routes};
+use crate::routes::target::split_target;
 use http_header::HeaderMap;
-use land_bodies::wire_fault::WireFault;
 use land_core::ask::{Ask, Request};
 use land_core::kind::Kind;
-use land_routes::act_word::ActWord;
-use land_routes::route::{Route, allows, find_route};
-use land_routes::table::{Goal, routes};
-use land_routes::target::split_target;
+use land_wire_json::bodies::wire_fault::WireFault;
 use matchit::Router;
 use std::alloc::Global;
 

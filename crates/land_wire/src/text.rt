@@ -1,13 +1,13 @@
 //! The texts of replies, by `serde_json`.
 ghost use Rattle.std.specs.Prelude.{◌≡◌, IfOk, Some, false, string_bytes};
-ghost use Rattle.serde_json.specs.View.{view};
-ghost use Rattle.land_wire.specs.Replies.{IsStoreFault, done_data, is_sheet, reply_data, reply_text};
 ghost use Rattle.land_keep.specs.declared.reply.Reply.TheVariants as reply;
+ghost use Rattle.land_wire.specs.Replies.{IsStoreFault, done_data, is_sheet, reply_data, reply_text};
+ghost use Rattle.serde_json.specs.View.{view};
 
 use land_core::change::Done;
 use land_keep::reply::Reply;
-use land_texts::object::object_value;
-use land_texts::values::numbers_value;
+use land_wire_json::texts::object::object_value;
+use land_wire_json::texts::values::numbers_value;
 use serde_json::{Value, json};
 use std::alloc::{AllocError, Global};
 

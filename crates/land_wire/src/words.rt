@@ -1,13 +1,6 @@
 //! Words among bytes.
-ghost use Rattle.std.specs.Prelude.{◌≡◌, bytes_eq};
+ghost use Rattle.std.specs.Prelude.{◌≡◌};
 ghost use Rattle.std.specs.Str.{str_eq_ignore_ascii_case};
-
-/// Whether the bytes are those of a word.
-pub fn is_word(bytes: &[u8], word: &str) -> bool
-    ensures { result ≡ bytes_eq bytes.now word.now }
-{
-    bytes == word.as_bytes()
-}
 
 /// Whether the bytes differ from those of a word in letter case at most. The names of fields are looked up so.
 pub fn is_word_in_any_case(bytes: &[u8], word: &str) -> bool

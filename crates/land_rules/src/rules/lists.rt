@@ -2,12 +2,12 @@
 //! object is asked for by look-ups.
 ghost use Rattle.std.specs.Prelude.{◌≡◌, IfOk, true};
 ghost use Rattle.std.specs.List.{list_any};
-ghost use Rattle.land_core.specs.declared.kind.Kind.TheVariants as kind;
 ghost use Rattle.land_core.specs.Contents.{names_where};
+ghost use Rattle.land_core.specs.declared.kind.Kind.TheVariants as kind;
 ghost use Rattle.land_rules.specs.Holdings.{AreHoldings, AreMet, AreTied, meets_parties};
 ghost use Rattle.land_rules.specs.Relations.{is_holder};
-ghost use Rattle.land_rules.specs.declared.rules.holdings.Tie.TheVariants.{Holder};
 ghost use Rattle.land_rules.specs.Rules.{sees, seen_of};
+ghost use Rattle.land_rules.specs.declared.rules.holdings.Tie.TheVariants.{Holder};
 
 use crate::relations::{is_member_of, is_mortgage, is_told_to_creditor};
 use crate::rules::holdings::Holdings;

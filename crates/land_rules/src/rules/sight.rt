@@ -2,17 +2,17 @@
 ghost use Rattle.std.specs.Prelude.{◌≡◌};
 ghost use Rattle.land_rules.specs.Rules.{first_denial, view_rules};
 
+use crate::verdict::Verdict;
+use land_core::caller::Caller;
+use land_core::kind::Kind;
+use land_core::register::Register;
+
 mod mutation;
 mod parcel;
 mod party;
 mod rrr;
 mod source;
 mod unit;
-
-use crate::verdict::Verdict;
-use land_core::caller::Caller;
-use land_core::kind::Kind;
-use land_core::register::Register;
 
 /// The least sight rule that denies a view.
 pub(crate) fn verdict(at: &Register, caller: Caller, kind: Kind, number: u64) -> Verdict

@@ -2,14 +2,14 @@
 ghost use Rattle.std.specs.Prelude.{◌≡◌};
 ghost use Rattle.land_rules.specs.Rules.{first_denial, standing_rules, caller_rules, is_of_the_present};
 
-mod act;
-
 use crate::verdict::Verdict;
 use land_core::ask::Ask;
 use land_core::caller::Caller;
 use land_core::kind::Kind;
 use land_core::register::Register;
 use land_core::role::Role;
+
+mod act;
 
 /// The least standing rule that denies an ask.
 pub(crate) fn verdict(now: &Register, caller: Caller, ask: &Ask, past: bool) -> Verdict

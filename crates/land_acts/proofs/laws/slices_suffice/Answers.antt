@@ -1,10 +1,10 @@
 use Rattle.std.proofs.Common.{refl}
-use Rattle.land_core.specs.declared.act.Act.TheVariants.{Enrol, Group, Regroup, Grant, Revoke, Register as RegisterUnit, Burden, Lift, Lodge, Approve, Refuse}
-use Rattle.land_acts.specs.Laws.{SlicesSuffice}
-use Rattle.land_mutations.proofs.Numbers.{same_number}
+use Rattle.land_acts.proofs.Numbers.{same_number}
 use Rattle.land_acts.proofs.SlicedDecisions.{approve_same, refuse_same}
 use Rattle.land_acts.proofs.SlicedMutations.{other_same, repeat_same}
 use Rattle.land_acts.proofs.SlicedWords.{single_same, group_same, holds_same, stranger_same, beside_same, names_group, names_members, stands_same, absent_same, unit_same, count_same, burden_same}
+use Rattle.land_acts.specs.Laws.{SlicesSuffice}
+use Rattle.land_core.specs.declared.act.Act.TheVariants.{Enrol, Group, Regroup, Grant, Revoke, Register as RegisterUnit, Burden, Lift, Lodge, Approve, Refuse}
 use Rattle.land_acts.proofs.laws.slices_suffice.Goals as goal
 
 same_outcome : SlicesSuffice

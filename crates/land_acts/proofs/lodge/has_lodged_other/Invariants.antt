@@ -1,8 +1,8 @@
 use Rattle.std.proofs.Common.{◌≡◌, false, not}
 use Rattle.std.specs.List.{find}
 use Rattle.std.specs.Option.{option_map_or}
-use Rattle.land_core.specs.Mutations.{is_lodged_as}
 use Rattle.land_acts.specs.Lodging.{has_lodged_other, is_same_lodging}
+use Rattle.land_core.specs.Mutations.{is_lodged_as}
 use Rattle.land_acts.proofs.lodge.has_lodged_other.Given as goal
 
 -- what the caller has lodged under the reference is among those to come

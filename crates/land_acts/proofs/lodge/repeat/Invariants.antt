@@ -1,7 +1,7 @@
 use Rattle.std.proofs.Common.{◌≡◌}
 use Rattle.std.specs.List.{find}
-use Rattle.land_core.specs.Mutations.{is_lodged_as}
 use Rattle.land_acts.specs.Lodging.{lodge_repeat, repeat_of}
+use Rattle.land_core.specs.Mutations.{is_lodged_as}
 use Rattle.land_acts.proofs.lodge.repeat.Given as goal
 
 -- what the lodging repeats is among those to come

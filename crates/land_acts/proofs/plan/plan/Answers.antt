@@ -1,7 +1,7 @@
 use Rattle.std.proofs.Common.{◌≡◌, false, rules, sym, ◌∙◌}
 use Rattle.std.proofs.lemmas.Bool.{false≢true}
-use Rattle.land_acts.specs.Outcome.{IsUnrefused, has_room_for}
 use Rattle.land_acts.proofs.Fitting.{sound_has_room}
+use Rattle.land_acts.specs.Outcome.{IsUnrefused, has_room_for}
 use Rattle.land_acts.proofs.plan.plan.Goals as goal
 
 pub returns-then-not-has_room : goal.returns-then-not-has_room

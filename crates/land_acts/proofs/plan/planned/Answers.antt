@@ -1,7 +1,7 @@
 use Rattle.std.proofs.Common.{◌≡◌, true, subst}
-use Rattle.land_core.specs.declared.act.Act.{Act}
-use Rattle.land_acts.specs.Outcome.{IsUnrefused, has_room_for}
 use Rattle.land_acts.proofs.Fitting.{contents_fit}
+use Rattle.land_acts.specs.Outcome.{IsUnrefused, has_room_for}
+use Rattle.land_core.specs.declared.act.Act.{Act}
 use Rattle.land_acts.proofs.plan.planned.Goals as goal
 
 pub approved-requires : goal.approved-requires

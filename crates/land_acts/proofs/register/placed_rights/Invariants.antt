@@ -1,6 +1,6 @@
 use Rattle.std.proofs.Common.{◌≡◌, ◌+◌, ◌≤◌, ◌++◌, length, drop}
 use Rattle.std.specs.Prelude.{map as map_list}
-use Rattle.land_mutations.specs.Numbering.{numbered}
+use Rattle.land_acts.specs.Mutations.Numbering.{numbered}
 use Rattle.land_acts.specs.Registering.{right_of}
 use Rattle.land_acts.proofs.register.placed_rights.Given as goal
 

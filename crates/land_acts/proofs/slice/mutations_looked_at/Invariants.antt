@@ -1,7 +1,7 @@
 use Rattle.std.proofs.Common.{◌≡◌}
 use Rattle.std.specs.Prelude.{filter}
-use Rattle.land_core.specs.Entries.{with_entries}
 use Rattle.land_acts.specs.Slices.{looks_at_mutation, mutations_looked_at}
+use Rattle.land_core.specs.Entries.{with_entries}
 use Rattle.land_acts.proofs.slice.mutations_looked_at.Given as goal
 
 abbrev pub invariant-loop-number : goal.invariant-loop-number

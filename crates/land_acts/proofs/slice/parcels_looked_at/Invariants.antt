@@ -1,7 +1,7 @@
 use Rattle.std.proofs.Common.{◌≡◌}
 use Rattle.std.specs.Prelude.{filter}
-use Rattle.land_core.specs.Entries.{with_entries, only}
 use Rattle.land_acts.specs.Slices.{names_unit}
+use Rattle.land_core.specs.Entries.{with_entries, only}
 use Rattle.land_acts.proofs.slice.parcels_looked_at.Given as goal
 
 abbrev pub invariant-loop-number : goal.invariant-loop-number

@@ -1,7 +1,7 @@
 use Rattle.std.proofs.Common.{refl}
 use Rattle.std.specs.FinMap as map
-use Rattle.land_core.specs.Grants.{grants_in}
 use Rattle.land_core.proofs.FiniteSets.{marks-keys}
+use Rattle.land_core.specs.Grants.{grants_in}
 use Rattle.land_acts.proofs.slice.roles_looked_at.Goals as goal
 
 pub loop-grant-init : goal.loop-grant-init

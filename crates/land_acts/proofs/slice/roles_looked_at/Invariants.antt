@@ -1,8 +1,8 @@
 use Rattle.std.proofs.Common.{◌≡◌}
 use Rattle.std.specs.Prelude.{filter}
+use Rattle.land_acts.specs.Slices.{looks_at_party}
 use Rattle.land_core.specs.Entries.{with_entries, only}
 use Rattle.land_core.specs.Grants.{marks}
-use Rattle.land_acts.specs.Slices.{looks_at_party}
 use Rattle.land_acts.proofs.slice.roles_looked_at.Given as goal
 
 abbrev pub invariant-loop-grant : goal.invariant-loop-grant

@@ -1,6 +1,6 @@
 use Rattle.std.proofs.Common.{inr, subst, ℕ, Result}
-use Rattle.land_extracts.specs.declared.fault.ExtractFault.{ExtractFault}
 use Rattle.land_commands.specs.Extracting.{IsExtractedOver}
+use Rattle.land_sheet.specs.declared.extracts.fault.ExtractFault.{ExtractFault}
 use Rattle.land_commands.proofs.extracting.extract.Goals as goal
 
 -- the extract is written

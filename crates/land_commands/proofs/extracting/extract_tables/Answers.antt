@@ -1,11 +1,11 @@
 use Rattle.std.proofs.Common.{ℤ, of_z, rules, subst, subst₂, sym, to_z, w64, ◌≡◌}
 use Rattle.std.specs.Prelude.{unwrap_or}
-use Rattle.land_extracts.specs.Extracts.{extract_of, list_reply}
-use Rattle.land_extracts.specs.Writing.{IsExtracted}
+use Rattle.land_commands.specs.Extracting.{IsExtractedOver}
 use Rattle.land_keep.specs.Machine.{now_of}
 use Rattle.land_keep.specs.Timeline.{register_at}
+use Rattle.land_sheet.specs.Extracts.{extract_of, list_reply}
+use Rattle.land_sheet.specs.Extracts.Writing.{IsExtracted}
 use Rattle.land_tables.specs.Office.{held}
-use Rattle.land_commands.specs.Extracting.{IsExtractedOver}
 use Rattle.land_commands.proofs.extracting.extract_tables.Goals as goal
 
 -- the tables that are handed back are those of the keeper

@@ -1,7 +1,7 @@
 use Rattle.std.proofs.Common.{inl, inr, refl, subst, Result}
-use Rattle.land_service.specs.declared.service.ServiceFault.{ServiceFault}
-use Rattle.land_commands.specs.Filed.{IsServedOver}
 use Rattle.land_commands.proofs.Filings.{served_and_closed}
+use Rattle.land_commands.specs.Filed.{IsServedOver}
+use Rattle.land_desk.specs.declared.service.serving.ServiceFault.{ServiceFault}
 use Rattle.land_commands.proofs.filed.serve_file.Goals as goal
 
 -- the port could not be had

@@ -1,8 +1,8 @@
 use Rattle.std.proofs.Common.{ℤ, Result, of_z, rules, subst, sym, to_z, w64, ◌≡◌}
-use Rattle.land_words.specs.Orders.{order_of}
-use Rattle.land_words.specs.declared.command.Command.{Command}
 use Rattle.land_commands.specs.Extracting.{IsExtracting, wanted_of}
 use Rattle.land_commands.specs.Program.{IsRun}
+use Rattle.land_commands.specs.Words.Orders.{order_of}
+use Rattle.land_commands.specs.declared.words.command.Command.{Command}
 use Rattle.land_commands.proofs.run.run_command.Goals as goal
 
 -- the extract is written, or it is told why it is not

@@ -3,11 +3,11 @@ use Rattle.std.specs.Prelude.{FitsSigned}
 use Rattle.std.specs.Int.{w64}
 use Rattle.std.proofs.lemmas.Int.{to_z-of_z}
 use Rattle.std.proofs.lemmas.Option.{IfSome_then}
-use Rattle.land_desk.specs.Serving.{Hears}
+use Rattle.land_commands.specs.Program.{at_start, reads_as_set}
 use Rattle.land_desk.proofs.Honesty.{serves_honestly}
 use Rattle.land_desk.proofs.ServingLemmas.{nothing_done}
+use Rattle.land_desk.specs.Serving.{Hears}
 use Rattle.sqlite.proofs.Callers.{memory_is_clean}
-use Rattle.land_commands.specs.Program.{at_start, reads_as_set}
 use Rattle.land_commands.proofs.run.talk.Goals as goal
 
 pub returns-in_default : goal.returns-in_default

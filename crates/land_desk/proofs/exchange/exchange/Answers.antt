@@ -1,11 +1,11 @@
 use Rattle.std.proofs.Common.{◌≢◌, Result, ap, inl, inr, refl, rules, subst, sym}
 use Rattle.land_core.specs.declared.ask.Request.{Request}
-use Rattle.land_keep.specs.declared.reply.Reply.TheVariants as reply
-use Rattle.land_bodies.specs.WireFaults.{Gives}
-use Rattle.land_bodies.specs.declared.wire_fault.WireFault.{WireFault}
-use Rattle.land_bodies.specs.declared.wire_fault.WireFault.TheVariants.{NoMemory}
-use Rattle.land_desk.specs.Serving.{HearsIf, Told}
 use Rattle.land_desk.proofs.ExchangeLemmas.{fault_is_told}
+use Rattle.land_desk.specs.Serving.{HearsIf, Told}
+use Rattle.land_keep.specs.declared.reply.Reply.TheVariants as reply
+use Rattle.land_wire_json.specs.Bodies.WireFaults.{Gives}
+use Rattle.land_wire_json.specs.declared.bodies.wire_fault.WireFault.{WireFault}
+use Rattle.land_wire_json.specs.declared.bodies.wire_fault.WireFault.TheVariants.{NoMemory}
 use Rattle.land_desk.proofs.exchange.exchange.Goals as goal
 
 pub returns-in-Err-NoMemory-clause-told : goal.returns-in-Err-NoMemory-clause-told

@@ -2,14 +2,14 @@ use Rattle.std.proofs.Common.{◌≡◌, ◌∙◌, Bool, Err, ap, rules, subst,
 use Rattle.std.specs.Prelude.{FitsSigned}
 use Rattle.std.specs.Int.{w64}
 use Rattle.std.proofs.lemmas.Int.{to_z-of_z}
+use Rattle.land_desk.proofs.ExchangeLemmas.{shown_has_moment, stays, steps}
 use Rattle.land_keep.proofs.Steps.{fault_element, fault_tells, opens, was_open}
+use Rattle.land_keep.specs.Faults.{number_of}
 use Rattle.land_keep.specs.Keeping.{Closes, after_writing}
 use Rattle.land_keep.specs.declared.prepared.Prepared.{Prepared}
 use Rattle.land_keep.specs.declared.reply.Reply.{Reply}
 use Rattle.land_keep.specs.declared.reply.Reply.TheVariants as reply
 use Rattle.land_keep.specs.declared.store_fault.StoreFault.TheVariants.{NoMemory}
-use Rattle.land_keep.specs.Faults.{number_of}
-use Rattle.land_desk.proofs.ExchangeLemmas.{shown_has_moment, stays, steps}
 use Rattle.land_desk.proofs.exchange.exchange_request.Goals as goal
 
 pub returns-in-Err-clause-heard : goal.returns-in-Err-clause-heard

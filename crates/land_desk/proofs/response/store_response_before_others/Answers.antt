@@ -1,7 +1,7 @@
 use Rattle.std.proofs.Common.{◌≡◌, false, arith}
 use Rattle.std.specs.Fmt.{digits}
-use Rattle.land_desk.specs.Responses.{response}
 use Rattle.land_desk.proofs.StoreHeads.{store_bytes}
+use Rattle.land_desk.specs.Responses.{response}
 use Rattle.land_desk.proofs.response.store_response_before_others.Goals as goal
 
 pub returns-in-501 : goal.returns-in-501

@@ -1,8 +1,8 @@
 use Rattle.std.proofs.Common.{refl}
-use Rattle.land_keep.specs.Keeping.{IsAt}
-use Rattle.land_desk.specs.Serving.{HearsIf}
 use Rattle.land_desk.proofs.Honesty.{comes_to_nothing}
 use Rattle.land_desk.proofs.Moving.{unmoved}
+use Rattle.land_desk.specs.Serving.{HearsIf}
+use Rattle.land_keep.specs.Keeping.{IsAt}
 use Rattle.land_desk.proofs.serve.serve.Goals as goal
 
 pub returns-in_default-clause-served : goal.returns-in_default-clause-served

@@ -1,12 +1,12 @@
 use Rattle.std.proofs.Common.{◌+◌, Ok, Err, arith, refl}
 use Rattle.std.specs.Io.KnownBytes.{prepend_known}
-use Rattle.land_keep.specs.Keeping.{IsAt}
-use Rattle.land_keep.specs.Machine.{State}
-use Rattle.land_desk.specs.Serving.{HearsIf}
-use Rattle.land_desk.specs.Turns.{IsTurn}
 use Rattle.land_desk.proofs.Honesty.{comes_to, comes_to_end_of_asking, heard_later, keeps_on, starts}
 use Rattle.land_desk.proofs.Moving.{moves_on, unmoved}
 use Rattle.land_desk.proofs.ServingLemmas.{serves_end, serves_last, serves_fault}
+use Rattle.land_desk.specs.Serving.{HearsIf}
+use Rattle.land_desk.specs.Turns.{IsTurn}
+use Rattle.land_keep.specs.Keeping.{IsAt}
+use Rattle.land_keep.specs.Machine.{State}
 use Rattle.land_desk.proofs.serve.serve_items.Goals as goal
 
 pub returns-in-Ok-End-clause-served : goal.returns-in-Ok-End-clause-served

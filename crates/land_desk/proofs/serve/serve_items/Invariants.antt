@@ -1,9 +1,9 @@
 use Rattle.std.proofs.Common.{◌≤◌, length}
 use Rattle.std.specs.Io.KnownBytes.{prepend_known}
-use Rattle.land_keep.specs.Keeping.{IsAt}
-use Rattle.land_keep.specs.Machine.{State}
 use Rattle.land_desk.specs.Serving.{HearsIf, MovesTo, SoFar}
 use Rattle.land_desk.specs.Turns.{IfBoth}
+use Rattle.land_keep.specs.Keeping.{IsAt}
+use Rattle.land_keep.specs.Machine.{State}
 use Rattle.land_desk.proofs.serve.serve_items.Given as goal
 
 -- there is room for the fields of a head; so far the items were answered up to a state at which the keeper stands

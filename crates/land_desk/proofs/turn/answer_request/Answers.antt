@@ -1,5 +1,5 @@
-use Rattle.land_desk.specs.Serving.{HearsIf}
 use Rattle.land_desk.proofs.TurnLemmas.{spoken}
+use Rattle.land_desk.specs.Serving.{HearsIf}
 use Rattle.land_desk.proofs.turn.answer_request.Goals as goal
 
 pub returns-clause-spoken : goal.returns-clause-spoken

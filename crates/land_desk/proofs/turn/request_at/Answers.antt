@@ -1,4 +1,4 @@
-use Rattle.land_framing.proofs.HeaderLemmas.{fields_taken, fields_few}
+use Rattle.land_wire.proofs.HeaderLemmas.{fields_taken, fields_few}
 use Rattle.land_desk.proofs.turn.request_at.Goals as goal
 
 pub header_map-requires-clause-taken : goal.header_map-requires-clause-taken

@@ -1,11 +1,11 @@
 use Rattle.std.proofs.Common.{◌+◌, [], inl, refl, Err, Ok, drop}
 use Rattle.std.specs.Io.KnownBytes.{prepend_known}
+use Rattle.land_desk.proofs.Moving.{one_heard}
+use Rattle.land_desk.proofs.TurnLemmas.{end_told, fault_told, request_told, stays_put, unread}
 use Rattle.land_desk.specs.Serving.{HearsIf}
 use Rattle.land_desk.specs.Turns.{IsTurn}
 use Rattle.land_desk.specs.declared.serve.DeskFault.TheVariants as desk
 use Rattle.land_desk.specs.declared.turn.Turn.TheVariants as turn
-use Rattle.land_desk.proofs.Moving.{one_heard}
-use Rattle.land_desk.proofs.TurnLemmas.{end_told, fault_told, request_told, stays_put, unread}
 use Rattle.land_desk.proofs.turn.take_turn.Goals as goal
 
 pub returns-in-Ok-Fault-clause-turn : goal.returns-in-Ok-Fault-clause-turn

@@ -2,10 +2,10 @@ use Rattle.std.proofs.Common.{rules, ap, ◌∙◌, false}
 use Rattle.std.specs.Prelude.{FitsSigned}
 use Rattle.std.specs.Int.{w64}
 use Rattle.std.proofs.lemmas.Int.{to_z-of_z}
+use Rattle.land_keep.proofs.Steps.{fault_element, finished_element, opens}
 use Rattle.land_keep.specs.Keeping.{after_writing}
 use Rattle.land_keep.specs.declared.prepared.Prepared.{Prepared}
 use Rattle.land_keep.specs.declared.reply.Reply.{Reply}
-use Rattle.land_keep.proofs.Steps.{fault_element, finished_element, opens}
 use Rattle.land_keep.proofs.machine.answer.Goals as goal
 
 pub returns-in-Err-clause-answered : goal.returns-in-Err-clause-answered

@@ -3,6 +3,7 @@ use Rattle.std.specs.Prelude.{int_lt, unwrap_or, FitsSigned}
 use Rattle.std.specs.Int.{w64}
 use Rattle.std.proofs.lemmas.Int.{to_z-of_z}
 use Rattle.std.proofs.lemmas.Result.{IfOk-weaker}
+use Rattle.land_keep.proofs.Steps.{now_is_moment, opens, role_is_held, shows_asked, step_allowed, step_denied, step_late, told_leads}
 use Rattle.land_keep.specs.Keeping.{ShowsAsked, ShowsAt}
 use Rattle.land_keep.specs.Machine.{at_of, now_of, moment_of, verdict_at}
 use Rattle.land_keep.specs.Moments.{IsMoment, now_after}
@@ -10,7 +11,6 @@ use Rattle.land_keep.specs.declared.prepared.Prepared.{Prepared}
 use Rattle.land_keep.specs.declared.reply.Reply.{Reply}
 use Rattle.land_keep.specs.declared.reply.Reply.TheVariants as reply
 use Rattle.land_rules.specs.declared.verdict.Verdict.TheVariants.{Allowed, Denied}
-use Rattle.land_keep.proofs.Steps.{now_is_moment, opens, role_is_held, shows_asked, step_allowed, step_denied, step_late, told_leads}
 use Rattle.land_keep.proofs.machine.prepare.Goals as goal
 
 pub returns-in-Allowed-clause-prepared : goal.returns-in-Allowed-clause-prepared

@@ -1,8 +1,8 @@
 use Rattle.std.proofs.Common.{◌≡◌, ◌++◌, ◌&&◌}
 use Rattle.std.specs.Prelude.{filter, nat_eq, map as map_list}
 use Rattle.land_core.specs.declared.kind.Kind.TheVariants as kind
-use Rattle.land_rules.specs.Rules.{sees}
 use Rattle.land_keep.specs.Sheets.{entries_seen, named_rrr}
+use Rattle.land_rules.specs.Rules.{sees}
 use Rattle.land_keep.proofs.view.entries_of.Given as goal
 
 -- the entries so far, and those to come

@@ -1,4 +1,4 @@
-use Rattle.land_rules.proofs.Denials.{verdicts_least}
+use Rattle.land_rules.proofs.Denied.{verdicts_least}
 use Rattle.land_rules.proofs.laws.verdicts_are_least.Goals as goal
 
 pub returns : goal.returns

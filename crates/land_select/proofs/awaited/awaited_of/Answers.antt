@@ -1,6 +1,6 @@
 use Rattle.std.proofs.Common.{rules, ◌≡◌, ap, cond, sym, to_z, of_z, w64, ◌∙◌}
 use Rattle.std.specs.FinMap as map
-use Rattle.land_rows.proofs.Looking.{look_told}
+use Rattle.land_tables_schema.proofs.Looking.{look_told}
 use Rattle.sqlite.specs.Held.{state}
 use Rattle.land_select.proofs.awaited.awaited_of.Goals as goal
 

@@ -1,8 +1,8 @@
 use Rattle.std.proofs.Common.{rules, ◌≡◌, subst, sym, to_z, of_z, w64}
 use Rattle.land_core.specs.declared.kind.Kind.{Kind}
-use Rattle.land_denials.specs.Sight.{is_awaited}
-use Rattle.land_lookups.specs.Parts.{IsPart}
-use Rattle.land_rows.specs.Looks.{IsLook}
+use Rattle.land_rules.specs.Denials.Sight.{is_awaited}
+use Rattle.land_select_joins.specs.Lookups.Parts.{IsPart}
+use Rattle.land_tables_schema.specs.Rows.Looks.{IsLook}
 use Rattle.sqlite.specs.Held.{state}
 use Rattle.land_select.proofs.awaited.is_awaited.Goals as goal
 

@@ -1,9 +1,9 @@
 use Rattle.std.proofs.Common.{rules, ◌≡◌, subst, to_z, of_z, w64, ◌∙◌}
 use Rattle.std.specs.List.{list_any}
-use Rattle.land_lookups.proofs.Chains.{look_after}
-use Rattle.land_lookups.specs.Parts.{IsPart}
 use Rattle.land_rules.specs.Relations.{is_mutation_where, is_pending_on}
 use Rattle.land_select.proofs.Awaiting.{lodger_is}
+use Rattle.land_select_joins.proofs.Chains.{look_after}
+use Rattle.land_select_joins.specs.Lookups.Parts.{IsPart}
 use Rattle.sqlite.specs.Effect.{Database}
 use Rattle.sqlite.specs.Held.{state}
 use Rattle.land_select.proofs.awaited.is_lodger_on.Goals as goal

@@ -2,9 +2,9 @@ use Rattle.std.proofs.Common.{rules, ◌≡◌, ◌<◌, ◌+◌, ◌++◌, ◌�
 use Rattle.std.proofs.lemmas.Grind.{common_steps}
 use Rattle.land_core.specs.declared.register.Register.{Register}
 use Rattle.land_rules.specs.Relations.{is_mutation_where, is_pending_on}
-use Rattle.land_lookups.specs.Parts.{IsPart}
-use Rattle.land_rows.proofs.Looking.{look_then, look_told}
 use Rattle.land_select.proofs.Passing.{NonePasses, nor_the_next, one_passes}
+use Rattle.land_select_joins.specs.Lookups.Parts.{IsPart}
+use Rattle.land_tables_schema.proofs.Looking.{look_then, look_told}
 use Rattle.sqlite.specs.Effect.{Database}
 use Rattle.sqlite.specs.Held.{state}
 use Rattle.land_select.proofs.awaited.is_one_pending.Goals as goal

@@ -1,8 +1,8 @@
 use Rattle.std.proofs.Common.{take, Ok, ◌≡◌, false}
 use Rattle.land_rules.specs.Relations.{is_mutation_where, is_pending_on}
-use Rattle.land_listing.specs.declared.fault.ReadFault.{ReadFault}
-use Rattle.land_rows.specs.Looks.{IsLook}
 use Rattle.land_select.proofs.Passing.{NonePasses}
+use Rattle.land_tables_rows.specs.declared.listing.fault.ReadFault.{ReadFault}
+use Rattle.land_tables_schema.specs.Rows.Looks.{IsLook}
 use Rattle.sqlite.specs.Held.{state}
 use Rattle.land_select.proofs.awaited.is_one_pending.Given as goal
 

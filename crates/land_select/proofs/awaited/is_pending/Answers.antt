@@ -1,7 +1,7 @@
 use Rattle.std.proofs.Common.{rules, ◌≡◌, ap, false, sym, to_z, of_z, w64, ◌∙◌}
 use Rattle.std.specs.Option.{option_map_or}
-use Rattle.land_rows.proofs.Looking.{look_told}
 use Rattle.land_rules.specs.Relations.{is_pending_on}
+use Rattle.land_tables_schema.proofs.Looking.{look_told}
 use Rattle.sqlite.specs.Held.{state}
 use Rattle.land_select.proofs.awaited.is_pending.Goals as goal
 

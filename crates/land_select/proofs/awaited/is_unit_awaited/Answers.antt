@@ -1,11 +1,11 @@
 use Rattle.std.proofs.Common.{rules, ◌≡◌, ◌&&◌, ap, Bool, true, is_some, subst, sym, to_z, of_z, w64, Ok, ◌∙◌}
 use Rattle.std.specs.FinMap as map
 use Rattle.land_core.specs.Entries.{has}
-use Rattle.land_listing.specs.declared.fault.ReadFault.{ReadFault}
-use Rattle.land_lookups.specs.Parts.{IsPart}
-use Rattle.land_rows.proofs.Looking.{look_then, look_told}
-use Rattle.land_rows.specs.Looks.{IsLook}
 use Rattle.land_rules.specs.Relations.{is_lodger_on}
+use Rattle.land_select_joins.specs.Lookups.Parts.{IsPart}
+use Rattle.land_tables_rows.specs.declared.listing.fault.ReadFault.{ReadFault}
+use Rattle.land_tables_schema.proofs.Looking.{look_then, look_told}
+use Rattle.land_tables_schema.specs.Rows.Looks.{IsLook}
 use Rattle.sqlite.specs.Effect.{Database}
 use Rattle.sqlite.specs.Held.{state}
 use Rattle.land_select.proofs.awaited.is_unit_awaited.Goals as goal

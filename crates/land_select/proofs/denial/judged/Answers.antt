@@ -1,9 +1,9 @@
 use Rattle.std.proofs.Common.{rules, ◌≡◌, subst, sym, to_z, of_z, w64, ◌∙◌}
-use Rattle.land_lookups.proofs.Chains.{look_after}
-use Rattle.land_rows.proofs.Looking.{look_told}
 use Rattle.land_rules.specs.Rules.{first_denial, sight_rules}
 use Rattle.land_select.proofs.Judged.{sight_says, standing_says}
 use Rattle.land_select.specs.Views.{IsShown}
+use Rattle.land_select_joins.proofs.Chains.{look_after}
+use Rattle.land_tables_schema.proofs.Looking.{look_told}
 use Rattle.sqlite.specs.Effect.{Database}
 use Rattle.sqlite.specs.Held.{state}
 use Rattle.land_select.proofs.denial.judged.Goals as goal

@@ -1,8 +1,8 @@
 use Rattle.std.proofs.Common.{rules, ◌≡◌, subst, sym, to_z, of_z, w64}
 use Rattle.land_core.specs.declared.ask.Ask.{Ask}
-use Rattle.land_rows.specs.Looks.{IsLook}
 use Rattle.land_rules.specs.Rules.{first_denial, sight_rules}
 use Rattle.land_select.specs.Views.{IsShown}
+use Rattle.land_tables_schema.specs.Rows.Looks.{IsLook}
 use Rattle.sqlite.specs.Held.{state}
 use Rattle.land_select.proofs.denial.sighted.Goals as goal
 

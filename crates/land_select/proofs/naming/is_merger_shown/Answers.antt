@@ -1,9 +1,9 @@
 use Rattle.std.proofs.Common.{rules, ◌≡◌, ◌||◌, ap, subst, sym, to_z, of_z, w64, ◌∙◌}
 use Rattle.std.specs.List.{list_any}
-use Rattle.land_denials.specs.Ties.{shows_unit, tie_at}
-use Rattle.land_lookups.proofs.Chains.{look_after}
-use Rattle.land_lookups.specs.Parts.{IsPart}
-use Rattle.land_rows.proofs.Looking.{look_told}
+use Rattle.land_rules.specs.Denials.Ties.{shows_unit, tie_at}
+use Rattle.land_select_joins.proofs.Chains.{look_after}
+use Rattle.land_select_joins.specs.Lookups.Parts.{IsPart}
+use Rattle.land_tables_schema.proofs.Looking.{look_told}
 use Rattle.sqlite.specs.Effect.{Database}
 use Rattle.sqlite.specs.Held.{state}
 use Rattle.land_select.proofs.naming.is_merger_shown.Goals as goal

@@ -1,10 +1,10 @@
 use Rattle.std.proofs.Common.{rules, ◌≡◌, ◌<◌, ◌+◌, ◌++◌, ◌∷◌, [], arith, Bool, ℕ, length, slice_index_or, take, to_z, of_z, w64, subst, sym}
 use Rattle.std.proofs.lemmas.Grind.{common_steps}
 use Rattle.land_core.specs.declared.register.Register.{Register}
-use Rattle.land_denials.specs.Ties.{shows_unit, tie_at}
-use Rattle.land_lookups.specs.Parts.{IsPart}
-use Rattle.land_rows.proofs.Looking.{look_then, look_told}
+use Rattle.land_rules.specs.Denials.Ties.{shows_unit, tie_at}
 use Rattle.land_select.proofs.Passing.{NonePasses, nor_the_next, one_passes}
+use Rattle.land_select_joins.specs.Lookups.Parts.{IsPart}
+use Rattle.land_tables_schema.proofs.Looking.{look_then, look_told}
 use Rattle.sqlite.specs.Effect.{Database}
 use Rattle.sqlite.specs.Held.{state}
 use Rattle.land_select.proofs.naming.is_one_shown.Goals as goal

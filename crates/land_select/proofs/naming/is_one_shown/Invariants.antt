@@ -1,8 +1,8 @@
 use Rattle.std.proofs.Common.{take, Ok, ◌≡◌, false}
-use Rattle.land_denials.specs.Ties.{shows_unit, tie_at}
-use Rattle.land_listing.specs.declared.fault.ReadFault.{ReadFault}
-use Rattle.land_rows.specs.Looks.{IsLook}
+use Rattle.land_rules.specs.Denials.Ties.{shows_unit, tie_at}
 use Rattle.land_select.proofs.Passing.{NonePasses}
+use Rattle.land_tables_rows.specs.declared.listing.fault.ReadFault.{ReadFault}
+use Rattle.land_tables_schema.specs.Rows.Looks.{IsLook}
 use Rattle.sqlite.specs.Held.{state}
 use Rattle.land_select.proofs.naming.is_one_shown.Given as goal
 

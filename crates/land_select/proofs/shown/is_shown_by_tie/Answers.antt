@@ -1,8 +1,8 @@
 use Rattle.std.proofs.Common.{rules, ◌≡◌, subst, sym, to_z, of_z, w64}
 use Rattle.land_core.specs.declared.kind.Kind.{Kind}
-use Rattle.land_denials.specs.Ties.{is_shown_by_tie}
-use Rattle.land_lookups.specs.Parts.{IsPart}
-use Rattle.land_rows.specs.Looks.{IsLook}
+use Rattle.land_rules.specs.Denials.Ties.{is_shown_by_tie}
+use Rattle.land_select_joins.specs.Lookups.Parts.{IsPart}
+use Rattle.land_tables_schema.specs.Rows.Looks.{IsLook}
 use Rattle.sqlite.specs.Held.{state}
 use Rattle.land_select.proofs.shown.is_shown_by_tie.Goals as goal
 

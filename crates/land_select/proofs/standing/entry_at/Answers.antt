@@ -1,8 +1,8 @@
 use Rattle.std.proofs.Common.{rules, ◌≡◌, subst, sym, to_z, of_z, w64, Option, ap, ℕ}
-use Rattle.land_lookups.specs.Parts.{IsPart}
-use Rattle.land_rows.specs.Looks.{IsLook}
 use Rattle.land_select.proofs.Judged.{looked_at_nothing}
 use Rattle.land_select.specs.Verdicts.{record_at}
+use Rattle.land_select_joins.specs.Lookups.Parts.{IsPart}
+use Rattle.land_tables_schema.specs.Rows.Looks.{IsLook}
 use Rattle.sqlite.specs.Held.{state}
 use Rattle.land_select.proofs.standing.entry_at.Goals as goal
 

@@ -1,9 +1,9 @@
 use Rattle.std.proofs.Common.{rules, ◌≡◌, subst, to_z, of_z, w64}
-use Rattle.land_denials.specs.Standing.{decided, discharged}
-use Rattle.land_lookups.specs.Parts.{IsPart}
-use Rattle.land_rows.proofs.Looking.{look_fails, look_then}
+use Rattle.land_rules.specs.Denials.Standing.{decided, discharged}
 use Rattle.land_select.proofs.Judged.{both_parts}
 use Rattle.land_select.specs.Verdicts.{record_at}
+use Rattle.land_select_joins.specs.Lookups.Parts.{IsPart}
+use Rattle.land_tables_schema.proofs.Looking.{look_fails, look_then}
 use Rattle.sqlite.specs.Effect.{Database}
 use Rattle.sqlite.specs.Held.{state}
 use Rattle.land_select.proofs.standing.named.Goals as goal

@@ -1,6 +1,6 @@
 use Rattle.std.proofs.Common.{rules, ◌≡◌, to_z, of_z, w64, ◌∙◌}
-use Rattle.land_rows.proofs.Looking.{look_told}
 use Rattle.land_select.proofs.Judged.{few_deny}
+use Rattle.land_tables_schema.proofs.Looking.{look_told}
 use Rattle.sqlite.specs.Held.{state}
 use Rattle.land_select.proofs.standing.standing.Goals as goal
 

@@ -1,6 +1,6 @@
 use Rattle.std.proofs.Common.{rules, ◌≡◌, to_z, of_z, w64}
+use Rattle.land_select.proofs.Looks.{look_means}
 use Rattle.land_select.proofs.Tied.{groups_are}
-use Rattle.land_slices.proofs.Looks.{look_means}
 use Rattle.sqlite.specs.Held.{state}
 use Rattle.land_select.proofs.ties.groups_of.Goals as goal
 

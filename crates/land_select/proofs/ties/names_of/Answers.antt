@@ -1,11 +1,11 @@
 use Rattle.std.proofs.Common.{rules, ◌≡◌, ◌++◌, ◌↔◌, [], ◌∷◌, ℕ, List, sym, subst, true, to_z, of_z, w64, ◌∙◌}
 use Rattle.std.proofs.lemmas.Bool.{false≢true}
 use Rattle.std.specs.List.{Contains}
-use Rattle.land_rows.proofs.Looking.{look_told}
 use Rattle.land_rules.specs.Relations.{holds_as}
 use Rattle.land_select.proofs.Judged.{looked_at_nothing}
 use Rattle.land_select.proofs.Tied.{names_are}
 use Rattle.land_select.proofs.Viewed.{look_lost}
+use Rattle.land_tables_schema.proofs.Looking.{look_told}
 use Rattle.sqlite.specs.Held.{state}
 use Rattle.land_select.proofs.ties.names_of.Goals as goal
 

@@ -1,7 +1,7 @@
 use Rattle.std.proofs.Common.{◌≡◌}
 use Rattle.std.specs.Prelude.{filter}
 use Rattle.land_core.specs.Entries.{only, with_entries}
-use Rattle.land_denials.specs.Ties.{shows_entry}
+use Rattle.land_rules.specs.Denials.Ties.{shows_entry}
 use Rattle.land_select.proofs.ties.shown_by.Given as goal
 
 -- the entries so far, and those to come

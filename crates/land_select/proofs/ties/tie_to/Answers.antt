@@ -1,8 +1,8 @@
 use Rattle.std.proofs.Common.{rules, ◌≡◌, ap, subst, to_z, of_z, w64, ◌∙◌}
-use Rattle.land_denials.specs.Ties.{tie_of}
-use Rattle.land_lookups.proofs.Chains.{look_after}
-use Rattle.land_lookups.specs.Parts.{IsPart}
+use Rattle.land_rules.specs.Denials.Ties.{tie_of}
 use Rattle.land_rules.specs.Relations.{holds_as}
+use Rattle.land_select_joins.proofs.Chains.{look_after}
+use Rattle.land_select_joins.specs.Lookups.Parts.{IsPart}
 use Rattle.sqlite.specs.Effect.{Database}
 use Rattle.sqlite.specs.Held.{state}
 use Rattle.land_select.proofs.ties.tie_to.Goals as goal

@@ -2,16 +2,16 @@ use Rattle.std.proofs.Common.{rules, ◌≡◌, nat_eq, subst, sym, to_z, of_z, 
 use Rattle.std.specs.List.{list_any}
 use Rattle.land_core.specs.Entries.{only}
 use Rattle.land_core.specs.declared.kind.Kind.TheVariants.{Rrr}
-use Rattle.land_joins.specs.Sight.{IsSight}
-use Rattle.land_listing.specs.declared.fault.ReadFault.{ReadFault}
-use Rattle.land_lookups.proofs.Chains.{look_after}
-use Rattle.land_lookups.specs.Parts.{IsPart}
-use Rattle.land_rows.proofs.Looking.{look_fails, look_then, look_told}
-use Rattle.land_rows.specs.Looks.{IsLook}
 use Rattle.land_select.proofs.Awaiting.{awaited_in_sight}
 use Rattle.land_select.proofs.Tied.{tied_in_sight}
 use Rattle.land_select.proofs.Viewed.{AreListed, all_in_sight, have_members, listed_in_sight, look_lost}
 use Rattle.land_select.specs.Views.{awaited_of, shown_of}
+use Rattle.land_select_joins.proofs.Chains.{look_after}
+use Rattle.land_select_joins.specs.Joins.Sight.{IsSight}
+use Rattle.land_select_joins.specs.Lookups.Parts.{IsPart}
+use Rattle.land_tables_rows.specs.declared.listing.fault.ReadFault.{ReadFault}
+use Rattle.land_tables_schema.proofs.Looking.{look_fails, look_then, look_told}
+use Rattle.land_tables_schema.specs.Rows.Looks.{IsLook}
 use Rattle.sqlite.specs.Effect.{Database}
 use Rattle.sqlite.specs.Held.{state}
 use Rattle.land_select.proofs.view.entries_in_sight.Goals as goal

@@ -1,6 +1,6 @@
 use Rattle.std.proofs.Common.{rules, ◌≡◌, ap, to_z, of_z, w64, ◌∙◌}
-use Rattle.land_rows.proofs.Looking.{look_told}
 use Rattle.land_select.specs.Views.{with_name}
+use Rattle.land_tables_schema.proofs.Looking.{look_told}
 use Rattle.sqlite.specs.Held.{state}
 use Rattle.land_select.proofs.view.named.Goals as goal
 

@@ -1,8 +1,8 @@
 use Rattle.std.proofs.Common.{◌≡◌, Ok, false}
 use Rattle.std.specs.FinMap as map
-use Rattle.land_listing.specs.declared.fault.ReadFault.{ReadFault}
-use Rattle.land_rows.specs.Looks.{IsLook}
 use Rattle.land_select.proofs.Viewed.{AreNamedSoFar}
+use Rattle.land_tables_rows.specs.declared.listing.fault.ReadFault.{ReadFault}
+use Rattle.land_tables_schema.specs.Rows.Looks.{IsLook}
 use Rattle.sqlite.specs.Held.{state}
 use Rattle.land_select.proofs.view.named_entries.Given as goal
 

@@ -1,9 +1,9 @@
 use Rattle.std.proofs.Common.{rules, ◌≡◌, subst, to_z, of_z, w64, ap, ◌∙◌}
 use Rattle.std.specs.FinMap as map
-use Rattle.land_lookups.proofs.Chains.{look_after}
-use Rattle.land_lookups.specs.Parts.{IsPart}
 use Rattle.land_select.proofs.Viewed.{have_members, named_in_sight}
 use Rattle.land_select.specs.Views.{named_of}
+use Rattle.land_select_joins.proofs.Chains.{look_after}
+use Rattle.land_select_joins.specs.Lookups.Parts.{IsPart}
 use Rattle.sqlite.specs.Effect.{Database}
 use Rattle.sqlite.specs.Held.{state}
 use Rattle.land_select.proofs.view.seen_entries.Goals as goal

@@ -1,8 +1,8 @@
 use Rattle.std.proofs.Common.{rules, ◌≡◌, subst, sym, to_z, of_z, w64, None, Some, ◌∙◌}
-use Rattle.land_lookups.proofs.Chains.{look_after}
-use Rattle.land_rows.proofs.Looking.{look_told}
 use Rattle.land_select.proofs.Viewed.{have_members, view_is}
 use Rattle.land_select.specs.Views.{IsShown, view_from}
+use Rattle.land_select_joins.proofs.Chains.{look_after}
+use Rattle.land_tables_schema.proofs.Looking.{look_told}
 use Rattle.sqlite.specs.Effect.{Database}
 use Rattle.sqlite.specs.Held.{state}
 use Rattle.land_select.proofs.view.view.Goals as goal

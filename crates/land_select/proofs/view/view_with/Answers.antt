@@ -1,11 +1,11 @@
 use Rattle.std.proofs.Common.{rules, ◌≡◌, ap₂, subst, to_z, of_z, w64, Ok, Some}
 use Rattle.land_keep.specs.Sheets.{entries_seen, parcels_at}
-use Rattle.land_listing.specs.declared.fault.ReadFault.{ReadFault}
-use Rattle.land_lookups.specs.Parts.{IsPart}
-use Rattle.land_rows.proofs.Looking.{look_fails, look_then, look_told}
-use Rattle.land_rows.specs.Looks.{IsLook}
 use Rattle.land_select.proofs.Viewed.{have_members}
 use Rattle.land_select.specs.Views.{IsShown}
+use Rattle.land_select_joins.specs.Lookups.Parts.{IsPart}
+use Rattle.land_tables_rows.specs.declared.listing.fault.ReadFault.{ReadFault}
+use Rattle.land_tables_schema.proofs.Looking.{look_fails, look_then, look_told}
+use Rattle.land_tables_schema.specs.Rows.Looks.{IsLook}
 use Rattle.sqlite.specs.Effect.{Database}
 use Rattle.sqlite.specs.Held.{state}
 use Rattle.land_select.proofs.view.view_with.Goals as goal

@@ -1,9 +1,9 @@
 use Rattle.std.proofs.Common.{rules, ◌≡◌, nat_eq, sym, to_z, of_z, w64, ap, is_some, ◌∙◌}
 use Rattle.std.specs.List.{list_any}
-use Rattle.land_rows.proofs.Looking.{look_told}
 use Rattle.land_select.proofs.Judged.{object_stands}
+use Rattle.land_select.proofs.Looks.{look_means}
 use Rattle.land_select.proofs.Viewed.{have_members}
-use Rattle.land_slices.proofs.Looks.{look_means}
+use Rattle.land_tables_schema.proofs.Looking.{look_told}
 use Rattle.sqlite.specs.Held.{state}
 use Rattle.land_select.proofs.viewing.is_in_sight.Goals as goal
 

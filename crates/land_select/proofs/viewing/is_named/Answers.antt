@@ -1,7 +1,7 @@
 use Rattle.std.proofs.Common.{rules, ◌≡◌, ◌&&◌, sym, to_z, of_z, w64, ap, ◌∙◌}
 use Rattle.land_rules.specs.Relations.{is_lodger_on}
 use Rattle.land_select.proofs.Judged.{looked_at_nothing}
-use Rattle.land_slices.proofs.Looks.{look_means}
+use Rattle.land_select.proofs.Looks.{look_means}
 use Rattle.sqlite.specs.Held.{state}
 use Rattle.land_select.proofs.viewing.is_named.Goals as goal
 

@@ -1,14 +1,14 @@
 use Rattle.std.proofs.Common.{rules, ◌≡◌, ◌&&◌, ap₂, subst, to_z, of_z, w64, Ok, ◌∙◌}
-use Rattle.land_denials.specs.Sight.{is_unit_of_conveyancer, told_by}
-use Rattle.land_listing.specs.declared.fault.ReadFault.{ReadFault}
-use Rattle.land_lookups.specs.Parts.{IsPart}
-use Rattle.land_rows.proofs.Looking.{look_fails, look_then, look_told}
-use Rattle.land_rows.specs.Looks.{IsLook}
+use Rattle.land_rules.specs.Denials.Sight.{is_unit_of_conveyancer, told_by}
 use Rattle.land_rules.specs.Relations.{is_lodger_on}
 use Rattle.land_rules.specs.Rules.{sees}
 use Rattle.land_select.proofs.Judged.{view_told}
 use Rattle.land_select.proofs.Viewed.{have_members}
 use Rattle.land_select.specs.Views.{IsShown}
+use Rattle.land_select_joins.specs.Lookups.Parts.{IsPart}
+use Rattle.land_tables_rows.specs.declared.listing.fault.ReadFault.{ReadFault}
+use Rattle.land_tables_schema.proofs.Looking.{look_fails, look_then, look_told}
+use Rattle.land_tables_schema.specs.Rows.Looks.{IsLook}
 use Rattle.sqlite.specs.Effect.{Database}
 use Rattle.sqlite.specs.Held.{state}
 use Rattle.land_select.proofs.viewing.viewing.Goals as goal

@@ -1,7 +1,7 @@
 use Rattle.std.proofs.Common.{rules}
-use Rattle.land_rows.proofs.Looking.{look_told}
-use Rattle.land_schema.specs.Land.{IsLand}
 use Rattle.land_tables.proofs.Adopted.{to_refusal, to_register}
+use Rattle.land_tables_schema.proofs.Looking.{look_told}
+use Rattle.land_tables_schema.specs.Land.{IsLand}
 use Rattle.sqlite.specs.Held.{state}
 use Rattle.land_tables.proofs.adopting.judge_store.Goals as goal
 

@@ -1,7 +1,7 @@
 use Rattle.land_keep.specs.Timeline.{new_timeline}
-use Rattle.land_rows.specs.Rows.{HoldsRows, new_rows}
 use Rattle.land_tables.proofs.News.{new_holds, new_office}
 use Rattle.land_tables.specs.Standing.{HoldsTimeline}
+use Rattle.land_tables_schema.specs.Rows.Held.{HoldsRows, new_rows}
 use Rattle.sqlite.proofs.StateLemmas.{survives_weaker}
 use Rattle.sqlite.specs.Held.{state}
 use Rattle.land_tables.proofs.creating.begin_register.Goals as goal

@@ -1,10 +1,10 @@
 use Rattle.std.proofs.Common.{Ok}
-use Rattle.land_listing.proofs.Histories.{cannot_then}
-use Rattle.land_listing.specs.Reading.{SaysHistory}
-use Rattle.land_listing.specs.declared.fault.ReadFault.{ReadFault}
-use Rattle.land_rows.proofs.Looking.{look_then, was_clean}
-use Rattle.land_rows.specs.Looks.{IsLook}
 use Rattle.land_tables.proofs.Findings.{history_said}
+use Rattle.land_tables_rows.proofs.ToldHistories.{cannot_then}
+use Rattle.land_tables_rows.specs.Listing.Reading.{SaysHistory}
+use Rattle.land_tables_rows.specs.declared.listing.fault.ReadFault.{ReadFault}
+use Rattle.land_tables_schema.proofs.Looking.{look_then, was_clean}
+use Rattle.land_tables_schema.specs.Rows.Looks.{IsLook}
 use Rattle.sqlite.specs.Held.{state}
 use Rattle.land_tables.proofs.finding.all_rows.Goals as goal
 

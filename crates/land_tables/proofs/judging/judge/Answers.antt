@@ -1,8 +1,8 @@
 use Rattle.std.proofs.Common.{◌≡◌, true, rules}
-use Rattle.land_history.specs.Intervals.{has_intervals}
-use Rattle.land_history.specs.Lawful.{IsLawful}
 use Rattle.land_tables.proofs.Judged.{judged}
 use Rattle.land_tables.specs.Findings.{IsLatest, is_first_version, is_one_edition}
+use Rattle.land_tables_history.specs.Intervals.{has_intervals}
+use Rattle.land_tables_history.specs.Lawful.{IsLawful}
 use Rattle.land_tables.proofs.judging.judge.Goals as goal
 
 pub returns-clause-judged : goal.returns-clause-judged

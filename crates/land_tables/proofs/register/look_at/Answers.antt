@@ -1,8 +1,8 @@
 use Rattle.std.proofs.Common.{of_z, rules, to_z, w64, ◌≡◌, subst}
-use Rattle.land_history.specs.History.{register_at}
-use Rattle.land_history.specs.Moments.{next_at}
-use Rattle.land_rows.proofs.Looking.{look_then}
-use Rattle.land_listing.specs.Reading.{SaysHistory}
+use Rattle.land_tables_history.specs.History.{register_at}
+use Rattle.land_tables_history.specs.Moments.{next_at}
+use Rattle.land_tables_rows.specs.Listing.Reading.{SaysHistory}
+use Rattle.land_tables_schema.proofs.Looking.{look_then}
 use Rattle.sqlite.specs.Held.{state}
 use Rattle.land_tables.proofs.register.look_at.Goals as goal
 

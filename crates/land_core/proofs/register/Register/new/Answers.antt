@@ -1,7 +1,7 @@
 use Rattle.std.proofs.Common.{refl, sym, subst}
+use Rattle.land_core.proofs.NewRegister.{new_is_sound}
 use Rattle.land_core.specs.Soundness.{IsSound}
 use Rattle.land_core.specs.declared.register.Register.{Register}
-use Rattle.land_core.proofs.NewRegister.{new_is_sound}
 use Rattle.land_core.proofs.register.Register.new.Goals as goal
 
 pub returns-clause-new : goal.returns-clause-new

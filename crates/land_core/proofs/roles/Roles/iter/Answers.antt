@@ -1,10 +1,10 @@
 use Rattle.std.proofs.Common.{sym, ap, ◌∙◌, subst, List}
 use Rattle.std.specs.List.Sorted.{IsStrictlySortedBy}
+use Rattle.std.specs.Map.{keys_of}
+use Rattle.land_core.proofs.FiniteMaps.{entries_entries}
+use Rattle.land_core.proofs.FiniteSets.{grants_total, exact_grants, keys-marks}
 use Rattle.land_core.specs.Grants.{grants_in, marks, grant_cmp}
 use Rattle.land_core.specs.declared.roles.Grant.{Grant}
-use Rattle.land_core.proofs.FiniteMaps.{entries_entries}
-use Rattle.std.specs.Map.{keys_of}
-use Rattle.land_core.proofs.FiniteSets.{grants_total, exact_grants, keys-marks}
 use Rattle.land_core.proofs.roles.Roles.iter.Goals as goal
 
 pub returns-clause-rest : goal.returns-clause-rest

@@ -1,7 +1,7 @@
 use Rattle.std.proofs.Common.{ap, ◌∙◌}
 use Rattle.std.specs.Prelude.{slice_get, length, ◌-◌}
-use Rattle.land_keep.specs.Timeline.{Timeline, last_version}
 use Rattle.land_keep.proofs.Timelines.{last_is}
+use Rattle.land_keep.specs.Timeline.{Timeline, last_version}
 use Rattle.land_keep.proofs.plain_keeper.PlainKeeper.last_version.Goals as goal
 
 pub returns-clause-last : goal.returns-clause-last

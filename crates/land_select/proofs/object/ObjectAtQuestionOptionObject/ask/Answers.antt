@@ -1,8 +1,8 @@
 use Rattle.std.proofs.Common.{of_z, rules, subst, to_z, w64, ◌≡◌}
 use Rattle.std.specs.Prelude.{ℤ}
 use Rattle.land_core.specs.Register.{object_at}
-use Rattle.land_lookups.specs.Parts.{IsPart}
-use Rattle.land_rows.specs.Looks.{IsLook}
+use Rattle.land_select_joins.specs.Lookups.Parts.{IsPart}
+use Rattle.land_tables_schema.specs.Rows.Looks.{IsLook}
 use Rattle.sqlite.specs.Held.{state}
 use Rattle.land_select.proofs.object.ObjectAtQuestionOptionObject.ask.Goals as goal
 

@@ -1,7 +1,7 @@
 use Rattle.std.proofs.Common.{of_z, rules, subst, to_z, w64, ◌≡◌}
 use Rattle.std.specs.Prelude.{ℤ}
-use Rattle.land_joins.specs.Sight.{IsSight}
-use Rattle.land_rows.specs.Looks.{IsLook}
+use Rattle.land_select_joins.specs.Joins.Sight.{IsSight}
+use Rattle.land_tables_schema.specs.Rows.Looks.{IsLook}
 use Rattle.sqlite.specs.Held.{state}
 use Rattle.land_select.proofs.sight.SightQuestionNumberList.ask.Goals as goal
 

@@ -1,8 +1,8 @@
 use Rattle.std.proofs.Common.{of_z, rules, subst, to_z, w64, ◌≡◌}
 use Rattle.std.specs.Prelude.{ℤ}
 use Rattle.land_acts.specs.Slices.{slice_of}
-use Rattle.land_rows.specs.Looks.{IsLook}
-use Rattle.land_slices.specs.Gathered.{IsSo}
+use Rattle.land_select.specs.Slices.Gathered.{IsSo}
+use Rattle.land_tables_schema.specs.Rows.Looks.{IsLook}
 use Rattle.sqlite.specs.Held.{state}
 use Rattle.land_select.proofs.slicing.SlicedQuestionSlice.ask.Goals as goal
 

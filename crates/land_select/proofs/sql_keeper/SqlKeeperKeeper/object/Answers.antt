@@ -4,8 +4,8 @@ use Rattle.std.specs.Prelude.{ℤ, IfOk}
 use Rattle.std.specs.Int.{int_min}
 use Rattle.land_core.specs.Register.{object_at}
 use Rattle.land_keep.specs.Moments.{last_moment}
-use Rattle.land_lookups.specs.Parts.{IsPart}
 use Rattle.land_select.proofs.Seen.{part_stands}
+use Rattle.land_select_joins.specs.Lookups.Parts.{IsPart}
 use Rattle.land_tables.proofs.ReadBack.{read_moment}
 use Rattle.land_tables.specs.Office.{IsAnswer}
 use Rattle.sqlite.specs.Held.{state}

@@ -4,7 +4,7 @@ use Rattle.std.specs.Prelude.{ℤ, IfOk}
 use Rattle.std.specs.Int.{int_min}
 use Rattle.land_keep.specs.Moments.{last_moment}
 use Rattle.land_select.proofs.Seen.{sight_seen}
-use Rattle.land_joins.specs.Sight.{IsSight}
+use Rattle.land_select_joins.specs.Joins.Sight.{IsSight}
 use Rattle.land_tables.proofs.ReadBack.{read_moment}
 use Rattle.land_tables.specs.Office.{IsAnswer}
 use Rattle.sqlite.specs.Held.{state}

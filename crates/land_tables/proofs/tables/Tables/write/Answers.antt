@@ -2,10 +2,10 @@ use Rattle.std.proofs.Common.{false, of_z, rules, subst, sym, to_z, w64, Err, Ok
 use Rattle.std.specs.Prelude.{ℤ}
 use Rattle.land_keep.specs.Moments.{last_moment}
 use Rattle.land_keep.specs.declared.store_fault.StoreFault.TheVariants.{Store}
-use Rattle.land_recording.specs.Whole.{Records}
 use Rattle.land_tables.proofs.Written.{crash_written, timeline_written, whole_unwritten, whole_written}
 use Rattle.land_tables.specs.Calls.{IsSafeWrite, MayRecord}
 use Rattle.land_tables.specs.Office.{IsWhole, Office}
+use Rattle.land_tables_rows.specs.Recording.Whole.{Records}
 use Rattle.sqlite.specs.Held.{state}
 use Rattle.land_tables.proofs.tables.Tables.write.Goals as goal
 

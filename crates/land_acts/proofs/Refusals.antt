@@ -1,0 +1,16 @@
+-- What it says of refusals that none of their conditions holds.
+use Rattle.std.proofs.Common.{◌≡◌, Bool, true, false, Some, None, List, ◌∷◌, refl}
+use Rattle.land_acts.specs.Mutations.Planning.{first_that_holds}
+use Rattle.land_acts.specs.declared.mutations.refusal.Refusal.{Refusal}
+
+-- a line before others does not hold, where none holds
+pub record NoneHolds (b : Bool) (lines : List (Refusal × Bool)) : Type 0 where
+  pub first : b ≡ false
+  pub rest : first_that_holds lines ≡ None
+
+pub first_none : (refusal : Refusal) (b : Bool) (lines : List (Refusal × Bool)) → first_that_holds ((refusal, b) ∷ lines) ≡ None → NoneHolds b lines
+first_none refusal true lines h = absurd (some_none h)
+  where
+    some_none : Some refusal ≡ None → ⊥
+    some_none e = cc
+first_none refusal false lines h = record { first = refl; rest = h }

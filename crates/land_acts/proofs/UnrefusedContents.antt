@@ -1,0 +1,92 @@
+-- What holds where a transfer, a mortgage or a discharge is not refused.
+use Rattle.std.proofs.Common.{◌≡◌, Bool, true, false, ◌||◌, not, Option, Some, None, List, [], ◌∷◌, refl, sym, ap, ◌∙◌}
+use Rattle.std.specs.Prelude.{ℤ, is_none}
+use Rattle.std.specs.Option.{option_map_or}
+use Rattle.std.proofs.lemmas.Bool.{false≢true}
+use Rattle.land_acts.proofs.Refusals.{first_none}
+use Rattle.land_acts.specs.Mutations.Asking.{content_refusals}
+use Rattle.land_acts.specs.Mutations.Discharging.{has_entry_in, has_mortgage}
+use Rattle.land_acts.specs.Mutations.Planning.{would_crowd, first_that_holds, lacks_numbers}
+use Rattle.land_acts.specs.Mutations.Transferring.{are_too_fine, are_too_many, has_right_where, held_at, is_itself, is_too_large}
+use Rattle.land_acts.specs.declared.mutations.refusal.Refusal.{Refusal}
+use Rattle.land_acts.specs.declared.mutations.refusal.Refusal.TheVariants.{NoSuchUnit, NoSuchRight, NoSuchParty, ShareTooLarge, SharesTooFine, TooMany, NotBank, NotMortgage, ClockOut, SameParty}
+use Rattle.land_acts.specs.declared.mutations.transfer.Held.{Held}
+use Rattle.land_core.proofs.Booleans.{not_false, or_false}
+use Rattle.land_core.specs.Entries.{has}
+use Rattle.land_core.specs.Register.{holds}
+use Rattle.land_core.specs.declared.content.Content.TheVariants as content
+use Rattle.land_core.specs.declared.content.Discharge.{Discharge}
+use Rattle.land_core.specs.declared.content.Mortgage.{Mortgage}
+use Rattle.land_core.specs.declared.content.Transfer.{Transfer}
+use Rattle.land_core.specs.declared.register.Register.{Register}
+use Rattle.land_core.specs.declared.role.Role.TheVariants.{Bank}
+
+pub record IsUnrefusedMove (r : Register) (it : Transfer) : Type 0 where
+  pub from : Held
+  pub held : held_at r it.unit it.right ≡ Some from
+  pub unit : has r.units it.unit ≡ true
+  pub receiver : has r.parties it.receiver ≡ true
+  pub not_large : is_too_large r it from ≡ false
+  pub not_fine : are_too_fine r it from ≡ false
+  pub not_many : are_too_many r it from ≡ false
+  pub other : is_itself it from ≡ false
+
+-- a test of the right that fails, where the right stands
+fails_at : (r : Register) (it : Transfer) (test : Held → Bool) (from : Held) → held_at r it.unit it.right ≡ Some from → has_right_where test r it ≡ false → test from ≡ false
+fails_at r it test from e fails = sym (ap (λ o. option_map_or test o false) e) ∙ fails
+
+pub unrefused_move : (r : Register) (it : Transfer) (stamp : Option ℤ) → first_that_holds (content_refusals r (content.Transfer it) stamp) ≡ None → IsUnrefusedMove r it
+unrefused_move r it stamp none =
+    let last : List (Refusal × Bool) = (ClockOut, is_none stamp) ∷ (SameParty, has_right_where (is_itself it) r it) ∷ [] in
+    let fourth : List (Refusal × Bool) = (TooMany, has_right_where (are_too_many r it) r it) ∷ last in
+    let third : List (Refusal × Bool) = (SharesTooFine, has_right_where (are_too_fine r it) r it) ∷ fourth in
+    let second : List (Refusal × Bool) = (ShareTooLarge, has_right_where (is_too_large r it) r it) ∷ third in
+    let first : List (Refusal × Bool) = (NoSuchParty, not (has r.parties it.receiver)) ∷ second in
+    let unit = first_none NoSuchUnit (not (has r.units it.unit)) ((NoSuchRight, is_none (held_at r it.unit it.right)) ∷ first) none in
+    let right = first_none NoSuchRight (is_none (held_at r it.unit it.right)) first unit.rest in
+    let party = first_none NoSuchParty (not (has r.parties it.receiver)) second right.rest in
+    let large = first_none ShareTooLarge (has_right_where (is_too_large r it) r it) third party.rest in
+    let fine = first_none SharesTooFine (has_right_where (are_too_fine r it) r it) fourth large.rest in
+    let many = first_none TooMany (has_right_where (are_too_many r it) r it) last fine.rest in
+    let late = first_none ClockOut (is_none stamp) ((SameParty, has_right_where (is_itself it) r it) ∷ []) many.rest in
+    let itself = first_none SameParty (has_right_where (is_itself it) r it) [] late.rest in
+    found (not_false _ unit.first) right.first (not_false _ party.first) large.first fine.first many.first itself.first (held_at r it.unit it.right) refl
+  where
+    found : has r.units it.unit ≡ true → is_none (held_at r it.unit it.right) ≡ false → has r.parties it.receiver ≡ true → has_right_where (is_too_large r it) r it ≡ false
+        → has_right_where (are_too_fine r it) r it ≡ false → has_right_where (are_too_many r it) r it ≡ false → has_right_where (is_itself it) r it ≡ false
+        → (o : Option Held) → held_at r it.unit it.right ≡ o → IsUnrefusedMove r it
+    found unit right party large fine many itself None e = absurd (false≢true (sym right ∙ ap is_none e))
+    found unit right party large fine many itself (Some from) e = record {
+      from = from;
+      held = e;
+      unit = unit;
+      receiver = party;
+      not_large = fails_at r it (is_too_large r it) from e large;
+      not_fine = fails_at r it (are_too_fine r it) from e fine;
+      not_many = fails_at r it (are_too_many r it) from e many;
+      other = fails_at r it (is_itself it) from e itself;
+    }
+
+-- ---- what holds where a mortgage and a discharge are not refused
+
+pub record IsUnrefusedMortgage (r : Register) (it : Mortgage) : Type 0 where
+  pub unit : has r.units it.unit ≡ true
+  pub creditor : has r.parties it.creditor ≡ true
+  pub room : lacks_numbers r 1 ≡ false
+  pub few : would_crowd r it.unit 1 ≡ false
+
+pub unrefused_mortgage : (r : Register) (it : Mortgage) (stamp : Option ℤ) → first_that_holds (content_refusals r (content.Mortgage it) stamp) ≡ None → IsUnrefusedMortgage r it
+unrefused_mortgage r it stamp none =
+    let many = lacks_numbers r 1 || would_crowd r it.unit 1 in
+    let bank = not (holds r it.creditor Bank) in
+    let unit = first_none NoSuchUnit (not (has r.units it.unit)) ((NoSuchParty, not (has r.parties it.creditor)) ∷ (TooMany, many) ∷ (NotBank, bank) ∷ (ClockOut, is_none stamp) ∷ []) none in
+    let party = first_none NoSuchParty (not (has r.parties it.creditor)) ((TooMany, many) ∷ (NotBank, bank) ∷ (ClockOut, is_none stamp) ∷ []) unit.rest in
+    let room = or_false (lacks_numbers r 1) (would_crowd r it.unit 1) (first_none TooMany many ((NotBank, bank) ∷ (ClockOut, is_none stamp) ∷ []) party.rest).first in
+    record { unit = not_false _ unit.first; creditor = not_false _ party.first; room = room.0; few = room.1 }
+
+pub unrefused_discharge : (r : Register) (it : Discharge) (stamp : Option ℤ) → first_that_holds (content_refusals r (content.Discharge it) stamp) ≡ None → has_mortgage r it.mortgage ≡ true
+unrefused_discharge r it stamp none =
+    let mortgage = not (has_mortgage r it.mortgage) in
+    let unit = first_none NoSuchUnit (not (has r.units it.unit)) ((NoSuchRight, not (has_entry_in r it.unit it.mortgage)) ∷ (NotMortgage, mortgage) ∷ (ClockOut, is_none stamp) ∷ []) none in
+    let entry = first_none NoSuchRight (not (has_entry_in r it.unit it.mortgage)) ((NotMortgage, mortgage) ∷ (ClockOut, is_none stamp) ∷ []) unit.rest in
+    not_false _ (first_none NotMortgage mortgage ((ClockOut, is_none stamp) ∷ []) entry.rest).first

@@ -1,0 +1,37 @@
+-- Discharging: a mortgage ends.
+use Rattle.std.specs.Prelude.{ℕ, ℤ, Bool, false, not, nat_eq, List, [], ◌∷◌, Option, is_none, is_some}
+use Rattle.std.specs.Option.{option_map_or}
+use Rattle.std.specs.FinMap as map
+use Rattle.land_acts.specs.declared.mutations.refusal.Refusal.{Refusal}
+use Rattle.land_acts.specs.declared.mutations.refusal.Refusal.TheVariants.{NoSuchUnit, NoSuchRight, NotMortgage, ClockOut}
+use Rattle.land_core.specs.Changes.{no_put, no_ended}
+use Rattle.land_core.specs.Entries.{has}
+use Rattle.land_core.specs.Units.{rank_of}
+use Rattle.land_core.specs.declared.change.Change.{Change}
+use Rattle.land_core.specs.declared.content.Discharge.{Discharge}
+use Rattle.land_core.specs.declared.register.Register.{Register}
+
+-- whether an entry of a unit stands at a number
+abbrev pub has_entry_in : Register → (unit number : ℕ) → Bool
+has_entry_in r unit n = option_map_or (λ e. nat_eq e.unit unit) (map.get r.rrrs n) false
+
+-- whether a mortgage stands at a number
+abbrev pub has_mortgage : Register → ℕ → Bool
+has_mortgage r n = option_map_or (λ e. is_some (rank_of e.class)) (map.get r.rrrs n) false
+
+-- its refusals, each with whether its condition holds, the least number first
+abbrev pub discharge_refusals : Register → Discharge → Option ℤ → List (Refusal × Bool)
+discharge_refusals r it stamp =
+    (NoSuchUnit, not (has r.units it.unit))
+    ∷ (NoSuchRight, not (has_entry_in r it.unit it.mortgage))
+    ∷ (NotMortgage, not (has_mortgage r it.mortgage))
+    ∷ (ClockOut, is_none stamp)
+    ∷ []
+
+-- the mortgage ends
+abbrev pub discharge_change : Register → Discharge → Change
+discharge_change r it = record {
+  put = no_put;
+  ended = record no_ended { rrrs = it.mortgage ∷ [] };
+  next = r.next;
+}

@@ -1,0 +1,53 @@
+-- What planning reads of a register, and what all plans have in common.
+use Rattle.std.specs.Prelude.{ℕ, ◌+◌, ℤ, Bool, List, [], ◌∷◌, Option, Some, None, nat_lt, if◌then◌else◌}
+use Rattle.land_acts.specs.declared.mutations.refusal.Refusal.{Refusal}
+use Rattle.land_acts.specs.declared.mutations.refusal.Refusal.TheVariants.{NotLodged, NoSuchUnit, NoSuchParcel, NoSuchRight, NoSuchParty, ShareTooLarge, SharesTooFine, UnlikeUnits, TooMany, NotBank, NotMortgage, SharesNotWhole, ReferenceUsed, RoleHeld, RoleNotHeld, ClockOut, LastAdministrator, SameParty, NotMatched, NoMemory}
+use Rattle.land_core.specs.Units.{rrr_count}
+use Rattle.land_core.specs.declared.change.Done.{Done}
+use Rattle.land_core.specs.declared.register.Register.{Register}
+use Rattle.land_core.specs.declared.source.SourceKind.{SourceKind}
+use Rattle.land_core.specs.declared.source.SourceRecord.{SourceRecord}
+
+-- the number that a caller is told for a refusal
+abbrev pub number_of : Refusal → ℕ
+number_of NotLodged = 201
+number_of NoSuchUnit = 202
+number_of NoSuchParcel = 203
+number_of NoSuchRight = 204
+number_of NoSuchParty = 205
+number_of ShareTooLarge = 206
+number_of SharesTooFine = 207
+number_of UnlikeUnits = 209
+number_of TooMany = 210
+number_of NotBank = 211
+number_of NotMortgage = 212
+number_of SharesNotWhole = 213
+number_of ReferenceUsed = 214
+number_of RoleHeld = 215
+number_of RoleNotHeld = 216
+number_of ClockOut = 217
+number_of LastAdministrator = 218
+number_of SameParty = 219
+number_of NotMatched = 220
+number_of NoMemory = 501
+
+-- whether there are too few numbers left for so many new objects: 1_000_000_000 is the last one
+abbrev pub lacks_numbers : Register → ℕ → Bool
+lacks_numbers r count = nat_lt 1000000001 (r.next + count)
+
+-- whether a unit would have more than 256 entries with so many more
+abbrev pub would_crowd : Register → (unit more : ℕ) → Bool
+would_crowd r unit more = nat_lt 256 (rrr_count r unit + more)
+
+-- the source that a document is, under its number (LA_AdministrativeSource, LA_SpatialSource)
+abbrev pub document_source : (number : ℕ) → SourceKind → (document : List ℕ) → List (ℕ × SourceRecord)
+document_source number kind document = (number, record { kind = kind; title = document }) ∷ []
+
+-- what is told of an act on an object that makes nothing
+abbrev pub told_of : (number : ℕ) → ℤ → Done
+told_of number stamp = record { number = number; made = []; stamp = stamp }
+
+-- of refusals, each with whether its condition holds, the first whose condition holds
+abbrev pub first_that_holds : List (Refusal × Bool) → Option Refusal
+first_that_holds [] = None
+first_that_holds (line ∷ lines) = if line.1 then Some line.0 else first_that_holds lines

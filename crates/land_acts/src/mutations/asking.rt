@@ -1,0 +1,83 @@
+//! What a mutation asks for, by its content: when that is refused, what it changes, and what it makes.
+ghost use Rattle.std.specs.Prelude.{◌≡◌, IfOk};
+ghost use Rattle.land_acts.specs.Mutations.Asking.{Fits, content_change, content_made, content_refusals, has_room};
+ghost use Rattle.land_acts.specs.Mutations.Planning.{first_that_holds};
+
+use crate::mutations::planning::{Slice, numbers_from};
+use crate::mutations::refusal::Refusal;
+use crate::mutations::{discharge, merge, mortgage, subdivide, transfer};
+use land_core::change::Change;
+use land_core::content::Content;
+use land_core::sequence::{NumberList, Sequence};
+use std::alloc::{AllocError, Global};
+
+/// The least refusal of what a content asks for whose condition holds. `stamp` is the moment of the change, in milliseconds
+/// since 1970 UTC; where there is none left, that is a refusal (217).
+pub fn refusal(
+    alloc: Global,
+    slice: &Slice,
+    content: &Content,
+    stamp: Option<i64>,
+) -> Result<Option<Refusal>, AllocError>
+    ensures { IfOk result (λ first. first ≡ first_that_holds (content_refusals slice.now content.now stamp)) }
+{
+    match content {
+        Content::Transfer(it) => transfer::refusal(alloc, slice, it, stamp),
+        Content::Subdivision(it) => subdivide::refusal(alloc, slice, it, stamp),
+        Content::Merger(it) => merge::refusal(alloc, slice, it, stamp),
+        Content::Mortgage(it) => Ok(mortgage::refusal(slice, it, stamp)),
+        Content::Discharge(it) => Ok(discharge::refusal(slice, it, stamp)),
+    }
+}
+
+/// What a content changes, with the mutation's source, where nothing refuses it.
+pub fn change(
+    alloc: Global,
+    slice: &Slice,
+    source: u64,
+    content: &Content,
+) -> Result<Change, AllocError>
+    requires { Fits slice.now content.now }
+    ensures { IfOk result (λ change. change ≡ content_change slice.now source content.now) }
+{
+    match content {
+        Content::Transfer(it) => match transfer::held_at(slice, it.unit, it.right) {
+            Some(from) => transfer::change(alloc, slice, source, it, &from),
+            None => Ok(Change::nothing(alloc, slice.next)),
+        },
+        Content::Subdivision(it) => subdivide::change(alloc, slice, source, it),
+        Content::Merger(it) => merge::change(alloc, slice, source, it),
+        Content::Mortgage(it) => mortgage::change(alloc, slice, source, it),
+        Content::Discharge(it) => discharge::change(alloc, slice, it),
+    }
+}
+
+/// The numbers of the objects that a content makes, where nothing refuses it.
+pub fn made(alloc: Global, slice: &Slice, content: &Content) -> Result<NumberList, AllocError>
+    requires { Fits slice.now content.now }
+    ensures { IfOk result (λ made. made ≡ content_made slice.now content.now) }
+{
+    match content {
+        Content::Transfer(it) => match transfer::held_at(slice, it.unit, it.right) {
+            Some(from) => transfer::made(alloc, slice, it, &from),
+            None => Ok(Sequence::new(alloc)),
+        },
+        Content::Subdivision(it) => {
+            numbers_from(alloc, slice.next, subdivide::count(slice, it) as u64)
+        }
+        Content::Merger(_) | Content::Mortgage(_) => Sequence::of_one(alloc, slice.next),
+        Content::Discharge(_) => Ok(Sequence::new(alloc)),
+    }
+}
+
+/// Whether the numbers that a register holds leave room for what a content makes. Those of a sound register always do;
+/// those that somebody wrote into a file may not.
+pub fn has_room(slice: &Slice, content: &Content) -> bool
+    ensures { result ≡ has_room slice.now content.now }
+{
+    slice.next <= 1_000_000_001
+        && match content {
+            Content::Mortgage(it) => mortgage::greatest_rank(slice, it.unit) < 1_000_000_000,
+            _ => true,
+        }
+}

@@ -1,0 +1,59 @@
+//! Discharging a mortgage.
+ghost use Rattle.std.specs.Prelude.{◌≡◌, IfOk};
+ghost use Rattle.land_acts.specs.Mutations.Discharging.{discharge_change, discharge_refusals, has_entry_in, has_mortgage};
+ghost use Rattle.land_acts.specs.Mutations.Planning.{first_that_holds};
+
+use crate::mutations::planning::Slice;
+use crate::mutations::refusal::Refusal;
+use land_core::change::Change;
+use land_core::content::Discharge;
+use land_core::kind::Kind;
+use land_core::sequence::Sequence;
+use std::alloc::{AllocError, Global};
+
+/// The least refusal of a discharge whose condition holds.
+pub(crate) fn refusal(slice: &Slice, it: &Discharge, stamp: Option<i64>) -> Option<Refusal>
+    ensures { result ≡ first_that_holds (discharge_refusals slice.now it.now stamp) }
+{
+    if !slice.stands(Kind::Unit, it.unit) {
+        Some(Refusal::NoSuchUnit)
+    } else if !has_entry_in(slice, it.unit, it.mortgage) {
+        Some(Refusal::NoSuchRight)
+    } else if !has_mortgage(slice, it.mortgage) {
+        Some(Refusal::NotMortgage)
+    } else if stamp.is_none() {
+        Some(Refusal::ClockOut)
+    } else {
+        None
+    }
+}
+
+/// Whether an entry of a unit stands at a number.
+fn has_entry_in(slice: &Slice, unit: u64, number: u64) -> bool
+    ensures { result ≡ has_entry_in slice.now unit number }
+{
+    match slice.rrrs.get(number) {
+        Some(entry) => entry.unit == unit,
+        None => false,
+    }
+}
+
+/// Whether a mortgage stands at a number.
+fn has_mortgage(slice: &Slice, number: u64) -> bool
+    ensures { result ≡ has_mortgage slice.now number }
+{
+    match slice.rrrs.get(number) {
+        Some(entry) => entry.class.rank().is_some(),
+        None => false,
+    }
+}
+
+/// The end of the mortgage.
+pub(crate) fn change(alloc: Global, slice: &Slice, it: &Discharge) -> Result<Change, AllocError>
+    ensures { IfOk result (λ change. change ≡ discharge_change slice.now it.now) }
+{
+    let rrrs = Sequence::of_one(alloc, it.mortgage)?;
+    let mut change = Change::nothing(alloc, slice.next);
+    change.ended.rrrs = rrrs;
+    Ok(change)
+}

@@ -1,0 +1,260 @@
+//! Merging parcels, and units with them.
+ghost use Rattle.std.specs.Prelude.{◌≡◌, ◌≤◌, ◌∷◌, [], not, nat_eq, IfOk};
+ghost use Rattle.std.specs.List.{list_all, list_any};
+ghost use Rattle.land_acts.specs.Mutations.Areas.{outlines_at};
+ghost use Rattle.land_acts.specs.Mutations.Grounds.{are_same_ground};
+ghost use Rattle.land_acts.specs.Mutations.Merging.{are_same_entries, entries_of_others, has_unlike, is_named, is_parcel_named, is_same_class, is_same_entry, is_same_mark, is_unlike, keeps_parcel, lacks_parcel, lacks_unit, merger_change, merger_refusals, times_in, would_have_more_parcels};
+ghost use Rattle.land_acts.specs.Mutations.Planning.{first_that_holds};
+ghost use Rattle.land_acts.specs.Mutations.Subdividing.{entries_of};
+ghost use Rattle.land_core.specs.Contents.{is_same_share};
+ghost use Rattle.land_core.specs.Entries.{has};
+
+use crate::mutations::grounds::{are_same_ground, outlines_at};
+use crate::mutations::planning::{Slice, lacks_numbers};
+use crate::mutations::refusal::Refusal;
+use crate::mutations::subdivide::parcels_beside;
+use crate::mutations::transfer::is_checked;
+use land_core::change::Change;
+use land_core::duplicate::Duplicate;
+use land_core::kind::Kind;
+use land_core::merger::{Merger, lists_number};
+use land_core::parcel::ParcelRecord;
+use land_core::rrr::{Class, RrrRecord};
+use land_core::sequence::{NumberList, Sequence};
+use land_fraction::Fraction;
+use land_shape::Ring;
+use std::alloc::{AllocError, Global};
+
+/// The least refusal of a merger whose condition holds.
+pub(crate) fn refusal(
+    alloc: Global,
+    slice: &Slice,
+    it: &Merger,
+    stamp: Option<i64>,
+) -> Result<Option<Refusal>, AllocError>
+    ensures { IfOk result (λ first. first ≡ first_that_holds (merger_refusals slice.now it.now stamp)) }
+{
+    let first = if lacks_unit(slice, it) {
+        Some(Refusal::NoSuchUnit)
+    } else if lacks_parcel(slice, it) {
+        Some(Refusal::NoSuchParcel)
+    } else if has_unlike(slice, it) {
+        Some(Refusal::UnlikeUnits)
+    } else if lacks_numbers(slice, 1) || would_have_more_parcels(slice, it) {
+        Some(Refusal::TooMany)
+    } else if stamp.is_none() {
+        Some(Refusal::ClockOut)
+    } else if !keeps_ground(alloc, slice, it)? {
+        Some(Refusal::NotMatched)
+    } else {
+        None
+    };
+    Ok(first)
+}
+
+/// Whether a unit that is named does not stand.
+fn lacks_unit(slice: &Slice, it: &Merger) -> bool
+    ensures { result ≡ lacks_unit slice.now it.now }
+{
+    !slice.stands(Kind::Unit, it.unit) || lacks_other(slice, it.others.as_slice())
+}
+
+/// Whether one of some units does not stand.
+fn lacks_other(slice: &Slice, others: &[u64]) -> bool
+    ensures { result ≡ list_any (λ n. not (has slice.now.units n)) others.now }
+{
+    others.iter().any(|other| !slice.stands(Kind::Unit, *other))
+}
+
+/// Whether a number that is named has no parcel of a unit that is named.
+fn lacks_parcel(slice: &Slice, it: &Merger) -> bool
+    ensures { result ≡ lacks_parcel slice.now it.now }
+{
+    it.parcels
+        .as_slice()
+        .iter()
+        .any(|number| !is_parcel_named(slice, it, *number))
+}
+
+/// Whether a parcel of a unit that is named stands at a number.
+fn is_parcel_named(slice: &Slice, it: &Merger, number: u64) -> bool
+    ensures { result ≡ is_parcel_named slice.now it.now number }
+{
+    match slice.parcels.get(number) {
+        Some(parcel) => is_named(it, parcel.unit),
+        None => false,
+    }
+}
+
+/// Whether a unit is named.
+fn is_named(it: &Merger, unit: u64) -> bool
+    ensures { result ≡ is_named it.now unit }
+{
+    unit == it.unit || lists_number(it.others.as_slice(), unit)
+}
+
+/// Whether the new outline is the ground of the parcels.
+fn keeps_ground(alloc: Global, slice: &Slice, it: &Merger) -> Result<bool, AllocError>
+    ensures { IfOk result (λ same. same ≡ are_same_ground (outlines_at slice.now it.now.parcels) (it.now.outline ∷ [])) }
+{
+    let old = outlines_at(alloc, slice, it.parcels.as_slice())?;
+    let new = Sequence::of_one(alloc, Ring::copy(&it.outline)?)?;
+    are_same_ground(alloc, old.as_slice(), new.as_slice())
+}
+
+/// Whether another unit can not end with the unit.
+fn has_unlike(slice: &Slice, it: &Merger) -> bool
+    ensures { result ≡ has_unlike slice.now it.now }
+{
+    it.others
+        .as_slice()
+        .iter()
+        .any(|other| is_unlike(slice, it, *other))
+}
+
+/// Whether another unit would keep a parcel, is checked where the unit is not or not where it is, or has other entries.
+fn is_unlike(slice: &Slice, it: &Merger, other: u64) -> bool
+    ensures { result ≡ is_unlike slice.now it.now other }
+{
+    keeps_parcel(slice, it, other)
+        || !is_same_mark(is_checked(slice, other), is_checked(slice, it.unit))
+        || !are_same_entries(slice, other, it.unit)
+}
+
+/// Whether a unit would keep a parcel.
+fn keeps_parcel(slice: &Slice, it: &Merger, unit: u64) -> bool
+    ensures { result ≡ keeps_parcel slice.now it.now unit }
+{
+    0 < parcels_beside(slice, unit, it.parcels.as_slice())
+}
+
+/// Whether two units are both checked, or both not.
+fn is_same_mark(checked: bool, other: bool) -> bool
+    ensures { result ≡ is_same_mark checked other }
+{
+    checked == other
+}
+
+/// Whether two units have the same entries, each as often.
+fn are_same_entries(slice: &Slice, unit: u64, other: u64) -> bool
+    ensures { result ≡ are_same_entries (entries_of slice.now unit) (entries_of slice.now other) }
+{
+    are_as_often(slice, unit, unit, other) && are_as_often(slice, other, unit, other)
+}
+
+/// Whether each entry of a unit stands as often in one unit as in another.
+fn are_as_often(slice: &Slice, listed: u64, unit: u64, other: u64) -> bool
+    ensures { result ≡ list_all (λ e. nat_eq (times_in (entries_of slice.now unit) e) (times_in (entries_of slice.now other) e)) (entries_of slice.now listed) }
+{
+    slice
+        .rrrs
+        .iter()
+        .filter(|(_, entry)| entry.unit == listed)
+        .all(|(_, entry)| times_in(slice, unit, entry) == times_in(slice, other, entry))
+}
+
+/// How often an entry stands in a unit.
+fn times_in(slice: &Slice, unit: u64, it: &RrrRecord) -> usize
+    ensures { result ≡ times_in (entries_of slice.now unit) it.now }
+{
+    slice
+        .rrrs
+        .iter()
+        .filter(|(_, entry)| entry.unit == unit && is_same_entry(it, entry))
+        .count()
+}
+
+/// Whether two entries say the same: all but number, unit and source.
+fn is_same_entry(it: &RrrRecord, other: &RrrRecord) -> bool
+    ensures { result ≡ is_same_entry it.now other.now }
+{
+    it.party == other.party && is_same_class(&it.class, &other.class)
+}
+
+fn is_same_class(class: &Class, other: &Class) -> bool
+    ensures { result ≡ is_same_class class.now other.now }
+{
+    match (class, other) {
+        (
+            Class::Right { right_type, share },
+            Class::Right {
+                right_type: other,
+                share: part,
+            },
+        ) => right_type.is(*other) && is_same_share(*share, *part),
+        (Class::Restriction { words }, Class::Restriction { words: other }) => {
+            words.as_str() == other.as_str()
+        }
+        (Class::Responsibility { words }, Class::Responsibility { words: other }) => {
+            words.as_str() == other.as_str()
+        }
+        (
+            Class::Mortgage {
+                amount,
+                currency,
+                rank,
+            },
+            Class::Mortgage {
+                amount: sum,
+                currency: coin,
+                rank: place,
+            },
+        ) => amount == sum && currency.as_str() == coin.as_str() && rank == place,
+        _ => false,
+    }
+}
+
+/// Whether two shares are the same: they are in lowest terms.
+fn is_same_share(share: Fraction, other: Fraction) -> bool
+    ensures { result ≡ is_same_share share other }
+{
+    share.numerator() == other.numerator() && share.denominator() == other.denominator()
+}
+
+/// Whether the unit would have more than 256 parcels.
+fn would_have_more_parcels(slice: &Slice, it: &Merger) -> bool
+    ensures { result ≡ would_have_more_parcels slice.now it.now }
+{
+    256 <= parcels_beside(slice, it.unit, it.parcels.as_slice())
+}
+
+/// The new parcel in place of the parcels; the other units end with their entries.
+pub(crate) fn change(
+    alloc: Global,
+    slice: &Slice,
+    source: u64,
+    it: &Merger,
+) -> Result<Change, AllocError>
+    requires { slice.now.next ≤ 1_000_000_000 }
+    ensures { IfOk result (λ change. change ≡ merger_change slice.now source it.now) }
+{
+    let parcel = ParcelRecord {
+        unit: it.unit,
+        label: it.label.copy(alloc)?,
+        outline: Ring::copy(&it.outline)?,
+        source,
+    };
+    let parcels = Sequence::of_one(alloc, (slice.next, parcel))?;
+    let ended_units = it.others.copy(alloc)?;
+    let ended_parcels = it.parcels.copy(alloc)?;
+    let ended_rrrs = entries_of_others(alloc, slice, it)?;
+    let mut change = Change::nothing(alloc, slice.next + 1);
+    change.put.parcels = parcels;
+    change.ended.units = ended_units;
+    change.ended.parcels = ended_parcels;
+    change.ended.rrrs = ended_rrrs;
+    Ok(change)
+}
+
+/// The numbers of the entries of the other units.
+fn entries_of_others(alloc: Global, slice: &Slice, it: &Merger) -> Result<NumberList, AllocError>
+    ensures { IfOk result (λ ended. ended ≡ entries_of_others slice.now it.now) }
+{
+    let mut ended = Sequence::new(alloc);
+    for (number, entry) in slice.rrrs.iter() {
+        if lists_number(it.others.as_slice(), entry.unit) {
+            ended.push(*number)?;
+        }
+    }
+    Ok(ended)
+}

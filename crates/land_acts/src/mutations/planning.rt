@@ -1,0 +1,66 @@
+//! What all plans have in common.
+ghost use Rattle.std.specs.Prelude.{◌≡◌, ◌≤◌, ◌+◌, IfOk};
+ghost use Rattle.land_acts.specs.Mutations.Numbering.{numbers_from};
+ghost use Rattle.land_acts.specs.Mutations.Planning.{document_source, lacks_numbers, told_of, would_crowd};
+
+use land_core::change::Done;
+use land_core::contents::rrr_count;
+use land_core::duplicate::Duplicate;
+use land_core::register::Register;
+use land_core::sequence::{NumberList, Sequence};
+use land_core::source::{SourceKind, SourceRecord};
+use land_core::text::Text;
+use std::alloc::{AllocError, Global};
+
+/// A register with only the records that planning may look at.
+pub type Slice = Register;
+
+/// Whether there are too few numbers left for so many new objects.
+pub fn lacks_numbers(slice: &Slice, count: u128) -> bool
+    ensures { result ≡ lacks_numbers slice.now count }
+{
+    1_000_000_001 < u128::from(slice.next).saturating_add(count)
+}
+
+/// Whether a unit would have more than 256 entries with one more.
+pub fn would_crowd(slice: &Slice, unit: u64) -> bool
+    ensures { result ≡ would_crowd slice.now unit 1 }
+{
+    256 <= rrr_count(slice, unit)
+}
+
+/// So many numbers from `first` on.
+pub fn numbers_from(alloc: Global, first: u64, count: u64) -> Result<NumberList, AllocError>
+    requires { first + count ≤ 1_000_000_001 }
+    ensures { IfOk result (λ it. it ≡ numbers_from first count) }
+{
+    let numbers = (first..first + count).collect::<Vec<u64>>(alloc)?;
+    Ok(Sequence::from_vec(numbers))
+}
+
+/// The source that a document is, under its number.
+pub fn document_source(
+    alloc: Global,
+    number: u64,
+    kind: SourceKind,
+    document: &Text,
+) -> Result<Sequence<(u64, SourceRecord)>, AllocError>
+    ensures { IfOk result (λ it. it ≡ document_source number kind document.now) }
+{
+    let record = SourceRecord {
+        kind,
+        title: document.copy(alloc)?,
+    };
+    Sequence::of_one(alloc, (number, record))
+}
+
+/// What is told of an act on an object that makes nothing. It takes no memory.
+pub fn told_of(alloc: Global, number: u64, stamp: i64) -> Done
+    ensures { result ≡ told_of number stamp }
+{
+    Done {
+        number,
+        made: Sequence::new(alloc),
+        stamp,
+    }
+}

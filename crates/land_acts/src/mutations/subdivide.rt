@@ -1,0 +1,260 @@
+//! Subdividing a parcel.
+ghost use Rattle.std.specs.Prelude.{◌≡◌, ◌≤◌, ◌<◌, ◌+◌, ◌^◌, ◌∷◌, ◌++◌, [], length, map as map_list, IfOk, OnOk};
+ghost use Rattle.std.specs.Option.{option_map_or};
+ghost use Rattle.land_acts.specs.Mutations.Areas.{outlines_at};
+ghost use Rattle.land_acts.specs.Mutations.Grounds.{are_same_ground};
+ghost use Rattle.land_acts.specs.Mutations.Numbering.{numbered};
+ghost use Rattle.land_acts.specs.Mutations.Planning.{first_that_holds};
+ghost use Rattle.land_acts.specs.Mutations.Subdividing.{all_parts, copies_made, entries_of, has_parcel_in, in_unit, origin_of, outlines_of, parcels_beside, parcels_made, staying, subdivision_change, subdivision_count, subdivision_refusals, units_made, would_have_many_parcels};
+
+use crate::mutations::grounds::{are_same_ground, outlines_at, outlines_of_parts};
+use crate::mutations::planning::{Slice, lacks_numbers};
+use crate::mutations::refusal::Refusal;
+use crate::mutations::transfer::is_checked;
+use land_core::change::Change;
+use land_core::contents::rrr_count;
+use land_core::duplicate::Duplicate;
+use land_core::kind::Kind;
+use land_core::merger::lists_number;
+use land_core::parcel::ParcelRecord;
+use land_core::rrr::RrrRecord;
+use land_core::sequence::Sequence;
+use land_core::subdivision::{Part, Subdivision};
+use land_core::text::Text;
+use land_core::unit::UnitRecord;
+use land_shape::Ring;
+use std::alloc::{AllocError, Global};
+
+/// The least refusal of a subdivision whose condition holds.
+pub(crate) fn refusal(
+    alloc: Global,
+    slice: &Slice,
+    it: &Subdivision,
+    stamp: Option<i64>,
+) -> Result<Option<Refusal>, AllocError>
+    ensures { IfOk result (λ first. first ≡ first_that_holds (subdivision_refusals slice.now it.now stamp)) }
+{
+    let first = if !slice.stands(Kind::Unit, it.unit) {
+        Some(Refusal::NoSuchUnit)
+    } else if !has_parcel_in(slice, it.unit, it.parcel) {
+        Some(Refusal::NoSuchParcel)
+    } else if lacks_numbers(slice, count(slice, it)) || would_have_many_parcels(slice, it) {
+        Some(Refusal::TooMany)
+    } else if stamp.is_none() {
+        Some(Refusal::ClockOut)
+    } else if !keeps_ground(alloc, slice, it)? {
+        Some(Refusal::NotMatched)
+    } else {
+        None
+    };
+    Ok(first)
+}
+
+/// Whether a parcel of a unit stands at a number.
+fn has_parcel_in(slice: &Slice, unit: u64, number: u64) -> bool
+    ensures { result ≡ has_parcel_in slice.now unit number }
+{
+    match slice.parcels.get(number) {
+        Some(parcel) => parcel.unit == unit,
+        None => false,
+    }
+}
+
+/// Whether the parts are the ground of the parcel.
+fn keeps_ground(alloc: Global, slice: &Slice, it: &Subdivision) -> Result<bool, AllocError>
+    ensures { IfOk result (λ same. same ≡ are_same_ground (outlines_at slice.now (it.now.parcel ∷ [])) (outlines_of (all_parts it.now))) }
+{
+    let old = outlines_at(alloc, slice, &[it.parcel])?;
+    let new = outlines_of_parts(alloc, it)?;
+    are_same_ground(alloc, old.as_slice(), new.as_slice())
+}
+
+/// How many objects are new.
+pub(crate) fn count(slice: &Slice, it: &Subdivision) -> u128
+    ensures { result ≡ subdivision_count slice.now it.now }
+{
+    let copies = rrr_count(slice, it.unit) as u128;
+    let mut count = 1;
+    for part in it.rest.as_slice() {
+        count += numbers_for(copies, &part.unit);
+    }
+    count
+}
+
+/// How many numbers a part takes: its parcel's, and with a new unit, the unit's and those of the copied entries.
+fn numbers_for(copies: u128, new_unit: &Option<Text>) -> u128
+    requires { copies < 2 ^ 64 }
+    ensures { result ≡ option_map_or (λ name. 2 + copies) new_unit.now 1 }
+{
+    match new_unit {
+        Some(_) => 2 + copies,
+        None => 1,
+    }
+}
+
+/// Whether the unit would have more than 256 parcels.
+fn would_have_many_parcels(slice: &Slice, it: &Subdivision) -> bool
+    ensures { result ≡ would_have_many_parcels slice.now it.now }
+{
+    let standing = parcels_beside(slice, it.unit, &[it.parcel]) as u128;
+    256 < standing + (staying(it.rest.as_slice()) as u128 + 1)
+}
+
+/// How many parts stay in the unit.
+fn staying(parts: &[Part]) -> usize
+    ensures { result ≡ staying parts.now }
+{
+    parts.iter().filter(|part| part.unit.is_none()).count()
+}
+
+/// How many parcels of a unit stand, beside some that end.
+pub(crate) fn parcels_beside(slice: &Slice, unit: u64, ended: &[u64]) -> usize
+    ensures { result ≡ parcels_beside slice.now unit ended.now }
+{
+    slice
+        .parcels
+        .iter()
+        .filter(|(number, parcel)| parcel.unit == unit && !lists_number(ended, **number))
+        .count()
+}
+
+/// The parts in place of the parcel, with their units and the entries of these.
+pub(crate) fn change(
+    alloc: Global,
+    slice: &Slice,
+    source: u64,
+    it: &Subdivision,
+) -> Result<Change, AllocError>
+    requires { slice.now.next + subdivision_count slice.now it.now ≤ 1_000_000_001 }
+    ensures { IfOk result (λ change. change ≡ subdivision_change slice.now source it.now) }
+{
+    let units = units_made(alloc, slice, it)?;
+    let parcels = parcels_made(alloc, slice, source, it)?;
+    let rrrs = copies_made(alloc, slice, it)?;
+    let ended = Sequence::of_one(alloc, it.parcel)?;
+    let mut change = Change::nothing(alloc, slice.next + count(slice, it) as u64);
+    change.put.units = units;
+    change.put.parcels = parcels;
+    change.put.rrrs = rrrs;
+    change.ended.parcels = ended;
+    Ok(change)
+}
+
+/// The new units.
+fn units_made(
+    alloc: Global,
+    slice: &Slice,
+    it: &Subdivision,
+) -> Result<Sequence<(u64, UnitRecord)>, AllocError>
+    requires { slice.now.next + subdivision_count slice.now it.now ≤ 1_000_000_001 }
+    ensures { IfOk result (λ units. units ≡ units_made (origin_of slice.now 0 it.now) slice.now.next (all_parts it.now)) }
+{
+    let checked = is_checked(slice, it.unit);
+    let copies = rrr_count(slice, it.unit) as u128;
+    let mut units = Sequence::new(alloc);
+    let mut number = slice.next + 1;
+    for part in it.rest.as_slice() {
+        if let Some(name) = &part.unit {
+            let name = name.copy(alloc)?;
+            units.push((number, UnitRecord { name, checked }))?;
+        }
+        number += numbers_for(copies, &part.unit) as u64;
+    }
+    Ok(units)
+}
+
+/// The parts, each in its unit.
+fn parcels_made(
+    alloc: Global,
+    slice: &Slice,
+    source: u64,
+    it: &Subdivision,
+) -> Result<Sequence<(u64, ParcelRecord)>, AllocError>
+    requires { slice.now.next + subdivision_count slice.now it.now ≤ 1_000_000_001 }
+    ensures { IfOk result (λ parcels. parcels ≡ parcels_made (origin_of slice.now source it.now) slice.now.next (all_parts it.now)) }
+{
+    let copies = rrr_count(slice, it.unit) as u128;
+    let first = parcel_in(alloc, it.unit, source, &it.first.label, &it.first.outline)?;
+    let mut parcels = Sequence::of_one(alloc, (slice.next, first))?;
+    let mut number = slice.next + 1;
+    for part in it.rest.as_slice() {
+        let (parcel, unit) = match &part.unit {
+            Some(_) => (number + 1, number),
+            None => (number, it.unit),
+        };
+        let record = parcel_in(alloc, unit, source, &part.label, &part.outline)?;
+        parcels.push((parcel, record))?;
+        number += numbers_for(copies, &part.unit) as u64;
+    }
+    Ok(parcels)
+}
+
+/// A parcel in a unit, from a source.
+fn parcel_in(
+    alloc: Global,
+    unit: u64,
+    source: u64,
+    label: &Text,
+    outline: &Ring,
+) -> Result<ParcelRecord, AllocError>
+    ensures { IfOk result (λ parcel. parcel ≡ record { unit = unit; label = label.now; outline = outline.now; source = source }) }
+{
+    Ok(ParcelRecord {
+        unit,
+        label: label.copy(alloc)?,
+        outline: Ring::copy(outline)?,
+        source,
+    })
+}
+
+/// The entries of the new units.
+fn copies_made(
+    alloc: Global,
+    slice: &Slice,
+    it: &Subdivision,
+) -> Result<Sequence<(u64, RrrRecord)>, AllocError>
+    requires { slice.now.next + subdivision_count slice.now it.now ≤ 1_000_000_001 }
+    ensures { IfOk result (λ copies. copies ≡ copies_made (origin_of slice.now 0 it.now) slice.now.next (all_parts it.now)) }
+{
+    let copies = rrr_count(slice, it.unit) as u128;
+    let mut rrrs = Sequence::new(alloc);
+    let mut number = slice.next + 1;
+    for part in it.rest.as_slice() {
+        if part.unit.is_some() {
+            push_copies(alloc, &mut rrrs, slice, it.unit, number)?;
+        }
+        number += numbers_for(copies, &part.unit) as u64;
+    }
+    Ok(rrrs)
+}
+
+/// Appends copies of the entries of a unit as they stand in a new one, under the numbers after those of the new unit and its
+/// parcel.
+fn push_copies(
+    alloc: Global,
+    rrrs: &mut Sequence<(u64, RrrRecord)>,
+    slice: &Slice,
+    unit: u64,
+    new_unit: u64,
+) -> Result<(), AllocError>
+    requires { new_unit + 2 + length (entries_of slice.now unit) ≤ 1_000_000_001 }
+    ensures { OnOk result (rrrs.new ≡ rrrs.old ++ numbered (new_unit + 2) (map_list (in_unit new_unit) (entries_of slice.now unit))) }
+{
+    let mut number = new_unit + 2;
+    for (_, entry) in slice.rrrs.iter() {
+        if entry.unit == unit {
+            rrrs.push((number, in_unit(alloc, new_unit, entry)?))?;
+            number += 1;
+        }
+    }
+    Ok(())
+}
+
+/// A copy of an entry, as it stands in another unit.
+fn in_unit(alloc: Global, unit: u64, entry: &RrrRecord) -> Result<RrrRecord, AllocError>
+    ensures { IfOk result (λ copy. copy ≡ in_unit unit entry.now) }
+{
+    let mut copy = entry.copy(alloc)?;
+    copy.unit = unit;
+    Ok(copy)
+}

@@ -1,0 +1,425 @@
+//! Transferring a share of a unit.
+ghost use Rattle.std.specs.Prelude.{◌≡◌, ◌≤◌, ◌++◌, ◌∷◌, [], nat_lt, false, is_none, IfOk, OnOk};
+ghost use Rattle.std.specs.Option.{option_map_or};
+ghost use Rattle.land_acts.specs.Mutations.Planning.{first_that_holds};
+ghost use Rattle.land_acts.specs.Mutations.Transferring.{are_too_fine, are_too_fine_after, are_too_many, given_up, grows_at, held_at, held_by, held_in, held_of, is_above, is_above_one, is_checked, is_held_by, is_itself, is_too_fine, is_too_large, kept, move_change, new_rights, number_after, received, right_entry, share_grown, share_left, transfer_refusals};
+ghost use Rattle.land_acts.specs.declared.mutations.refusal.Refusal.TheVariants.{ClockOut, SameParty};
+ghost use Rattle.land_core.specs.Changes.{after};
+ghost use Rattle.land_core.specs.Units.{rrr_count, type_shares};
+ghost use Rattle.land_fraction.specs.Wholeness.{common_of};
+
+use crate::mutations::planning::{Slice, lacks_numbers};
+use crate::mutations::refusal::Refusal;
+use land_core::change::Change;
+use land_core::content::Transfer;
+use land_core::contents::{rrr_count, type_shares};
+use land_core::kind::Kind;
+use land_core::rrr::{Class, RightType, RrrRecord};
+use land_core::sequence::{NumberList, Sequence};
+use land_fraction::{Fraction, FractionFault, common};
+use std::alloc::{AllocError, Global};
+use std::cmp::Ordering;
+
+/// A right as a transfer meets it.
+#[derive(Clone, Copy, Debug)]
+pub struct Held {
+    /// The number of the entry.
+    pub number: u64,
+    /// Who holds it.
+    pub party: u64,
+    /// Its type.
+    pub right_type: RightType,
+    /// Its share.
+    pub share: Fraction,
+}
+
+/// The least refusal of a transfer whose condition holds.
+pub(crate) fn refusal(
+    alloc: Global,
+    slice: &Slice,
+    it: &Transfer,
+    stamp: Option<i64>,
+) -> Result<Option<Refusal>, AllocError>
+    ensures { IfOk result (λ first. first ≡ first_that_holds (transfer_refusals slice.now it.now stamp)) }
+{
+    if !slice.stands(Kind::Unit, it.unit) {
+        return Ok(Some(Refusal::NoSuchUnit));
+    }
+    let Some(from) = held_at(slice, it.unit, it.right) else {
+        return Ok(Some(Refusal::NoSuchRight));
+    };
+    if !slice.stands(Kind::Party, it.receiver) {
+        return Ok(Some(Refusal::NoSuchParty));
+    }
+    if is_too_large(slice, it, &from) {
+        return Ok(Some(Refusal::ShareTooLarge));
+    }
+    if are_too_fine(alloc, slice, it, &from)? {
+        return Ok(Some(Refusal::SharesTooFine));
+    }
+    if are_too_many(alloc, slice, it, &from)? {
+        return Ok(Some(Refusal::TooMany));
+    }
+    Ok(last_refusal(it, &from, stamp))
+}
+
+/// The refusals that come after the count of objects.
+fn last_refusal(it: &Transfer, from: &Held, stamp: Option<i64>) -> Option<Refusal>
+    ensures { result ≡ first_that_holds ((ClockOut, is_none stamp) ∷ (SameParty, is_itself it.now from.now) ∷ []) }
+{
+    if stamp.is_none() {
+        Some(Refusal::ClockOut)
+    } else if is_itself(it, from) {
+        Some(Refusal::SameParty)
+    } else {
+        None
+    }
+}
+
+// ---- the rights that a transfer meets
+
+/// The right of a unit that stands at a number.
+pub(crate) fn held_at(slice: &Slice, unit: u64, number: u64) -> Option<Held>
+    ensures { result ≡ held_at slice.now unit number }
+{
+    match slice.rrrs.get(number) {
+        Some(entry) => held_in(unit, number, entry),
+        None => None,
+    }
+}
+
+/// The right that an entry is, where it is one of the unit.
+fn held_in(unit: u64, number: u64, entry: &RrrRecord) -> Option<Held>
+    ensures { result ≡ held_in unit number entry.now }
+{
+    if entry.unit == unit {
+        held_of(number, entry.party, &entry.class)
+    } else {
+        None
+    }
+}
+
+/// The right that an entry is, where it is one.
+fn held_of(number: u64, party: u64, class: &Class) -> Option<Held>
+    ensures { result ≡ held_of number party class.now }
+{
+    match class {
+        Class::Right { right_type, share } => Some(Held {
+            number,
+            party,
+            right_type: *right_type,
+            share: *share,
+        }),
+        _ => None,
+    }
+}
+
+/// The right of the type that the receiver has already.
+fn grows_at(slice: &Slice, it: &Transfer, from: &Held) -> Option<Held>
+    ensures { result ≡ grows_at slice.now it.now from.now }
+{
+    held_by(slice, it.unit, it.receiver, from.right_type)
+}
+
+/// The right of a type that a party has in a unit: it has at most one.
+fn held_by(slice: &Slice, unit: u64, party: u64, right_type: RightType) -> Option<Held>
+    ensures { result ≡ held_by slice.now unit party right_type }
+{
+    for (number, entry) in slice.rrrs.iter() {
+        if let Some(held) = held_in(unit, *number, entry) {
+            if is_held_by(&held, party, right_type) {
+                return Some(held);
+            }
+        }
+    }
+    None
+}
+
+fn is_held_by(held: &Held, party: u64, right_type: RightType) -> bool
+    ensures { result ≡ is_held_by party right_type held.now }
+{
+    held.party == party && held.right_type.is(right_type)
+}
+
+// ---- the refusals
+
+/// Whether the receiver is the holder.
+fn is_itself(it: &Transfer, from: &Held) -> bool
+    ensures { result ≡ is_itself it.now from.now }
+{
+    from.party == it.receiver
+}
+
+/// Whether the share is above the right's, or another receiver would have more than the whole.
+fn is_too_large(slice: &Slice, it: &Transfer, from: &Held) -> bool
+    ensures { result ≡ is_too_large slice.now it.now from.now }
+{
+    is_above(it, from) || !is_itself(it, from) && grows_above_one(slice, it, from)
+}
+
+/// Whether the share is above that of the right.
+fn is_above(it: &Transfer, from: &Held) -> bool
+    ensures { result ≡ is_above it.now from.now }
+{
+    match from.share.cmp(&it.share) {
+        Ordering::Less => true,
+        Ordering::Equal | Ordering::Greater => false,
+    }
+}
+
+/// Whether the receiver would have more than the whole.
+fn grows_above_one(slice: &Slice, it: &Transfer, from: &Held) -> bool
+    ensures { result ≡ option_map_or (λ to. is_above_one (share_grown it.now to)) (grows_at slice.now it.now from.now) false }
+{
+    match grows_at(slice, it, from) {
+        Some(to) => is_above_one(to.share.plus(it.share)),
+        None => false,
+    }
+}
+
+/// Whether a sum of two shares is above one; it is never zero.
+fn is_above_one(share: Result<Fraction, FractionFault>) -> bool
+    ensures { result ≡ is_above_one share }
+{
+    match share {
+        Err(FractionFault::Zero | FractionFault::AboveOne) => true,
+        Ok(_) | Err(FractionFault::TooFine) => false,
+    }
+}
+
+/// Whether a changed share has too fine a denominator.
+fn is_too_fine(share: Result<Fraction, FractionFault>) -> bool
+    ensures { result ≡ is_too_fine share }
+{
+    match share {
+        Err(FractionFault::TooFine) => true,
+        Ok(_) | Err(FractionFault::Zero | FractionFault::AboveOne) => false,
+    }
+}
+
+/// Whether what the receiver would have is too fine.
+fn grows_too_fine(slice: &Slice, it: &Transfer, from: &Held) -> bool
+    ensures { result ≡ option_map_or (λ to. is_too_fine (share_grown it.now to)) (grows_at slice.now it.now from.now) false }
+{
+    match grows_at(slice, it, from) {
+        Some(to) => is_too_fine(to.share.plus(it.share)),
+        None => false,
+    }
+}
+
+/// Whether a changed share is too fine, or the unit is checked and the shares of the type would be.
+fn are_too_fine(
+    alloc: Global,
+    slice: &Slice,
+    it: &Transfer,
+    from: &Held,
+) -> Result<bool, AllocError>
+    ensures { IfOk result (λ are. are ≡ are_too_fine slice.now it.now from.now) }
+{
+    if is_itself(it, from) {
+        return Ok(false);
+    }
+    if is_too_fine(from.share.minus(it.share)) || grows_too_fine(slice, it, from) {
+        return Ok(true);
+    }
+    if !is_checked(slice, it.unit) {
+        return Ok(false);
+    }
+    are_too_fine_after(alloc, slice, it, from)
+}
+
+/// Whether a unit that stands is checked.
+pub(crate) fn is_checked(slice: &Slice, unit: u64) -> bool
+    ensures { result ≡ is_checked slice.now unit }
+{
+    match slice.units.get(unit) {
+        Some(unit) => unit.checked,
+        None => false,
+    }
+}
+
+/// Whether the shares of the type in the unit have no common denominator after the transfer.
+fn are_too_fine_after(
+    alloc: Global,
+    slice: &Slice,
+    it: &Transfer,
+    from: &Held,
+) -> Result<bool, AllocError>
+    ensures { IfOk result (λ are. are ≡ are_too_fine_after slice.now it.now from.now) }
+{
+    let changed = after_move(alloc, slice, it, from)?;
+    lack_common(alloc, &changed, it.unit, from.right_type)
+}
+
+/// The slice after the transfer, but for its next number.
+fn after_move(alloc: Global, slice: &Slice, it: &Transfer, from: &Held) -> Result<Slice, AllocError>
+    ensures { IfOk result (λ changed. changed ≡ after (record (move_change slice.now 0 it.now from.now) { next = slice.now.next }) slice.now) }
+{
+    let change = moved(alloc, slice, 0, it, from)?;
+    slice.changed(alloc, &change)
+}
+
+/// Whether the shares of a type in a unit have no common denominator.
+fn lack_common(
+    alloc: Global,
+    slice: &Slice,
+    unit: u64,
+    right_type: RightType,
+) -> Result<bool, AllocError>
+    ensures { IfOk result (λ lack. lack ≡ is_none (common_of (type_shares slice.now unit right_type))) }
+{
+    let shares = type_shares(alloc, slice, unit, right_type)?;
+    Ok(common(shares.as_slice()).is_none())
+}
+
+/// Whether a right is to be made, and there is no number for it or the unit would have more than 256 entries.
+fn are_too_many(
+    alloc: Global,
+    slice: &Slice,
+    it: &Transfer,
+    from: &Held,
+) -> Result<bool, AllocError>
+    ensures { IfOk result (λ are. are ≡ are_too_many slice.now it.now from.now) }
+{
+    if grows_at(slice, it, from).is_some() {
+        return Ok(false);
+    }
+    if lacks_numbers(slice, 1) {
+        return Ok(true);
+    }
+    is_crowded_after(alloc, slice, it, from)
+}
+
+/// Whether the unit has more than 256 entries after the transfer.
+fn is_crowded_after(
+    alloc: Global,
+    slice: &Slice,
+    it: &Transfer,
+    from: &Held,
+) -> Result<bool, AllocError>
+    ensures { IfOk result (λ is_crowded. is_crowded ≡ nat_lt 256 (rrr_count (after (move_change slice.now 0 it.now from.now) slice.now) it.now.unit)) }
+{
+    let changed = after_move(alloc, slice, it, from)?;
+    Ok(256 < rrr_count(&changed, it.unit))
+}
+
+// ---- the effect
+
+/// What a transfer from a right changes.
+pub(crate) fn change(
+    alloc: Global,
+    slice: &Slice,
+    source: u64,
+    it: &Transfer,
+    from: &Held,
+) -> Result<Change, AllocError>
+    requires { number_after slice.now (grows_at slice.now it.now from.now) ≤ 1_000_000_001 }
+    ensures { IfOk result (λ change. change ≡ move_change slice.now source it.now from.now) }
+{
+    let mut change = moved(alloc, slice, source, it, from)?;
+    if grows_at(slice, it, from).is_none() {
+        change.next = slice.next + 1;
+    }
+    Ok(change)
+}
+
+/// What a transfer from a right changes, but for the next number.
+fn moved(
+    alloc: Global,
+    slice: &Slice,
+    source: u64,
+    it: &Transfer,
+    from: &Held,
+) -> Result<Change, AllocError>
+    ensures { IfOk result (λ change. change ≡ record (move_change slice.now source it.now from.now) { next = slice.now.next }) }
+{
+    let ended = given_up(alloc, it, from)?;
+    let mut rrrs = kept(alloc, source, it, from)?;
+    receive(&mut rrrs, slice, source, it, from)?;
+    let mut change = Change::nothing(alloc, slice.next);
+    change.put.rrrs = rrrs;
+    change.ended.rrrs = ended;
+    Ok(change)
+}
+
+/// The right with the rest, where there is one.
+fn kept(
+    alloc: Global,
+    source: u64,
+    it: &Transfer,
+    from: &Held,
+) -> Result<Sequence<(u64, RrrRecord)>, AllocError>
+    ensures { IfOk result (λ rrrs. rrrs ≡ kept source it.now from.now (share_left it.now from.now)) }
+{
+    match from.share.minus(it.share) {
+        Ok(share) => {
+            let entry = right_entry(it.unit, from.party, from.right_type, share, source);
+            Sequence::of_one(alloc, (from.number, entry))
+        },
+        Err(_) => Ok(Sequence::new(alloc)),
+    }
+}
+
+/// The number of the right, where no rest is left.
+fn given_up(alloc: Global, it: &Transfer, from: &Held) -> Result<NumberList, AllocError>
+    ensures { IfOk result (λ ended. ended ≡ given_up from.now (share_left it.now from.now)) }
+{
+    match from.share.minus(it.share) {
+        Ok(_) => Ok(Sequence::new(alloc)),
+        Err(_) => Sequence::of_one(alloc, from.number),
+    }
+}
+
+/// Appends the receiver's right of the type as it is grown, or a new one.
+fn receive(
+    rrrs: &mut Sequence<(u64, RrrRecord)>,
+    slice: &Slice,
+    source: u64,
+    it: &Transfer,
+    from: &Held,
+) -> Result<(), AllocError>
+    ensures { OnOk result (rrrs.new ≡ rrrs.old ++ received slice.now source it.now from.now (grows_at slice.now it.now from.now)) }
+{
+    let Some(to) = grows_at(slice, it, from) else {
+        let entry = right_entry(it.unit, it.receiver, from.right_type, it.share, source);
+        return rrrs.push((slice.next, entry));
+    };
+    if let Ok(share) = to.share.plus(it.share) {
+        let entry = right_entry(it.unit, it.receiver, to.right_type, share, source);
+        rrrs.push((to.number, entry))?;
+    }
+    Ok(())
+}
+
+/// A right with its source.
+fn right_entry(
+    unit: u64,
+    party: u64,
+    right_type: RightType,
+    share: Fraction,
+    source: u64,
+) -> RrrRecord
+    ensures { result ≡ right_entry unit party right_type share source }
+{
+    RrrRecord {
+        unit,
+        party,
+        class: Class::Right { right_type, share },
+        source,
+    }
+}
+
+/// The number of the right that a transfer makes, where the receiver has none of the type.
+pub(crate) fn made(
+    alloc: Global,
+    slice: &Slice,
+    it: &Transfer,
+    from: &Held,
+) -> Result<NumberList, AllocError>
+    ensures { IfOk result (λ made. made ≡ new_rights slice.now (grows_at slice.now it.now from.now)) }
+{
+    match grows_at(slice, it, from) {
+        Some(_) => Ok(Sequence::new(alloc)),
+        None => Sequence::of_one(alloc, slice.next),
+    }
+}

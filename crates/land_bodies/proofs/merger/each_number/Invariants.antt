@@ -1,9 +1,0 @@
-use Rattle.std.proofs.Common.{◌≡◌, ◌++◌, drop, Ok}
-use Rattle.serde_json.specs.View.{items_view}
-use Rattle.land_bodies.specs.Fields.{each_of, number_in}
-use Rattle.land_bodies.specs.WireFaults.{◌>>=◌}
-use Rattle.land_bodies.proofs.merger.each_number.Given as goal
-
-abbrev pub invariant-loop-value : goal.invariant-loop-value
-invariant-loop-value l =
-    each_of number_in (items_view l.items) ≡ (each_of number_in (items_view (drop l.value-index l.items)) >>= λ rest. Ok (l.numbers ++ rest))

@@ -1,5 +1,0 @@
-use Rattle.land_cells.proofs.ParcelCells.{parcels_read_back}
-use Rattle.land_cells.proofs.laws.parcels_read_back.Goals as goal
-
-pub returns : goal.returns
-returns c = parcels_read_back c.printed_rings.ensures c.one_answer.ensures c.outlines_have_their_answers.ensures c.fractions_stay.ensures

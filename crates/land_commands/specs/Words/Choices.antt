@@ -1,0 +1,47 @@
+-- The words of roles and of kinds.
+use Rattle.std.specs.Prelude.{◌≡◌, List, [], ◌∷◌, Option, Some, None, codes}
+use Rattle.std.specs.Borrow.{Bor}
+use Rattle.clap.specs.Walk.{Text, texts}
+use Rattle.land_commands.specs.declared.words.choices.Choices.{Choices}
+use Rattle.land_core.specs.declared.kind.Kind.{Kind}
+use Rattle.land_core.specs.declared.kind.Kind.TheVariants as kind
+use Rattle.land_core.specs.declared.role.Role.{Role}
+use Rattle.land_core.specs.declared.role.Role.TheVariants as role
+
+abbrev pub role_word : Role → Text
+role_word role.Citizen = codes "citizen"
+role_word role.Conveyancer = codes "conveyancer"
+role_word role.Notary = codes "notary"
+role_word role.Bank = codes "bank"
+role_word role.CertifiedSurveyor = codes "certifiedSurveyor"
+role_word role.StateAdministrator = codes "stateAdministrator"
+
+abbrev pub role_words : List Text
+role_words =
+    codes "citizen" ∷ codes "conveyancer" ∷ codes "notary" ∷ codes "bank" ∷ codes "certifiedSurveyor" ∷ codes "stateAdministrator" ∷ []
+
+abbrev pub kind_word : Kind → Text
+kind_word kind.Party = codes "party"
+kind_word kind.Unit = codes "unit"
+kind_word kind.Parcel = codes "parcel"
+kind_word kind.Rrr = codes "rrr"
+kind_word kind.Source = codes "source"
+kind_word kind.Mutation = codes "mutation"
+
+abbrev pub kind_words : List Text
+kind_words = codes "party" ∷ codes "unit" ∷ codes "parcel" ∷ codes "rrr" ∷ codes "source" ∷ codes "mutation" ∷ []
+
+-- words that an option is chosen from, with the places at which the program keeps them
+abbrev pub Places : Type 0
+Places = Bor (List (Bor Text))
+
+-- the choices are the words of the roles and of the kinds, wherever the program keeps them
+pub record AreSpelled (choices : Choices) : Type 0 where
+  pub roles : texts choices.roles.now ≡ role_words
+  pub kinds : texts choices.kinds.now ≡ kind_words
+
+-- what is spelled like this, or nothing is
+module _ {A : Type 0} (spell : A → Text) where
+  abbrev pub IsSpelled : Text → Option A → Type 0
+  IsSpelled word (Some a) = spell a ≡ word
+  IsSpelled word None = (a : A) → spell a ≡ word → ⊥

@@ -1,0 +1,12 @@
+//! The words of the command line, read by `clap`.
+
+pub mod choices;
+pub mod command;
+mod commands;
+pub mod laws;
+mod matching;
+mod options;
+mod reading;
+pub mod words_fault;
+
+pub use reading::read_words;

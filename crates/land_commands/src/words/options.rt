@@ -1,0 +1,113 @@
+//! The options of the commands.
+ghost use Rattle.std.specs.Prelude.{pos, true};
+ghost use Rattle.land_commands.specs.Words.Options.{IsOption, at_rule, clock_rule, connections_rule, file_rule, kind_rule};
+ghost use Rattle.land_commands.specs.Words.Options.{moment_rule, option_rule, party_rule, port_rule, role_rule};
+
+use clap::Arg;
+use clap::builder::ValueParser;
+use land_core::limits::LAST_MOMENT;
+use std::alloc::Global;
+
+/// The last port that there is.
+pub const LAST_PORT: i64 = 65_535;
+
+/// How many connections may be served at most.
+pub const MOST_CONNECTIONS: i64 = 1_000_000;
+
+/// The last number of a party that may ask.
+pub const LAST_PARTY: i64 = 1_000_000_000;
+
+/// An option `--NAME VALUE`.
+fn option<'a>(
+    alloc: Global,
+    name: &'a str,
+    value_name: &'a str,
+    help: &'a str,
+    is_required: bool,
+    values: ValueParser<'a>,
+) -> Arg<'a>
+    ensures { IsOption (option_rule name.entry.now is_required values.entry) result }
+{
+    Arg::new(alloc, name)
+        .long(name)
+        .value_name(value_name)
+        .help(help)
+        .required(is_required)
+        .value_parser(values)
+}
+
+/// An option `--NAME MS`: a moment in milliseconds since 1970 UTC, up to the last one.
+fn moment_option<'a>(alloc: Global, name: &'a str, help: &'a str, is_required: bool) -> Arg<'a>
+    ensures { IsOption (moment_rule name.entry.now is_required) result }
+{
+    let moments = clap::value_parser!(i64).range(0..=LAST_MOMENT);
+    option(alloc, name, "MS", help, is_required, moments)
+}
+
+/// The option `--clock MS`.
+pub fn clock_option<'a>(alloc: Global) -> Arg<'a>
+    ensures { IsOption clock_rule result }
+{
+    let help = "What the clock always reads, in milliseconds since 1970 UTC, 0 to 4102444799999";
+    moment_option(alloc, "clock", help, true)
+}
+
+/// The option `--at MS`, which may be left out.
+pub fn at_option<'a>(alloc: Global) -> Arg<'a>
+    ensures { IsOption at_rule result }
+{
+    let help =
+        "The moment to look at, in milliseconds since 1970 UTC, 0 to 4102444799999; if it is left out, that of the clock";
+    moment_option(alloc, "at", help, false)
+}
+
+/// The option `--file FILE`: any text.
+pub fn file_option<'a>(alloc: Global, help: &'a str) -> Arg<'a>
+    ensures { IsOption file_rule result }
+{
+    let texts = clap::value_parser!(String);
+    option(alloc, "file", "FILE", help, true, texts)
+}
+
+/// The option `--port PORT`, from 1 on.
+pub fn port_option<'a>(alloc: Global) -> Arg<'a>
+    ensures { IsOption port_rule result }
+{
+    let help = "The port to listen on, 1 to 65535";
+    let ports = clap::value_parser!(u16).range(1..=LAST_PORT);
+    option(alloc, "port", "PORT", help, true, ports)
+}
+
+/// The option `--connections COUNT`, from 1 on.
+pub fn connections_option<'a>(alloc: Global) -> Arg<'a>
+    ensures { IsOption connections_rule result }
+{
+    let help = "How many connections to answer before it ends, 1 to 1000000";
+    let counts = clap::value_parser!(u32).range(1..=MOST_CONNECTIONS);
+    option(alloc, "connections", "COUNT", help, true, counts)
+}
+
+/// The option `--party NUMBER`, from 1 on.
+pub fn party_option<'a>(alloc: Global) -> Arg<'a>
+    ensures { IsOption party_rule result }
+{
+    let help = "The number of the party that asks, 1 to 1000000000";
+    let parties = clap::value_parser!(i64).range(1..=LAST_PARTY);
+    option(alloc, "party", "NUMBER", help, true, parties)
+}
+
+/// The option `--role ROLE`: one of these words.
+pub fn role_option<'a>(alloc: Global, roles: &'a [&'a str]) -> Arg<'a>
+    ensures { IsOption (role_rule roles.entry) result }
+{
+    let help = "The role in which the party asks";
+    option(alloc, "role", "ROLE", help, true, ValueParser::Names(roles))
+}
+
+/// The option `--kind KIND`: one of these words.
+pub fn kind_option<'a>(alloc: Global, kinds: &'a [&'a str]) -> Arg<'a>
+    ensures { IsOption (kind_rule kinds.entry) result }
+{
+    let help = "Of which kind the objects are";
+    option(alloc, "kind", "KIND", help, true, ValueParser::Names(kinds))
+}

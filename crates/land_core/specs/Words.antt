@@ -1,0 +1,63 @@
+-- The words of the register's codes (ISO 19152, code lists), as they stand in requests, replies, sheets, extracts and tables.
+use Rattle.std.specs.Prelude.{List, ℕ, codes}
+use Rattle.land_core.specs.declared.content.Content.{Content}
+use Rattle.land_core.specs.declared.content.Content.TheVariants as content
+use Rattle.land_core.specs.declared.kind.PartyKind.{PartyKind}
+use Rattle.land_core.specs.declared.kind.PartyKind.TheVariants as kind
+use Rattle.land_core.specs.declared.mutation.MutationState.{MutationState}
+use Rattle.land_core.specs.declared.mutation.MutationState.TheVariants.{Lodged, Approved, Refused}
+use Rattle.land_core.specs.declared.role.Role.{Role}
+use Rattle.land_core.specs.declared.role.Role.TheVariants as role
+use Rattle.land_core.specs.declared.rrr.Class.{Class}
+use Rattle.land_core.specs.declared.rrr.Class.TheVariants.{Right, Restriction, Responsibility, Mortgage}
+use Rattle.land_core.specs.declared.rrr.RightType.{RightType}
+use Rattle.land_core.specs.declared.rrr.RightType.TheVariants.{Ownership, Lease, Usufruct}
+use Rattle.land_core.specs.declared.source.SourceKind.{SourceKind}
+use Rattle.land_core.specs.declared.source.SourceKind.TheVariants.{Administrative, Spatial}
+
+-- what a party is (LA_PartyType)
+abbrev pub party_word : PartyKind → List ℕ
+party_word kind.NaturalPerson = codes "naturalPerson"
+party_word kind.NonNaturalPerson = codes "nonNaturalPerson"
+party_word kind.Group = codes "group"
+
+-- a role (LA_PartyRoleType)
+abbrev pub role_word : Role → List ℕ
+role_word role.Citizen = codes "citizen"
+role_word role.Conveyancer = codes "conveyancer"
+role_word role.Notary = codes "notary"
+role_word role.Bank = codes "bank"
+role_word role.CertifiedSurveyor = codes "certifiedSurveyor"
+role_word role.StateAdministrator = codes "stateAdministrator"
+
+-- the type of a right (LA_RightType)
+abbrev pub right_word : RightType → List ℕ
+right_word Ownership = codes "ownership"
+right_word Lease = codes "lease"
+right_word Usufruct = codes "usufruct"
+
+-- the class of an entry; that of a right is its type
+abbrev pub class_word : Class → List ℕ
+class_word (Right type share) = right_word type
+class_word (Restriction words) = codes "restriction"
+class_word (Responsibility words) = codes "responsibility"
+class_word (Mortgage amount currency rank) = codes "mortgage"
+
+-- what a source is
+abbrev pub source_word : SourceKind → List ℕ
+source_word Administrative = codes "administrative"
+source_word Spatial = codes "spatial"
+
+-- the act that lodges a content
+abbrev pub act_word : Content → List ℕ
+act_word (content.Transfer it) = codes "transfer"
+act_word (content.Subdivision it) = codes "subdivision"
+act_word (content.Merger it) = codes "merger"
+act_word (content.Mortgage it) = codes "mortgage"
+act_word (content.Discharge it) = codes "discharge"
+
+-- how far a mutation has come
+abbrev pub state_word : MutationState → List ℕ
+state_word Lodged = codes "lodged"
+state_word Approved = codes "approved"
+state_word Refused = codes "refused"

@@ -1,0 +1,163 @@
+//! When a register is sound.
+ghost use Rattle.std.specs.Prelude.{◌≡◌, ◌≢◌, true, IfOk, OnOk, IfErr};
+ghost use Rattle.land_core.specs.Members.{are_group_shares};
+ghost use Rattle.land_core.specs.Register.{shares_of};
+ghost use Rattle.land_core.specs.Soundness.{IsSound, has_fault, has_unused, has_unused_number, has_loose_grant, has_loose_members, has_loose_parcel, has_loose_rrr, are_loose, has_loose_member, has_broken_group, has_administrator, is_used};
+
+use crate::kind::{Kind, PartyKind};
+use crate::member::{Members, shares_of};
+use crate::records::Records;
+use crate::register::Register;
+use crate::role::Role;
+use crate::soundness::Unsound;
+use crate::soundness::mutations::{has_loose_mutation, has_reused_reference};
+use crate::soundness::units::check_units;
+use land_fraction::{Fraction, Whole, is_whole};
+use std::alloc::{AllocError, Global};
+
+/// Whether the register is sound, or a fault that it has.
+pub fn check(alloc: Global, register: &Register) -> Result<(), Unsound>
+    ensures ok { OnOk result (IsSound register.now) }
+    ensures fault { IfErr result (λ fault. fault ≢ Unsound.Memory → has_fault fault register.now ≡ true) }
+{
+    if has_reference_fault(register) {
+        return Err(Unsound::Reference);
+    }
+    if has_broken_group(alloc, register)? {
+        return Err(Unsound::Group);
+    }
+    if !has_administrator(register) {
+        return Err(Unsound::Administrator);
+    }
+    if has_reused_reference(alloc, register)? {
+        return Err(Unsound::Reused);
+    }
+    check_units(alloc, register)
+}
+
+fn has_reference_fault(register: &Register) -> bool
+    ensures { result ≡ has_fault Unsound.Reference register.now }
+{
+    register.next > 1_000_000_001
+        || has_unused_number(register)
+        || has_loose_grant(register)
+        || has_loose_members(register)
+        || has_loose_parcel(register)
+        || has_loose_rrr(register)
+        || has_loose_mutation(register)
+}
+
+fn has_unused_number(register: &Register) -> bool
+    ensures { result ≡ has_unused_number register.now }
+{
+    has_unused(register, &register.parties)
+        || has_unused(register, &register.units)
+        || has_unused(register, &register.parcels)
+        || has_unused(register, &register.rrrs)
+        || has_unused(register, &register.sources)
+        || has_unused(register, &register.mutations)
+}
+
+fn has_unused<T>(register: &Register, records: &Records<T>) -> bool
+    ensures { result ≡ has_unused register.now records.now }
+{
+    records
+        .iter()
+        .any(|(number, _)| !is_used(register, *number))
+}
+
+fn has_loose_parcel(register: &Register) -> bool
+    ensures { result ≡ has_loose_parcel register.now }
+{
+    register.parcels.iter().any(|(_, parcel)| {
+        !(register.stands(Kind::Unit, parcel.unit) && register.stands(Kind::Source, parcel.source))
+    })
+}
+
+fn has_loose_rrr(register: &Register) -> bool
+    ensures { result ≡ has_loose_rrr register.now }
+{
+    register.rrrs.iter().any(|(_, entry)| {
+        !(register.stands(Kind::Unit, entry.unit)
+            && register.stands(Kind::Party, entry.party)
+            && register.stands(Kind::Source, entry.source))
+    })
+}
+
+fn has_loose_grant(register: &Register) -> bool
+    ensures { result ≡ has_loose_grant register.now }
+{
+    register
+        .roles
+        .iter()
+        .any(|grant| !register.has_single_party(grant.party))
+}
+
+fn has_loose_members(register: &Register) -> bool
+    ensures { result ≡ has_loose_members register.now }
+{
+    register
+        .members
+        .iter()
+        .any(|(group, members)| are_loose(register, *group, members))
+}
+
+fn are_loose(register: &Register, group: u64, members: &Members) -> bool
+    ensures { result ≡ are_loose register.now group members.now }
+{
+    !register.has_group(group) || has_loose_member(register, members)
+}
+
+fn has_loose_member(register: &Register, members: &Members) -> bool
+    ensures { result ≡ has_loose_member register.now members.now }
+{
+    members
+        .iter()
+        .any(|(party, _)| !register.has_single_party(*party))
+}
+
+fn has_broken_group(alloc: Global, register: &Register) -> Result<bool, AllocError>
+    ensures { IfOk result (λ it. it ≡ has_broken_group register.now) }
+{
+    for (number, party) in register.parties.iter() {
+        if party.kind == PartyKind::Group && !is_whole_group(alloc, register, *number)? {
+            return Ok(true);
+        }
+    }
+    Ok(false)
+}
+
+/// Whether a group has 2 to 64 members whose shares make a whole.
+fn is_whole_group(alloc: Global, register: &Register, group: u64) -> Result<bool, AllocError>
+    ensures { IfOk result (λ it. it ≡ are_group_shares (shares_of register.now group)) }
+{
+    match register.members.get(group) {
+        Some(members) => {
+            let shares = shares_of(alloc, members)?;
+            Ok(are_group_shares(shares.as_slice()))
+        }
+        None => Ok(false),
+    }
+}
+
+/// Whether these are 2 to 64 shares that make a whole.
+fn are_group_shares(shares: &[Fraction]) -> bool
+    ensures { result ≡ are_group_shares shares.now }
+{
+    2 <= shares.len() && shares.len() <= 64 && is_whole(shares) == Whole::Yes
+}
+
+fn has_administrator(register: &Register) -> bool
+    ensures { result ≡ has_administrator register.now }
+{
+    register
+        .roles
+        .iter()
+        .any(|grant| grant.role == Role::StateAdministrator)
+}
+
+pub(crate) fn is_used(register: &Register, number: u64) -> bool
+    ensures { result ≡ is_used register.now number }
+{
+    0 < number && number < register.next
+}

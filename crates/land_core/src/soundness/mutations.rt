@@ -1,0 +1,40 @@
+//! What a sound register asks of its mutations.
+ghost use Rattle.std.specs.Prelude.{◌≡◌, IfOk};
+ghost use Rattle.land_core.specs.Soundness.{has_loose_mutation, has_reused_reference, is_loose_mutation};
+
+use crate::kind::Kind;
+use crate::mutation::MutationRecord;
+use crate::register::Register;
+use std::alloc::{AllocError, Global};
+use std::collections::BTreeSet;
+
+/// Whether a mutation is of no lodger or from no source that stands, or asks for what is not within its limits.
+pub(crate) fn has_loose_mutation(register: &Register) -> bool
+    ensures { result ≡ has_loose_mutation register.now }
+{
+    register
+        .mutations
+        .iter()
+        .any(|(_, mutation)| is_loose_mutation(register, mutation))
+}
+
+fn is_loose_mutation(register: &Register, mutation: &MutationRecord) -> bool
+    ensures { result ≡ is_loose_mutation register.now mutation.now }
+{
+    !(register.stands(Kind::Party, mutation.lodger)
+        && register.stands(Kind::Source, mutation.source)
+        && mutation.content.is_well_formed())
+}
+
+/// Whether a party has lodged two mutations under one reference.
+pub(crate) fn has_reused_reference(alloc: Global, register: &Register) -> Result<bool, AllocError>
+    ensures { IfOk result (λ it. it ≡ has_reused_reference register.now) }
+{
+    let mut met = BTreeSet::new(alloc);
+    for (_, mutation) in register.mutations.iter() {
+        if !met.insert((mutation.lodger, mutation.reference.as_str()))? {
+            return Ok(true);
+        }
+    }
+    Ok(false)
+}

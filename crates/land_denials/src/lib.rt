@@ -1,8 +1,0 @@
-//! Who is denied what, told by few records of the register and by what is in sight.
-#![tactic(auto)]
-
-pub mod few;
-pub mod laws;
-pub mod sight;
-pub mod standing;
-pub mod ties;

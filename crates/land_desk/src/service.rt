@@ -1,0 +1,5 @@
+//! Serving connections one after another over one keeper, with the machine's clock.
+
+pub mod connections;
+pub mod machine_clock;
+pub mod serving;

@@ -1,5 +1,0 @@
-use Rattle.land_framing.proofs.ItemLemmas.{items_unique}
-use Rattle.land_framing.proofs.laws.item_lists_are_unique.Goals as goal
-
-pub returns : goal.returns
-returns c = items_unique

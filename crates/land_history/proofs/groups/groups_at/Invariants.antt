@@ -1,9 +1,0 @@
-use Rattle.std.proofs.Common.{◌≡◌, drop}
-use Rattle.std.specs.FinMap as map
-use Rattle.land_history.specs.Groups.{with_members}
-use Rattle.land_history.specs.Standing.{standing}
-use Rattle.land_history.proofs.groups.groups_at.Given as goal
-
--- who is left to join leads to the same
-abbrev pub invariant-loop-version : goal.invariant-loop-version
-invariant-loop-version l = with_members l.groups (standing l.fn.at (drop l.version-index l.versions)) ≡ with_members map.empty (standing l.fn.at l.versions)

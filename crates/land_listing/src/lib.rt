@@ -1,6 +1,0 @@
-//! All rows of all tables, read as the moments and versions that they say.
-#![tactic(auto)]
-
-pub mod fault;
-pub mod history;
-pub mod reading;

@@ -1,7 +1,0 @@
-use Rattle.std.proofs.Common.{◌≡◌, ◌++◌, drop}
-use Rattle.land_mutations.specs.Subdividing.{all_parts, outlines_of}
-use Rattle.land_mutations.proofs.grounds.outlines_of_parts.Given as goal
-
--- the outlines so far, and those of the parts to come
-abbrev pub invariant-loop-part : goal.invariant-loop-part
-invariant-loop-part l = l.rings ++ outlines_of (drop l.part-index l.it.rest) ≡ outlines_of (all_parts l.it)

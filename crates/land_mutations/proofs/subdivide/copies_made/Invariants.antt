@@ -1,9 +1,0 @@
-use Rattle.std.proofs.Common.{◌≡◌, ◌≤◌, ◌+◌, ◌++◌, drop}
-use Rattle.land_mutations.specs.Subdividing.{all_parts, copies_made, count_for, origin_of}
-use Rattle.land_mutations.proofs.subdivide.copies_made.Given as goal
-
--- the copies so far, and those for the parts to come, which take the next numbers
-abbrev pub invariant-loop-part : goal.invariant-loop-part
-invariant-loop-part l =
-    (l.rrrs ++ copies_made (origin_of l.slice 0 l.it) l.number (drop l.part-index l.it.rest) ≡ copies_made (origin_of l.slice 0 l.it) l.slice.next (all_parts l.it))
-    × (l.number + count_for (origin_of l.slice 0 l.it) (drop l.part-index l.it.rest) ≤ 1000000001)

@@ -1,4 +1,0 @@
--- Lemmas of what is recorded.
-pub mod Edits
-pub mod Fitting
-pub mod Loops

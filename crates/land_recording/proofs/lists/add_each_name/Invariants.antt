@@ -1,7 +1,0 @@
-use Rattle.std.proofs.Common.{◌≡◌, ◌++◌, drop}
-use Rattle.land_recording.specs.Whole.{names_of}
-use Rattle.land_recording.proofs.lists.add_each_name.Given as goal
-
--- what is listed, and then the names that are still to come
-abbrev pub invariant-loop-unit : goal.invariant-loop-unit
-invariant-loop-unit l = l.listed ++ names_of l.mutation (drop l.unit-index l.units) ≡ l.fn.listed ++ names_of l.mutation l.units

@@ -1,7 +1,0 @@
-use Rattle.std.proofs.Common.{◌≡◌, ◌++◌, drop}
-use Rattle.land_history.specs.Changed.{listed_members}
-use Rattle.land_recording.proofs.lists.list_members.Given as goal
-
--- what is listed, and then the members of the groups to come
-abbrev pub invariant-loop-group : goal.invariant-loop-group
-invariant-loop-group l = l.listed ++ listed_members (drop l.group-index l.groups) ≡ listed_members l.groups

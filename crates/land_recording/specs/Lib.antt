@@ -1,3 +1,0 @@
--- Definitions of what a change of the register makes of its tables.
-pub mod Recording
-pub mod Whole

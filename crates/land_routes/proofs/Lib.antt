@@ -1,5 +1,0 @@
--- Lemmas of what targets name.
-pub mod ActNames
-pub mod RouteLemmas
-pub mod RouteNames
-pub mod RouteTable

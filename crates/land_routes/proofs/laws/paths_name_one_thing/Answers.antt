@@ -1,5 +1,0 @@
-use Rattle.land_routes.proofs.RouteNames.{one_name}
-use Rattle.land_routes.proofs.laws.paths_name_one_thing.Goals as goal
-
-pub returns : goal.returns
-returns c = one_name

@@ -1,8 +1,0 @@
-//! What targets name: the routes of the register, found by `matchit`.
-#![tactic(auto)]
-
-pub mod act_word;
-pub mod laws;
-pub mod route;
-pub mod table;
-pub mod target;

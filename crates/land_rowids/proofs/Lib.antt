@@ -1,3 +1,0 @@
--- Lemmas of rowids.
-pub mod Keyed
-pub mod Texts

@@ -1,8 +1,0 @@
-use Rattle.std.proofs.Common.{◌≡◌, true, take}
-use Rattle.sqlite_rules.specs.Calls.{ids_of}
-use Rattle.sqlite_rules.specs.Edit.{have_rowids}
-use Rattle.land_rowids.proofs.apart.rowids.Given as goal
-
--- so far all is an integer, and taken
-abbrev pub invariant-loop-row : goal.invariant-loop-row
-invariant-loop-row l = (l.ids.items ≡ ids_of (take l.row-index l.rows)) × (have_rowids (take l.row-index l.rows) ≡ true)

@@ -1,6 +1,0 @@
-//! Whether the rows of the tables of versions each lie under a rowid of their own. The kit's sqlite keeps them so, and its contracts do not say it.
-#![tactic(auto)]
-
-mod apart;
-mod listing;
-pub mod rowids;

@@ -1,0 +1,51 @@
+//! The few records by which who asks is judged.
+ghost use Rattle.std.specs.Prelude.{◌≡◌, Some, IfOk};
+ghost use Rattle.land_rules.specs.Denials.Standing.{few_of, one_at};
+
+use crate::denials::standing::{decided, discharged};
+use land_core::ask::Ask;
+use land_core::caller::Caller;
+use land_core::mutation::MutationRecord;
+use land_core::party::PartyRecord;
+use land_core::records::Records;
+use land_core::register::Register;
+use land_core::roles::Roles;
+use land_core::rrr::RrrRecord;
+use std::alloc::{AllocError, Global};
+
+/// At most one record, under a number if there is one.
+fn one_at<V: Drop>(
+    alloc: Global,
+    number: Option<u64>,
+    found: Option<V>,
+) -> Result<Records<V>, AllocError>
+    ensures { IfOk result (λ it. it ≡ one_at number found) }
+{
+    let mut records = Records::new(alloc);
+    if let (Some(number), Some(value)) = (number, found) {
+        records.insert(number, value)?;
+    }
+    Ok(records)
+}
+
+/// A register of the records that are looked up to judge who asks: the caller and its roles, the entry that the ask would discharge and the
+/// mutation that it would decide.
+pub fn few_of(
+    alloc: Global,
+    caller: Caller,
+    ask: &Ask,
+    party: Option<PartyRecord>,
+    roles: Roles,
+    entry: Option<RrrRecord>,
+    mutation: Option<MutationRecord>,
+) -> Result<Register, AllocError>
+    ensures { IfOk result (λ it. it ≡ few_of caller ask.now party roles entry mutation) }
+{
+    Ok(Register {
+        parties: one_at(alloc, Some(caller.party), party)?,
+        roles,
+        rrrs: one_at(alloc, discharged(ask), entry)?,
+        mutations: one_at(alloc, decided(ask), mutation)?,
+        ..Register::nothing(alloc)
+    })
+}

@@ -1,0 +1,64 @@
+//! The standing rules, judged by few records.
+ghost use Rattle.std.specs.Prelude.{◌≡◌};
+ghost use Rattle.land_rules.specs.Denials.Standing.{decided, discharged, entry_of_act, entry_of_content, mutation_of_act};
+ghost use Rattle.land_rules.specs.Rules.{first_denial, standing_rules};
+
+use crate::rules::verdict;
+use crate::verdict::Verdict;
+use land_core::act::Act;
+use land_core::ask::Ask;
+use land_core::caller::Caller;
+use land_core::content::Content;
+use land_core::kind::Kind;
+use land_core::register::Register;
+
+/// The entry that what is asked would discharge, if any.
+pub fn discharged(ask: &Ask) -> Option<u64>
+    ensures { result ≡ discharged ask.now }
+{
+    match ask {
+        Ask::Do(act) => entry_of_act(act),
+        Ask::View { .. } | Ask::List { .. } | Ask::Sheet { .. } => None,
+    }
+}
+
+fn entry_of_act(act: &Act) -> Option<u64>
+    ensures { result ≡ entry_of_act act.now }
+{
+    match act {
+        Act::Lodge(lodging) => match &lodging.content {
+            Content::Discharge(discharge) => Some(discharge.mortgage),
+            Content::Transfer(_)
+            | Content::Subdivision(_)
+            | Content::Merger(_)
+            | Content::Mortgage(_) => None,
+        },
+        _ => None,
+    }
+}
+
+/// The mutation that what is asked would approve or refuse, if any.
+pub fn decided(ask: &Ask) -> Option<u64>
+    ensures { result ≡ decided ask.now }
+{
+    match ask {
+        Ask::Do(Act::Approve(decision) | Act::Refuse(decision)) => Some(decision.mutation),
+        Ask::Do(_) | Ask::View { .. } | Ask::List { .. } | Ask::Sheet { .. } => None,
+    }
+}
+
+/// The least standing rule that denies an ask, by a register or by as few of its records as are enough.
+pub fn standing_verdict(now: &Register, caller: Caller, ask: &Ask, past: bool) -> Verdict
+    ensures { result ≡ first_denial (standing_rules now.now caller ask.now past) }
+{
+    match ask {
+        Ask::Do(_) => verdict(now, now, caller, ask, past),
+        Ask::View { .. } | Ask::List { .. } | Ask::Sheet { .. } => {
+            let list = Ask::List {
+                kind: Kind::Party,
+                at: None,
+            };
+            verdict(now, now, caller, &list, past)
+        }
+    }
+}

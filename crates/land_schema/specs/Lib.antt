@@ -1,9 +1,0 @@
--- Definitions of the tables of the register.
-pub mod Columns
-pub mod Definitions
-pub mod Land
-pub mod Laws
-pub mod Making
-pub mod Shapes
-pub mod Steps
-pub mod Tables

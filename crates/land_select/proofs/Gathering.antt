@@ -1,0 +1,193 @@
+-- What is put together is what was asked for of each part.
+use Rattle.std.proofs.Common.{◌≡◌, ◌⊎◌, ℕ, Bool, true, false, ◌||◌, nat_eq, cond, List, [], ◌∷◌, Option, Some, None, refl, sym, ap, ap₂, subst, ◌∙◌, inl, inr}
+use Rattle.std.proofs.lemmas.Bool.{false≢true}
+use Rattle.std.proofs.lemmas.Bool.Decides.{Decides-eqb}
+use Rattle.std.specs.Cmp.{IsTotalOrder, nat_cmp_total}
+use Rattle.std.specs.FinMap as map
+use Rattle.std.specs.FinMap.{FinMap, IsAntisymmetric, nat_cmp-IsAntisymmetric}
+use Rattle.std.specs.List.{AllByRecursion, Contains}
+use Rattle.std.specs.Ordering.{eq_by_cmp, is_eq, nat_cmp}
+use Rattle.std.specs.Cmp.{tied_itself}
+use Rattle.std.specs.declared.cmp.Ordering.{Ordering}
+use Rattle.land_core.proofs.FiniteMaps.{is_equal}
+use Rattle.land_core.proofs.FiniteSets.{exact_grants, grants_total}
+use Rattle.land_core.proofs.Reflection.{each_there}
+use Rattle.land_core.specs.Entries.{only, with_entries}
+use Rattle.land_core.specs.Grants.{Grants}
+use Rattle.land_core.specs.Members.{Members}
+use Rattle.land_core.specs.declared.parcel.ParcelRecord.{ParcelRecord}
+use Rattle.land_core.specs.declared.party.PartyRecord.{PartyRecord}
+use Rattle.land_core.specs.declared.register.Register.{Register}
+use Rattle.land_core.specs.declared.rrr.RrrRecord.{RrrRecord}
+use Rattle.land_core.specs.declared.source.SourceRecord.{SourceRecord}
+use Rattle.land_core.specs.declared.unit.UnitRecord.{UnitRecord}
+use Rattle.land_select.proofs.Keeping.{entry_found, entry_there, is_kept, none_kept, same_entries, same_kept, was_kept}
+use Rattle.land_select.specs.Slices.Gathered.{KnowsHoldings, KnowsPapers, KnowsPeople, put_all, put_one, with_number, with_person, with_source, with_unit}
+use Rattle.land_select.specs.declared.slices.holdings.Holdings.{Holdings}
+use Rattle.land_select.specs.declared.slices.papers.Papers.{Papers}
+use Rattle.land_select.specs.declared.slices.people.People.{People}
+use Rattle.land_select_joins.proofs.Containing.{first, first_or_later, in_nothing, later}
+
+-- ---- truths
+
+either_is : (a b : Bool) → (a || b) ≡ true → (a ≡ true) ⊎ (b ≡ true)
+either_is true b h = inl refl
+either_is false b h = inr h
+
+left : (a b : Bool) → a ≡ true → (a || b) ≡ true
+left true b h = refl
+left false b h = absurd (false≢true h)
+
+right : (a b : Bool) → b ≡ true → (a || b) ≡ true
+right true b h = refl
+right false b h = h
+
+one : {V : Type 0} {a b : V} → Some a ≡ Some b → a ≡ b
+one e = cc
+
+two : {K V : Type 0} (a b : K) (x y : V) → a ≡ b → x ≡ y → ◌≡◌ {A = K × V} (a, x) (b, y)
+two a b x y e f = cc
+
+-- ---- maps
+
+module _ {K V : Type 0} {R : K → K → Ordering} (o : IsTotalOrder R) (same : IsAntisymmetric R) where
+  module _ (all : FinMap R V) where
+    abbrev pub IsWithin : FinMap R V → Type 0
+    IsWithin m = (k : K) (v : V) → map.get m k ≡ Some v → map.get all k ≡ Some v
+
+    -- an entry of all, put in
+    put_within : (m : FinMap R V) (e : K × V) → map.get all e.0 ≡ Some e.1 → IsWithin m → IsWithin (map.insert m e.0 e.1)
+    put_within m e of within k v is = go (eq_by_cmp R k e.0) refl (sym (map.get-insert o m e.0 e.1 k) ∙ is)
+      where
+        go : (b : Bool) → eq_by_cmp R k e.0 ≡ b → cond b (Some e.1) (map.get m k) ≡ Some v → map.get all k ≡ Some v
+        go true at it = ap (map.get all) (same k e.0 (is_equal _ at)) ∙ of ∙ it
+        go false apart it = within k v it
+
+    put_keeps : (m : FinMap R V) (e : K × V) → map.get all e.0 ≡ Some e.1 → IsWithin m → (k : K) (v : V) → map.get m k ≡ Some v → map.get (map.insert m e.0 e.1) k ≡ Some v
+    put_keeps m e of within k v is = map.get-insert o m e.0 e.1 k ∙ go (eq_by_cmp R k e.0) refl
+      where
+        go : (b : Bool) → eq_by_cmp R k e.0 ≡ b → cond b (Some e.1) (map.get m k) ≡ Some v
+        go true at = sym of ∙ ap (map.get all) (sym (same k e.0 (is_equal _ at))) ∙ within k v is
+        go false apart = is
+
+    put_there : (m : FinMap R V) (e : K × V) → map.get (map.insert m e.0 e.1) e.0 ≡ Some e.1
+    put_there m e = map.get-insert o m e.0 e.1 e.0 ∙ ap (λ b. cond b (Some e.1) (map.get m e.0)) (ap is_eq (tied_itself o e.0))
+
+    abbrev pub AreOf : List (K × V) → Type 0
+    AreOf es = AllByRecursion (λ e. map.get all e.0 ≡ Some e.1) es
+
+    all_within : (es : List (K × V)) → AreOf es → (m : FinMap R V) → IsWithin m → IsWithin (with_entries m es)
+    all_within [] of m within = within
+    all_within (e ∷ es) of m within = all_within es of.1 (map.insert m e.0 e.1) (put_within m e of.0 within)
+
+    all_keep : (es : List (K × V)) → AreOf es → (m : FinMap R V) → IsWithin m → (k : K) (v : V) → map.get m k ≡ Some v → map.get (with_entries m es) k ≡ Some v
+    all_keep [] of m within k v is = is
+    all_keep (e ∷ es) of m within k v is = all_keep es of.1 (map.insert m e.0 e.1) (put_within m e of.0 within) k v (put_keeps m e of.0 within k v is)
+
+    all_there : (es : List (K × V)) → AreOf es → (m : FinMap R V) → IsWithin m → (x : K × V) → Contains es x → map.get (with_entries m es) x.0 ≡ Some x.1
+    all_there [] of m within x h = absurd (in_nothing x h)
+    all_there (e ∷ es) of m within x h = elim (first_or_later e es x h) [
+      | inl is ↦ all_keep es of.1 (map.insert m e.0 e.1) (put_within m e of.0 within) x.0 x.1 (subst (λ (y : K × V). map.get (map.insert m e.0 e.1) y.0 ≡ Some y.1) is (put_there m e))
+      | inr rest ↦ all_there es of.1 (map.insert m e.0 e.1) (put_within m e of.0 within) x rest
+    ]
+
+    entries_of : (more : FinMap R V) → IsWithin more → AreOf (map.entries more)
+    entries_of more within = go (map.entries more) (each_there o same more)
+      where
+        go : (es : List (K × V)) → AllByRecursion (λ e. map.get more e.0 ≡ Some e.1) es → AreOf es
+        go [] a = tt
+        go (e ∷ es) a = (within e.0 e.1 a.0, go es a.1)
+
+    -- what is put in comes from one part or the other
+    from_either : (es : List (K × V)) (m : FinMap R V) (k : K) (v : V) → map.get (with_entries m es) k ≡ Some v → (map.get m k ≡ Some v) ⊎ Contains es (k, v)
+    from_either [] m k v is = inl is
+    from_either (e ∷ es) m k v is = elim (from_either es (map.insert m e.0 e.1) k v is) [
+      | inl here ↦ go (eq_by_cmp R k e.0) refl (sym (map.get-insert o m e.0 e.1 k) ∙ here)
+      | inr there ↦ inr (later e es (k, v) there)
+    ]
+      where
+        go : (b : Bool) → eq_by_cmp R k e.0 ≡ b → cond b (Some e.1) (map.get m k) ≡ Some v → (map.get m k ≡ Some v) ⊎ Contains (e ∷ es) (k, v)
+        go true at it = inr (subst (λ (x : K × V). Contains (e ∷ es) x) (two e.0 k e.1 v (sym (same k e.0 (is_equal _ at))) (one it)) (first e es))
+        go false apart it = inl it
+
+    -- what either of two tests keeps, put together
+    pub both_kept : (w u : K → V → Bool) → put_all (only w all) (only u all) ≡ only (λ k v. u k v || w k v) all
+    both_kept w u =
+        let of = entries_of (only u all) (λ k v is. (was_kept o same u all k v is).0) in
+        let within : IsWithin (only w all) = λ k v is. (was_kept o same w all k v is).0 in
+        same_entries o same (put_all (only w all) (only u all)) (only (λ k v. u k v || w k v) all)
+        (λ k v is. elim (from_either (map.entries (only u all)) (only w all) k v is) [
+          | inl old ↦ let it = was_kept o same w all k v old in is_kept o same (λ k v. u k v || w k v) all k v it.0 (right (u k v) (w k v) it.1)
+          | inr new ↦ let it = was_kept o same u all k v (entry_there o same (only u all) (k, v) new) in is_kept o same (λ k v. u k v || w k v) all k v it.0 (left (u k v) (w k v) it.1)
+        ])
+        (λ k v is. let it = was_kept o same (λ k v. u k v || w k v) all k v is in elim (either_is (u k v) (w k v) it.1) [
+          | inl new ↦ all_there (map.entries (only u all)) of (only w all) within (k, v) (entry_found o same (only u all) k v (is_kept o same u all k v it.0 new))
+          | inr old ↦ all_keep (map.entries (only u all)) of (only w all) within k v (is_kept o same w all k v it.0 old)
+        ])
+
+-- one more record, as the whole has it
+pub one_kept : {V : Type 0} (asked : ℕ → Bool) (all : FinMap nat_cmp V) (n : ℕ) (found : Option V) → found ≡ map.get all n
+    → put_one (only (λ k v. asked k) all) n found ≡ only (λ k v. with_number n asked k) all
+one_kept {V} asked all n None is =
+    same_entries nat_cmp_total nat_cmp-IsAntisymmetric (only (λ k v. asked k) all) (only (λ k v. with_number n asked k) all)
+    (λ k v there. let it = was_kept nat_cmp_total nat_cmp-IsAntisymmetric (λ k v. asked k) all k v there in
+    is_kept nat_cmp_total nat_cmp-IsAntisymmetric (λ k v. with_number n asked k) all k v it.0 (right (nat_eq k n) (asked k) it.1))
+    (λ k v there. let it = was_kept nat_cmp_total nat_cmp-IsAntisymmetric (λ k v. with_number n asked k) all k v there in elim (either_is (nat_eq k n) (asked k) it.1) [
+      | inl at ↦ absurd (let here = ap (map.get all) ((Decides-eqb k n).0 at) in let both : None ≡ Some v = is ∙ sym here ∙ it.0 in cc)
+      | inr old ↦ is_kept nat_cmp_total nat_cmp-IsAntisymmetric (λ k v. asked k) all k v it.0 old
+    ])
+one_kept {V} asked all n (Some value) is =
+    same_entries nat_cmp_total nat_cmp-IsAntisymmetric (map.insert (only (λ k v. asked k) all) n value) (only (λ k v. with_number n asked k) all)
+    (λ k v there. go k v (eq_by_cmp nat_cmp k n) refl (sym (map.get-insert nat_cmp_total (only (λ k v. asked k) all) n value k) ∙ there))
+    (λ k v there. let it = was_kept nat_cmp_total nat_cmp-IsAntisymmetric (λ k v. with_number n asked k) all k v there in elim (either_is (nat_eq k n) (asked k) it.1) [
+      | inl at ↦
+          let here : k ≡ n = (Decides-eqb k n).0 at in
+          ap (map.get (map.insert (only (λ k v. asked k) all) n value)) here ∙ put_there nat_cmp_total nat_cmp-IsAntisymmetric all (only (λ k v. asked k) all) (n, value) ∙ is ∙ ap (map.get all) (sym here) ∙ it.0
+      | inr old ↦ put_keeps nat_cmp_total nat_cmp-IsAntisymmetric all (only (λ k v. asked k) all) (n, value) (sym is) within k v (is_kept nat_cmp_total nat_cmp-IsAntisymmetric (λ k v. asked k) all k v it.0 old)
+    ])
+  where
+    within : (k : ℕ) (v : V) → map.get (only (λ k v. asked k) all) k ≡ Some v → map.get all k ≡ Some v
+    within k v there = (was_kept nat_cmp_total nat_cmp-IsAntisymmetric (λ k v. asked k) all k v there).0
+
+    go : (k : ℕ) (v : V) (b : Bool) → eq_by_cmp nat_cmp k n ≡ b → cond b (Some value) (map.get (only (λ k v. asked k) all) k) ≡ Some v → map.get (only (λ k v. with_number n asked k) all) k ≡ Some v
+    go k v true at it =
+        let here : k ≡ n = nat_cmp-IsAntisymmetric k n (is_equal _ at) in
+        is_kept nat_cmp_total nat_cmp-IsAntisymmetric (λ k v. with_number n asked k) all k v (ap (map.get all) here ∙ sym is ∙ it) (left (nat_eq k n) (asked k) ((Decides-eqb k n).1 here))
+    go k v false apart it =
+        let that = was_kept nat_cmp_total nat_cmp-IsAntisymmetric (λ k v. asked k) all k v it in
+        is_kept nat_cmp_total nat_cmp-IsAntisymmetric (λ k v. with_number n asked k) all k v that.0 (right (nat_eq k n) (asked k) that.1)
+
+-- a record alone, as the whole has it
+pub single_kept : {V : Type 0} (all : FinMap nat_cmp V) (n : ℕ) (found : Option V) → found ≡ map.get all n → put_one map.empty n found ≡ only (λ k v. nat_eq k n) all
+single_kept all n found is =
+    ap (λ m. put_one m n found) (none_kept nat_cmp_total nat_cmp-IsAntisymmetric all) ∙ one_kept (λ k. false) all n found is
+    ∙ same_kept nat_cmp_total nat_cmp-IsAntisymmetric (λ k v. with_number n (λ k. false) k) (λ k v. nat_eq k n) all (λ k v. or_nothing (nat_eq k n))
+  where
+    or_nothing : (a : Bool) → (a || false) ≡ a
+    or_nothing true = refl
+    or_nothing false = refl
+
+-- one more party with its roles and its members
+pub person_known : (r : Register) (asked : ℕ → Bool) (known : People) (n : ℕ) (party : Option PartyRecord) (roles : Grants) (members : FinMap nat_cmp Members) → party ≡ map.get r.parties n
+    → roles ≡ only (λ grant u. nat_eq grant.party n) r.roles → members ≡ only (λ k ms. nat_eq k n) r.members → KnowsPeople r asked known
+    → KnowsPeople r (with_number n asked) (with_person known n party roles members)
+person_known r asked known n party roles members party_is roles_are members_are knows = record {
+  parties = ap (λ m. put_one m n party) knows.parties ∙ one_kept asked r.parties n party party_is;
+  roles = ap₂ put_all knows.roles roles_are ∙ both_kept grants_total exact_grants r.roles (λ grant u. asked grant.party) (λ grant u. nat_eq grant.party n);
+  members = ap₂ put_all knows.members members_are ∙ both_kept nat_cmp_total nat_cmp-IsAntisymmetric r.members (λ k ms. asked k) (λ k ms. nat_eq k n);
+}
+
+-- one more unit with its parcels and its entries
+pub unit_known : (r : Register) (asked : ℕ → Bool) (known : Holdings) (n : ℕ) (unit : Option UnitRecord) (parcels : FinMap nat_cmp ParcelRecord) (rrrs : FinMap nat_cmp RrrRecord)
+    → unit ≡ map.get r.units n → parcels ≡ only (λ k p. nat_eq p.unit n) r.parcels → rrrs ≡ only (λ k e. nat_eq e.unit n) r.rrrs → KnowsHoldings r asked known
+    → KnowsHoldings r (with_number n asked) (with_unit known n unit parcels rrrs)
+unit_known r asked known n unit parcels rrrs unit_is parcels_are rrrs_are knows = record {
+  units = ap (λ m. put_one m n unit) knows.units ∙ one_kept asked r.units n unit unit_is;
+  parcels = ap₂ put_all knows.parcels parcels_are ∙ both_kept nat_cmp_total nat_cmp-IsAntisymmetric r.parcels (λ k p. asked p.unit) (λ k p. nat_eq p.unit n);
+  rrrs = ap₂ put_all knows.rrrs rrrs_are ∙ both_kept nat_cmp_total nat_cmp-IsAntisymmetric r.rrrs (λ k e. asked e.unit) (λ k e. nat_eq e.unit n);
+}
+
+-- one more source
+pub source_known : (r : Register) (asked : ℕ → Bool) (known : Papers) (n : ℕ) (source : Option SourceRecord) → source ≡ map.get r.sources n → KnowsPapers r asked known
+    → KnowsPapers r (with_number n asked) (with_source known n source)
+source_known r asked known n source is knows = record { sources = ap (λ m. put_one m n source) knows.sources ∙ one_kept asked r.sources n source is }

@@ -1,0 +1,174 @@
+-- Whom and what an act names is what is listed.
+use Rattle.std.proofs.Common.{◌≡◌, ℕ, Bool, true, false, ◌||◌, nat_eq, is_some, List, [], ◌∷◌, Option, Some, None, refl, sym, ap, ap₂, ◌∙◌}
+use Rattle.std.proofs.lemmas.Bool.{false≢true}
+use Rattle.std.proofs.lemmas.Bool.Decides.{Decides-eqb}
+use Rattle.std.specs.Cmp.{nat_cmp_total}
+use Rattle.std.specs.FinMap as map
+use Rattle.std.specs.FinMap.{FinMap, nat_cmp-IsAntisymmetric}
+use Rattle.std.specs.List.{list_any}
+use Rattle.std.specs.Option.{option_map_or}
+use Rattle.std.specs.Ordering.{nat_cmp}
+use Rattle.std.specs.Prelude.{map as map_list}
+use Rattle.land_acts.specs.Slices.{content_names_party, is_mutation_where, mutations_looked_at, names_party, names_unit}
+use Rattle.land_core.proofs.FiniteSets.{exact_grants, grants_total}
+use Rattle.land_core.proofs.Reflection.{get-only, list_any-map}
+use Rattle.land_core.specs.Contents.{names_unit as content_names_unit}
+use Rattle.land_core.specs.Entries.{only, some}
+use Rattle.land_core.specs.Grants.{Grants, grant_of, grants_in}
+use Rattle.land_core.specs.Register.{holds}
+use Rattle.land_core.specs.Role.{is_role}
+use Rattle.land_core.specs.declared.act.Act.{Act}
+use Rattle.land_core.specs.declared.act.Act.TheVariants as act
+use Rattle.land_core.specs.declared.caller.Caller.{Caller}
+use Rattle.land_core.specs.declared.content.Content.{Content}
+use Rattle.land_core.specs.declared.content.Content.TheVariants as content
+use Rattle.land_core.specs.declared.mutation.MutationRecord.{MutationRecord}
+use Rattle.land_core.specs.declared.register.Register.{Register}
+use Rattle.land_core.specs.declared.role.Role.{Role}
+use Rattle.land_core.specs.declared.role.Role.TheVariants as roles
+use Rattle.land_core.specs.declared.roles.Grant.{Grant}
+use Rattle.land_select.proofs.Keeping.{entry_found, entry_there, is_kept, was_kept}
+use Rattle.land_select.specs.Slices.Gathered.{with_number, with_numbers}
+use Rattle.land_select.specs.Slices.Named.{lists, of_mutation, parties_of, parties_of_content, sources_of, units_of, units_of_content}
+use Rattle.land_select_joins.proofs.Containing.{any_decides}
+
+-- ---- truths
+
+same_truth : (a b : Bool) → (a ≡ true → b ≡ true) → (b ≡ true → a ≡ true) → a ≡ b
+same_truth true b to from = sym (to refl)
+same_truth false true to from = from refl
+same_truth false false to from = refl
+
+or_nothing : (a : Bool) → (a || false) ≡ a
+or_nothing true = refl
+or_nothing false = refl
+
+turned : (a b c : Bool) → ((a || b) || c) ≡ (b || (a || c))
+turned true true c = refl
+turned true false c = refl
+turned false true c = refl
+turned false false c = refl
+
+equal_turned : (a b : ℕ) → nat_eq a b ≡ nat_eq b a
+equal_turned a b = same_truth (nat_eq a b) (nat_eq b a) (λ h. (Decides-eqb b a).1 (sym ((Decides-eqb a b).0 h))) (λ h. (Decides-eqb a b).1 (sym ((Decides-eqb b a).0 h)))
+
+any_same : {X : Type 0} (p q : X → Bool) → ((x : X) → p x ≡ q x) → (xs : List X) → list_any p xs ≡ list_any q xs
+any_same p q same [] = refl
+any_same p q same (x ∷ xs) = ap₂ (λ a b. a || b) (same x) (any_same p q same xs)
+
+-- the numbers that are asked for with those of a list
+pub asked_with : (ns : List ℕ) (asked : ℕ → Bool) (n : ℕ) → with_numbers ns asked n ≡ (asked n || lists ns n)
+asked_with [] asked n = sym (or_nothing (asked n))
+asked_with (m ∷ ns) asked n = asked_with ns (with_number m asked) n ∙ turned (nat_eq n m) (asked n) (lists ns n)
+
+-- ---- contents
+
+listed_party : (n : ℕ) (c : Content) → content_names_party n c ≡ lists (parties_of_content c) n
+listed_party n (content.Transfer it) = sym (or_nothing (nat_eq n it.receiver))
+listed_party n (content.Subdivision it) = refl
+listed_party n (content.Merger it) = refl
+listed_party n (content.Mortgage it) = sym (or_nothing (nat_eq n it.creditor))
+listed_party n (content.Discharge it) = refl
+
+one_unit : (n u : ℕ) → nat_eq u n ≡ (nat_eq n u || false)
+one_unit n u = equal_turned u n ∙ sym (or_nothing (nat_eq n u))
+
+listed_unit : (n : ℕ) (c : Content) → content_names_unit n c ≡ lists (units_of_content c) n
+listed_unit n (content.Transfer it) = one_unit n it.unit
+listed_unit n (content.Subdivision it) = one_unit n it.unit
+listed_unit n (content.Merger it) = ap₂ (λ a b. a || b) (equal_turned it.unit n) (any_same (λ k. nat_eq k n) (λ k. nat_eq n k) (λ k. equal_turned k n) it.others)
+listed_unit n (content.Mortgage it) = one_unit n it.unit
+listed_unit n (content.Discharge it) = one_unit n it.unit
+
+-- ---- acts
+
+itself : (n : ℕ) → nat_eq n n ≡ true
+itself n = (Decides-eqb n n).1 refl
+
+-- the mutation that an act decides is among those that it is about
+module _ (r : Register) (k : ℕ) (mutations : FinMap nat_cmp MutationRecord) (are : mutations ≡ only (λ n m. nat_eq n k) r.mutations) where
+  decided_there : map.get mutations k ≡ map.get r.mutations k
+  decided_there = ap (λ ms. map.get ms k) are ∙ get-only nat_cmp_total nat_cmp-IsAntisymmetric (λ n m. nat_eq n k) r.mutations k (λ m. itself k)
+
+  decided_names : (names : ℕ → Content → Bool) (listed : Content → List ℕ) → ((n : ℕ) (c : Content) → names n c ≡ lists (listed c) n) → (n : ℕ)
+      → is_mutation_where (λ m. names n m.content) r k ≡ lists (of_mutation listed mutations k) n
+  decided_names names listed same n = ap (λ found. option_map_or (λ m. names n m.content) found false) (sym decided_there) ∙ go (map.get mutations k)
+    where
+      go : (found : Option MutationRecord) → option_map_or (λ m. names n m.content) found false ≡ lists (option_map_or (λ m. listed m.content) found []) n
+      go None = refl
+      go (Some m) = same n m.content
+
+pub party_listed : (r : Register) (caller : Caller) (a : Act) (mutations : FinMap nat_cmp MutationRecord) → mutations ≡ mutations_looked_at r caller a → (n : ℕ)
+    → names_party r a n ≡ lists (parties_of a mutations) n
+party_listed r caller (act.Enrol it) mutations are n = refl
+party_listed r caller (act.Group it) mutations are n = sym (list_any-map (nat_eq n) (λ member. member.party) it.members)
+party_listed r caller (act.Regroup it) mutations are n = ap (λ b. nat_eq n it.group || b) (sym (list_any-map (nat_eq n) (λ member. member.party) it.members))
+party_listed r caller (act.Grant it) mutations are n = sym (or_nothing (nat_eq n it.party))
+party_listed r caller (act.Revoke it) mutations are n = sym (or_nothing (nat_eq n it.party))
+party_listed r caller (act.Register it) mutations are n = sym (list_any-map (nat_eq n) (λ right. right.party) it.rights)
+party_listed r caller (act.Burden it) mutations are n = sym (or_nothing (nat_eq n it.party))
+party_listed r caller (act.Lift it) mutations are n = refl
+party_listed r caller (act.Lodge it) mutations are n = listed_party n it.content
+party_listed r caller (act.Approve it) mutations are n = decided_names r it.mutation mutations are content_names_party parties_of_content listed_party n
+party_listed r caller (act.Refuse it) mutations are n = decided_names r it.mutation mutations are content_names_party parties_of_content listed_party n
+
+pub unit_listed : (r : Register) (caller : Caller) (a : Act) (mutations : FinMap nat_cmp MutationRecord) → mutations ≡ mutations_looked_at r caller a → (n : ℕ)
+    → names_unit r a n ≡ lists (units_of a mutations) n
+unit_listed r caller (act.Enrol it) mutations are n = refl
+unit_listed r caller (act.Group it) mutations are n = refl
+unit_listed r caller (act.Regroup it) mutations are n = refl
+unit_listed r caller (act.Grant it) mutations are n = refl
+unit_listed r caller (act.Revoke it) mutations are n = refl
+unit_listed r caller (act.Register it) mutations are n = refl
+unit_listed r caller (act.Burden it) mutations are n = sym (or_nothing (nat_eq n it.unit))
+unit_listed r caller (act.Lift it) mutations are n = refl
+unit_listed r caller (act.Lodge it) mutations are n = listed_unit n it.content
+unit_listed r caller (act.Approve it) mutations are n = decided_names r it.mutation mutations are content_names_unit units_of_content listed_unit n
+unit_listed r caller (act.Refuse it) mutations are n = decided_names r it.mutation mutations are content_names_unit units_of_content listed_unit n
+
+pub source_listed : (mutations : FinMap nat_cmp MutationRecord) (n : ℕ) → some (λ k m. nat_eq m.source n) mutations ≡ lists (sources_of mutations) n
+source_listed mutations n =
+    any_same (λ e. nat_eq e.1.source n) (λ e. nat_eq n e.1.source) (λ e. equal_turned e.1.source n) (map.entries mutations)
+    ∙ sym (list_any-map (nat_eq n) (λ e. e.1.source) (map.entries mutations))
+
+-- ---- state administrators
+
+is_there : {V : Type 0} (o : Option V) → is_some o ≡ true → (v : V) × (o ≡ Some v)
+is_there (Some v) h = (v, refl)
+is_there None h = absurd (false≢true h)
+
+administers : (role : Role) → is_role role roles.StateAdministrator ≡ true → role ≡ roles.StateAdministrator
+administers roles.Citizen h = absurd (false≢true h)
+administers roles.Conveyancer h = absurd (false≢true h)
+administers roles.Notary h = absurd (false≢true h)
+administers roles.Bank h = absurd (false≢true h)
+administers roles.CertifiedSurveyor h = absurd (false≢true h)
+administers roles.StateAdministrator h = refl
+
+granted : (g : Grant) (n : ℕ) (role : Role) → g.party ≡ n → g.role ≡ role → grant_of n role ≡ g
+granted g n role e f = ap₂ grant_of (sym e) (sym f)
+
+pub office_listed : (r : Register) (office : Grants) → office ≡ only (λ grant u. is_role grant.role roles.StateAdministrator) r.roles → (n : ℕ)
+    → holds r n roles.StateAdministrator ≡ lists (map_list (λ grant. grant.party) (grants_in office)) n
+unfolding grants_in
+office_listed r office are n =
+    same_truth (holds r n roles.StateAdministrator) (list_any (λ e. nat_eq n e.0.party) (map.entries office)) to from
+    ∙ sym (list_any-map (nat_eq n) (λ (grant : Grant). grant.party) (map_list (λ e. e.0) (map.entries office)) ∙ list_any-map (λ (grant : Grant). nat_eq n grant.party) (λ e. e.0) (map.entries office))
+  where
+    whole : (role : Role) → Grant → Unit {0} → Bool
+    whole role g u = is_role g.role role
+
+    to : holds r n roles.StateAdministrator ≡ true → list_any (λ e. nat_eq n e.0.party) (map.entries office) ≡ true
+    to h =
+        let g = grant_of n roles.StateAdministrator in
+        let it = is_there (map.get r.roles g) h in
+        let kept = is_kept grants_total exact_grants (whole roles.StateAdministrator) r.roles g it.0 it.1 refl in
+        let among = entry_found grants_total exact_grants office g it.0 (ap (λ m. map.get m g) are ∙ kept) in
+        (any_decides (λ e. nat_eq n e.0.party) (λ e. n ≡ e.0.party) (map.entries office) (λ e h. Decides-eqb n e.0.party)).1 ((g, it.0), among, refl)
+
+    from : list_any (λ e. nat_eq n e.0.party) (map.entries office) ≡ true → holds r n roles.StateAdministrator ≡ true
+    from h =
+        let it = (any_decides (λ e. nat_eq n e.0.party) (λ e. n ≡ e.0.party) (map.entries office) (λ e h. Decides-eqb n e.0.party)).0 h in
+        let got = entry_there grants_total exact_grants office it.0 it.1 in
+        let was = was_kept grants_total exact_grants (whole roles.StateAdministrator) r.roles it.0.0 it.0.1 (ap (λ m. map.get m it.0.0) (sym are) ∙ got) in
+        ap (λ g. is_some (map.get r.roles g)) (granted it.0.0 n roles.StateAdministrator (sym it.2) (administers it.0.0.role was.1)) ∙ ap is_some was.0

@@ -1,0 +1,35 @@
+use Rattle.std.proofs.Common.{rules, ◌≡◌, subst, to_z, of_z, w64, Ok}
+use Rattle.land_acts.specs.Slices.{looks_at_party, mutations_looked_at, names_unit, slice_of}
+use Rattle.land_core.specs.declared.caller.Caller.{Caller}
+use Rattle.land_select.specs.Slices.Gathered.{IsKnown, IsSo, KnowsHoldings, KnowsPeople}
+use Rattle.land_select_joins.proofs.Chains.{look_after}
+use Rattle.land_tables_rows.specs.declared.listing.fault.ReadFault.{ReadFault}
+use Rattle.land_tables_schema.proofs.Looking.{look_then}
+use Rattle.land_tables_schema.specs.Rows.Looks.{IsLook}
+use Rattle.sqlite.specs.Effect.{Database}
+use Rattle.sqlite.specs.Held.{state}
+use Rattle.land_select.proofs.slices.slice.slice_about.Goals as goal
+
+pub returns-clause-look : goal.returns-clause-look
+returns-clause-look g c =
+    let a = state g.S.Store c.args.conn.now in
+    let d = state g.S.Store c.holdings_of.new.conn in
+    let t = c.args.at in
+    let act = c.args.act.now in
+    let mutations = c.args.mutations in
+    let people = c.in_ok-people.people in
+    let holdings = c.in_ok-holdings.holdings in
+    let when : to_z w64 (of_z w64 t) ≡ t = search rules in
+    let both : IsLook {X = Unit {0}} {E = ReadFault} (Ok tt) (λ _. IsSo (λ r. (caller : Caller) → mutations ≡ mutations_looked_at r caller act → KnowsPeople r (λ n. looks_at_party r act n) people) t a.now.trees
+    × IsSo (λ r. (caller : Caller) → mutations ≡ mutations_looked_at r caller act → KnowsHoldings r (λ n. names_unit r act n) holdings) t a.now.trees) a d =
+    look_then a (state g.S.Store c.people_of.new.conn) d (rw when at c.in_ok-people.ensures.look) (rw when at c.in_ok-holdings.ensures.look)
+    (λ clean same first second. (first, subst (λ (now : Database). IsSo (λ r. (caller : Caller) → mutations ≡ mutations_looked_at r caller act → KnowsHoldings r (λ n. names_unit r act n) holdings) t now.trees) same second)) in
+    look_after a d (state g.S.Store c.slice_with.new.conn) c.slice_with.result both (rw when at c.slice_with.ensures.look)
+    (λ it clean same both sliced moments h held r have stands next caller are.
+    subst (λ (now : Database). IsSo (λ r. (caller : Caller) → IsKnown r caller act (record { mutations = mutations; people = people; holdings = holdings; next = c.args.next }) → it ≡ slice_of r caller act) t now.trees)
+    same sliced moments h held r have stands caller (record {
+      mutations = are;
+      people = both.0 moments h held r have stands caller are;
+      holdings = both.1 moments h held r have stands caller are;
+      next = next;
+    }))

@@ -1,0 +1,9 @@
+//! What is looked up of a register so that an act can be planned.
+
+mod gathers;
+mod holdings;
+mod mutations;
+mod named;
+mod papers;
+mod people;
+pub mod slice;

@@ -1,0 +1,101 @@
+//! Units, with what belongs to them.
+ghost use Rattle.std.specs.FinMap as map;
+ghost use Rattle.std.specs.Prelude.{◌≡◌, false, ℕ, Bool, IfOk};
+ghost use Rattle.land_select.specs.Slices.Gathered.{IsSo, KnowsHoldings, with_number, with_unit};
+ghost use Rattle.land_tables_schema.specs.Land.{IsLand};
+ghost use Rattle.land_tables_schema.specs.Rows.Looks.{IsLook};
+ghost use Rattle.sqlite.specs.Held.{state};
+ghost use Rattle.sqlite.specs.State.{HasCleanDisk};
+
+use crate::slices::gathers::Gathers;
+use crate::slices::people::{put_all, put_one};
+use land_core::parcel::ParcelRecord;
+use land_core::records::Records;
+use land_core::rrr::RrrRecord;
+use land_core::unit::UnitRecord;
+use land_select_joins::lookups::{by_number, of_unit};
+use land_tables_rows::listing::fault::ReadFault;
+use sqlite::{Alter, Connection};
+use std::alloc::{AllocError, Global};
+
+/// Units under their numbers, with their parcels and their entries.
+#[derive(Debug, Drop)]
+pub(crate) struct Holdings {
+    /// The units.
+    pub(crate) units: Records<UnitRecord>,
+    /// Their parcels.
+    pub(crate) parcels: Records<ParcelRecord>,
+    /// Their entries.
+    pub(crate) rrrs: Records<RrrRecord>,
+}
+
+impl Holdings {
+    /// No unit, which takes no memory.
+    pub(crate) fn none(alloc: Global) -> Holdings
+        ensures { result ≡ record { units = map.empty; parcels = map.empty; rrrs = map.empty } }
+    {
+        Holdings {
+            units: Records::new(alloc),
+            parcels: Records::new(alloc),
+            rrrs: Records::new(alloc),
+        }
+    }
+
+    /// These, and one more with its parcels and its entries.
+    fn with_unit(
+        self,
+        alloc: Global,
+        number: u64,
+        unit: Option<UnitRecord>,
+        parcels: &Records<ParcelRecord>,
+        rrrs: &Records<RrrRecord>,
+    ) -> Result<Holdings, AllocError>
+        ensures { IfOk result (λ it. it ≡ with_unit self number unit parcels.now rrrs.now) }
+    {
+        let Holdings {
+            units,
+            parcels: known,
+            rrrs: entries,
+        } = self;
+        Ok(Holdings {
+            units: put_one(units, number, unit)?,
+            parcels: put_all(alloc, known, parcels)?,
+            rrrs: put_all(alloc, entries, rrrs)?,
+        })
+    }
+
+    /// These, and one more, whose parcels and entries are looked up.
+    fn joined_by<S: Alter>(
+        self,
+        alloc: Global,
+        conn: &mut Connection<S>,
+        number: u64,
+        unit: Option<UnitRecord>,
+        at: i64,
+    ) -> Result<Holdings, ReadFault>
+        requires land { HasCleanDisk (state S.Store conn.old) → IsLand (state S.Store conn.old).now.schema }
+        ensures look { IsLook result (λ it. IsSo (λ r. unit ≡ map.get r.units number → (asked : ℕ → Bool) → KnowsHoldings r asked self → KnowsHoldings r (with_number number asked) it) at (state S.Store conn.old).now.trees) (state S.Store conn.old) (state S.Store conn.new) }
+        ensures mode { conn.old.in_transaction ≡ false → conn.new.in_transaction ≡ false }
+    {
+        let parcels = of_unit::parcels(alloc, conn, number, at)?;
+        let rrrs = of_unit::entries(alloc, conn, number, at)?;
+        Ok(self.with_unit(alloc, number, unit, &parcels, &rrrs)?)
+    }
+}
+
+impl Gathers for Holdings {
+    ghost use Rattle.land_select.specs.Slices.Gathered.{KnowsHoldings};
+
+    ghost knows = { KnowsHoldings };
+
+    fn gather<S: Alter>(
+        self,
+        alloc: Global,
+        conn: &mut Connection<S>,
+        number: u64,
+        at: i64,
+    ) -> Result<Holdings, ReadFault> {
+        let unit = by_number::unit(alloc, conn, number, at)?;
+        self.joined_by(alloc, conn, number, unit, at)
+    }
+}

@@ -1,0 +1,141 @@
+//! Whom and what an act names.
+ghost use Rattle.std.specs.Prelude.{◌≡◌, ◌∷◌, map as map_list, IfOk};
+ghost use Rattle.land_select.specs.Slices.Named.{of_mutation, parties_of, parties_of_content, sources_of, units_of, units_of_content};
+
+use land_core::act::{Act, NewRight};
+use land_core::content::Content;
+use land_core::member::Member;
+use land_core::mutation::MutationRecord;
+use land_core::records::Records;
+use land_core::sequence::NumberList;
+use std::alloc::{AllocError, Global};
+
+/// The parties of listed members.
+fn parties_of_members(alloc: Global, members: &[Member]) -> Result<NumberList, AllocError>
+    ensures { IfOk result (λ it. it ≡ map_list (λ member. member.party) members.now) }
+{
+    let mut parties = NumberList::new(alloc);
+    for member in members {
+        parties.push(member.party)?;
+    }
+    Ok(parties)
+}
+
+/// A group, and the parties of the members that it is to have.
+fn group_and_members(
+    alloc: Global,
+    group: u64,
+    members: &[Member],
+) -> Result<NumberList, AllocError>
+    ensures { IfOk result (λ it. it ≡ group ∷ map_list (λ member. member.party) members.now) }
+{
+    let mut parties = NumberList::of_one(alloc, group)?;
+    for member in members {
+        parties.push(member.party)?;
+    }
+    Ok(parties)
+}
+
+/// The parties of first rights.
+fn parties_of_rights(alloc: Global, rights: &[NewRight]) -> Result<NumberList, AllocError>
+    ensures { IfOk result (λ it. it ≡ map_list (λ right. right.party) rights.now) }
+{
+    let mut parties = NumberList::new(alloc);
+    for right in rights {
+        parties.push(right.party)?;
+    }
+    Ok(parties)
+}
+
+/// The party that a content names, if any.
+fn parties_of_content(alloc: Global, content: &Content) -> Result<NumberList, AllocError>
+    ensures { IfOk result (λ it. it ≡ parties_of_content content.now) }
+{
+    match content {
+        Content::Transfer(it) => NumberList::of_one(alloc, it.receiver),
+        Content::Mortgage(it) => NumberList::of_one(alloc, it.creditor),
+        Content::Subdivision(_) | Content::Merger(_) | Content::Discharge(_) => {
+            Ok(NumberList::new(alloc))
+        }
+    }
+}
+
+/// A unit, and others.
+fn unit_and_others(alloc: Global, unit: u64, others: &[u64]) -> Result<NumberList, AllocError>
+    ensures { IfOk result (λ it. it ≡ unit ∷ others.now) }
+{
+    let mut units = NumberList::of_one(alloc, unit)?;
+    for other in others {
+        units.push(*other)?;
+    }
+    Ok(units)
+}
+
+/// The units that a content names.
+fn units_of_content(alloc: Global, content: &Content) -> Result<NumberList, AllocError>
+    ensures { IfOk result (λ it. it ≡ units_of_content content.now) }
+{
+    match content {
+        Content::Transfer(it) => NumberList::of_one(alloc, it.unit),
+        Content::Subdivision(it) => NumberList::of_one(alloc, it.unit),
+        Content::Merger(it) => unit_and_others(alloc, it.unit, it.others.as_slice()),
+        Content::Mortgage(it) => NumberList::of_one(alloc, it.unit),
+        Content::Discharge(it) => NumberList::of_one(alloc, it.unit),
+    }
+}
+
+/// The parties that an act names, in itself or through the mutation that it decides. 501: there was no memory.
+pub(crate) fn parties_of(
+    alloc: Global,
+    act: &Act,
+    mutations: &Records<MutationRecord>,
+) -> Result<NumberList, AllocError>
+    ensures { IfOk result (λ it. it ≡ parties_of act.now mutations.now) }
+{
+    match act {
+        Act::Enrol(_) | Act::Lift(_) => Ok(NumberList::new(alloc)),
+        Act::Group(it) => parties_of_members(alloc, it.members.as_slice()),
+        Act::Regroup(it) => group_and_members(alloc, it.group, it.members.as_slice()),
+        Act::Grant(it) | Act::Revoke(it) => NumberList::of_one(alloc, it.party),
+        Act::Register(it) => parties_of_rights(alloc, it.rights.as_slice()),
+        Act::Burden(it) => NumberList::of_one(alloc, it.party),
+        Act::Lodge(it) => parties_of_content(alloc, &it.content),
+        Act::Approve(it) | Act::Refuse(it) => match mutations.get(it.mutation) {
+            Some(mutation) => parties_of_content(alloc, &mutation.content),
+            None => Ok(NumberList::new(alloc)),
+        },
+    }
+}
+
+/// The units that an act names, in itself or through the mutation that it decides. 501: there was no memory.
+pub(crate) fn units_of(
+    alloc: Global,
+    act: &Act,
+    mutations: &Records<MutationRecord>,
+) -> Result<NumberList, AllocError>
+    ensures { IfOk result (λ it. it ≡ units_of act.now mutations.now) }
+{
+    match act {
+        Act::Burden(it) => NumberList::of_one(alloc, it.unit),
+        Act::Lodge(it) => units_of_content(alloc, &it.content),
+        Act::Approve(it) | Act::Refuse(it) => match mutations.get(it.mutation) {
+            Some(mutation) => units_of_content(alloc, &mutation.content),
+            None => Ok(NumberList::new(alloc)),
+        },
+        _ => Ok(NumberList::new(alloc)),
+    }
+}
+
+/// The sources of some mutations. 501: there was no memory.
+pub(crate) fn sources_of(
+    alloc: Global,
+    mutations: &Records<MutationRecord>,
+) -> Result<NumberList, AllocError>
+    ensures { IfOk result (λ it. it ≡ sources_of mutations.now) }
+{
+    let mut sources = NumberList::new(alloc);
+    for (_, mutation) in mutations.iter() {
+        sources.push(mutation.source)?;
+    }
+    Ok(sources)
+}

@@ -1,0 +1,58 @@
+//! Sources, by which acts were done.
+ghost use Rattle.std.specs.FinMap as map;
+ghost use Rattle.std.specs.Prelude.{◌≡◌, IfOk};
+ghost use Rattle.land_select.specs.Slices.Gathered.{with_source};
+
+use crate::slices::gathers::Gathers;
+use crate::slices::people::put_one;
+use land_core::records::Records;
+use land_core::source::SourceRecord;
+use land_select_joins::lookups::by_number;
+use land_tables_rows::listing::fault::ReadFault;
+use sqlite::{Alter, Connection};
+use std::alloc::{AllocError, Global};
+
+/// Sources under their numbers.
+#[derive(Debug, Drop)]
+pub(crate) struct Papers {
+    /// The sources.
+    pub(crate) sources: Records<SourceRecord>,
+}
+
+impl Papers {
+    /// No source, which takes no memory.
+    pub(crate) fn none(alloc: Global) -> Papers
+        ensures { result ≡ record { sources = map.empty } }
+    {
+        Papers {
+            sources: Records::new(alloc),
+        }
+    }
+
+    /// These, and one more.
+    fn with_source(self, number: u64, source: Option<SourceRecord>) -> Result<Papers, AllocError>
+        ensures { IfOk result (λ it. it ≡ with_source self number source) }
+    {
+        let Papers { sources } = self;
+        Ok(Papers {
+            sources: put_one(sources, number, source)?,
+        })
+    }
+}
+
+impl Gathers for Papers {
+    ghost use Rattle.land_select.specs.Slices.Gathered.{KnowsPapers};
+
+    ghost knows = { KnowsPapers };
+
+    fn gather<S: Alter>(
+        self,
+        alloc: Global,
+        conn: &mut Connection<S>,
+        number: u64,
+        at: i64,
+    ) -> Result<Papers, ReadFault> {
+        let source = by_number::source(alloc, conn, number, at)?;
+        Ok(self.with_source(number, source)?)
+    }
+}

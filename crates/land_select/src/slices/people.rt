@@ -1,0 +1,141 @@
+//! Parties, with all that stands under their numbers.
+ghost use Rattle.std.specs.Prelude.{◌≡◌, false, ℕ, Bool, IfOk};
+ghost use Rattle.std.specs.FinMap as map;
+ghost use Rattle.land_select.specs.Slices.Gathered.{IsSo, KnowsPeople, put_all, put_one, with_number, with_person};
+ghost use Rattle.land_tables_schema.specs.Land.{IsLand};
+ghost use Rattle.land_tables_schema.specs.Rows.Looks.{IsLook};
+ghost use Rattle.sqlite.specs.Held.{state};
+ghost use Rattle.sqlite.specs.State.{HasCleanDisk};
+
+use crate::slices::gathers::Gathers;
+use land_core::duplicate::Duplicate;
+use land_core::member::Members;
+use land_core::party::PartyRecord;
+use land_core::records::Records;
+use land_core::roles::Roles;
+use land_select_joins::lookups::{by_number, of_group, of_party};
+use land_tables_rows::listing::fault::ReadFault;
+use sqlite::{Alter, Connection};
+use std::alloc::{AllocError, Global};
+
+/// Parties under their numbers, with the roles of each and the members of groups.
+#[derive(Debug, Drop)]
+pub(crate) struct People {
+    /// The parties.
+    pub(crate) parties: Records<PartyRecord>,
+    /// Their roles.
+    pub(crate) roles: Roles,
+    /// The members of those that are groups.
+    pub(crate) members: Records<Members>,
+}
+
+/// Puts at most one record under its number.
+pub(crate) fn put_one<V: Drop>(
+    records: Records<V>,
+    number: u64,
+    found: Option<V>,
+) -> Result<Records<V>, AllocError>
+    ensures { IfOk result (λ it. it ≡ put_one records number found) }
+{
+    let mut records = records;
+    if let Some(value) = found {
+        records.insert(number, value)?;
+    }
+    Ok(records)
+}
+
+/// Puts other records in.
+pub(crate) fn put_all<V: Duplicate>(
+    alloc: Global,
+    records: Records<V>,
+    more: &Records<V>,
+) -> Result<Records<V>, AllocError>
+    ensures { IfOk result (λ it. it ≡ put_all records more.now) }
+{
+    let mut records = records;
+    for (number, value) in more.iter() {
+        records.insert(*number, value.copy(alloc)?)?;
+    }
+    Ok(records)
+}
+
+/// Puts other roles in.
+fn put_roles(roles: Roles, more: &Roles) -> Result<Roles, AllocError>
+    ensures { IfOk result (λ it. it ≡ put_all roles more.now) }
+{
+    let mut roles = roles;
+    for grant in more.iter() {
+        roles.insert(*grant)?;
+    }
+    Ok(roles)
+}
+
+impl People {
+    /// Nobody, which takes no memory.
+    pub(crate) fn nobody(alloc: Global) -> People
+        ensures { result ≡ record { parties = map.empty; roles = map.empty; members = map.empty } }
+    {
+        People {
+            parties: Records::new(alloc),
+            roles: Roles::new(alloc),
+            members: Records::new(alloc),
+        }
+    }
+
+    /// These, and one more with its roles and its members.
+    pub(crate) fn with_person(
+        self,
+        alloc: Global,
+        number: u64,
+        party: Option<PartyRecord>,
+        roles: &Roles,
+        members: &Records<Members>,
+    ) -> Result<People, AllocError>
+        ensures { IfOk result (λ it. it ≡ with_person self number party roles.now members.now) }
+    {
+        let People {
+            parties,
+            roles: known,
+            members: groups,
+        } = self;
+        Ok(People {
+            parties: put_one(parties, number, party)?,
+            roles: put_roles(known, roles)?,
+            members: put_all(alloc, groups, members)?,
+        })
+    }
+    /// These, and one more, whose roles and members are looked up.
+    fn joined_by<S: Alter>(
+        self,
+        alloc: Global,
+        conn: &mut Connection<S>,
+        number: u64,
+        party: Option<PartyRecord>,
+        at: i64,
+    ) -> Result<People, ReadFault>
+        requires land { HasCleanDisk (state S.Store conn.old) → IsLand (state S.Store conn.old).now.schema }
+        ensures look { IsLook result (λ it. IsSo (λ r. party ≡ map.get r.parties number → (asked : ℕ → Bool) → KnowsPeople r asked self → KnowsPeople r (with_number number asked) it) at (state S.Store conn.old).now.trees) (state S.Store conn.old) (state S.Store conn.new) }
+        ensures mode { conn.old.in_transaction ≡ false → conn.new.in_transaction ≡ false }
+    {
+        let roles = of_party::roles(alloc, conn, number, at)?;
+        let members = of_group::members(alloc, conn, number, at)?;
+        Ok(self.with_person(alloc, number, party, &roles, &members)?)
+    }
+}
+
+impl Gathers for People {
+    ghost use Rattle.land_select.specs.Slices.Gathered.{KnowsPeople};
+
+    ghost knows = { KnowsPeople };
+
+    fn gather<S: Alter>(
+        self,
+        alloc: Global,
+        conn: &mut Connection<S>,
+        number: u64,
+        at: i64,
+    ) -> Result<People, ReadFault> {
+        let party = by_number::party(alloc, conn, number, at)?;
+        self.joined_by(alloc, conn, number, party, at)
+    }
+}

@@ -1,0 +1,34 @@
+-- The rows that the text of a selection answers are the numbers that the selection gives.
+use Rattle.std.proofs.Common.{ℕ, ℤ, List, [], ◌∷◌}
+use Rattle.land_select_joins.proofs.Joined.{complete, from, numbered, sound}
+use Rattle.land_select_joins.proofs.JoinedByNobody.{asked_so}
+use Rattle.land_select_joins.proofs.Places.{as_stored}
+use Rattle.land_select_joins.proofs.Selected.{filter_of, join_of, places_of, selected, shown_of}
+use Rattle.land_select_joins.proofs.Sets.{plainly}
+use Rattle.land_select_joins.specs.Joins.Meaning.{given}
+use Rattle.land_select_joins.specs.Joins.Running.{AreRowsOf, asked_for}
+use Rattle.land_select_joins.specs.Joins.Texts.{text_of}
+use Rattle.land_select_joins.specs.declared.sights.selection.Selection.{Selection}
+use Rattle.sqlite.specs.Program.{overlay}
+use Rattle.sqlite.specs.Query.{IsAnswer, Query}
+use Rattle.sqlite_trees.specs.Tree.{Trees}
+use Rattle.sqlite_value.specs.Order.{Row}
+
+abbrev pub query_of : Selection → Query
+query_of s = plainly (from (places_of s)) (filter_of s) (shown_of s ∷ [])
+
+pub are_rows_of : (s : Selection) (t : ℤ) (caller : ℕ) (db : Trees) (rows : List Row) → IsAnswer (query_of s) (overlay db []) (given (asked_for caller) t) rows → AreRowsOf s t caller db rows
+are_rows_of s t caller db rows a moments h held =
+    let asked = asked_for caller in
+    let join = join_of s in
+    let ps = places_of s in
+    let fs = filter_of s in
+    record {
+      each = numbered (text_of s) ps fs (shown_of s) join db (overlay db []) (as_stored db) moments h held asked t rows a;
+      meant = λ n.
+          let it = selected s h asked t n in
+          let so = asked_so db moments h held t n s caller in (
+            (λ has. so.0 (it.0 (sound (text_of s) ps fs (shown_of s) join db (overlay db []) (as_stored db) moments h held asked t rows a n has))),
+            (λ x. complete (text_of s) ps fs (shown_of s) join db (overlay db []) (as_stored db) moments h held asked t rows a n (it.1 (so.1 x))),
+          );
+    }

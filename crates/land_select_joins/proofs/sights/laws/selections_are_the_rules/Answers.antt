@@ -1,0 +1,5 @@
+use Rattle.land_select_joins.proofs.Seeing.{the_rules}
+use Rattle.land_select_joins.proofs.sights.laws.selections_are_the_rules.Goals as goal
+
+pub returns : goal.returns
+returns c = the_rules c.seen_is_exact.ensures c.soundness_by_look_ups.ensures

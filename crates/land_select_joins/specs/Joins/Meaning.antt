@@ -1,0 +1,47 @@
+-- What the text of a selection means, by the meaning that sqlite gives to texts.
+use Rattle.std.specs.Prelude.{◌≡◌, ◌↔◌, ℕ, ℤ, pos, List, [], ◌∷◌, Ok, Err, Result}
+use Rattle.land_select_joins.specs.Joins.Texts.{text_of}
+use Rattle.land_select_joins.specs.Sights.Selections.{selects}
+use Rattle.land_select_joins.specs.declared.sights.selection.Selection.{Selection}
+use Rattle.land_tables_history.specs.declared.history.History.{History}
+use Rattle.land_tables_history.specs.declared.moment.Moment.{Moment}
+use Rattle.land_tables_rows.specs.Writing.History.{HoldsHistory}
+use Rattle.land_tables_schema.specs.Land.{land_with}
+use Rattle.sqlite.specs.Command.{Command}
+use Rattle.sqlite.specs.Command.TheVariants.{Nothing}
+use Rattle.sqlite.specs.Effect.{Reads}
+use Rattle.sqlite.specs.Listing.{understood}
+use Rattle.sqlite.specs.declared.types.Value.TheVariants.{Int}
+use Rattle.sqlite_resolve.specs.declared.compiled.Compiled.{Compiled}
+use Rattle.sqlite_resolve.specs.declared.error.CompileError.{CompileError}
+use Rattle.sqlite_rules.specs.Lists.{Has}
+use Rattle.sqlite_schema.specs.declared.schema.Index.{Index}
+use Rattle.sqlite_trees.specs.Tree.{Trees}
+use Rattle.sqlite_value.specs.Order.{Row}
+
+-- what a text asks for, as sqlite understands it
+abbrev pub command_in : Result Compiled CompileError → Command
+command_in (Ok c) = c.command
+command_in (Err e) = Nothing
+
+-- the parameters of each text: the caller, and the moment
+abbrev pub given : (caller : ℕ) → (t : ℤ) → Row
+given caller t = Int (pos caller) ∷ Int t ∷ []
+
+-- each row is one number, and these are the wanted ones and no others
+pub record AreNumberRows (rows : List Row) (Wanted : ℕ → Type 0) : Type 0 where
+  pub each : (row : Row) → Has rows row → (n : ℕ) × (row ≡ Int (pos n) ∷ [])
+  pub meant : (n : ℕ) → Has rows (Int (pos n) ∷ []) ↔ Wanted n
+
+-- Over the tables of a register with these indexes and these rows, each answer of a text for a caller and a moment has the wanted numbers
+-- and no others, in whatever order; and there is an answer.
+pub record GivesNumbers (text : List ℕ) (indexes : List Index) (db : Trees) (caller : ℕ) (t : ℤ) (Wanted : ℕ → Type 0) : Type 0 where
+  pub each : (rows : List Row) → Reads (command_in (understood (land_with indexes) text)) (record { schema = land_with indexes; trees = db }) (given caller t) rows → AreNumberRows rows Wanted
+  pub rows : List Row
+  pub answer : Reads (command_in (understood (land_with indexes) text)) (record { schema = land_with indexes; trees = db }) (given caller t) rows
+
+-- Where the tables hold a history, the text of a selection gives the numbers that the selection gives, and no others, whatever indexes there
+-- are.
+abbrev pub TextsSelect : Type 0
+TextsSelect = (s : Selection) (indexes : List Index) (db : Trees) (moments : List Moment) (history : History) (caller : ℕ) (t : ℤ)
+    → HoldsHistory db moments history → GivesNumbers (text_of s) indexes db caller t (selects s t history caller)

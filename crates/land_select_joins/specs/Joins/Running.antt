@@ -1,0 +1,43 @@
+-- What running the texts of selections gives.
+use Rattle.std.specs.Prelude.{◌≡◌, ◌↔◌, ℕ, ℤ, List, if◌then◌else◌}
+use Rattle.std.specs.List.{Contains}
+use Rattle.land_core.specs.Numbers.{is_number}
+use Rattle.land_select_joins.specs.Joins.Meaning.{AreNumberRows}
+use Rattle.land_select_joins.specs.Sights.{AnySelects}
+use Rattle.land_select_joins.specs.Sights.Selections.{selects}
+use Rattle.land_select_joins.specs.declared.sights.selection.Selection.{Selection}
+use Rattle.land_tables_history.specs.declared.history.History.{History}
+use Rattle.land_tables_history.specs.declared.moment.Moment.{Moment}
+use Rattle.land_tables_rows.specs.Writing.History.{HoldsHistory}
+use Rattle.land_tables_rows.specs.declared.listing.fault.ReadFault.{ReadFault}
+use Rattle.land_tables_rows.specs.declared.listing.fault.ReadFault.TheVariants.{Unreadable}
+use Rattle.sqlite_trees.specs.Tree.{Trees}
+use Rattle.sqlite_value.specs.Order.{Row}
+
+-- The number for which a caller is asked for: its own, or 0 where that is none that an object can have, which is nobody's.
+abbrev pub asked_for : (caller : ℕ) → ℕ
+asked_for caller = if is_number caller then caller else 0
+
+-- these are the wanted numbers and no others, in whatever order
+abbrev pub AreAll : List ℕ → (ℕ → Type 0) → Type 0
+AreAll numbers Wanted = (n : ℕ) → Contains numbers n ↔ Wanted n
+
+-- whatever history the tables hold
+abbrev pub OfHeld : Trees → (History → Type 0) → Type 0
+OfHeld db P = (moments : List Moment) (history : History) → HoldsHistory db moments history → P history
+
+-- the rows that a selection gives to a caller at a moment
+abbrev pub AreRowsOf : Selection → (t : ℤ) → (caller : ℕ) → Trees → List Row → Type 0
+AreRowsOf s t caller db rows = OfHeld db (λ h. AreNumberRows rows (selects s t h caller))
+
+-- the numbers that a selection gives to a caller at a moment
+abbrev pub AreNumbersOf : Selection → (t : ℤ) → (caller : ℕ) → Trees → List ℕ → Type 0
+AreNumbersOf s t caller db numbers = OfHeld db (λ h. AreAll numbers (selects s t h caller))
+
+-- the numbers that some of these selections gives to a caller at a moment
+abbrev pub AreNumbersOfAny : List Selection → (t : ℤ) → (caller : ℕ) → Trees → List ℕ → Type 0
+AreNumbersOfAny ss t caller db numbers = OfHeld db (λ h. AreAll numbers (AnySelects ss t h caller))
+
+-- a fault that says that rows cannot be read is right: the tables hold no history
+abbrev pub HoldsNone : Trees → ReadFault → Type 0
+HoldsNone db fault = fault ≡ Unreadable → OfHeld db (λ h. ⊥)

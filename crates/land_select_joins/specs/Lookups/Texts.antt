@@ -1,0 +1,20 @@
+-- The text of each look-up.
+use Rattle.std.specs.Prelude.{ℕ, List}
+use Rattle.land_select_joins.specs.declared.lookups.look_up.LookUp.{LookUp}
+use Rattle.land_select_joins.specs.declared.lookups.look_up.LookUp.TheVariants as look_up
+use Rattle.land_select_joins.specs.declared.lookups.texts.TheConstants as texts
+
+abbrev pub text_of : LookUp → List ℕ
+text_of look_up.Party = texts.PARTY.now
+text_of look_up.Unit = texts.UNIT.now
+text_of look_up.Parcel = texts.PARCEL.now
+text_of look_up.Entry = texts.ENTRY.now
+text_of look_up.Source = texts.SOURCE.now
+text_of look_up.Mutation = texts.MUTATION.now
+text_of look_up.ParcelsOfUnit = texts.PARCELS_OF_UNIT.now
+text_of look_up.EntriesOfUnit = texts.ENTRIES_OF_UNIT.now
+text_of look_up.NamingsOfUnit = texts.NAMINGS_OF_UNIT.now
+text_of look_up.EntriesOfParty = texts.ENTRIES_OF_PARTY.now
+text_of look_up.RolesOfParty = texts.ROLES_OF_PARTY.now
+text_of look_up.MembersOfGroup = texts.MEMBERS_OF_GROUP.now
+text_of look_up.Administrators = texts.ADMINISTRATORS.now

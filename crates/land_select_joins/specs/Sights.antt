@@ -1,0 +1,48 @@
+-- The sight of a role, kind by kind: the selections of which it is the union.
+pub mod Laws
+pub mod Selections
+use Rattle.std.specs.Prelude.{◌⊎◌, ℕ, ℤ, List, [], ◌∷◌}
+use Rattle.land_core.specs.declared.kind.Kind.{Kind}
+use Rattle.land_core.specs.declared.kind.Kind.TheVariants as kind
+use Rattle.land_core.specs.declared.role.Role.{Role}
+use Rattle.land_core.specs.declared.role.Role.TheVariants.{Citizen, Conveyancer, Notary, Bank, CertifiedSurveyor, StateAdministrator}
+use Rattle.land_select_joins.specs.Sights.Selections.{selects}
+use Rattle.land_select_joins.specs.declared.sights.selection.Selection.{Selection}
+use Rattle.land_select_joins.specs.declared.sights.selection.Selection.TheVariants.{All, Itself, ItsGroups, ItsLodgings, HeldUnits, GroupUnits, HeldEntries, GroupEntries, HeldParties, GroupParties, HeldMutations, GroupMutations, CreditUnits, CreditEntries, CreditParties, LodgedUnits, LodgedEntries, LodgedParties}
+use Rattle.land_tables_history.specs.declared.history.History.{History}
+
+-- the selections of a role and a kind: a citizen sees by what it holds, itself or through its groups; a bank by its mortgages; a
+-- conveyancer by its undecided mutations; those who lodge see what they lodged; notaries and state administrators see all; and
+-- everybody sees the parcels
+abbrev pub selections_of : Role → Kind → List Selection
+selections_of Citizen kind.Party = Itself ∷ ItsGroups ∷ HeldParties ∷ GroupParties ∷ []
+selections_of Citizen kind.Unit = HeldUnits ∷ GroupUnits ∷ []
+selections_of Citizen kind.Parcel = All kind.Parcel ∷ []
+selections_of Citizen kind.Rrr = HeldEntries ∷ GroupEntries ∷ []
+selections_of Citizen kind.Source = []
+selections_of Citizen kind.Mutation = HeldMutations ∷ GroupMutations ∷ []
+selections_of Conveyancer kind.Party = Itself ∷ LodgedParties ∷ []
+selections_of Conveyancer kind.Unit = LodgedUnits ∷ []
+selections_of Conveyancer kind.Parcel = All kind.Parcel ∷ []
+selections_of Conveyancer kind.Rrr = LodgedEntries ∷ []
+selections_of Conveyancer kind.Source = []
+selections_of Conveyancer kind.Mutation = ItsLodgings ∷ []
+selections_of Notary k = All k ∷ []
+selections_of Bank kind.Party = Itself ∷ CreditParties ∷ []
+selections_of Bank kind.Unit = CreditUnits ∷ []
+selections_of Bank kind.Parcel = All kind.Parcel ∷ []
+selections_of Bank kind.Rrr = CreditEntries ∷ []
+selections_of Bank kind.Source = []
+selections_of Bank kind.Mutation = ItsLodgings ∷ []
+selections_of CertifiedSurveyor kind.Party = Itself ∷ []
+selections_of CertifiedSurveyor kind.Unit = []
+selections_of CertifiedSurveyor kind.Parcel = All kind.Parcel ∷ []
+selections_of CertifiedSurveyor kind.Rrr = []
+selections_of CertifiedSurveyor kind.Source = []
+selections_of CertifiedSurveyor kind.Mutation = ItsLodgings ∷ []
+selections_of StateAdministrator k = All k ∷ []
+
+-- some of these selections gives a number to a caller
+abbrev pub AnySelects : List Selection → (t : ℤ) → History → (caller number : ℕ) → Type 0
+AnySelects [] t h caller number = ⊥
+AnySelects (s ∷ ss) t h caller number = selects s t h caller number ⊎ AnySelects ss t h caller number

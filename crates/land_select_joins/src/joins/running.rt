@@ -1,0 +1,138 @@
+//! Selections are run, and what they give is united.
+ghost use Rattle.std.specs.Prelude.{◌≡◌, false, IfErr, IfOk, IsTrue};
+ghost use Rattle.std.specs.List.{Contains};
+ghost use Rattle.std.specs.List.Sorted.{IsStrictlyIncreasing};
+ghost use Rattle.land_select_joins.specs.Joins.Running.{AreAll, AreNumbersOf, AreNumbersOfAny, AreRowsOf, HoldsNone, asked_for};
+ghost use Rattle.land_tables_rows.specs.Listing.Reading.{IsRead};
+ghost use Rattle.land_tables_rows.specs.Reading.Cells.{natural_in};
+ghost use Rattle.land_tables_rows.specs.Reading.Readings.{each_of};
+ghost use Rattle.land_tables_rows.specs.declared.listing.fault.ReadFault.TheVariants.{NoMemory};
+ghost use Rattle.land_tables_schema.specs.Land.{IsLand};
+ghost use Rattle.land_tables_schema.specs.Rows.Looks.{IsLook};
+ghost use Rattle.land_wire_json.specs.Bodies.WireFaults.{Gives};
+ghost use Rattle.sqlite.specs.Held.{state};
+ghost use Rattle.sqlite.specs.State.{HasCleanDisk};
+ghost use Rattle.sqlite_value.specs.Order.{column};
+
+use crate::joins::text::text_of;
+use crate::sights::selection::Selection;
+use land_core::limits::is_number;
+use land_core::sequence::{NumberList, Sequence};
+use land_tables_rows::listing::fault::ReadFault;
+use land_tables_rows::reading::cells::natural_at;
+use land_tables_schema::rows::cells::{of_moment, of_number};
+use land_wire_json::bodies::wire_fault::WireFault;
+use sqlite::{Alter, Connection, Error, Row};
+use std::alloc::Global;
+
+/// The number that is asked for in place of one that is given: 0, which is nobody's, where no object can have it.
+pub fn asked_for(caller: u64) -> u64
+    ensures { result ≡ asked_for caller }
+{
+    if is_number(caller) { caller } else { 0 }
+}
+
+/// The rows that a selection gives to a caller at a moment, in whatever order.
+fn rows_of<S: Alter>(
+    conn: &mut Connection<S>,
+    selection: Selection,
+    caller: u64,
+    at: i64,
+) -> Result<Vec<Row>, Error>
+    requires land { HasCleanDisk (state S.Store conn.old) → IsLand (state S.Store conn.old).now.schema }
+    ensures look { IsLook result (λ rows. AreRowsOf selection at caller (state S.Store conn.old).now.trees rows.items) (state S.Store conn.old) (state S.Store conn.new) }
+    ensures mode { conn.old.in_transaction ≡ false → conn.new.in_transaction ≡ false }
+{
+    conn.query_all(
+        text_of(selection),
+        &[of_number(asked_for(caller)), of_moment(at)],
+    )
+}
+
+/// The number in the one column of each row. 131: it is of another kind. 132: it is negative. 501: there was no memory.
+fn each_number(alloc: Global, rows: &[Row]) -> Result<NumberList, WireFault>
+    ensures { Gives (λ it. it) result (each_of (λ row. natural_in (column row 0)) rows.now) }
+{
+    let mut all = Sequence::new(alloc);
+    for row in rows {
+        all.push(natural_at(row, 0)?)?;
+    }
+    Ok(all)
+}
+
+/// The numbers in rows. 520: one of them cannot be read. 501: there was no memory.
+fn read(alloc: Global, rows: &[Row]) -> Result<NumberList, ReadFault>
+    ensures { IsRead (λ row. natural_in (column row 0)) rows.now result }
+{
+    Ok(each_number(alloc, rows)?)
+}
+
+/// The numbers that a selection gives to a caller at a moment, in milliseconds since 1970 UTC, in whatever order. 520: the tables hold no
+/// history. 501: there was no memory.
+pub fn numbers<S: Alter>(
+    alloc: Global,
+    conn: &mut Connection<S>,
+    selection: Selection,
+    caller: u64,
+    at: i64,
+) -> Result<NumberList, ReadFault>
+    requires land { HasCleanDisk (state S.Store conn.old) → IsLand (state S.Store conn.old).now.schema }
+    ensures look { IsLook result (λ it. AreNumbersOf selection at caller (state S.Store conn.old).now.trees it) (state S.Store conn.old) (state S.Store conn.new) }
+    ensures unreadable { HasCleanDisk (state S.Store conn.new) → IfErr result (HoldsNone (state S.Store conn.old).now.trees) }
+    ensures mode { conn.old.in_transaction ≡ false → conn.new.in_transaction ≡ false }
+{
+    let rows = rows_of(conn, selection, caller, at)?;
+    read(alloc, rows.as_slice())
+}
+
+/// The numbers that some of the selections gives, in whatever order, and a number as often as selections give it.
+fn gather<S: Alter>(
+    alloc: Global,
+    conn: &mut Connection<S>,
+    selections: &[Selection],
+    caller: u64,
+    at: i64,
+) -> Result<Vec<u64>, ReadFault>
+    requires open { HasCleanDisk (state S.Store conn.old) → IsTrue (state S.Store conn.old).is_open }
+    requires land { HasCleanDisk (state S.Store conn.old) → IsLand (state S.Store conn.old).now.schema }
+    ensures look { IsLook result (λ it. AreNumbersOfAny selections.now at caller (state S.Store conn.old).now.trees it.items) (state S.Store conn.old) (state S.Store conn.new) }
+    ensures unreadable { HasCleanDisk (state S.Store conn.new) → IfErr result (HoldsNone (state S.Store conn.old).now.trees) }
+    ensures mode { conn.old.in_transaction ≡ false → conn.new.in_transaction ≡ false }
+{
+    let mut found = Vec::new(alloc);
+    for selection in selections {
+        let more = numbers(alloc, conn, *selection, caller, at)?;
+        found.extend_from_slice(more.as_slice())?;
+    }
+    Ok(found)
+}
+
+/// Numbers in ascending order, each once.
+fn each_once(mut numbers: Vec<u64>) -> Result<NumberList, ReadFault>
+    ensures ascending { IfOk result IsStrictlyIncreasing }
+    ensures same { IfOk result (λ it. AreAll it (λ n. Contains numbers.items n)) }
+    ensures memory { IfErr result (λ fault. fault ≡ NoMemory) }
+{
+    numbers.sort()?;
+    numbers.dedup();
+    Ok(Sequence::from_vec(numbers))
+}
+
+/// The numbers that some of the selections gives to a caller at a moment, in milliseconds since 1970 UTC, in ascending order and each once.
+/// 520: the tables hold no history. 501: there was no memory.
+pub fn unite<S: Alter>(
+    alloc: Global,
+    conn: &mut Connection<S>,
+    selections: &[Selection],
+    caller: u64,
+    at: i64,
+) -> Result<NumberList, ReadFault>
+    requires open { HasCleanDisk (state S.Store conn.old) → IsTrue (state S.Store conn.old).is_open }
+    requires land { HasCleanDisk (state S.Store conn.old) → IsLand (state S.Store conn.old).now.schema }
+    ensures ascending { IfOk result IsStrictlyIncreasing }
+    ensures look { IsLook result (λ it. AreNumbersOfAny selections.now at caller (state S.Store conn.old).now.trees it) (state S.Store conn.old) (state S.Store conn.new) }
+    ensures unreadable { HasCleanDisk (state S.Store conn.new) → IfErr result (HoldsNone (state S.Store conn.old).now.trees) }
+    ensures mode { conn.old.in_transaction ≡ false → conn.new.in_transaction ≡ false }
+{
+    each_once(gather(alloc, conn, selections, caller, at)?)
+}

@@ -1,0 +1,82 @@
+//! Look-ups are run, and the rows that they give are read.
+ghost use Rattle.std.specs.Prelude.{◌≡◌, false, IfErr};
+ghost use Rattle.land_select_joins.specs.Joins.Running.{HoldsNone};
+ghost use Rattle.land_select_joins.specs.Lookups.Finding.{AreRowsLodgedAs, AreRowsOf, AreSaidOf, CannotBeSaid};
+ghost use Rattle.land_tables_rows.specs.Listing.Reading.{IsRead};
+ghost use Rattle.land_tables_schema.specs.Land.{IsLand};
+ghost use Rattle.land_tables_schema.specs.Rows.Looks.{IsLook};
+ghost use Rattle.sqlite.specs.Held.{state};
+ghost use Rattle.sqlite.specs.State.{HasCleanDisk};
+
+use crate::joins::running::asked_for;
+use crate::lookups::look_up::{LookUp, text_of};
+use crate::lookups::texts;
+use land_core::sequence::Sequence;
+use land_tables_rows::listing::fault::ReadFault;
+use land_tables_rows::reading::from_row::{FromRow, read_all};
+use land_tables_schema::rows::cells::{of_moment, of_number, of_text};
+use sqlite::{Alter, Connection, Error, Row};
+use std::alloc::Global;
+
+/// The rows that a look-up finds at a moment, in whatever order.
+fn rows_of<S: Alter>(
+    conn: &mut Connection<S>,
+    look_up: LookUp,
+    number: u64,
+    at: i64,
+) -> Result<Vec<Row>, Error>
+    requires land { HasCleanDisk (state S.Store conn.old) → IsLand (state S.Store conn.old).now.schema }
+    ensures look { IsLook result (λ rows. AreRowsOf look_up number at (state S.Store conn.old).now.trees rows.items) (state S.Store conn.old) (state S.Store conn.new) }
+    ensures mode { conn.old.in_transaction ≡ false → conn.new.in_transaction ≡ false }
+{
+    conn.query_all(
+        text_of(look_up),
+        &[of_number(asked_for(number)), of_moment(at)],
+    )
+}
+
+/// The rows of what a party lodged under a reference, as it stands at a moment, in whatever order.
+pub(crate) fn rows_lodged_as<S: Alter>(
+    conn: &mut Connection<S>,
+    lodger: u64,
+    reference: &str,
+    at: i64,
+) -> Result<Vec<Row>, Error>
+    requires land { HasCleanDisk (state S.Store conn.old) → IsLand (state S.Store conn.old).now.schema }
+    ensures look { IsLook result (λ rows. AreRowsLodgedAs lodger reference.now at (state S.Store conn.old).now.trees rows.items) (state S.Store conn.old) (state S.Store conn.new) }
+    ensures mode { conn.old.in_transaction ≡ false → conn.new.in_transaction ≡ false }
+{
+    conn.query_all(
+        texts::MUTATION_LODGED_AS,
+        &[
+            of_number(asked_for(lodger)),
+            of_moment(at),
+            of_text(reference),
+        ],
+    )
+}
+
+/// What some rows say. 520: one of them cannot be read. 501: there was no memory.
+pub(crate) fn read<X: FromRow>(alloc: Global, rows: &[Row]) -> Result<Sequence<X>, ReadFault>
+    ensures { IsRead X.FromRow.said rows.now result }
+{
+    Ok(read_all(alloc, rows)?)
+}
+
+/// What the rows say that a look-up finds by a number at a moment, in milliseconds since 1970 UTC, in whatever order. 520: one of them
+/// cannot be read. 501: there was no memory.
+pub fn find<X: FromRow, S: Alter>(
+    alloc: Global,
+    conn: &mut Connection<S>,
+    look_up: LookUp,
+    number: u64,
+    at: i64,
+) -> Result<Sequence<X>, ReadFault>
+    requires land { HasCleanDisk (state S.Store conn.old) → IsLand (state S.Store conn.old).now.schema }
+    ensures look { IsLook result (λ it. AreSaidOf X.FromRow.said look_up number at (state S.Store conn.old).now.trees it) (state S.Store conn.old) (state S.Store conn.new) }
+    ensures unreadable { HasCleanDisk (state S.Store conn.new) → IfErr result (CannotBeSaid X.FromRow.said look_up number at (state S.Store conn.old).now.trees) }
+    ensures mode { conn.old.in_transaction ≡ false → conn.new.in_transaction ≡ false }
+{
+    let rows = rows_of(conn, look_up, number, at)?;
+    read(alloc, rows.as_slice())
+}

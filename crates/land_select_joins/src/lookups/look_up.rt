@@ -1,0 +1,57 @@
+//! Which rows are looked for.
+ghost use Rattle.std.specs.Prelude.{◌≡◌};
+ghost use Rattle.land_select_joins.specs.Lookups.Texts.{text_of};
+
+use crate::lookups::texts;
+
+/// Which rows of a table are looked for at a moment, by a number that is given.
+#[derive(Clone, Copy, Debug, PartialEq, Eq)]
+pub enum LookUp {
+    /// The party of a number.
+    Party,
+    /// The unit of a number.
+    Unit,
+    /// The parcel of a number.
+    Parcel,
+    /// The entry of a number.
+    Entry,
+    /// The source of a number.
+    Source,
+    /// The mutation of a number.
+    Mutation,
+    /// The parcels of a unit.
+    ParcelsOfUnit,
+    /// The entries of a unit.
+    EntriesOfUnit,
+    /// Which mutations name a unit.
+    NamingsOfUnit,
+    /// The entries whose party is a party.
+    EntriesOfParty,
+    /// The roles of a party.
+    RolesOfParty,
+    /// The members of a group.
+    MembersOfGroup,
+    /// The state administrators, whatever number is given.
+    Administrators,
+}
+
+/// The text of a look-up. Parameter 1 is the number that is given, parameter 2 the moment in milliseconds since 1970 UTC.
+pub fn text_of(look_up: LookUp) -> &'static str
+    ensures { result.now ≡ text_of look_up }
+{
+    match look_up {
+        LookUp::Party => texts::PARTY,
+        LookUp::Unit => texts::UNIT,
+        LookUp::Parcel => texts::PARCEL,
+        LookUp::Entry => texts::ENTRY,
+        LookUp::Source => texts::SOURCE,
+        LookUp::Mutation => texts::MUTATION,
+        LookUp::ParcelsOfUnit => texts::PARCELS_OF_UNIT,
+        LookUp::EntriesOfUnit => texts::ENTRIES_OF_UNIT,
+        LookUp::NamingsOfUnit => texts::NAMINGS_OF_UNIT,
+        LookUp::EntriesOfParty => texts::ENTRIES_OF_PARTY,
+        LookUp::RolesOfParty => texts::ROLES_OF_PARTY,
+        LookUp::MembersOfGroup => texts::MEMBERS_OF_GROUP,
+        LookUp::Administrators => texts::ADMINISTRATORS,
+    }
+}

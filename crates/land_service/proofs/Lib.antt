@@ -1,2 +1,0 @@
--- Lemmas of serving connections one after another.
-pub mod Turns

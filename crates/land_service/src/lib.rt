@@ -1,6 +1,0 @@
-//! Serving connections one after another over one keeper, with the machine's clock.
-#![tactic(auto)]
-
-pub mod connections;
-pub mod machine_clock;
-pub mod service;

@@ -1,0 +1,39 @@
+-- What is put of an extract whose list is given, and of one whose list is not.
+use Rattle.std.proofs.Common.{◌≡◌, ℕ, List, ◌++◌, Option, Result, Ok, Err, inl, inr, arith, subst, sym}
+use Rattle.std.specs.Prelude.{IsErrAnd}
+use Rattle.std.proofs.KnownBytes.{Appends-nil}
+use Rattle.land_keep.specs.declared.reply.Reply.{Reply}
+use Rattle.land_sheet.specs.Extracts.Writing.{IsExtracted, IsListed, IsPut, Lists}
+use Rattle.land_sheet.specs.declared.extracts.fault.ExtractFault.{ExtractFault}
+use Rattle.land_sheet.specs.declared.extracts.fault.ExtractFault.TheVariants.{Denied, Fault, Write, Store}
+use Rattle.land_streams.proofs.Fronts.{front_then, whole_then}
+use Rattle.land_streams.specs.Writing.{IsWhole}
+
+-- a text is put behind another one
+pub put_then : (text more : List ℕ) (i j : ℕ) (a b c : Option (List ℕ)) (r : Result ℕ ExtractFault) → IsWhole text i j a b → IsPut more j b c r → IsPut (text ++ more) i a c r
+put_then text more i j a b c (Ok k) first second = whole_then text more i j k a b c first second
+put_then text more i j a b c (Err (Write k)) first second = front_then text more i j k a b c first second
+put_then text more i j a b c (Err (Store fault k)) first second = front_then text more i j k a b c first second
+put_then text more i j a b c (Err (Denied rule)) first second = absurd second
+put_then text more i j a b c (Err (Fault number)) first second = absurd second
+
+-- what is put of the extract of a list that is given
+pub extracted : (list : Reply) (text : List ℕ) (a b : Option (List ℕ)) (r : Result ℕ ExtractFault) → Lists list → IsPut text 0 a b r → IsExtracted list text a b r
+extracted list text a b (Ok n) lists put = (lists, put)
+extracted list text a b (Err (Write n)) lists put = (lists, put)
+extracted list text a b (Err (Store fault n)) lists put = (inl lists, put)
+extracted list text a b (Err (Denied rule)) lists put = absurd put
+extracted list text a b (Err (Fault number)) lists put = absurd put
+
+-- where no list is given nothing is written
+pub not_listed : (list : Reply) (text : List ℕ) (a : Option (List ℕ)) (why : ExtractFault) → IsListed list (Err why) → IsExtracted list text a a (Err why)
+not_listed list text a (Denied rule) so = (so, Appends-nil a)
+not_listed list text a (Fault number) so = (so, Appends-nil a)
+not_listed list text a (Store fault n) so = (inr so, (0, omega arith, so, Appends-nil a))
+not_listed list text a (Write n) so = absurd so
+
+-- so it is where that is told
+pub not_told : (list : Reply) (text : List ℕ) (a : Option (List ℕ)) (r : Result ℕ ExtractFault) (why : ExtractFault) → IsErrAnd r (λ f. f ≡ why)
+    → IsListed list (Err why) → IsExtracted list text a a r
+not_told list text a (Ok n) why is so = absurd is
+not_told list text a (Err f) why is so = subst (λ (g : ExtractFault). IsExtracted list text a a (Err g)) (sym is) (not_listed list text a why so)

@@ -1,0 +1,47 @@
+-- What is written of an extract, and what its result tells.
+use Rattle.std.specs.Prelude.{◌≡◌, ◌⊎◌, ℕ, List, [], Option, Result, Ok, Err}
+use Rattle.std.specs.Io.KnownBytes.{Appends}
+use Rattle.land_keep.specs.declared.reply.Reply.{Reply}
+use Rattle.land_keep.specs.declared.reply.Reply.TheVariants as reply
+use Rattle.land_keep.specs.declared.store_fault.StoreFault.{StoreFault}
+use Rattle.land_sheet.specs.declared.extracts.fault.ExtractFault.{ExtractFault}
+use Rattle.land_sheet.specs.declared.extracts.fault.ExtractFault.TheVariants.{Denied, Fault, Write, Store}
+use Rattle.land_sheet.specs.declared.extracts.list.Listed.{Listed}
+use Rattle.land_streams.specs.Writing.{IsFront, IsWhole}
+
+-- a text is written behind so many bytes: whole, or, where the writer or the store fails, its first bytes
+abbrev pub IsPut : (text : List ℕ) → (before : ℕ) → (old new : Option (List ℕ)) → Result ℕ ExtractFault → Type 0
+IsPut text before old new (Ok after) = IsWhole text before after old new
+IsPut text before old new (Err (Write after)) = IsFront text before after old new
+IsPut text before old new (Err (Store fault after)) = IsFront text before after old new
+IsPut text before old new (Err (Denied rule)) = ⊥
+IsPut text before old new (Err (Fault number)) = ⊥
+
+-- a list is given
+abbrev pub Lists : Reply → Type 0
+Lists r = (numbers : List ℕ) × (r ≡ reply.Numbers numbers)
+
+-- A list that is denied, or asked for at a moment to come, writes nothing. Where it is given, its extract is written and counted: whole,
+-- or its first bytes where the writer or the store fails. A store that fails before the list is known has nothing written.
+abbrev pub IsExtracted : (list : Reply) → (extract : List ℕ) → (old new : Option (List ℕ)) → Result ℕ ExtractFault → Type 0
+IsExtracted list extract old new (Ok written) = Lists list × IsWhole extract 0 written old new
+IsExtracted list extract old new (Err (Write written)) = Lists list × IsFront extract 0 written old new
+IsExtracted list extract old new (Err (Store fault written)) = (Lists list ⊎ (written ≡ 0)) × IsFront extract 0 written old new
+IsExtracted list extract old new (Err (Denied rule)) = (list ≡ reply.Denied rule) × Appends old new []
+IsExtracted list extract old new (Err (Fault number)) = (list ≡ reply.Fault number) × Appends old new []
+
+-- the numbers of a list that is given, or why none is
+abbrev pub IsListed : (list : Reply) → Result Listed ExtractFault → Type 0
+IsListed list (Ok it) = list ≡ reply.Numbers it.numbers
+IsListed list (Err (Denied rule)) = list ≡ reply.Denied rule
+IsListed list (Err (Fault number)) = list ≡ reply.Fault number
+IsListed list (Err (Store fault written)) = written ≡ 0
+IsListed list (Err (Write written)) = ⊥
+
+-- what a result tells of the store
+abbrev pub of_store : {T : Type 0} → Result T ExtractFault → Result (Unit {0}) StoreFault
+of_store (Ok it) = Ok tt
+of_store (Err (Denied rule)) = Ok tt
+of_store (Err (Fault number)) = Ok tt
+of_store (Err (Write written)) = Ok tt
+of_store (Err (Store fault written)) = Err fault

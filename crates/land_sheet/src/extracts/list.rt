@@ -1,0 +1,70 @@
+//! The list of which an extract is made.
+ghost use Rattle.std.specs.Prelude.{◌≡◌, IfOk, unwrap_or};
+ghost use Rattle.land_keep.specs.Keeping.{Closes, IsLive};
+ghost use Rattle.land_keep.specs.Machine.{now_of};
+ghost use Rattle.land_keep.specs.Moments.{now_after};
+ghost use Rattle.land_keep.specs.Timeline.{register_at};
+ghost use Rattle.land_rules.specs.Rules.{seen_of};
+ghost use Rattle.land_sheet.specs.Extracts.{list_reply};
+ghost use Rattle.land_sheet.specs.Extracts.Writing.{IsListed, of_store};
+
+use crate::extracts::fault::ExtractFault;
+use land_core::ask::Ask;
+use land_core::caller::Caller;
+use land_core::kind::Kind;
+use land_core::limits::LAST_MOMENT;
+use land_core::sequence::NumberList;
+use land_keep::keeper::Keeper;
+use land_keep::store_fault::StoreFault;
+use land_rules::verdict::Verdict;
+use std::alloc::Global;
+
+/// What a list gives, and the moment at which it was asked for.
+#[derive(Debug, Drop)]
+pub(crate) struct Listed {
+    /// The numbers of the objects that are seen, ascending.
+    pub(crate) numbers: NumberList,
+    /// The moment, in milliseconds since 1970 UTC.
+    pub(crate) at: i64,
+}
+
+/// Now, for a read, by the clock and the last stamp.
+fn now_at(clock: i64, last: i64) -> i64
+    ensures { result ≡ now_after clock last }
+{
+    clock.max(0).min(LAST_MOMENT).max(last)
+}
+
+/// The list of a kind, as the register machine replies it, with the moment that is asked for.
+pub(crate) fn list<K: Keeper>(
+    alloc: Global,
+    keeper: &mut K,
+    clock: i64,
+    caller: Caller,
+    kind: Kind,
+    at: Option<i64>,
+) -> Result<Listed, ExtractFault>
+    ensures listed { K.honest keeper.new → IsListed (list_reply clock caller kind at (K.timeline keeper.old)) result }
+    ensures moment { K.honest keeper.new → IfOk result (λ it. it.at ≡ unwrap_or at (now_of clock (K.timeline keeper.old))) }
+    ensures seen { K.honest keeper.new → IfOk result (λ it. it.numbers ≡ seen_of (register_at (K.timeline keeper.old) it.at) caller kind) }
+    ensures was { K.honest keeper.new → K.honest keeper.old }
+    ensures same { IsLive (K.honest keeper.new) (K.closed keeper.new) → K.timeline keeper.new ≡ K.timeline keeper.old }
+    ensures closes { Closes (K.closed keeper.old) (K.closed keeper.new) (of_store result) }
+{
+    if keeper.is_closed() {
+        return Err(ExtractFault::from(StoreFault::Closed));
+    }
+    let now = now_at(clock, keeper.last());
+    let moment = at.unwrap_or(now);
+    if now < moment {
+        return Err(ExtractFault::Fault(135));
+    }
+    let ask = Ask::List { kind, at };
+    match keeper.first_denial(alloc, caller, &ask, now)? {
+        Verdict::Denied(rule) => Err(ExtractFault::Denied(rule)),
+        Verdict::Allowed => Ok(Listed {
+            numbers: keeper.sight(alloc, caller, kind, moment)?,
+            at: moment,
+        }),
+    }
+}

@@ -1,5 +1,0 @@
-use Rattle.land_sights.proofs.Seeing.{the_rules}
-use Rattle.land_sights.proofs.laws.selections_are_the_rules.Goals as goal
-
-pub returns : goal.returns
-returns c = the_rules c.seen_is_exact.ensures c.soundness_by_look_ups.ensures

@@ -1,6 +1,0 @@
-//! What a caller may see, as selections from the versions of the register's records.
-#![tactic(auto)]
-
-pub mod laws;
-pub mod selection;
-pub mod sight;

@@ -1,8 +1,0 @@
-use Rattle.std.proofs.Common.{◌≡◌, ◌++◌}
-use Rattle.std.specs.Prelude.{map as map_list}
-use Rattle.land_slices.specs.Named.{sources_of}
-use Rattle.land_slices.proofs.named.sources_of.Given as goal
-
--- what is listed, and then what is still to come
-abbrev pub invariant-loop-mutation : goal.invariant-loop-mutation
-invariant-loop-mutation l = l.sources ++ map_list (λ e. e.1.source) l.mutation-iterator ≡ sources_of l.mutations

@@ -1,3 +1,0 @@
--- Lemmas of what one pass over a register lists.
-pub mod References
-pub mod UnitLists

@@ -1,8 +1,0 @@
-use Rattle.std.proofs.Common.{◌≡◌, ◌++◌, ℕ}
-use Rattle.std.specs.FinMap as map
-use Rattle.land_soundness.specs.ByUnit.{claims_in, under}
-use Rattle.land_soundness.proofs.by_unit.claims_by_unit.Given as goal
-
--- under each unit, what is listed so far, and then what is still to come
-abbrev pub invariant-loop-entry : goal.invariant-loop-entry
-invariant-loop-entry l = (unit : ℕ) → under l.claims unit ++ claims_in l.entry-iterator unit ≡ claims_in (map.entries l.register.rrrs) unit

@@ -1,9 +1,0 @@
-use Rattle.std.proofs.Common.{◌≡◌, ◌&&◌}
-use Rattle.std.specs.List.{list_any}
-use Rattle.land_soundness.specs.ByUnit.{is_in_parts}
-use Rattle.land_core.specs.Entries.{some}
-use Rattle.land_soundness.proofs.units.has_unit_in_parts.Given as goal
-
--- whether a unit is in parts is whether one of those to come is
-abbrev pub invariant-loop-number : goal.invariant-loop-number
-invariant-loop-number l = list_any (λ e. e.1.checked && is_in_parts l.by_unit e.0) l.number-iterator ≡ some (λ n u. u.checked && is_in_parts l.by_unit n) l.register.units

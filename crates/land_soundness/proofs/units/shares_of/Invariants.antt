@@ -1,7 +1,0 @@
-use Rattle.std.proofs.Common.{◌≡◌, ◌++◌, drop}
-use Rattle.land_soundness.specs.ByUnit.{claimed_shares}
-use Rattle.land_soundness.proofs.units.shares_of.Given as goal
-
--- the shares so far, and those of the claims to come
-abbrev pub invariant-loop-claim : goal.invariant-loop-claim
-invariant-loop-claim l = l.shares ++ claimed_shares l.right_type (drop l.claim-index l.claims) ≡ claimed_shares l.right_type l.claims

@@ -1,2 +1,0 @@
--- Definitions of what one pass over a register lists.
-pub mod ByUnit

@@ -1,5 +1,0 @@
-use Rattle.land_standing.proofs.One.{reads}
-use Rattle.land_standing.proofs.laws.reading_is_the_register.Goals as goal
-
-pub returns : goal.returns
-returns c = reads c.soundness_by_look_ups.ensures

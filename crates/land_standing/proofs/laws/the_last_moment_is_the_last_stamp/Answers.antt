@@ -1,5 +1,0 @@
-use Rattle.land_standing.proofs.One.{last_is}
-use Rattle.land_standing.proofs.laws.the_last_moment_is_the_last_stamp.Goals as goal
-
-pub returns : goal.returns
-returns c = last_is

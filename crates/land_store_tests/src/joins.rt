@@ -1,9 +1,0 @@
-//! What callers see of a small register, by joins.
-use crate::conclusion::conclude;
-use land_joins_trials::sights;
-use std::test::Fail;
-
-#[test]
-fn a_small_register_is_seen_by_role(rt: HostRuntime) -> Result<(), Fail> {
-    conclude(&rt, sights::a_small_register_is_seen_by_role(rt.alloc()))
-}

@@ -1,0 +1,10 @@
+//! Why a stream could not be read on.
+
+/// Why a stream could not be read on.
+#[derive(Clone, Copy, Debug, PartialEq, Eq)]
+pub enum ReadFault {
+    /// The reader failed, or has been asked too often.
+    Read,
+    /// There was no memory for what was read.
+    NoMemory,
+}

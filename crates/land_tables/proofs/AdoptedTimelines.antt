@@ -1,0 +1,197 @@
+-- Lawful versions stand for a timeline, the one that they lead to.
+use Rattle.std.proofs.Common.{◌≡◌, ℕ, Bool, true, false, cond, ◌&&◌, List, [], ◌∷◌, flat_map, map as map_list, Option, Some, None, refl, sym, ap, ◌∙◌, subst, arith, IsPermutation}
+use Rattle.std.specs.Prelude.{ℤ, ◌<ℤ◌, ◌≤ℤ◌, int_le, nat_lt, length}
+use Rattle.std.proofs.lemmas.Bool.{false≢true}
+use Rattle.std.proofs.lemmas.Int.{ints}
+use Rattle.std.proofs.lemmas.List.Elements.{recursion_from_All}
+use Rattle.std.proofs.lemmas.List.Sorted.{All-permutation, IsPermutation-refl, IsPermutation-sym, length_permutation}
+use Rattle.std.specs.FinMap as map
+use Rattle.std.specs.List.{AllByRecursion, list_all}
+use Rattle.std.specs.Ordering.{int_eq, nat_cmp}
+use Rattle.land_core.proofs.Booleans.{both_of}
+use Rattle.land_core.specs.Entries.{are_distinct}
+use Rattle.land_core.specs.Grants.{grant_cmp, grants_in}
+use Rattle.land_core.specs.Register.{nothing}
+use Rattle.land_core.specs.Soundness.{IsSound}
+use Rattle.land_core.specs.declared.mutation.MutationRecord.{MutationRecord}
+use Rattle.land_core.specs.declared.register.Register.{Register}
+use Rattle.land_core.specs.declared.roles.Grant.{Grant}
+use Rattle.land_keep.specs.Moments.{IsMoment, last_moment}
+use Rattle.land_keep.specs.Timeline.{IsSoundTimeline, Rises, last_stamp}
+use Rattle.land_keep.specs.declared.timeline.Version.{Version as Begun}
+use Rattle.land_tables.proofs.Between.{all_ended, all_later, none_after, none_standing, reached, same_standing}
+use Rattle.land_tables.proofs.One.{found_at, registered}
+use Rattle.land_tables.proofs.Rising.{Orderly, in_order_permuted, orderly, rises_from}
+use Rattle.land_tables.proofs.Sorting.{is_late}
+use Rattle.land_tables.specs.Timelines.{in_order, moment_of, version_of}
+use Rattle.land_tables.specs.Timelines.Laws.{LawfulVersionsStand}
+use Rattle.land_tables_history.proofs.Distinct.{distinct_standing}
+use Rattle.land_tables_history.proofs.Entered.{made_part, made_roles, no_entries}
+use Rattle.land_tables_history.proofs.MadeGroups.{made_groups, no_groups}
+use Rattle.land_tables_history.proofs.NamingLists.{namings_distinct, same_namings}
+use Rattle.land_tables_history.proofs.Permutations.{any_permuted}
+use Rattle.land_tables_history.proofs.Proper.{AllProper, Proper, all_proper}
+use Rattle.land_tables_history.specs.History as history
+use Rattle.land_tables_history.specs.History.{StandsAt, namings_of}
+use Rattle.land_tables_history.specs.Intervals.{is_same_grant, is_same_member, is_same_naming, is_same_number, is_stamp}
+use Rattle.land_tables_history.specs.Lawful.{IsLawfulAt, is_same_stamp, never_falls}
+use Rattle.land_tables_history.specs.Open.{has_ended, have_ended}
+use Rattle.land_tables_history.specs.Standing.{IsPartAt, part_at, standing}
+use Rattle.land_tables_history.specs.declared.history.History.{History}
+use Rattle.land_tables_history.specs.declared.moment.Moment.{Moment}
+use Rattle.land_tables_history.specs.declared.naming.Naming.{Naming}
+use Rattle.land_tables_history.specs.declared.version.Version.{Version}
+
+-- ---- what stands at a stamp
+
+part_stands : {V : Type 0} (moments : List Moment) (t : ℤ) (vs : List (Version (ℕ × V))) → Proper is_same_number moments vs → IsPartAt t vs (part_at t vs)
+part_stands moments t vs p = made_part (standing t vs) (distinct_standing is_same_number t vs p.apart)
+
+-- at a moment at which a history is lawful its versions stand for the register that they make
+stands_there : (moments : List Moment) (h : History) (m : Moment) → AllProper moments h → IsLawfulAt h m → StandsAt m.stamp h (history.register_at m.stamp h m.next)
+stands_there moments h m p lawful = record {
+  parties = part_stands moments m.stamp h.parties p.parties;
+  roles = made_roles (standing m.stamp h.roles) (distinct_standing is_same_grant m.stamp h.roles p.roles.apart);
+  members = made_groups (standing m.stamp h.members) (distinct_standing is_same_member m.stamp h.members p.members.apart);
+  units = part_stands moments m.stamp h.units p.units;
+  parcels = part_stands moments m.stamp h.parcels p.parcels;
+  rrrs = part_stands moments m.stamp h.rrrs p.rrrs;
+  sources = part_stands moments m.stamp h.sources p.sources;
+  mutations = part_stands moments m.stamp h.mutations p.mutations;
+  namings = same_namings (standing m.stamp h.namings) (namings_of (history.register_at m.stamp h m.next).mutations)
+      (distinct_standing is_same_naming m.stamp h.namings p.namings.apart) (namings_distinct (history.register_at m.stamp h m.next) lawful.sound) lawful.named;
+}
+
+-- ---- and up to the next one
+
+-- what stands at two moments, where no stamp lies between them
+stands_still : (moments : List Moment) (h : History) (s t : ℤ) (r : Register) → AllProper moments h → s ≤ℤ t → t ≤ℤ last_moment
+    → ((u : ℤ) → is_stamp moments u ≡ true → int_le u t ≡ int_le u s) → StandsAt s h r → StandsAt t h r
+stands_still moments h s t r p least most same there = record {
+  parties = on is_same_number h.parties p.parties there.parties;
+  roles = on is_same_grant h.roles p.roles there.roles;
+  members = on is_same_member h.members p.members there.members;
+  units = on is_same_number h.units p.units there.units;
+  parcels = on is_same_number h.parcels p.parcels there.parcels;
+  rrrs = on is_same_number h.rrrs p.rrrs there.rrrs;
+  sources = on is_same_number h.sources p.sources there.sources;
+  mutations = on is_same_number h.mutations p.mutations there.mutations;
+  namings = on is_same_naming h.namings p.namings there.namings;
+}
+  where
+    on : {X : Type 0} (alike : X → X → Bool) (vs : List (Version X)) {records : List X} → Proper alike moments vs → IsPermutation (standing s vs) records → IsPermutation (standing t vs) records
+    on alike vs {records} its there = subst (λ l. IsPermutation l records) (sym (same_standing moments s t vs least most same its.intervals)) there
+
+-- before the first stamp nothing stands
+nothing_stands : (moments : List Moment) (h : History) (t : ℤ) → AllProper moments h → ((u : ℤ) → is_stamp moments u ≡ true → int_le u t ≡ false) → StandsAt t h nothing
+unfolding grants_in
+nothing_stands moments h t p none = record {
+  parties = on is_same_number h.parties p.parties (no_entries nat_cmp _);
+  roles = on is_same_grant h.roles p.roles (ap (map_list (λ (e : Grant × Unit {0}). e.0)) (no_entries grant_cmp (Unit {0})));
+  members = on is_same_member h.members p.members no_groups;
+  units = on is_same_number h.units p.units (no_entries nat_cmp _);
+  parcels = on is_same_number h.parcels p.parcels (no_entries nat_cmp _);
+  rrrs = on is_same_number h.rrrs p.rrrs (no_entries nat_cmp _);
+  sources = on is_same_number h.sources p.sources (no_entries nat_cmp _);
+  mutations = on is_same_number h.mutations p.mutations (no_entries nat_cmp _);
+  namings = on is_same_naming h.namings p.namings (no_namings (map.entries (map.empty {X = MutationRecord} {R = nat_cmp})) (no_entries nat_cmp MutationRecord));
+}
+  where
+    on : {X : Type 0} (alike : X → X → Bool) (vs : List (Version X)) {records : List X} → Proper alike moments vs → records ≡ [] → IsPermutation (standing t vs) records
+    on alike vs {records} its empty =
+        subst (λ l. IsPermutation l records) (sym (none_standing moments t vs none its.intervals)) (subst (λ l. IsPermutation [] l) (sym empty) (IsPermutation-refl []))
+
+    no_namings : (es : List (ℕ × MutationRecord)) → es ≡ [] → namings_of (map.empty {X = MutationRecord} {R = nat_cmp}) ≡ []
+    no_namings es e = ap (flat_map (λ (m : ℕ × MutationRecord). map_list (λ unit. let n : Naming = record { mutation = m.0; unit = unit } in n) (history.named_units m.1.content))) (no_entries nat_cmp MutationRecord)
+
+late : (s t : ℤ) → int_le s t ≡ false → t <ℤ s
+late s t h = grind (arith, ints)
+
+no_later : (s t : ℤ) → int_le s t ≡ true → s ≤ℤ t
+no_later s t h = grind (arith, ints)
+
+-- at each moment the versions stand for the register of the latest stamp up to then
+stands_at : (moments : List Moment) (h : History) (ms : List Moment) (t : ℤ) → AllProper moments h → Orderly h ms → AllByRecursion (IsLawfulAt h) ms → t ≤ℤ last_moment
+    → ((u : ℤ) → is_stamp moments u ≡ true → is_stamp ms u ≡ true) → StandsAt t h (registered (found_at t None (map_list (version_of h) ms)))
+stands_at moments h [] t p rises lawful most all = nothing_stands moments h t p (λ u is. absurd (false≢true (all u is)))
+stands_at moments h (m ∷ ms) t p rises lawful most all = go (int_le m.stamp t) refl
+  where
+    climbs : Rises (version_of h m) (map_list (version_of h) ms)
+    climbs = rises_from h m ms rises
+
+    go : (b : Bool) → int_le m.stamp t ≡ b → StandsAt t h (registered (found_at t (cond b (Some (version_of h m)) None) (map_list (version_of h) ms)))
+    go true on =
+        let r = reached (IsLawfulAt h) h t m ms climbs lawful (no_later m.stamp t on) in
+        subst (λ (o : Option Begun). StandsAt t h (registered o)) (sym r.is)
+        (stands_still moments h r.moment.stamp t (history.register_at r.moment.stamp h r.moment.next) p r.before most (λ u is. r.same u (all u is)) (stands_there moments h r.moment p r.holds))
+    go false on =
+        subst (λ (o : Option Begun). StandsAt t h (registered o)) (sym (later ms climbs))
+        (nothing_stands moments h t p (λ u is. all_later h t m ms (late m.stamp t on) climbs u (all u is)))
+      where
+        less : (s n : ℤ) → t <ℤ s → s <ℤ n → t <ℤ n
+        less s n g k = omega (arith, ints)
+
+        later_from : (n : Moment) (ns : List Moment) → t <ℤ n.stamp → Rises (version_of h n) (map_list (version_of h) ns) → found_at t None (map_list (version_of h) ns) ≡ None
+        later_from n [] before climbs = refl
+        later_from n (k ∷ ks) before climbs =
+            let next = less n.stamp k.stamp before climbs.0 in
+            ap (λ b. found_at t (cond b (Some (version_of h k)) None) (map_list (version_of h) ks)) (is_late k.stamp t next) ∙ later_from k ks next climbs.2
+
+        later : (ns : List Moment) → Rises (version_of h m) (map_list (version_of h) ns) → found_at t None (map_list (version_of h) ns) ≡ None
+        later ns climbs = later_from m ns (late m.stamp t on) climbs
+
+-- ---- all of it
+
+same_moments : (h : History) (ms : List Moment) → map_list moment_of (map_list (version_of h) ms) ≡ ms
+same_moments h [] = refl
+same_moments h (m ∷ ms) = ap (λ l. m ∷ l) (same_moments h ms)
+
+-- what is said of each moment is said of the versions that begin there
+of_versions : (h : History) (P : Moment → Type 0) (Q : Begun → Type 0) → ((m : Moment) → P m → Q (version_of h m)) → (ms : List Moment) → AllByRecursion P ms → AllByRecursion Q (map_list (version_of h) ms)
+of_versions h P Q to [] all = tt
+of_versions h P Q to (m ∷ ms) all = (to m all.0, of_versions h P Q to ms all.1)
+
+ended : (moments : List Moment) (h : History) (ms : List Moment) → AllProper moments h → Orderly h ms → ((u : ℤ) → is_stamp moments u ≡ true → is_stamp ms u ≡ true) → have_ended (last_stamp (map_list (version_of h) ms)) h ≡ true
+ended moments h ms p rises all = nine (on is_same_number h.parties p.parties) (on is_same_grant h.roles p.roles) (on is_same_member h.members p.members) (on is_same_number h.units p.units)
+    (on is_same_number h.parcels p.parcels) (on is_same_number h.rrrs p.rrrs) (on is_same_number h.sources p.sources) (on is_same_number h.mutations p.mutations) (on is_same_naming h.namings p.namings)
+  where
+    nine : {a b c d e f g h i : Bool} → a ≡ true → b ≡ true → c ≡ true → d ≡ true → e ≡ true → f ≡ true → g ≡ true → h ≡ true → i ≡ true → (a && b && c && d && e && f && g && h && i) ≡ true
+    nine a b c d e f g h i = cc
+
+    past : (ns : List Moment) → Orderly h ns → (u : ℤ) → is_stamp ns u ≡ true → int_le u (last_stamp (map_list (version_of h) ns)) ≡ true
+    past [] rises u is = absurd (false≢true is)
+    past (m ∷ ns) rises u is = none_after h m ns (rises_from h m ns rises) u is
+
+    on : {X : Type 0} (alike : X → X → Bool) (vs : List (Version X)) → Proper alike moments vs → list_all (has_ended (last_stamp (map_list (version_of h) ms))) vs ≡ true
+    on alike vs its = all_ended moments (last_stamp (map_list (version_of h) ms)) vs (λ u is. past ms rises u (all u is)) its.intervals
+
+-- moments in order, of which there are some
+timeline_rises : (h : History) (ms : List Moment) → Orderly h ms → nat_lt 0 (length ms) ≡ true → AllByRecursion (λ m. IsMoment m.stamp) ms → AllByRecursion (IsLawfulAt h) ms → IsSoundTimeline (map_list (version_of h) ms)
+timeline_rises h [] rises some moments lawful = absurd (false≢true some)
+timeline_rises h (m ∷ ms) rises some moments lawful = record {
+  rising = rises_from h m ms rises;
+  moments = of_versions h (λ m. IsMoment m.stamp) (λ v. IsMoment v.stamp) (λ m is. is) (m ∷ ms) moments;
+  sound = of_versions h (IsLawfulAt h) (λ v. IsSound v.register) (λ m is. is.sound) (m ∷ ms) lawful;
+}
+
+pub lawful_stands : LawfulVersionsStand
+lawful_stands moments h at_moments intervals lawful =
+    let p = all_proper moments h intervals in
+    let ms = in_order moments in
+    let sorted : IsPermutation moments ms = IsPermutation-sym ms moments (in_order_permuted moments) in
+    let two = both_of (nat_lt 0 (length moments) && are_distinct is_same_stamp moments) (never_falls moments) lawful.moments in
+    let one = both_of (nat_lt 0 (length moments)) (are_distinct is_same_stamp moments) two.0 in
+    let rises = orderly h moments one.1 two.1 in
+    let each = recursion_from_All (IsLawfulAt h) ms (All-permutation (IsLawfulAt h) moments ms sorted lawful.each) in
+    let stamps : AllByRecursion (λ m. IsMoment m.stamp) ms = recursion_from_All (λ m. IsMoment m.stamp) ms (All-permutation (λ m. IsMoment m.stamp) moments ms sorted at_moments) in
+    let same_stamps : (u : ℤ) → is_stamp moments u ≡ true → is_stamp ms u ≡ true = λ u is. any_permuted (λ m. int_eq m.stamp u) moments ms sorted ∙ is in (
+      record {
+        moments = subst (λ l. IsPermutation l moments) (sym (same_moments h ms)) (in_order_permuted moments);
+        stands = λ t is. stands_at moments h ms t p rises each is.1 same_stamps;
+        ended = ended moments h ms p rises same_stamps;
+      },
+      timeline_rises h ms rises (some moments ms sorted one.0) stamps each,
+    )
+  where
+    some : (xs ys : List Moment) → IsPermutation xs ys → nat_lt 0 (length xs) ≡ true → nat_lt 0 (length ys) ≡ true
+    some xs ys p h = ap (λ n. nat_lt 0 n) (length_permutation xs ys p) ∙ h

@@ -1,0 +1,177 @@
+-- Versions that stand for a sound timeline are a lawful history.
+use Rattle.std.proofs.Common.{◌≡◌, ℕ, suc, ◌≤◌, Bool, true, false, not, ◌||◌, ◌&&◌, List, [], ◌∷◌, length, map as map_list, refl, sym, ap, ap₂, ◌∙◌, subst, arith, IsPermutation}
+use Rattle.std.specs.Prelude.{ℤ, ◌<ℤ◌, int_lt, nat_eq, nat_lt}
+use Rattle.std.proofs.lemmas.Bool.Decides.{nat_tests}
+use Rattle.std.proofs.lemmas.Int.{ints}
+use Rattle.std.proofs.lemmas.List.Elements.{All-from_recursion}
+use Rattle.std.proofs.lemmas.List.Sorted.{All-permutation, IsPermutation-sym, length_permutation}
+use Rattle.std.specs.List.{AllByRecursion, list_all}
+use Rattle.std.specs.Ordering.{int_eq}
+use Rattle.land_core.specs.Entries.{are_distinct}
+use Rattle.land_core.specs.Laws.{SoundnessByLookUps}
+use Rattle.land_core.specs.Soundness.{IsSound}
+use Rattle.land_core.specs.declared.register.Register.{Register}
+use Rattle.land_keep.specs.Moments.{IsMoment}
+use Rattle.land_keep.specs.Timeline.{IsRising, IsSoundTimeline, Rises, Timeline}
+use Rattle.land_keep.specs.declared.timeline.Version.{Version}
+use Rattle.land_tables.proofs.IntervalOrders.{all_alike}
+use Rattle.land_tables.proofs.One.{reads, stands_for_one}
+use Rattle.land_tables.proofs.Rising.{in_order_permuted}
+use Rattle.land_tables.proofs.Sorting.{distinct}
+use Rattle.land_tables.specs.Timelines.{StandsFor, in_order, moment_of, version_of}
+use Rattle.land_tables.specs.Timelines.Judging.{SoundTimelinesAreLawful}
+use Rattle.land_tables_history.proofs.Distinct.{distinct_permuted}
+use Rattle.land_tables_history.proofs.Permutations.{all_permuted}
+use Rattle.land_tables_history.specs.History as history
+use Rattle.land_tables_history.specs.History.{namings_of}
+use Rattle.land_tables_history.specs.Intervals.{is_same_naming}
+use Rattle.land_tables_history.specs.Lawful.{IsLawfulAt, are_moments, are_same_namings, falls, is_among, is_same_stamp, never_falls}
+use Rattle.land_tables_history.specs.Standing.{standing}
+use Rattle.land_tables_history.specs.declared.history.History.{History}
+use Rattle.land_tables_history.specs.declared.moment.Moment.{Moment}
+use Rattle.land_tables_history.specs.declared.naming.Naming.{Naming}
+
+both : (a b : Bool) → a ≡ true → b ≡ true → (a && b) ≡ true
+both a b x y = ap₂ (λ s t. s && t) x y
+
+-- ---- the moments
+
+stamps_turn : (a b : Moment) → is_same_stamp a b ≡ is_same_stamp b a
+stamps_turn a b = turned a.stamp b.stamp
+  where
+    turned : (s t : ℤ) → int_eq s t ≡ int_eq t s
+    turned s t = grind (arith, ints)
+
+-- a test of all pairs, with one element more
+pairs : {X : Type 0} (p : X → X → Bool) (x : X) (xs : List X) → p x x ≡ true → list_all (p x) xs ≡ true → list_all (λ a. p a x) xs ≡ true → list_all (λ a. list_all (p a) xs) xs ≡ true
+    → list_all (λ a. list_all (p a) (x ∷ xs)) (x ∷ xs) ≡ true
+pairs {X} p x xs itself after before rest =
+    both (p x x && list_all (p x) xs) (list_all (λ a. p a x && list_all (p a) xs) xs) (both (p x x) (list_all (p x) xs) itself after) (each xs before rest)
+  where
+    each : (ys : List X) → list_all (λ a. p a x) ys ≡ true → list_all (λ a. list_all (p a) xs) ys ≡ true → list_all (λ a. p a x && list_all (p a) xs) ys ≡ true
+    each [] g h = refl
+    each (y ∷ ys) g h =
+        let one = split (p y x) (list_all (λ a. p a x) ys) g in
+        let two = split (list_all (p y) xs) (list_all (λ a. list_all (p a) xs) ys) h in
+        both (p y x && list_all (p y) xs) (list_all (λ a. p a x && list_all (p a) xs) ys) (both (p y x) (list_all (p y) xs) one.0 two.0) (each ys one.1 two.1)
+      where
+        split : (a b : Bool) → (a && b) ≡ true → (a ≡ true) × (b ≡ true)
+        split true b h = (refl, h)
+        split false b h = absurd (let e = h in cc)
+
+abbrev keeps : Moment → Moment → Bool
+keeps a b = not (falls a b)
+
+keeps_itself : (s : ℤ) (n : ℕ) → not (int_lt s s && nat_lt n n) ≡ true
+keeps_itself s n = grind (arith, ints, nat_tests)
+
+keeps_after : (s t : ℤ) (m n : ℕ) → s <ℤ t → m ≤ n → not (int_lt s t && nat_lt n m) ≡ true
+keeps_after s t m n less more = grind (arith, ints, nat_tests)
+
+keeps_before : (s t : ℤ) (m n : ℕ) → s <ℤ t → not (int_lt t s && nat_lt m n) ≡ true
+keeps_before s t m n less = grind (arith, ints, nat_tests)
+
+-- a version against those that rise after it
+module _ (u : Version) where
+  less : (r s t : ℤ) → r <ℤ s → s <ℤ t → r <ℤ t
+  less r s t g h = omega (arith, ints)
+
+  all_after : (v : Version) (vs : Timeline) → u.stamp <ℤ v.stamp → u.register.next ≤ v.register.next → Rises v vs → list_all (keeps (moment_of u)) (map_list moment_of (v ∷ vs)) ≡ true
+  all_after v [] before no_fewer rises = both (keeps (moment_of u) (moment_of v)) true (keeps_after u.stamp v.stamp u.register.next v.register.next before no_fewer) refl
+  all_after v (w ∷ ws) before no_fewer rises =
+      both (keeps (moment_of u) (moment_of v)) (list_all (keeps (moment_of u)) (map_list moment_of (w ∷ ws))) (keeps_after u.stamp v.stamp u.register.next v.register.next before no_fewer)
+      (all_after w ws (less u.stamp v.stamp w.stamp before rises.0) (omega (arith, no_fewer, rises.1)) rises.2)
+
+  all_before : (v : Version) (vs : Timeline) → u.stamp <ℤ v.stamp → Rises v vs → list_all (λ m. keeps m (moment_of u)) (map_list moment_of (v ∷ vs)) ≡ true
+  all_before v [] before rises = both (keeps (moment_of v) (moment_of u)) true (keeps_before u.stamp v.stamp u.register.next v.register.next before) refl
+  all_before v (w ∷ ws) before rises =
+      both (keeps (moment_of v) (moment_of u)) (list_all (λ m. keeps m (moment_of u)) (map_list moment_of (w ∷ ws))) (keeps_before u.stamp v.stamp u.register.next v.register.next before)
+      (all_before w ws (less u.stamp v.stamp w.stamp before rises.0) rises.2)
+
+never_fall : (v : Version) (vs : Timeline) → Rises v vs → never_falls (map_list moment_of (v ∷ vs)) ≡ true
+never_fall v [] rises = pairs keeps (moment_of v) [] (keeps_itself v.stamp v.register.next) refl refl refl
+never_fall v (w ∷ ws) rises =
+    pairs keeps (moment_of v) (map_list moment_of (w ∷ ws)) (keeps_itself v.stamp v.register.next)
+    (all_after v w ws rises.0 rises.1 rises.2) (all_before v w ws rises.0 rises.2) (never_fall w ws rises.2)
+
+never_falls_anyhow : (ms ns : List Moment) → IsPermutation ms ns → never_falls ns ≡ never_falls ms
+never_falls_anyhow ms ns p =
+    all_alike (λ a. list_all (keeps a) ns) (λ a. list_all (keeps a) ms) (λ a. all_permuted (keeps a) ms ns p) ns ∙ all_permuted (λ a. list_all (keeps a) ms) ms ns p
+
+moments_of : (tl : Timeline) (ms : List Moment) → IsRising tl → IsPermutation (map_list moment_of tl) ms → are_moments ms ≡ true
+moments_of [] ms rises p = absurd rises
+moments_of (v ∷ vs) ms rises p =
+    let ns = map_list moment_of (v ∷ vs) in
+    both (nat_lt 0 (length ms) && are_distinct is_same_stamp ms) (never_falls ms)
+    (both (nat_lt 0 (length ms)) (are_distinct is_same_stamp ms)
+    (ap (nat_lt 0) (length_permutation ns ms p) ∙ some (length (map_list moment_of vs)))
+    (distinct_permuted is_same_stamp stamps_turn ns ms p ∙ distinct (v ∷ vs) rises))
+    (never_falls_anyhow ns ms p ∙ never_fall v vs rises)
+  where
+    some : (n : ℕ) → nat_lt 0 (suc n) ≡ true
+    some n = grind (arith, nat_tests)
+
+-- ---- the namings
+
+naming_itself : (n : Naming) → is_same_naming n n ≡ true
+naming_itself n = both (nat_eq n.mutation n.mutation) (nat_eq n.unit n.unit) (itself n.mutation) (itself n.unit)
+  where
+    itself : (k : ℕ) → nat_eq k k ≡ true
+    itself k = grind (arith, nat_tests)
+
+among_more : (y : Naming) (ys xs : List Naming) → list_all (is_among ys) xs ≡ true → list_all (is_among (y ∷ ys)) xs ≡ true
+among_more y ys [] h = refl
+among_more y ys (x ∷ xs) h = go (is_same_naming x y) (is_among ys x) (list_all (is_among ys) xs) (list_all (is_among (y ∷ ys)) xs) h (among_more y ys xs)
+  where
+    go : (a b c d : Bool) → (b && c) ≡ true → (c ≡ true → d ≡ true) → ((a || b) && d) ≡ true
+    go a true true d h next = ap₂ (λ s t. s && t) (or_true a) (next refl)
+      where
+        or_true : (a : Bool) → (a || true) ≡ true
+        or_true true = refl
+        or_true false = refl
+    go a true false d h next = absurd (let e = h in cc)
+    go a false c d h next = absurd (let e = h in cc)
+
+all_among : (xs : List Naming) → list_all (is_among xs) xs ≡ true
+all_among [] = refl
+all_among (x ∷ xs) = both (is_among (x ∷ xs) x) (list_all (is_among (x ∷ xs)) xs) (ap (λ b. b || is_among xs x) (naming_itself x)) (among_more x xs xs (all_among xs))
+
+among_other : (xs ys : List Naming) → IsPermutation xs ys → list_all (is_among xs) ys ≡ true
+among_other xs ys p = all_permuted (is_among xs) xs ys p ∙ all_among xs
+
+same_if_permuted : (xs ys : List Naming) → IsPermutation xs ys → are_same_namings xs ys ≡ true
+same_if_permuted xs ys p = both (list_all (is_among ys) xs) (list_all (is_among xs) ys) (among_other ys xs (IsPermutation-sym xs ys p)) (among_other xs ys p)
+
+-- ---- at each moment
+
+-- what is said of each version is said of the moments at which they begin
+at_moments : (h : History) (P : Moment → Type 0) (Q : Version → Type 0) → ((m : Moment) → Q (version_of h m) → P m) → (ms : List Moment) → AllByRecursion Q (map_list (version_of h) ms) → AllByRecursion P ms
+at_moments h P Q to [] all = tt
+at_moments h P Q to (m ∷ ms) all = (to m all.0, at_moments h P Q to ms all.1)
+
+joined : {X : Type 0} (P Q R : X → Type 0) → ((x : X) → P x → Q x → R x) → (xs : List X) → AllByRecursion P xs → AllByRecursion Q xs → AllByRecursion R xs
+joined P Q R to [] g h = tt
+joined P Q R to (x ∷ xs) g h = (to x g.0 h.0, joined P Q R to xs g.1 h.1)
+
+lawful_at : SoundnessByLookUps → (ms : List Moment) (h : History) (tl : Timeline) → StandsFor ms h tl → IsSoundTimeline tl → (m : Moment)
+    → IsMoment m.stamp → IsSound (history.register_at m.stamp h m.next) → IsLawfulAt h m
+lawful_at look_ups ms h tl stands sound m is its =
+    let there = reads look_ups ms h tl m.stamp stands sound is in
+    let mutations = ap (λ (r : Register). r.mutations) there in
+    record {
+      sound = its;
+      named = same_if_permuted (standing m.stamp h.namings) (namings_of (history.register_at m.stamp h m.next).mutations)
+          (subst (λ k. IsPermutation (standing m.stamp h.namings) (namings_of k)) (sym mutations) (stands.stands m.stamp is).namings);
+    }
+
+pub sound_is_lawful : SoundnessByLookUps → SoundTimelinesAreLawful
+sound_is_lawful look_ups ms h tl stands sound =
+    let one = stands_for_one look_ups ms h tl stands sound in
+    let sorted = in_order ms in
+    let registers = at_moments h (λ m. IsSound (history.register_at m.stamp h m.next)) (λ v. IsSound v.register) (λ m s. s) sorted (subst (AllByRecursion (λ v. IsSound v.register)) (sym one) sound.sound) in
+    let stamps = at_moments h (λ m. IsMoment m.stamp) (λ v. IsMoment v.stamp) (λ m s. s) sorted (subst (AllByRecursion (λ v. IsMoment v.stamp)) (sym one) sound.moments) in
+    let each = joined (λ m. IsMoment m.stamp) (λ m. IsSound (history.register_at m.stamp h m.next)) (IsLawfulAt h) (lawful_at look_ups ms h tl stands sound) sorted stamps registers in
+    record {
+      moments = moments_of tl ms sound.rising stands.moments;
+      each = All-permutation (IsLawfulAt h) sorted ms (in_order_permuted ms) (All-from_recursion (IsLawfulAt h) sorted each);
+    }

@@ -1,0 +1,52 @@
+-- Versions stand for the same in whatever order they lie.
+use Rattle.std.proofs.Common.{◌≡◌, Bool, ◌&&◌, List, map, filter, ◌∙◌, IsPermutation}
+use Rattle.std.specs.Prelude.{ℤ}
+use Rattle.std.proofs.lemmas.List.Sorted.{IsPermutation-map, IsPermutation-sym, IsPermutation-trans}
+use Rattle.land_core.specs.declared.register.Register.{Register}
+use Rattle.land_keep.specs.Timeline.{last_stamp, register_at}
+use Rattle.land_tables.specs.Timelines.{moment_of}
+use Rattle.land_tables.specs.Timelines.Laws.{IsReordered, OrderDoesNotMatter}
+use Rattle.land_tables_history.proofs.Permutations.{all_permuted, filter_permuted}
+use Rattle.land_tables_history.specs.History.{StandsAt}
+use Rattle.land_tables_history.specs.Open.{has_ended, have_ended}
+use Rattle.land_tables_history.specs.Standing.{standing, stands}
+use Rattle.land_tables_history.specs.declared.history.History.{History}
+use Rattle.land_tables_history.specs.declared.version.Version.{Version}
+
+-- what stands of versions in another order, where that of the first is some list in another order
+stand_too : {X : Type 0} (t : ℤ) (one other : List (Version X)) (records : List X) → IsPermutation one other → IsPermutation (standing t one) records → IsPermutation (standing t other) records
+stand_too t one other records p h =
+    IsPermutation-trans (standing t other) (standing t one) records
+    (IsPermutation-sym (standing t one) (standing t other) (IsPermutation-map (λ v. v.what) (filter (stands t) one) (filter (stands t) other) (filter_permuted (stands t) one other p))) h
+
+pub nine : {a b c d e f g h i j k l m n o p q r : Bool} → a ≡ j → b ≡ k → c ≡ l → d ≡ m → e ≡ n → f ≡ o → g ≡ p → h ≡ q → i ≡ r
+    → (a && b && c && d && e && f && g && h && i) ≡ (j && k && l && m && n && o && p && q && r)
+nine a b c d e f g h i = cc
+
+pub ended_too : (last : ℤ) (one other : History) → IsReordered one other → have_ended last other ≡ have_ended last one
+ended_too last one other same =
+    nine (all_permuted (has_ended last) one.parties other.parties same.parties) (all_permuted (has_ended last) one.roles other.roles same.roles)
+    (all_permuted (has_ended last) one.members other.members same.members) (all_permuted (has_ended last) one.units other.units same.units)
+    (all_permuted (has_ended last) one.parcels other.parcels same.parcels) (all_permuted (has_ended last) one.rrrs other.rrrs same.rrrs)
+    (all_permuted (has_ended last) one.sources other.sources same.sources) (all_permuted (has_ended last) one.mutations other.mutations same.mutations)
+    (all_permuted (has_ended last) one.namings other.namings same.namings)
+
+pub stands_too : (t : ℤ) (one other : History) (r : Register) → IsReordered one other → StandsAt t one r → StandsAt t other r
+stands_too t one other r same h = record {
+  parties = stand_too t one.parties other.parties _ same.parties h.parties;
+  roles = stand_too t one.roles other.roles _ same.roles h.roles;
+  members = stand_too t one.members other.members _ same.members h.members;
+  units = stand_too t one.units other.units _ same.units h.units;
+  parcels = stand_too t one.parcels other.parcels _ same.parcels h.parcels;
+  rrrs = stand_too t one.rrrs other.rrrs _ same.rrrs h.rrrs;
+  sources = stand_too t one.sources other.sources _ same.sources h.sources;
+  mutations = stand_too t one.mutations other.mutations _ same.mutations h.mutations;
+  namings = stand_too t one.namings other.namings _ same.namings h.namings;
+}
+
+pub reordered : OrderDoesNotMatter
+reordered moments others one other tl stands p same = record {
+  moments = IsPermutation-trans (map moment_of tl) moments others stands.moments p;
+  stands = λ t is. stands_too t one other (register_at tl t) same (stands.stands t is);
+  ended = ended_too (last_stamp tl) one other same ∙ stands.ended;
+}

@@ -1,0 +1,179 @@
+-- Moments put in the order of their stamps.
+use Rattle.std.proofs.Common.{◌≡◌, Bool, true, false, not, cond, ◌||◌, ◌&&◌, List, [], ◌∷◌, map, refl, sym, ap, ◌∙◌, arith, IsPermutation}
+use Rattle.std.specs.Prelude.{ℤ, ◌<ℤ◌, ◌≤ℤ◌, int_le}
+use Rattle.std.specs.List.{list_any}
+use Rattle.std.specs.Ordering.{int_eq}
+use Rattle.std.proofs.lemmas.Bool.{false≢true}
+use Rattle.std.proofs.lemmas.Int.{ints}
+use Rattle.land_core.proofs.Booleans.{both_of, not_true}
+use Rattle.land_core.specs.Entries.{are_distinct}
+use Rattle.land_keep.specs.Timeline.{IsRising, Rises, Timeline}
+use Rattle.land_keep.specs.declared.timeline.Version.{Version}
+use Rattle.land_tables.specs.Timelines.{in_order, moment_of, put_in}
+use Rattle.land_tables_history.proofs.Permutations.{along_permutation}
+use Rattle.land_tables_history.specs.Lawful.{is_same_stamp}
+use Rattle.land_tables_history.specs.declared.moment.Moment.{Moment}
+
+-- ---- orders of stamps
+
+pub is_late : (s t : ℤ) → t <ℤ s → int_le s t ≡ false
+is_late s t less = grind (arith, ints)
+
+pub is_no_later : (s t : ℤ) → s ≤ℤ t → int_le s t ≡ true
+is_no_later s t less = grind (arith, ints)
+
+other_way : (s t : ℤ) → int_eq s t ≡ false → int_le t s ≡ not (int_le s t)
+other_way s t apart = grind (arith, ints)
+
+alike : (s t : ℤ) → int_eq s t ≡ int_eq t s
+alike s t = grind (arith, ints)
+
+between : (x y n : ℤ) → int_le x n ≡ true → int_le y n ≡ false → int_le y x ≡ false
+between x y n a b = grind (arith, ints)
+
+later_differs : (s t : ℤ) → s <ℤ t → int_eq s t ≡ false
+later_differs s t less = grind (arith, ints)
+
+pub earlier : (r s t : ℤ) → r <ℤ s → s <ℤ t → r <ℤ t
+earlier r s t less more = omega (arith, ints)
+
+-- ---- an insertion does not ask which came first
+
+true_is_false : true ≡ false → ⊥
+true_is_false e = false≢true (sym e)
+
+turned : (x y : Moment) (ms : List Moment) → is_same_stamp x y ≡ false → put_in x (put_in y ms) ≡ put_in y (put_in x ms)
+turned x y [] apart = go (int_le x.stamp y.stamp) (int_le y.stamp x.stamp) (other_way x.stamp y.stamp apart)
+  where
+    go : (c d : Bool) → d ≡ not c → cond c (x ∷ y ∷ []) (y ∷ x ∷ []) ≡ cond d (y ∷ x ∷ []) (x ∷ y ∷ [])
+    go true true e = absurd (true_is_false e)
+    go true false e = refl
+    go false true e = refl
+    go false false e = absurd (false≢true e)
+turned x y (n ∷ ns) apart =
+    go (int_le x.stamp n.stamp) (int_le y.stamp n.stamp) (int_le x.stamp y.stamp) (int_le y.stamp x.stamp) refl refl refl refl (other_way x.stamp y.stamp apart) (turned x y ns apart)
+  where
+    go : (a b c d : Bool) → int_le x.stamp n.stamp ≡ a → int_le y.stamp n.stamp ≡ b → int_le x.stamp y.stamp ≡ c → int_le y.stamp x.stamp ≡ d → d ≡ not c
+        → put_in x (put_in y ns) ≡ put_in y (put_in x ns)
+        → put_in x (cond b (y ∷ n ∷ ns) (n ∷ put_in y ns)) ≡ put_in y (cond a (x ∷ n ∷ ns) (n ∷ put_in x ns))
+    go true true c d ia ib ic id e rest = ap (λ k. cond k (x ∷ y ∷ n ∷ ns) (y ∷ cond (int_le x.stamp n.stamp) (x ∷ n ∷ ns) (n ∷ put_in x ns))) ic
+        ∙ ap (λ k. cond c (x ∷ y ∷ n ∷ ns) (y ∷ cond k (x ∷ n ∷ ns) (n ∷ put_in x ns))) ia ∙ both c d e
+        ∙ sym (ap (λ k. cond k (y ∷ x ∷ n ∷ ns) (x ∷ cond (int_le y.stamp n.stamp) (y ∷ n ∷ ns) (n ∷ put_in y ns))) id
+        ∙ ap (λ k. cond d (y ∷ x ∷ n ∷ ns) (x ∷ cond k (y ∷ n ∷ ns) (n ∷ put_in y ns))) ib)
+      where
+        both : (c d : Bool) → d ≡ not c → cond c (x ∷ y ∷ n ∷ ns) (y ∷ x ∷ n ∷ ns) ≡ cond d (y ∷ x ∷ n ∷ ns) (x ∷ y ∷ n ∷ ns)
+        both true true e = absurd (true_is_false e)
+        both true false e = refl
+        both false true e = refl
+        both false false e = absurd (false≢true e)
+    go true false c d ia ib ic id e rest =
+        ap (λ k. cond k (x ∷ n ∷ put_in y ns) (n ∷ put_in x (put_in y ns))) ia
+        ∙ sym (ap (λ k. cond k (y ∷ x ∷ n ∷ ns) (x ∷ cond (int_le y.stamp n.stamp) (y ∷ n ∷ ns) (n ∷ put_in y ns))) (between x.stamp y.stamp n.stamp ia ib)
+        ∙ ap (λ k. x ∷ cond k (y ∷ n ∷ ns) (n ∷ put_in y ns)) ib)
+    go false true c d ia ib ic id e rest =
+        ap (λ k. cond k (x ∷ y ∷ n ∷ ns) (y ∷ cond (int_le x.stamp n.stamp) (x ∷ n ∷ ns) (n ∷ put_in x ns))) (between y.stamp x.stamp n.stamp ib ia)
+        ∙ ap (λ k. y ∷ cond k (x ∷ n ∷ ns) (n ∷ put_in x ns)) ia
+        ∙ sym (ap (λ k. cond k (y ∷ n ∷ put_in x ns) (n ∷ put_in y (put_in x ns))) ib)
+    go false false c d ia ib ic id e rest =
+        ap (λ k. cond k (x ∷ n ∷ put_in y ns) (n ∷ put_in x (put_in y ns))) ia ∙ ap (λ l. n ∷ l) rest
+        ∙ sym (ap (λ k. cond k (y ∷ n ∷ put_in x ns) (n ∷ put_in y (put_in x ns))) ib)
+
+-- ---- moments of stamps that differ have one order
+
+record Alike (xs ys : List Moment) : Type 0 where
+  stamps : (m : Moment) → list_any (is_same_stamp m) xs ≡ list_any (is_same_stamp m) ys
+  sorted : are_distinct is_same_stamp xs ≡ true → (are_distinct is_same_stamp ys ≡ true) × (in_order xs ≡ in_order ys)
+
+both : (a b : Bool) → a ≡ true → b ≡ true → (a && b) ≡ true
+both a b x y = ap (λ t. t && b) x ∙ y
+
+or_turned : (a b c : Bool) → (a || (b || c)) ≡ (b || (a || c))
+or_turned true true c = refl
+or_turned true false c = refl
+or_turned false b c = refl
+
+not_or : (a b : Bool) → not (a || b) ≡ true → (a ≡ false) × (b ≡ false)
+not_or true b h = absurd (false≢true h)
+not_or false b h = (refl, not_true b h)
+
+neither : (a b : Bool) → a ≡ false → b ≡ false → not (a || b) ≡ true
+neither a b x y = ap (λ t. not (t || b)) x ∙ ap not y
+
+pub one_order : (xs ys : List Moment) → IsPermutation xs ys → are_distinct is_same_stamp xs ≡ true → in_order xs ≡ in_order ys
+one_order xs ys p distinct = ((along_permutation Alike itself under over chained xs ys p).sorted distinct).1
+  where
+    itself : (xs : List Moment) → Alike xs xs
+    itself xs = record { stamps = λ m. refl; sorted = λ d. (d, refl) }
+
+    under : (x : Moment) (xs ys : List Moment) → Alike xs ys → Alike (x ∷ xs) (x ∷ ys)
+    under x xs ys h = record {
+      stamps = λ m. ap (λ b. is_same_stamp m x || b) (h.stamps m);
+      sorted = λ d.
+          let parts = both_of (not (list_any (is_same_stamp x) xs)) (are_distinct is_same_stamp xs) d in
+          let rest = h.sorted parts.1 in
+          (both (not (list_any (is_same_stamp x) ys)) (are_distinct is_same_stamp ys) (sym (ap not (h.stamps x)) ∙ parts.0) rest.0, ap (put_in x) rest.1);
+    }
+
+    over : (x y : Moment) (xs : List Moment) → Alike (x ∷ y ∷ xs) (y ∷ x ∷ xs)
+    over x y xs = record {
+      stamps = λ m. or_turned (is_same_stamp m x) (is_same_stamp m y) (list_any (is_same_stamp m) xs);
+      sorted = λ d.
+          let one = both_of (not (is_same_stamp x y || list_any (is_same_stamp x) xs)) (not (list_any (is_same_stamp y) xs) && are_distinct is_same_stamp xs) d in
+          let two = both_of (not (list_any (is_same_stamp y) xs)) (are_distinct is_same_stamp xs) one.1 in
+          let x_apart = not_or (is_same_stamp x y) (list_any (is_same_stamp x) xs) one.0 in (
+            both (not (is_same_stamp y x || list_any (is_same_stamp y) xs)) (not (list_any (is_same_stamp x) xs) && are_distinct is_same_stamp xs)
+                (neither (is_same_stamp y x) (list_any (is_same_stamp y) xs) (alike y.stamp x.stamp ∙ x_apart.0) (not_true (list_any (is_same_stamp y) xs) two.0))
+                (both (not (list_any (is_same_stamp x) xs)) (are_distinct is_same_stamp xs) (ap not x_apart.1) two.1),
+            turned x y (in_order xs) x_apart.0,
+          );
+    }
+
+    chained : (xs ys zs : List Moment) → Alike xs ys → Alike ys zs → Alike xs zs
+    chained xs ys zs g h = record {
+      stamps = λ m. g.stamps m ∙ h.stamps m;
+      sorted = λ d. let one = g.sorted d in let two = h.sorted one.0 in (two.0, one.1 ∙ two.1);
+    }
+
+-- ---- the moments of a timeline that rises
+
+none_before : (s : ℤ) (v : Version) (vs : Timeline) → s ≤ℤ v.stamp → Rises v vs → list_any (λ (m : Moment). int_eq s m.stamp) (map moment_of vs) ≡ false
+none_before s v [] least rises = refl
+none_before s v (w ∷ ws) least rises =
+    ap (λ b. b || list_any (λ (m : Moment). int_eq s m.stamp) (map moment_of ws)) (later_differs s w.stamp (after s v.stamp w.stamp least rises.0))
+    ∙ none_before s w ws (before s v.stamp w.stamp least rises.0) rises.2
+  where
+    after : (r s t : ℤ) → r ≤ℤ s → s <ℤ t → r <ℤ t
+    after r s t less more = omega (arith, ints)
+
+    before : (r s t : ℤ) → r ≤ℤ s → s <ℤ t → r ≤ℤ t
+    before r s t less more = omega (arith, ints)
+
+no_less : (s : ℤ) → s ≤ℤ s
+no_less s = omega (arith, ints)
+
+pub distinct : (tl : Timeline) → IsRising tl → are_distinct is_same_stamp (map moment_of tl) ≡ true
+distinct [] rises = absurd rises
+distinct (v ∷ vs) rises = from v vs rises
+  where
+    from : (v : Version) (vs : Timeline) → Rises v vs → are_distinct is_same_stamp (map moment_of (v ∷ vs)) ≡ true
+    from v [] rises = refl
+    from v (w ∷ ws) rises =
+        both (not (list_any (is_same_stamp (moment_of v)) (map moment_of (w ∷ ws)))) (are_distinct is_same_stamp (map moment_of (w ∷ ws)))
+        (ap not (none_before v.stamp v (w ∷ ws) (no_less v.stamp) rises)) (from w ws rises.2)
+
+pub sorted_already : (tl : Timeline) → IsRising tl → in_order (map moment_of tl) ≡ map moment_of tl
+sorted_already [] rises = absurd rises
+sorted_already (v ∷ vs) rises = from v vs rises
+  where
+    first : (s t : ℤ) → s <ℤ t → int_le s t ≡ true
+    first s t less = grind (arith, ints)
+
+    from : (v : Version) (vs : Timeline) → Rises v vs → in_order (map moment_of (v ∷ vs)) ≡ map moment_of (v ∷ vs)
+    from v [] rises = refl
+    from v (w ∷ ws) rises =
+        ap (put_in (moment_of v)) (from w ws rises.2)
+        ∙ ap (λ b. cond b (moment_of v ∷ moment_of w ∷ map moment_of ws) (moment_of w ∷ put_in (moment_of v) (map moment_of ws))) (first v.stamp w.stamp rises.0)
+
+-- moments that are those of a timeline that rises, in whatever order, are put in its order
+pub timeline_order : (tl : Timeline) (moments : List Moment) → IsRising tl → IsPermutation (map moment_of tl) moments → in_order moments ≡ map moment_of tl
+timeline_order tl moments rises p = sym (one_order (map moment_of tl) moments p (distinct tl rises)) ∙ sorted_already tl rises

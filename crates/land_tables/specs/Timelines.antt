@@ -1,0 +1,43 @@
+-- The timeline that versions stand for.
+pub mod Judging
+pub mod Laws
+pub mod Writing
+use Rattle.std.specs.Prelude.{◌≡◌, true, ℤ, int_le, List, [], ◌∷◌, map, if◌then◌else◌}
+use Rattle.std.specs.List.Sorted.{IsPermutation}
+use Rattle.land_keep.specs.Moments.{IsMoment}
+use Rattle.land_keep.specs.Timeline.{Timeline, last_stamp, register_at}
+use Rattle.land_keep.specs.declared.timeline.Version.{Version}
+use Rattle.land_tables_history.specs.History as history
+use Rattle.land_tables_history.specs.History.{StandsAt}
+use Rattle.land_tables_history.specs.Open.{have_ended}
+use Rattle.land_tables_history.specs.declared.history.History.{History}
+use Rattle.land_tables_history.specs.declared.moment.Moment.{Moment}
+
+-- the moment of a version of the timeline: its stamp, and the number that the next new object takes from then on
+abbrev pub moment_of : Version → Moment
+moment_of v = record { stamp = v.stamp; next = v.register.next }
+
+-- a moment among some in the order of their stamps, before those that are not earlier
+abbrev pub put_in : Moment → List Moment → List Moment
+put_in m [] = m ∷ []
+put_in m (n ∷ ns) = if int_le m.stamp n.stamp then m ∷ n ∷ ns else n ∷ put_in m ns
+
+-- moments in the order of their stamps
+abbrev pub in_order : List Moment → List Moment
+in_order [] = []
+in_order (m ∷ ms) = put_in m (in_order ms)
+
+-- the version of the timeline that begins at a moment: the register whose records stand then
+abbrev pub version_of : History → Moment → Version
+version_of versions m = record { stamp = m.stamp; register = history.register_at m.stamp versions m.next }
+
+-- the timeline that versions stand for, if they stand for one: at each moment, in the order of their stamps, the register whose records stand
+abbrev pub timeline_of : List Moment → History → Timeline
+timeline_of moments versions = map (version_of versions) (in_order moments)
+
+-- versions stand for a timeline: the moments are its stamps with its next numbers, in whatever order; at each moment the versions that stand
+-- are its register, each record once; and every end is open or no later than the last stamp
+pub record StandsFor (listed : List Moment) (history : History) (tl : Timeline) : Type 0 where
+  pub moments : IsPermutation (map moment_of tl) listed
+  pub stands : (t : ℤ) → IsMoment t → StandsAt t history (register_at tl t)
+  pub ended : have_ended (last_stamp tl) history ≡ true

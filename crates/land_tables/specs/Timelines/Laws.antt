@@ -1,0 +1,53 @@
+-- Laws of versions and the timelines that they stand for.
+use Rattle.std.specs.Prelude.{◌≡◌, true, ℤ, List, Some}
+use Rattle.std.specs.List.{All}
+use Rattle.std.specs.List.Sorted.{IsPermutation}
+use Rattle.land_keep.specs.Moments.{IsMoment}
+use Rattle.land_keep.specs.Timeline.{IsSoundTimeline, Timeline, last_register, last_stamp, register_at}
+use Rattle.land_tables.specs.Timelines.{StandsFor, timeline_of}
+use Rattle.land_tables_history.specs.History as history
+use Rattle.land_tables_history.specs.Intervals.{has_intervals}
+use Rattle.land_tables_history.specs.Lawful.{IsLawful}
+use Rattle.land_tables_history.specs.Moments.{last, next_at}
+use Rattle.land_tables_history.specs.declared.history.History.{History}
+use Rattle.land_tables_history.specs.declared.moment.Moment.{Moment}
+
+-- versions that stand for a sound timeline stand for no other: it is the one that they lead to
+abbrev pub VersionsStandForOne : Type 0
+VersionsStandForOne =
+    (moments : List Moment) (versions : History) (tl : Timeline) → StandsFor moments versions tl → IsSoundTimeline tl → timeline_of moments versions ≡ tl
+
+-- versions in another order
+pub record IsReordered (one other : History) : Type 0 where
+  pub parties : IsPermutation one.parties other.parties
+  pub roles : IsPermutation one.roles other.roles
+  pub members : IsPermutation one.members other.members
+  pub units : IsPermutation one.units other.units
+  pub parcels : IsPermutation one.parcels other.parcels
+  pub rrrs : IsPermutation one.rrrs other.rrrs
+  pub sources : IsPermutation one.sources other.sources
+  pub mutations : IsPermutation one.mutations other.mutations
+  pub namings : IsPermutation one.namings other.namings
+
+-- versions stand for the same timeline in whatever order they lie
+abbrev pub OrderDoesNotMatter : Type 0
+OrderDoesNotMatter =
+    (moments others : List Moment) (one other : History) (tl : Timeline) → StandsFor moments one tl → IsPermutation moments others → IsReordered one other → StandsFor others other tl
+
+-- what stands at a moment, with the next number of the latest moment up to then, is the timeline's register there
+abbrev pub ReadingIsTheRegister : Type 0
+ReadingIsTheRegister =
+    (moments : List Moment) (versions : History) (tl : Timeline) (t : ℤ)
+    → StandsFor moments versions tl → IsSoundTimeline tl → IsMoment t → history.register_at t versions (next_at moments t) ≡ register_at tl t
+
+-- the latest moment is the timeline's last stamp, with the next number of its last register
+abbrev pub LastMomentIsTheLastStamp : Type 0
+LastMomentIsTheLastStamp =
+    (moments : List Moment) (versions : History) (tl : Timeline)
+    → StandsFor moments versions tl → IsSoundTimeline tl → last moments ≡ Some (record { stamp = last_stamp tl; next = (last_register tl).next })
+
+-- versions of a lawful history, whose lifespans are as they may be, stand for a sound timeline: the one that they lead to
+abbrev pub LawfulVersionsStand : Type 0
+LawfulVersionsStand =
+    (moments : List Moment) (versions : History) → All (λ m. IsMoment m.stamp) moments → has_intervals moments versions ≡ true → IsLawful moments versions
+    → StandsFor moments versions (timeline_of moments versions) × IsSoundTimeline (timeline_of moments versions)

@@ -1,0 +1,17 @@
+-- The law of writing: a change of versions is the change of their timeline.
+use Rattle.std.specs.Prelude.{ℤ, List, ◌∷◌}
+use Rattle.land_core.specs.declared.change.Change.{Change}
+use Rattle.land_keep.specs.Keeping.{CanWrite}
+use Rattle.land_keep.specs.Machine.{written}
+use Rattle.land_keep.specs.Timeline.{IsSoundTimeline, Timeline, last_register}
+use Rattle.land_tables.specs.Timelines.{StandsFor}
+use Rattle.land_tables_history.specs.Changed.{changed}
+use Rattle.land_tables_history.specs.declared.history.History.{History}
+use Rattle.land_tables_history.specs.declared.moment.Moment.{Moment}
+
+-- versions that stood for a timeline stand, with a change that may be written and its moment, for the timeline with the change
+abbrev pub WritesStand : Type 0
+WritesStand =
+    (moments : List Moment) (versions : History) (tl : Timeline) (change : Change) (stamp : ℤ)
+    → IsSoundTimeline tl → StandsFor moments versions tl → CanWrite tl change stamp
+    → StandsFor (record { stamp = stamp; next = change.next } ∷ moments) (changed (last_register tl).next change stamp versions) (written tl change stamp)

@@ -1,0 +1,100 @@
+-- The records and the roles that stand after a change.
+use Rattle.std.proofs.Common.{◌≡◌, ℕ, Bool, true, false, cond, not, ◌&&◌, ◌||◌, List, [], ◌∷◌, ◌++◌, filter, map as map_list, refl, sym, ap, subst, ◌∙◌, IsPermutation}
+use Rattle.std.proofs.lemmas.List.Sorted.{IsPermutation-append_right, IsPermutation-map, IsPermutation-trans}
+use Rattle.std.specs.Cmp.{nat_cmp_total, unsigned_tied}
+use Rattle.std.specs.FinMap as map
+use Rattle.std.specs.FinMap.{FinMap, nat_cmp-IsAntisymmetric}
+use Rattle.std.specs.List.{list_all, list_any}
+use Rattle.std.specs.Ordering.{eq_by_cmp, nat_cmp}
+use Rattle.std.specs.Prelude.{ℤ, ◌<ℤ◌, ◌≤ℤ◌, nat_eq}
+use Rattle.land_core.proofs.Booleans.{both_of}
+use Rattle.land_core.proofs.FiniteSets.{exact_grants, grants_total, keys-marks}
+use Rattle.land_core.specs.Entries.{are_distinct, updated}
+use Rattle.land_core.specs.Grants.{Grants, grant_cmp, grants_in, marks}
+use Rattle.land_core.specs.declared.roles.Grant.{Grant}
+use Rattle.land_tables_history.proofs.ChangedVersions.{changed_stand}
+use Rattle.land_tables_history.proofs.Made.{changed_entries}
+use Rattle.land_tables_history.proofs.Permutations.{filter_permuted}
+use Rattle.land_tables_history.specs.Changed.{changed_part, changed_roles, changed_versions, is_among, is_changed}
+use Rattle.land_tables_history.specs.Open.{has_ended, never}
+use Rattle.land_tables_history.specs.Standing.{AreRolesAt, IsPartAt, standing}
+use Rattle.land_tables_history.specs.declared.version.Version.{Version}
+
+-- numbers are compared alike by their order and by their test
+pub same_numbers : eq_by_cmp nat_cmp ≡ nat_eq
+same_numbers = λ i n m. unsigned_tied n m i
+
+pub distinct_before : {K : Type 0} (same : K → K → Bool) (xs ys : List K) → are_distinct same (xs ++ ys) ≡ true → are_distinct same xs ≡ true
+distinct_before same [] ys h = refl
+distinct_before {K} same (x ∷ xs) ys h =
+    let both = both_of (not (list_any (same x) (xs ++ ys))) (are_distinct same (xs ++ ys)) h in
+    ap (λ b. b && are_distinct same xs) (fewer xs both.0) ∙ distinct_before same xs ys both.1
+  where
+    fewer : (zs : List K) → not (list_any (same x) (zs ++ ys)) ≡ true → not (list_any (same x) zs) ≡ true
+    fewer [] h = refl
+    fewer (z ∷ zs) h = go (same x z) h (fewer zs)
+      where
+        go : (b : Bool) → not (b || list_any (same x) (zs ++ ys)) ≡ true → (not (list_any (same x) (zs ++ ys)) ≡ true → not (list_any (same x) zs) ≡ true) → not (b || list_any (same x) zs) ≡ true
+        go true h rest = h
+        go false h rest = rest h
+
+-- the entries under numbers that are put, and the others under numbers that are neither put nor ended
+pub numbered_entries : {V : Type 0} (m : FinMap nat_cmp V) (put : List (ℕ × V)) (ended : List ℕ) → are_distinct nat_eq (map_list (λ e. e.0) put ++ ended) ≡ true
+    → IsPermutation (put ++ filter (λ e. not (is_changed put ended e.0)) (map.entries m)) (map.entries (updated m put ended))
+numbered_entries {V} m put ended once =
+    subst (λ (same : ℕ → ℕ → Bool). are_distinct same (map_list (λ e. e.0) put) ≡ true
+    → IsPermutation (put ++ filter (λ e. not (is_among same (map_list (λ e. e.0) put ++ ended) e.0)) (map.entries m)) (map.entries (updated m put ended))) same_numbers
+    (changed_entries nat_cmp_total nat_cmp-IsAntisymmetric m put ended) (distinct_before nat_eq (map_list (λ e. e.0) put) ended once)
+
+module _ (last stamp t : ℤ) (less : last <ℤ stamp) (since : stamp ≤ℤ t) (early : t <ℤ never) where
+  -- what stands of changed versions is what is put, and of what stood, in whatever order, what is not meant
+  pub stand_changed : {X : Type 0} (put : List X) (meant : X → Bool) (versions : List (Version X)) (them : List X) → list_all (has_ended last) versions ≡ true
+      → IsPermutation (standing t versions) them → IsPermutation (standing t (changed_versions put meant stamp versions)) (put ++ filter (λ x. not (meant x)) them)
+  stand_changed put meant versions them ended p =
+      subst (λ l. IsPermutation l (put ++ filter (λ x. not (meant x)) them)) (sym (changed_stand put meant stamp last t less since early versions ended))
+      (IsPermutation-append_right put (filter (λ x. not (meant x)) (standing t versions)) (filter (λ x. not (meant x)) them)
+      (filter_permuted (λ x. not (meant x)) (standing t versions) them p))
+
+  pub part_changes : {V : Type 0} (put : List (ℕ × V)) (ended : List ℕ) (versions : List (Version (ℕ × V))) (m : FinMap nat_cmp V)
+      → list_all (has_ended last) versions ≡ true → are_distinct nat_eq (map_list (λ e. e.0) put ++ ended) ≡ true → IsPartAt t versions m
+      → IsPartAt t (changed_part put ended stamp versions) (updated m put ended)
+  part_changes put ended versions m by_then once p =
+      IsPermutation-trans (standing t (changed_part put ended stamp versions)) (put ++ filter (λ e. not (is_changed put ended e.0)) (map.entries m)) (map.entries (updated m put ended))
+      (stand_changed put (λ e. is_changed put ended e.0) versions (map.entries m) by_then p) (numbered_entries m put ended once)
+
+  pub roles_change : (put ended : List Grant) (versions : List (Version Grant)) (grants : Grants)
+      → list_all (has_ended last) versions ≡ true → are_distinct (eq_by_cmp grant_cmp) (put ++ ended) ≡ true → AreRolesAt t versions grants
+      → AreRolesAt t (changed_roles put ended stamp versions) (updated grants (marks put) ended)
+  unfolding grants_in
+  roles_change put ended versions grants by_then once p =
+      let kept : List Grant = filter (λ grant. not (is_among (eq_by_cmp grant_cmp) (put ++ ended) grant)) (map.keys grants) in
+      IsPermutation-trans (standing t (changed_roles put ended stamp versions)) (put ++ kept) (map.keys (updated grants (marks put) ended))
+      (stand_changed put (λ grant. is_among (eq_by_cmp grant_cmp) (put ++ ended) grant) versions (map.keys grants) by_then p)
+      (subst (λ l. IsPermutation l (map.keys (updated grants (marks put) ended))) (listed (put ++ ended) (map.entries grants))
+      (IsPermutation-map (λ e. e.0) (marks put ++ filter (λ e. not (list_any (eq_by_cmp grant_cmp e.0) (put ++ ended))) (map.entries grants)) (map.entries (updated grants (marks put) ended)) entries))
+    where
+      entries : IsPermutation (marks put ++ filter (λ e. not (list_any (eq_by_cmp grant_cmp e.0) (put ++ ended))) (map.entries grants)) (map.entries (updated grants (marks put) ended))
+      entries =
+          subst (λ (ks : List Grant). IsPermutation (marks put ++ filter (λ e. not (list_any (eq_by_cmp grant_cmp e.0) (ks ++ ended))) (map.entries grants)) (map.entries (updated grants (marks put) ended)))
+          (keys-marks put)
+          (changed_entries grants_total exact_grants grants (marks put) ended
+          (subst (λ (ks : List Grant). are_distinct (eq_by_cmp grant_cmp) ks ≡ true) (sym (keys-marks put)) (distinct_before (eq_by_cmp grant_cmp) put ended once)))
+
+      keys_kept : (ks : List Grant) (es : List (Grant × Unit {0})) → map_list (λ e. e.0) (filter (λ e. not (list_any (eq_by_cmp grant_cmp e.0) ks)) es)
+          ≡ filter (λ grant. not (is_among (eq_by_cmp grant_cmp) ks grant)) (map_list (λ e. e.0) es)
+      keys_kept ks [] = refl
+      keys_kept ks (e ∷ es) = go (not (list_any (eq_by_cmp grant_cmp e.0) ks)) (keys_kept ks es)
+        where
+          go : (b : Bool) → map_list (λ e. e.0) (filter (λ e. not (list_any (eq_by_cmp grant_cmp e.0) ks)) es) ≡ filter (λ grant. not (is_among (eq_by_cmp grant_cmp) ks grant)) (map_list (λ e. e.0) es)
+              → map_list (λ e. e.0) (cond b (e ∷ filter (λ e. not (list_any (eq_by_cmp grant_cmp e.0) ks)) es) (filter (λ e. not (list_any (eq_by_cmp grant_cmp e.0) ks)) es))
+              ≡ cond b (e.0 ∷ filter (λ grant. not (is_among (eq_by_cmp grant_cmp) ks grant)) (map_list (λ e. e.0) es)) (filter (λ grant. not (is_among (eq_by_cmp grant_cmp) ks grant)) (map_list (λ e. e.0) es))
+          go true h = ap (λ l. e.0 ∷ l) h
+          go false h = h
+
+      put_before : (gs : List Grant) (es : List (Grant × Unit {0})) → map_list (λ e. e.0) (marks gs ++ es) ≡ gs ++ map_list (λ e. e.0) es
+      put_before [] es = refl
+      put_before (g ∷ gs) es = ap (λ l. g ∷ l) (put_before gs es)
+
+      listed : (ks : List Grant) (es : List (Grant × Unit {0})) → map_list (λ e. e.0) (marks put ++ filter (λ e. not (list_any (eq_by_cmp grant_cmp e.0) ks)) es)
+          ≡ put ++ filter (λ grant. not (is_among (eq_by_cmp grant_cmp) ks grant)) (map_list (λ e. e.0) es)
+      listed ks es = put_before put (filter (λ e. not (list_any (eq_by_cmp grant_cmp e.0) ks)) es) ∙ ap (λ l. put ++ l) (keys_kept ks es)

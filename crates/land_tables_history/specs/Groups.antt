@@ -1,0 +1,61 @@
+-- The members of groups that stand at a moment.
+use Rattle.std.specs.Prelude.{◌≢◌, ℕ, ℤ, Bool, nat_eq, List, [], ◌∷◌, Some, flat_map, map as map_list, if◌then◌else◌}
+use Rattle.std.specs.FinMap as map
+use Rattle.std.specs.FinMap.{FinMap}
+use Rattle.std.specs.List.Sorted.{IsPermutation}
+use Rattle.std.specs.Option.{option_map_or}
+use Rattle.std.specs.Ordering.{nat_cmp}
+use Rattle.land_core.specs.Members.{Members, members_in}
+use Rattle.land_tables_history.specs.Standing.{standing}
+use Rattle.land_tables_history.specs.declared.group_member.GroupMember.{GroupMember}
+use Rattle.land_tables_history.specs.declared.version.Version.{Version}
+
+-- the members of all groups, each with the number of its group
+abbrev pub group_members : FinMap nat_cmp Members → List GroupMember
+group_members groups = flat_map (λ g. map_list (λ m. record { group = g.0; member = m }) (members_in g.1)) (map.entries groups)
+
+-- no group is without members
+abbrev pub HaveMembers : FinMap nat_cmp Members → Type 0
+HaveMembers groups = (group : ℕ) → map.get groups group ≢ Some map.empty
+
+-- the versions that stand at a moment are the members of these groups, each once
+abbrev pub AreGroupsAt : ℤ → List (Version GroupMember) → FinMap nat_cmp Members → Type 0
+AreGroupsAt t versions groups = IsPermutation (standing t versions) (group_members groups)
+
+-- the members of a group, none where there is no group
+abbrev pub members_of : FinMap nat_cmp Members → ℕ → Members
+members_of groups group = option_map_or (λ members. members) (map.get groups group) map.empty
+
+-- the members of a group that another one joins
+abbrev pub joined_members : FinMap nat_cmp Members → GroupMember → Members
+joined_members groups e = map.insert (members_of groups e.group) e.member.party e.member.share
+
+-- a member joins a group, which begins with its first member
+abbrev pub joined : FinMap nat_cmp Members → GroupMember → FinMap nat_cmp Members
+joined groups e = map.insert groups e.group (joined_members groups e)
+
+-- some join, one after another
+abbrev pub with_members : FinMap nat_cmp Members → List GroupMember → FinMap nat_cmp Members
+with_members groups [] = groups
+with_members groups (e ∷ es) = with_members (joined groups e) es
+
+-- the groups whose members stand
+abbrev pub groups_at : ℤ → List (Version GroupMember) → FinMap nat_cmp Members
+groups_at t versions = with_members map.empty (standing t versions)
+
+-- the members of a group that one leaves
+abbrev pub members_left : FinMap nat_cmp Members → GroupMember → Members
+members_left groups e = map.remove (members_of groups e.group) e.member.party
+
+-- a group has nobody
+abbrev pub is_nobody : Members → Bool
+is_nobody members = nat_eq (map.len members) 0
+
+-- a member leaves a group, which ends with its last member
+abbrev pub left : FinMap nat_cmp Members → GroupMember → FinMap nat_cmp Members
+left groups e = if is_nobody (members_left groups e) then map.remove groups e.group else map.insert groups e.group (members_left groups e)
+
+-- some leave, one after another
+abbrev pub without_members : FinMap nat_cmp Members → List GroupMember → FinMap nat_cmp Members
+without_members groups [] = groups
+without_members groups (e ∷ es) = without_members (left groups e) es

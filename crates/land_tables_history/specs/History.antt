@@ -1,0 +1,52 @@
+-- What of the register's versions stands at a moment is a register.
+use Rattle.std.specs.Prelude.{ℕ, ℤ, List, [], ◌∷◌, flat_map, map as map_list}
+use Rattle.std.specs.FinMap as map
+use Rattle.std.specs.FinMap.{FinMap}
+use Rattle.std.specs.List.Sorted.{IsPermutation}
+use Rattle.std.specs.Ordering.{nat_cmp}
+use Rattle.land_core.specs.declared.content.Content.{Content}
+use Rattle.land_core.specs.declared.content.Content.TheVariants as content
+use Rattle.land_core.specs.declared.mutation.MutationRecord.{MutationRecord}
+use Rattle.land_core.specs.declared.register.Register.{Register}
+use Rattle.land_tables_history.specs.Groups.{AreGroupsAt, groups_at}
+use Rattle.land_tables_history.specs.Standing.{AreRolesAt, IsPartAt, part_at, roles_at, standing}
+use Rattle.land_tables_history.specs.declared.history.History.{History}
+use Rattle.land_tables_history.specs.declared.naming.Naming.{Naming}
+
+-- the units that a content names: its own, and of a merger the others
+abbrev pub named_units : Content → List ℕ
+named_units (content.Transfer it) = it.unit ∷ []
+named_units (content.Subdivision it) = it.unit ∷ []
+named_units (content.Merger it) = it.unit ∷ it.others
+named_units (content.Mortgage it) = it.unit ∷ []
+named_units (content.Discharge it) = it.unit ∷ []
+
+-- which mutations name which units
+abbrev pub namings_of : FinMap nat_cmp MutationRecord → List Naming
+namings_of mutations = flat_map (λ m. map_list (λ unit. record { mutation = m.0; unit = unit }) (named_units m.1.content)) (map.entries mutations)
+
+-- the versions that stand at a moment are the register's records, roles and members, and the units that its mutations name, each once
+pub record StandsAt (t : ℤ) (history : History) (register : Register) : Type 0 where
+  pub parties : IsPartAt t history.parties register.parties
+  pub roles : AreRolesAt t history.roles register.roles
+  pub members : AreGroupsAt t history.members register.members
+  pub units : IsPartAt t history.units register.units
+  pub parcels : IsPartAt t history.parcels register.parcels
+  pub rrrs : IsPartAt t history.rrrs register.rrrs
+  pub sources : IsPartAt t history.sources register.sources
+  pub mutations : IsPartAt t history.mutations register.mutations
+  pub namings : IsPermutation (standing t history.namings) (namings_of register.mutations)
+
+-- the register that stands at a moment, with the number that the next new object takes then
+abbrev pub register_at : ℤ → History → (next : ℕ) → Register
+register_at t history next = record {
+  parties = part_at t history.parties;
+  roles = roles_at t history.roles;
+  members = groups_at t history.members;
+  units = part_at t history.units;
+  parcels = part_at t history.parcels;
+  rrrs = part_at t history.rrrs;
+  sources = part_at t history.sources;
+  mutations = part_at t history.mutations;
+  next = next;
+}

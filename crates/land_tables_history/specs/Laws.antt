@@ -1,0 +1,40 @@
+-- Laws over the definitions alone: what a change leaves of what stands, and what stands from then on.
+use Rattle.std.specs.Prelude.{◌≡◌, ℕ, true, [], Some, ℤ, ◌<◌, ◌≤◌, ◌<ℤ◌, ◌≤ℤ◌, ◌⊎◌}
+use Rattle.std.specs.FinMap as map
+use Rattle.std.specs.List.{AllByRecursion}
+use Rattle.land_core.specs.Changes.{NamesKeysOnce, after}
+use Rattle.land_core.specs.declared.change.Change.{Change}
+use Rattle.land_core.specs.declared.mutation.MutationRecord.{MutationRecord}
+use Rattle.land_core.specs.declared.register.Register.{Register}
+use Rattle.land_tables_history.specs.Changed.{changed}
+use Rattle.land_tables_history.specs.History.{StandsAt, named_units}
+use Rattle.land_tables_history.specs.Open.{have_ended, never}
+use Rattle.land_tables_history.specs.declared.history.History.{History}
+
+-- a mutation that is put stands already, and names the same units
+pub record IsAsItWas (r : Register) (number : ℕ) (m : MutationRecord) : Type 0 where
+  pub old : MutationRecord
+  pub there : map.get r.mutations number ≡ Some old
+  pub units : named_units m.content ≡ named_units old.content
+
+-- a change of a register puts mutations that are new, or are as they were but for their state, and ends none
+pub record PutsMutations (r : Register) (change : Change) : Type 0 where
+  pub used : (number : ℕ) (m : MutationRecord) → map.get r.mutations number ≡ Some m → number < r.next
+  pub put : AllByRecursion (λ e. (r.next ≤ e.0) ⊎ IsAsItWas r e.0 e.1) change.put.mutations
+  pub ended : change.ended.mutations ≡ []
+
+-- what stood before the stamp of a change stands there still
+abbrev pub PastStands : Type 0
+PastStands = (next : ℕ) (change : Change) (stamp t : ℤ) (history : History) (r : Register)
+    → t <ℤ stamp → t <ℤ never → StandsAt t history r → StandsAt t (changed next change stamp history) r
+
+-- from its stamp on the register with the change stands, where the last change was before that
+abbrev pub ChangeStands : Type 0
+ChangeStands = (change : Change) (last stamp t : ℤ) (history : History) (r : Register)
+    → have_ended last history ≡ true → last <ℤ stamp → stamp ≤ℤ t → t <ℤ never → NamesKeysOnce change → PutsMutations r change
+    → StandsAt t history r → StandsAt t (changed r.next change stamp history) (after change r)
+
+-- then each lifespan is open, or has ended by the stamp
+abbrev pub ChangedHaveEnded : Type 0
+ChangedHaveEnded = (next : ℕ) (change : Change) (last stamp : ℤ) (history : History)
+    → have_ended last history ≡ true → last <ℤ stamp → have_ended stamp (changed next change stamp history) ≡ true

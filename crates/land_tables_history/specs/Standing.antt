@@ -1,0 +1,34 @@
+-- What stands at a moment.
+use Rattle.std.specs.Prelude.{ℕ, ℤ, Bool, ◌&&◌, int_le, int_lt, List, map as map_list, filter}
+use Rattle.std.specs.List.Sorted.{IsPermutation}
+use Rattle.std.specs.Ordering.{nat_cmp}
+use Rattle.std.specs.FinMap as map
+use Rattle.std.specs.FinMap.{FinMap}
+use Rattle.land_core.specs.Entries.{with_entries}
+use Rattle.land_core.specs.Grants.{Grants, grants_in, marks}
+use Rattle.land_core.specs.declared.roles.Grant.{Grant}
+use Rattle.land_tables_history.specs.declared.version.Version.{Version}
+
+-- a lifespan has its beginning, and not its end
+abbrev pub stands : {X : Type 0} → ℤ → Version X → Bool
+stands t v = int_le v.since t && int_lt t v.until
+
+-- what the versions that stand at a moment are of, in the order in which they lie
+abbrev pub standing : {X : Type 0} → ℤ → List (Version X) → List X
+standing t versions = map_list (λ v. v.what) (filter (stands t) versions)
+
+-- the versions that stand at a moment are these records, each once
+abbrev pub IsPartAt : {V : Type 0} → ℤ → List (Version (ℕ × V)) → FinMap nat_cmp V → Type 0
+IsPartAt t versions m = IsPermutation (standing t versions) (map.entries m)
+
+-- the records that stand, one put in after another
+abbrev pub part_at : {V : Type 0} → ℤ → List (Version (ℕ × V)) → FinMap nat_cmp V
+part_at t versions = with_entries map.empty (standing t versions)
+
+-- the versions that stand at a moment are these grants, each once
+abbrev pub AreRolesAt : ℤ → List (Version Grant) → Grants → Type 0
+AreRolesAt t versions grants = IsPermutation (standing t versions) (grants_in grants)
+
+-- the grants that stand, one given after another
+abbrev pub roles_at : ℤ → List (Version Grant) → Grants
+roles_at t versions = with_entries map.empty (marks (standing t versions))

@@ -1,0 +1,78 @@
+//! The lifespans that a history may have.
+ghost use Rattle.std.specs.List.{list_all};
+ghost use Rattle.std.specs.List.Sorted.{IsSorted};
+ghost use Rattle.std.specs.Ordering.{int_cmp};
+ghost use Rattle.std.specs.Prelude.{◌≡◌, IfOk};
+ghost use Rattle.land_tables_history.specs.Intervals.{are_intervals, has_intervals, is_interval, is_interval_of};
+
+use crate::history::History;
+use crate::keyed::Keyed;
+use crate::moment::Moment;
+use crate::spans::are_apart;
+use crate::stamps::{is_among, stamps_of};
+use crate::version::Version;
+use std::alloc::{AllocError, Global};
+
+/// Whether each lifespan begins at a stamp, ends after it, at a stamp or not at all, and no two of one key have a moment in common.
+pub fn has_intervals(
+    alloc: Global,
+    history: &History,
+    moments: &[Moment],
+) -> Result<bool, AllocError>
+    ensures { IfOk result (λ it. it ≡ has_intervals moments.now history.now) }
+{
+    Ok(
+        are_intervals(alloc, history.parties.as_slice(), moments)?
+            && are_intervals(alloc, history.roles.as_slice(), moments)?
+            && are_intervals(alloc, history.members.as_slice(), moments)?
+            && are_intervals(alloc, history.units.as_slice(), moments)?
+            && are_intervals(alloc, history.parcels.as_slice(), moments)?
+            && are_intervals(alloc, history.rrrs.as_slice(), moments)?
+            && are_intervals(alloc, history.sources.as_slice(), moments)?
+            && are_intervals(alloc, history.mutations.as_slice(), moments)?
+            && are_intervals(alloc, history.namings.as_slice(), moments)?,
+    )
+}
+
+/// The same of the versions of one kind.
+pub fn are_intervals<X: Keyed>(
+    alloc: Global,
+    versions: &[Version<X>],
+    moments: &[Moment],
+) -> Result<bool, AllocError>
+    ensures { IfOk result (λ it. it ≡ are_intervals X.Keyed.same_key moments.now versions.now) }
+{
+    Ok(all_intervals(alloc, versions, moments)? && are_apart(alloc, versions)?)
+}
+
+fn all_intervals<X>(
+    alloc: Global,
+    versions: &[Version<X>],
+    moments: &[Moment],
+) -> Result<bool, AllocError>
+    ensures { IfOk result (λ it. it ≡ list_all (is_interval moments.now) versions.now) }
+{
+    let stamps = stamps_of(alloc, moments)?;
+    Ok(all_intervals_of(versions, stamps.as_slice()))
+}
+
+fn all_intervals_of<X>(versions: &[Version<X>], stamps: &[i64]) -> bool
+    requires { IsSorted int_cmp stamps.now }
+    ensures { result ≡ list_all (is_interval_of stamps.now) versions.now }
+{
+    for version in versions {
+        if !is_interval_of(version, stamps) {
+            return false;
+        }
+    }
+    true
+}
+
+fn is_interval_of<X>(version: &Version<X>, stamps: &[i64]) -> bool
+    requires { IsSorted int_cmp stamps.now }
+    ensures { result ≡ is_interval_of stamps.now version.now }
+{
+    version.since < version.until
+        && is_among(stamps, version.since)
+        && (version.until == 4_102_444_800_000 || is_among(stamps, version.until))
+}

@@ -1,0 +1,17 @@
+//! Laws, each stated over the definitions alone.
+ghost use Rattle.land_tables_history.specs.Laws.{ChangeStands, ChangedHaveEnded, PastStands};
+
+/// What stood before the stamp of a change stands there still.
+pub fn the_past_stands()
+    ensures { PastStands }
+{}
+
+/// From its stamp on the register with the change stands.
+pub fn a_change_stands()
+    ensures { ChangeStands }
+{}
+
+/// After a change each lifespan is open, or has ended by its stamp.
+pub fn changed_lifespans_have_ended()
+    ensures { ChangedHaveEnded }
+{}

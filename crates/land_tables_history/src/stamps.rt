@@ -1,0 +1,36 @@
+//! Stamps in order.
+ghost use Rattle.std.specs.List.Sorted.{IsPermutation, IsSorted};
+ghost use Rattle.std.specs.Ordering.{int_cmp};
+ghost use Rattle.std.specs.Prelude.{◌≡◌, IfOk, map as map_list};
+ghost use Rattle.land_tables_history.specs.Intervals.{is_among};
+
+use crate::moment::Moment;
+use std::alloc::{AllocError, Global};
+
+/// The stamps of moments, in order.
+pub(crate) fn stamps_of(alloc: Global, moments: &[Moment]) -> Result<Vec<i64>, AllocError>
+    ensures same { IfOk result (λ it. IsPermutation (map_list (λ m. m.stamp) moments.now) it.items) }
+    ensures sorted { IfOk result (λ it. IsSorted int_cmp it.items) }
+{
+    let mut stamps = listed(alloc, moments)?;
+    stamps.sort_unstable();
+    Ok(stamps)
+}
+
+fn listed(alloc: Global, moments: &[Moment]) -> Result<Vec<i64>, AllocError>
+    ensures { IfOk result (λ it. it.items ≡ map_list (λ m. m.stamp) moments.now) }
+{
+    let mut stamps = Vec::new(alloc);
+    for moment in moments {
+        stamps.push(moment.stamp)?;
+    }
+    Ok(stamps)
+}
+
+/// Whether a moment is among stamps that lie in order.
+pub(crate) fn is_among(stamps: &[i64], at: i64) -> bool
+    requires { IsSorted int_cmp stamps.now }
+    ensures { result ≡ is_among stamps.now at }
+{
+    stamps.binary_search(&at).is_ok()
+}

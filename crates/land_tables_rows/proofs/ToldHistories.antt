@@ -1,0 +1,45 @@
+-- What cannot be said by a part cannot be said by the whole.
+use Rattle.std.proofs.Common.{◌≡◌, Err, IfErr, IsErrAnd, Ok, Result, sym, subst, ◌∙◌}
+use Rattle.land_tables_history.specs.declared.history.History.{History}
+use Rattle.land_tables_rows.specs.Listing.Groups.{SaysHoldings, SaysPapers, SaysPersons}
+use Rattle.land_tables_rows.specs.Listing.Reading.{CannotSay, SaysHistory}
+use Rattle.land_tables_rows.specs.declared.listing.fault.ReadFault.{ReadFault}
+use Rattle.land_tables_rows.specs.declared.listing.history.Holdings.{Holdings}
+use Rattle.land_tables_rows.specs.declared.listing.history.Papers.{Papers}
+use Rattle.land_tables_rows.specs.declared.listing.history.Persons.{Persons}
+use Rattle.land_tables_schema.specs.Rows.Looks.{IsLook}
+use Rattle.sqlite.specs.State.{HasCleanDisk, State}
+use Rattle.sqlite_trees.specs.Tree.{Trees}
+
+-- a fault of a part is one of the whole
+pub cannot : {X Y : Type 0} {P : X → Type 0} {Q : Y → Type 0} (r : Result Y ReadFault) (fault : ReadFault) → IsErrAnd r (λ f. f ≡ fault) → ((y : Y) → Q y → (x : X) × P x) → CannotSay P fault → IfErr r (CannotSay Q)
+cannot (Ok y) fault h part none = absurd h
+cannot (Err f) fault h part none = λ is y said.
+    let found = part y said in
+    none (sym h ∙ is) found.0 found.1
+
+persons_of : History → Persons
+persons_of h = record { parties = h.parties; roles = h.roles; members = h.members }
+
+holdings_of : History → Holdings
+holdings_of h = record { units = h.units; parcels = h.parcels; rrrs = h.rrrs }
+
+papers_of : History → Papers
+papers_of h = record { sources = h.sources; mutations = h.mutations; namings = h.namings }
+
+pub persons_said : (db : Trees) (h : History) → SaysHistory db h → (it : Persons) × SaysPersons db it
+unfolding persons_of
+persons_said db h said = (persons_of h, record { parties = said.parties; roles = said.roles; members = said.members })
+
+pub holdings_said : (db : Trees) (h : History) → SaysHistory db h → (it : Holdings) × SaysHoldings db it
+unfolding holdings_of
+holdings_said db h said = (holdings_of h, record { units = said.units; parcels = said.parcels; rrrs = said.rrrs })
+
+pub papers_said : (db : Trees) (h : History) → SaysHistory db h → (it : Papers) × SaysPapers db it
+unfolding papers_of
+papers_said db h said = (papers_of h, record { sources = said.sources; mutations = said.mutations; namings = said.namings })
+
+-- what is said of a part after looks at others, which leave all as it was
+pub cannot_then : {X Y Z E : Type 0} {z : Z} {R : Z → Type 0} {Q : Y → Type 0} (P : Trees → X → Type 0) (a b : State) (r : Result Y ReadFault) (fault : ReadFault) → IsErrAnd r (λ f. f ≡ fault)
+    → ((y : Y) → Q y → (x : X) × P a.now.trees x) → IsLook {X = Z} {E = E} (Ok z) R a b → HasCleanDisk b → CannotSay (P b.now.trees) fault → IfErr r (CannotSay Q)
+cannot_then P a b r fault h part look clean none = cannot r fault h part (subst (λ db. CannotSay (P db.trees) fault) (look.same clean).0.now_is none)

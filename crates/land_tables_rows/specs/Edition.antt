@@ -1,0 +1,3 @@
+-- The edition of the tables.
+pub mod Reading
+pub mod Writing

@@ -1,0 +1,13 @@
+-- What a row of `edition` says: its id, and by which version of their shapes the tables were made.
+use Rattle.std.specs.Prelude.{Result, Ok}
+use Rattle.land_tables_rows.specs.Reading.Cells.{natural_in}
+use Rattle.land_tables_rows.specs.declared.edition.reading.Edition.{Edition}
+use Rattle.land_wire_json.specs.Bodies.WireFaults.{◌>>=◌}
+use Rattle.land_wire_json.specs.declared.bodies.wire_fault.WireFault.{WireFault}
+use Rattle.sqlite_value.specs.Order.{Row, column}
+
+unfoldable pub edition_in : Row → Result Edition WireFault
+edition_in row = do
+  id ← natural_in (column row 0)
+  version ← natural_in (column row 1)
+  Ok (record { id = id; version = version })

@@ -1,0 +1,22 @@
+-- Which fault a failed call is, and a value that cannot be read.
+use Rattle.std.specs.Prelude.{Bool, true, false, if◌then◌else◌}
+use Rattle.land_tables_rows.specs.declared.listing.fault.ReadFault.{ReadFault}
+use Rattle.land_tables_rows.specs.declared.listing.fault.ReadFault.TheVariants.{Unreadable, NoMemory, Store}
+use Rattle.land_wire_json.specs.declared.bodies.wire_fault.WireFault.{WireFault}
+use Rattle.land_wire_json.specs.declared.bodies.wire_fault.WireFault.TheVariants as wire
+use Rattle.sqlite.specs.declared.error.Error.{Error}
+use Rattle.sqlite.specs.declared.error.Error.TheVariants.{SqliteFailure}
+use Rattle.sqlite.specs.declared.error.ErrorCode.TheVariants as code
+
+-- a failed call of the store: want of memory, or another cause
+abbrev pub lacked_memory : Error → Bool
+lacked_memory (SqliteFailure code.OutOfMemory) = true
+lacked_memory _ = false
+
+abbrev pub of_error : Error → ReadFault
+of_error error = if lacked_memory error then NoMemory else Store
+
+-- a value that cannot be read: want of memory, or a value that is none of its field
+abbrev pub of_wire : WireFault → ReadFault
+of_wire wire.NoMemory = NoMemory
+of_wire _ = Unreadable

@@ -1,0 +1,102 @@
+-- How versions are read from the rows of a table.
+use Rattle.std.specs.Prelude.{◌≡◌, ◌≢◌, ℕ, List, [], ◌∷◌, map, IsPermutation, Result, Ok, Err}
+use Rattle.land_core.specs.declared.mutation.MutationRecord.{MutationRecord}
+use Rattle.land_core.specs.declared.parcel.ParcelRecord.{ParcelRecord}
+use Rattle.land_core.specs.declared.party.PartyRecord.{PartyRecord}
+use Rattle.land_core.specs.declared.roles.Grant.{Grant}
+use Rattle.land_core.specs.declared.rrr.RrrRecord.{RrrRecord}
+use Rattle.land_core.specs.declared.source.SourceRecord.{SourceRecord}
+use Rattle.land_core.specs.declared.unit.UnitRecord.{UnitRecord}
+use Rattle.land_tables_history.specs.declared.group_member.GroupMember.{GroupMember}
+use Rattle.land_tables_history.specs.declared.history.History.{History}
+use Rattle.land_tables_history.specs.declared.moment.Moment.{Moment}
+use Rattle.land_tables_history.specs.declared.naming.Naming.{Naming}
+use Rattle.land_tables_history.specs.declared.version.Version.{Version}
+use Rattle.land_tables_rows.specs.Edition.Reading.{edition_in}
+use Rattle.land_tables_rows.specs.Member.Reading.{member_in}
+use Rattle.land_tables_rows.specs.Moment.Reading.{change_in}
+use Rattle.land_tables_rows.specs.Mutation.Reading.{mutation_in}
+use Rattle.land_tables_rows.specs.Naming.Reading.{naming_in}
+use Rattle.land_tables_rows.specs.Parcel.Reading.{parcel_in}
+use Rattle.land_tables_rows.specs.Party.Reading.{party_in}
+use Rattle.land_tables_rows.specs.Reading.Readings.{each_of}
+use Rattle.land_tables_rows.specs.Role.Reading.{grant_in}
+use Rattle.land_tables_rows.specs.Rrr.Reading.{rrr_in}
+use Rattle.land_tables_rows.specs.Source.Reading.{source_in}
+use Rattle.land_tables_rows.specs.Unit.Reading.{unit_in}
+use Rattle.land_tables_rows.specs.declared.edition.reading.Edition.{Edition}
+use Rattle.land_tables_rows.specs.declared.listing.fault.ReadFault.{ReadFault}
+use Rattle.land_tables_rows.specs.declared.listing.fault.ReadFault.TheVariants.{Unreadable, NoMemory}
+use Rattle.land_tables_schema.specs.Rows.Looks.{columns_from}
+use Rattle.land_tables_schema.specs.Tables as table
+use Rattle.land_wire_json.specs.declared.bodies.wire_fault.WireFault.{WireFault}
+use Rattle.sqlite_schema.specs.declared.schema.Table.{Table}
+use Rattle.sqlite_trees.specs.Tree.{Trees}
+use Rattle.sqlite_value.specs.Order.{Row, column}
+
+-- how something is read from the rows of a table: the table, which of its columns are listed, and what they say
+pub record Listing (X : Type 0) : Type 0 where
+  pub table : Table
+  pub shown : Row → Row
+  pub said : Row → Result X WireFault
+
+-- the rows of a table say these, in whatever order
+abbrev pub Says : {X : Type 0} → Listing X → Trees → List X → Type 0
+Says listing db xs = IsPermutation (map (λ r. listing.said (listing.shown r)) (db listing.table.tree)) (map (λ x. Ok x) xs)
+
+abbrev pub parties : Listing (Version (ℕ × PartyRecord))
+parties = record { table = table.party; shown = columns_from 1 5; said = party_in }
+
+abbrev pub roles : Listing (Version Grant)
+roles = record { table = table.role; shown = columns_from 1 4; said = grant_in }
+
+abbrev pub members : Listing (Version GroupMember)
+members = record { table = table.member; shown = columns_from 1 6; said = member_in }
+
+abbrev pub units : Listing (Version (ℕ × UnitRecord))
+units = record { table = table.unit; shown = columns_from 1 5; said = unit_in }
+
+abbrev pub parcels : Listing (Version (ℕ × ParcelRecord))
+parcels = record { table = table.parcel; shown = columns_from 1 7; said = parcel_in }
+
+abbrev pub rrrs : Listing (Version (ℕ × RrrRecord))
+rrrs = record { table = table.rrr; shown = columns_from 1 13; said = rrr_in }
+
+abbrev pub sources : Listing (Version (ℕ × SourceRecord))
+sources = record { table = table.source; shown = columns_from 1 5; said = source_in }
+
+abbrev pub mutations : Listing (Version (ℕ × MutationRecord))
+mutations = record { table = table.mutation; shown = columns_from 1 10; said = mutation_in }
+
+abbrev pub namings : Listing (Version Naming)
+namings = record { table = table.names; shown = columns_from 1 4; said = naming_in }
+
+abbrev pub moments : Listing Moment
+moments = record { table = table.moments; shown = λ r. column r 0 ∷ column r 2 ∷ []; said = change_in }
+
+abbrev pub editions : Listing Edition
+editions = record { table = table.edition; shown = λ r. column r 0 ∷ column r 2 ∷ []; said = edition_in }
+
+-- all tables of versions say this history
+pub record SaysHistory (db : Trees) (history : History) : Type 0 where
+  pub parties : Says parties db history.parties
+  pub roles : Says roles db history.roles
+  pub members : Says members db history.members
+  pub units : Says units db history.units
+  pub parcels : Says parcels db history.parcels
+  pub rrrs : Says rrrs db history.rrrs
+  pub sources : Says sources db history.sources
+  pub mutations : Says mutations db history.mutations
+  pub namings : Says namings db history.namings
+
+-- what is read of the rows that a call of the store gave: what they say, or that they cannot be read; or why the call failed
+abbrev pub IsRead : {X : Type 0} → (Row → Result X WireFault) → (List Row) → Result (List X) ReadFault → Type 0
+IsRead said rows (Ok xs) = each_of said rows ≡ Ok xs
+IsRead {X} said rows (Err fault) = fault ≢ NoMemory → (fault ≡ Unreadable) × ((xs : List X) → each_of said rows ≢ Ok xs)
+
+-- a fault that says that rows cannot be read is right: they say nothing
+abbrev pub CannotSay : {X : Type 0} → (X → Type 0) → ReadFault → Type 0
+CannotSay {X} Said fault = fault ≡ Unreadable → (x : X) → ¬ Said x
+
+abbrev pub IsUnreadable : {X : Type 0} → Listing X → Trees → ReadFault → Type 0
+IsUnreadable listing db = CannotSay (Says listing db)

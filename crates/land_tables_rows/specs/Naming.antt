@@ -1,0 +1,3 @@
+-- Which units a mutation names.
+pub mod Reading
+pub mod Writing

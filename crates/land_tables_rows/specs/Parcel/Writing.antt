@@ -1,0 +1,10 @@
+-- What the table `parcel` holds.
+use Rattle.std.specs.Prelude.{ℕ}
+use Rattle.land_core.specs.declared.parcel.ParcelRecord.{ParcelRecord}
+use Rattle.land_tables_rows.specs.Parcel.Reading.{parcel_in}
+use Rattle.land_tables_rows.specs.Writing.Holding.{Reading}
+use Rattle.land_tables_schema.specs.Tables as table
+
+-- parcels under their numbers
+abbrev pub parcels : Reading (ℕ × ParcelRecord)
+parcels = record { table = table.parcel; width = 7; said = parcel_in }

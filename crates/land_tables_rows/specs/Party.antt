@@ -1,0 +1,3 @@
+-- Parties (LA_Party).
+pub mod Reading
+pub mod Writing

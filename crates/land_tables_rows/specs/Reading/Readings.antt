@@ -1,0 +1,9 @@
+-- What all rows of a list say, each in its turn: the first fault, or all that was read.
+use Rattle.std.specs.Prelude.{List, [], ◌∷◌, Result, Ok}
+use Rattle.land_wire_json.specs.Bodies.WireFaults.{◌>>=◌}
+use Rattle.land_wire_json.specs.declared.bodies.wire_fault.WireFault.{WireFault}
+use Rattle.sqlite_value.specs.Order.{Row}
+
+abbrev pub each_of : {X : Type 0} → (Row → Result X WireFault) → List Row → Result (List X) WireFault
+each_of read [] = Ok []
+each_of read (row ∷ rows) = read row >>= λ first. each_of read rows >>= λ rest. Ok (first ∷ rest)

@@ -1,0 +1,113 @@
+-- A change of the register as a whole: when it can be written, and what that makes of the tables.
+use Rattle.std.specs.FinMap as map
+use Rattle.std.specs.List.{list_all}
+use Rattle.std.specs.Prelude.{◌≡◌, ◌&&◌, ℕ, ℤ, Bool, List, ◌∷◌, map as map_list}
+use Rattle.land_core.specs.Members.{Members, members_in}
+use Rattle.land_core.specs.Numbers.{is_number}
+use Rattle.land_core.specs.declared.change.Change.{Change}
+use Rattle.land_core.specs.declared.content.Content.{Content}
+use Rattle.land_tables_history.specs.Changed.{changed, changed_members, changed_namings, changed_part, changed_roles}
+use Rattle.land_tables_history.specs.History.{named_units}
+use Rattle.land_tables_history.specs.declared.group_member.GroupMember.{GroupMember}
+use Rattle.land_tables_history.specs.declared.history.History.{History}
+use Rattle.land_tables_history.specs.declared.moment.Moment.{Moment}
+use Rattle.land_tables_history.specs.declared.naming.Naming.{Naming}
+use Rattle.land_tables_rows.specs.Edition.Writing.{KeepsEditions}
+use Rattle.land_tables_rows.specs.Mutation.Cells.{fits_mutation}
+use Rattle.land_tables_rows.specs.Parcel.Cells.{fits_parcel}
+use Rattle.land_tables_rows.specs.Party.Writing.{fits_party}
+use Rattle.land_tables_rows.specs.Reading.Cells.{is_next}
+use Rattle.land_tables_rows.specs.Role.Writing.{fits_grant}
+use Rattle.land_tables_rows.specs.Rrr.Cells.{fits_rrr}
+use Rattle.land_tables_rows.specs.Source.Writing.{fits_source}
+use Rattle.land_tables_rows.specs.Unit.Writing.{fits_unit}
+use Rattle.land_tables_rows.specs.Writing.History.{HoldsHistory}
+use Rattle.land_tables_rows.specs.declared.edition.reading.Edition.{Edition}
+use Rattle.sqlite.specs.Effect.{Database}
+
+-- ---- what can be written
+
+-- of one kind: what is put can be written, and so can the keys of what ends
+abbrev pub fits_kind : {X K : Type 0} → (X → Bool) → (K → Bool) → (put : List X) → (ended : List K) → Bool
+fits_kind fits fits_key put ended = list_all fits put && list_all fits_key ended
+
+-- a group can be written: its number and those of its members are within their limits
+abbrev pub fits_group : ℕ × Members → Bool
+fits_group g = is_number g.0 && list_all (λ e. is_number e.0) (map.entries g.1)
+
+-- parties, their roles, and the members of groups
+abbrev pub fits_people : Change → Bool
+fits_people change =
+    fits_kind (λ e. fits_party e.0 e.1) is_number change.put.parties change.ended.parties
+    && (fits_kind fits_grant fits_grant change.put.roles change.ended.roles
+    && fits_kind fits_group is_number change.put.members change.ended.members)
+
+-- units, parcels, and the entries of units
+abbrev pub fits_estates : Change → Bool
+fits_estates change =
+    fits_kind (λ e. fits_unit e.0 e.1) is_number change.put.units change.ended.units
+    && (fits_kind fits_parcel is_number change.put.parcels change.ended.parcels
+    && fits_kind fits_rrr is_number change.put.rrrs change.ended.rrrs)
+
+-- sources and mutations; a mutation that can be written names units that can
+abbrev pub fits_papers : Change → Bool
+fits_papers change =
+    fits_kind (λ e. fits_source e.0 e.1) is_number change.put.sources change.ended.sources
+    && fits_kind fits_mutation is_number change.put.mutations change.ended.mutations
+
+-- a change can be written: all that it puts, the keys of all that it ends, and the next number from then on
+abbrev pub fits_change : Change → Bool
+fits_change change = fits_people change && (fits_estates change && (fits_papers change && is_next change.next))
+
+-- ---- lists
+
+-- the members of one group, each with its number
+abbrev pub group_members : ℕ → Members → List GroupMember
+group_members group members = map_list (λ m. record { group = group; member = m }) (members_in members)
+
+-- units that a mutation names, each with the mutation's number
+abbrev pub names_of : (mutation : ℕ) → (units : List ℕ) → List Naming
+names_of mutation units = map_list (λ unit. record { mutation = mutation; unit = unit }) units
+
+abbrev pub mutation_names : (mutation : ℕ) → Content → List Naming
+mutation_names mutation content = names_of mutation (named_units content)
+
+-- ---- what is made of the tables
+
+-- the history that the tables hold becomes another; the moments, and the versions of the shapes, are as they were
+pub record Edits (edit : History → History) (old new : Database) : Type 0 where
+  pub schema : new.schema ≡ old.schema
+  pub held : (moments : List Moment) (history : History) → HoldsHistory old.trees moments history → HoldsHistory new.trees moments (edit history)
+  pub editions : (editions : List Edition) → KeepsEditions old.trees editions → KeepsEditions new.trees editions
+
+-- the parties, roles and members that a change puts and ends
+abbrev pub changed_people : Change → (stamp : ℤ) → History → History
+changed_people change stamp h = record h {
+  parties = changed_part change.put.parties change.ended.parties stamp h.parties;
+  roles = changed_roles change.put.roles change.ended.roles stamp h.roles;
+  members = changed_members change.put.members change.ended.members stamp h.members;
+}
+
+-- the units, parcels and entries that it puts and ends
+abbrev pub changed_estates : Change → (stamp : ℤ) → History → History
+changed_estates change stamp h = record h {
+  units = changed_part change.put.units change.ended.units stamp h.units;
+  parcels = changed_part change.put.parcels change.ended.parcels stamp h.parcels;
+  rrrs = changed_part change.put.rrrs change.ended.rrrs stamp h.rrrs;
+}
+
+-- the sources and mutations that it puts and ends, and the units that new mutations name
+abbrev pub changed_papers : (next : ℕ) → Change → (stamp : ℤ) → History → History
+changed_papers next change stamp h = record h {
+  sources = changed_part change.put.sources change.ended.sources stamp h.sources;
+  mutations = changed_part change.put.mutations change.ended.mutations stamp h.mutations;
+  namings = changed_namings next change.put.mutations stamp h.namings;
+}
+
+-- A change is written, with its moment: the tables hold one moment more, with the next number from then on, and the history that the change
+-- makes of the one that they held. The number that the next new object took before tells which mutations are new.
+pub record Records (change : Change) (next : ℕ) (stamp : ℤ) (old new : Database) : Type 0 where
+  pub schema : new.schema ≡ old.schema
+  pub held : (moments : List Moment) (history : History) → HoldsHistory old.trees moments history
+      → HoldsHistory new.trees (record { stamp = stamp; next = change.next } ∷ moments) (changed next change stamp history)
+  pub editions : (editions : List Edition) → KeepsEditions old.trees editions → KeepsEditions new.trees editions

@@ -1,0 +1,3 @@
+-- The roles of parties.
+pub mod Reading
+pub mod Writing

@@ -1,0 +1,3 @@
+-- Sources: the documents that changes rest on (LA_Source).
+pub mod Reading
+pub mod Writing

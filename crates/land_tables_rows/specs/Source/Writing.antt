@@ -1,0 +1,16 @@
+-- What the table `source` holds.
+use Rattle.std.specs.Prelude.{ℕ, Bool, ◌&&◌}
+use Rattle.land_core.specs.Numbers.{is_number}
+use Rattle.land_core.specs.Texts.{is_title}
+use Rattle.land_core.specs.declared.source.SourceRecord.{SourceRecord}
+use Rattle.land_tables_rows.specs.Source.Reading.{source_in}
+use Rattle.land_tables_rows.specs.Writing.Holding.{Reading}
+use Rattle.land_tables_schema.specs.Tables as table
+
+-- sources under their numbers
+abbrev pub sources : Reading (ℕ × SourceRecord)
+sources = record { table = table.source; width = 5; said = source_in }
+
+-- a source can be written: its number and its title are within their limits
+abbrev pub fits_source : ℕ → SourceRecord → Bool
+fits_source number s = is_number number && is_title s.title

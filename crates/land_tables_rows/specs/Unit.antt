@@ -1,0 +1,3 @@
+-- Basic administrative units (LA_BAUnit).
+pub mod Reading
+pub mod Writing

@@ -1,0 +1,50 @@
+-- Laws of what the tables hold, each over the definitions alone.
+use Rattle.std.specs.Prelude.{List, [], ◌∷◌}
+use Rattle.land_tables_history.specs.declared.history.History.{History}
+use Rattle.land_tables_history.specs.declared.moment.Moment.{Moment}
+use Rattle.land_tables_history.specs.declared.version.Version.{Version}
+use Rattle.land_tables_rows.specs.Edition.Writing.{KeepsEditions, first_edition}
+use Rattle.land_tables_rows.specs.Member.Writing as member
+use Rattle.land_tables_rows.specs.Moment.Writing.{KeepsMoments}
+use Rattle.land_tables_rows.specs.Mutation.Writing as mutation
+use Rattle.land_tables_rows.specs.Naming.Writing as naming
+use Rattle.land_tables_rows.specs.Parcel.Writing as parcel
+use Rattle.land_tables_rows.specs.Party.Writing as party
+use Rattle.land_tables_rows.specs.Role.Writing as role
+use Rattle.land_tables_rows.specs.Rrr.Writing as rrr
+use Rattle.land_tables_rows.specs.Source.Writing as source
+use Rattle.land_tables_rows.specs.Unit.Writing as unit
+use Rattle.land_tables_rows.specs.Writing.History.{HoldsHistory}
+use Rattle.land_tables_rows.specs.Writing.Holding.{Keeps, Reading}
+use Rattle.land_tables_rows.specs.Writing.NewHistory.{new_history, new_moments}
+use Rattle.land_tables_schema.specs.Rows.Held.{HoldsRows, new_rows}
+use Rattle.land_tables_schema.specs.Rows.Forms.{KeepsOthers}
+use Rattle.land_tables_schema.specs.Tables as table
+use Rattle.sqlite_trees.specs.Tree.{Trees}
+
+-- where one table holds other versions, and all others are as they were, the history is the one with these versions
+abbrev pub HoldsWith : {X : Type 0} → Reading X → (List (Version X) → History → History) → Type 0
+HoldsWith {X} reading with = (old new : Trees) (moments : List Moment) (history : History) (versions : List (Version X))
+    → HoldsHistory old moments history → KeepsOthers reading.table old new → Keeps reading new versions → HoldsHistory new moments (with versions history)
+
+-- so it is of each table; and where other moments are kept, the history is as it was
+pub record ChangesAreHeld : Type 0 where
+  pub moments : (old new : Trees) (moments others : List Moment) (history : History)
+      → HoldsHistory old moments history → KeepsOthers table.moments old new → KeepsMoments new others → HoldsHistory new others history
+  pub parties : HoldsWith party.parties (λ vs h. record h { parties = vs })
+  pub roles : HoldsWith role.roles (λ vs h. record h { roles = vs })
+  pub members : HoldsWith member.members (λ vs h. record h { members = vs })
+  pub units : HoldsWith unit.units (λ vs h. record h { units = vs })
+  pub parcels : HoldsWith parcel.parcels (λ vs h. record h { parcels = vs })
+  pub rrrs : HoldsWith rrr.rrrs (λ vs h. record h { rrrs = vs })
+  pub sources : HoldsWith source.sources (λ vs h. record h { sources = vs })
+  pub mutations : HoldsWith mutation.mutations (λ vs h. record h { mutations = vs })
+  pub namings : HoldsWith naming.namings (λ vs h. record h { namings = vs })
+
+-- the rows of a new register are those of its history, and tell the first edition
+pub record NewRowsAreRead (db : Trees) : Type 0 where
+  pub history : HoldsHistory db new_moments new_history
+  pub editions : KeepsEditions db (first_edition ∷ [])
+
+abbrev pub NewRegistersAreHeld : Type 0
+NewRegistersAreHeld = (db : Trees) → HoldsRows db new_rows → NewRowsAreRead db

@@ -1,0 +1,4 @@
+//! The edition of the tables.
+
+pub mod reading;
+pub mod writing;

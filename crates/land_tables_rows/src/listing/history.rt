@@ -1,0 +1,120 @@
+//! All versions that the tables hold.
+ghost use Rattle.std.specs.Prelude.{◌≡◌, false, IfErr};
+ghost use Rattle.land_tables_rows.specs.Listing.Groups.{SaysHoldings, SaysPapers, SaysPersons};
+ghost use Rattle.land_tables_rows.specs.Listing.Reading.{CannotSay, SaysHistory};
+ghost use Rattle.land_tables_schema.specs.Land.{IsLand};
+ghost use Rattle.land_tables_schema.specs.Rows.Looks.{IsLook};
+ghost use Rattle.sqlite.specs.Held.{state};
+ghost use Rattle.sqlite.specs.State.{HasCleanDisk};
+
+use crate::listing::fault::ReadFault;
+use crate::listing::reading;
+use land_core::mutation::MutationRecord;
+use land_core::parcel::ParcelRecord;
+use land_core::party::PartyRecord;
+use land_core::roles::Grant;
+use land_core::rrr::RrrRecord;
+use land_core::sequence::Sequence;
+use land_core::source::SourceRecord;
+use land_core::unit::UnitRecord;
+use land_tables_history::group_member::GroupMember;
+use land_tables_history::history::History;
+use land_tables_history::naming::Naming;
+use land_tables_history::version::Version;
+use sqlite::{Alter, Connection};
+use std::alloc::Global;
+
+/// Versions of who there is.
+#[derive(Debug, Drop)]
+struct Persons {
+    parties: Sequence<Version<(u64, PartyRecord)>>,
+    roles: Sequence<Version<Grant>>,
+    members: Sequence<Version<GroupMember>>,
+}
+
+/// Versions of what is held.
+#[derive(Debug, Drop)]
+struct Holdings {
+    units: Sequence<Version<(u64, UnitRecord)>>,
+    parcels: Sequence<Version<(u64, ParcelRecord)>>,
+    rrrs: Sequence<Version<(u64, RrrRecord)>>,
+}
+
+/// Versions of what was handed in.
+#[derive(Debug, Drop)]
+struct Papers {
+    sources: Sequence<Version<(u64, SourceRecord)>>,
+    mutations: Sequence<Version<(u64, MutationRecord)>>,
+    namings: Sequence<Version<Naming>>,
+}
+
+fn all_persons<S: Alter>(alloc: Global, conn: &mut Connection<S>) -> Result<Persons, ReadFault>
+    requires { HasCleanDisk (state S.Store conn.old) → IsLand (state S.Store conn.old).now.schema }
+    ensures look { IsLook result (λ it. SaysPersons (state S.Store conn.old).now.trees it) (state S.Store conn.old) (state S.Store conn.new) }
+    ensures unreadable { HasCleanDisk (state S.Store conn.new) → IfErr result (CannotSay (SaysPersons (state S.Store conn.old).now.trees)) }
+    ensures mode { conn.old.in_transaction ≡ false → conn.new.in_transaction ≡ false }
+{
+    let parties = reading::parties(alloc, conn)?;
+    let roles = reading::roles(alloc, conn)?;
+    let members = reading::members(alloc, conn)?;
+    Ok(Persons {
+        parties,
+        roles,
+        members,
+    })
+}
+
+fn all_holdings<S: Alter>(alloc: Global, conn: &mut Connection<S>) -> Result<Holdings, ReadFault>
+    requires { HasCleanDisk (state S.Store conn.old) → IsLand (state S.Store conn.old).now.schema }
+    ensures look { IsLook result (λ it. SaysHoldings (state S.Store conn.old).now.trees it) (state S.Store conn.old) (state S.Store conn.new) }
+    ensures unreadable { HasCleanDisk (state S.Store conn.new) → IfErr result (CannotSay (SaysHoldings (state S.Store conn.old).now.trees)) }
+    ensures mode { conn.old.in_transaction ≡ false → conn.new.in_transaction ≡ false }
+{
+    let units = reading::units(alloc, conn)?;
+    let parcels = reading::parcels(alloc, conn)?;
+    let rrrs = reading::rrrs(alloc, conn)?;
+    Ok(Holdings {
+        units,
+        parcels,
+        rrrs,
+    })
+}
+
+fn all_papers<S: Alter>(alloc: Global, conn: &mut Connection<S>) -> Result<Papers, ReadFault>
+    requires { HasCleanDisk (state S.Store conn.old) → IsLand (state S.Store conn.old).now.schema }
+    ensures look { IsLook result (λ it. SaysPapers (state S.Store conn.old).now.trees it) (state S.Store conn.old) (state S.Store conn.new) }
+    ensures unreadable { HasCleanDisk (state S.Store conn.new) → IfErr result (CannotSay (SaysPapers (state S.Store conn.old).now.trees)) }
+    ensures mode { conn.old.in_transaction ≡ false → conn.new.in_transaction ≡ false }
+{
+    let sources = reading::sources(alloc, conn)?;
+    let mutations = reading::mutations(alloc, conn)?;
+    let namings = reading::namings(alloc, conn)?;
+    Ok(Papers {
+        sources,
+        mutations,
+        namings,
+    })
+}
+
+/// All versions, of each kind in whatever order. 520: a value cannot be read as its field. 501, 502: as for each look.
+pub fn history<S: Alter>(alloc: Global, conn: &mut Connection<S>) -> Result<History, ReadFault>
+    requires { HasCleanDisk (state S.Store conn.old) → IsLand (state S.Store conn.old).now.schema }
+    ensures look { IsLook result (λ it. SaysHistory (state S.Store conn.old).now.trees it) (state S.Store conn.old) (state S.Store conn.new) }
+    ensures unreadable { HasCleanDisk (state S.Store conn.new) → IfErr result (CannotSay (SaysHistory (state S.Store conn.old).now.trees)) }
+    ensures mode { conn.old.in_transaction ≡ false → conn.new.in_transaction ≡ false }
+{
+    let persons = all_persons(alloc, conn)?;
+    let holdings = all_holdings(alloc, conn)?;
+    let papers = all_papers(alloc, conn)?;
+    Ok(History {
+        parties: persons.parties,
+        roles: persons.roles,
+        members: persons.members,
+        units: holdings.units,
+        parcels: holdings.parcels,
+        rrrs: holdings.rrrs,
+        sources: papers.sources,
+        mutations: papers.mutations,
+        namings: papers.namings,
+    })
+}

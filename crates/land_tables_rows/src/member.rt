@@ -1,0 +1,5 @@
+//! The members of groups, with their shares (LA_PartyMember).
+
+pub mod reading;
+pub mod recording;
+pub mod writing;

@@ -1,0 +1,55 @@
+//! The members of groups (LA_PartyMember).
+ghost use Rattle.std.specs.Prelude.{◌≡◌, ◌<◌, ◌^◌, IsTrue, nat_eq};
+ghost use Rattle.land_tables_rows.specs.Member.Writing.{fits_member, members};
+ghost use Rattle.land_tables_rows.specs.Writing.Holding.{Begins, Closes, IsMoment};
+ghost use Rattle.land_tables_schema.specs.Land.{IsLand};
+ghost use Rattle.land_tables_schema.specs.Steps.{IsStep};
+ghost use Rattle.sqlite.specs.Held.{state};
+ghost use Rattle.sqlite.specs.State.{HasCleanDisk};
+
+use land_core::limits::is_number;
+use land_tables_history::group_member::GroupMember;
+use land_tables_schema::rows::tables as rows;
+use sqlite::{Alter, Error, Transaction};
+
+/// Whether a member can be written: the numbers of the group and of the party are within their limits.
+pub fn fits(entry: &GroupMember) -> bool
+    ensures { result ≡ fits_member entry.now }
+{
+    is_number(entry.group) && is_number(entry.member.party)
+}
+
+/// Begins a version of a member of a group.
+pub fn begin<S: Alter>(
+    tx: &mut Transaction<'_, S>,
+    entry: &GroupMember,
+    since: i64,
+) -> Result<usize, Error>
+    requires fits { IsTrue (fits_member entry.now) }
+    requires moment { IsMoment since }
+    requires land { HasCleanDisk (state S.Store tx.old.conn.now) → IsLand (state S.Store tx.old.conn.now).now.schema }
+    ensures same_reference { tx.new.conn.ghost_name ≡ tx.old.conn.ghost_name }
+    ensures step { IsStep result (Begins members entry.now since) (state S.Store tx.old.conn.now) (state S.Store tx.new.conn.now) }
+{
+    let numerator = entry.member.share.numerator();
+    let denominator = entry.member.share.denominator();
+    rows::member::begin(
+        tx,
+        entry.group,
+        entry.member.party,
+        numerator,
+        denominator,
+        since,
+    )
+}
+
+/// Closes the versions of all members of a group that stand.
+pub fn close<S: Alter>(tx: &mut Transaction<'_, S>, group: u64, stamp: i64) -> Result<usize, Error>
+    requires group_fits { group < 2 ^ 63 }
+    requires moment { IsMoment stamp }
+    requires land { HasCleanDisk (state S.Store tx.old.conn.now) → IsLand (state S.Store tx.old.conn.now).now.schema }
+    ensures same_reference { tx.new.conn.ghost_name ≡ tx.old.conn.ghost_name }
+    ensures step { IsStep result (Closes members (λ e. nat_eq e.group group) stamp) (state S.Store tx.old.conn.now) (state S.Store tx.new.conn.now) }
+{
+    rows::member::close(tx, group, stamp)
+}

@@ -1,0 +1,21 @@
+//! The moments at which the register was changed.
+ghost use Rattle.land_tables_rows.specs.Moment.Reading.{change_in};
+
+use crate::reading::cells::{moment_at, next_at};
+use crate::reading::from_row::FromRow;
+use land_tables_history::moment::Moment;
+use land_wire_json::bodies::wire_fault::WireFault;
+use sqlite::Row;
+use std::alloc::Global;
+
+/// What a row of `moments` says: stamp, next.
+impl FromRow for Moment {
+    ghost said = { change_in };
+
+    #[tactic(auto, unfolding(crate::specs::Moment::Reading::change_in))]
+    fn from_row(_alloc: Global, row: &Row) -> Result<Moment, WireFault> {
+        let stamp = moment_at(row, 0)?;
+        let next = next_at(row, 1)?;
+        Ok(Moment { stamp, next })
+    }
+}

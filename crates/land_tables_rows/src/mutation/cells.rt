@@ -1,0 +1,101 @@
+//! Mutations as they are written.
+ghost use Rattle.std.specs.Prelude.{◌≡◌, true};
+ghost use Rattle.std.specs.List.{list_all};
+ghost use Rattle.land_tables_rows.specs.Mutation.Cells.{IsExactMutation, fits_mutation, is_content_kept, is_moment, is_new_name_kept, is_part_kept, mutation_row_of};
+ghost use Rattle.land_tables_schema.specs.Rows.Mutation.{FitsMutation, mutation_of};
+ghost use Rattle.land_wire_json.specs.Texts.Mutations.{content_text as text_of_content};
+
+use crate::cells::texts::{is_in_utf8, is_reference};
+use land_core::content::Content;
+use land_core::limits::is_number;
+use land_core::mutation::MutationRecord;
+use land_core::subdivision::Part;
+use land_core::text::Text;
+use land_core::words::{act_word, state_word};
+use land_tables_schema::rows::tables::mutation::MutationCells;
+use land_wire_json::bodies::stored::content_is_exact;
+
+/// The cells of a mutation, with what it asks for as that is written (`land_wire_json::texts::mutation::content_text` writes it).
+pub fn mutation_cells<'a>(
+    number: u64,
+    mutation: &'a MutationRecord,
+    content: &'a str,
+) -> MutationCells<'a>
+    requires is_written { content.now ≡ text_of_content mutation.now.content }
+    ensures row { mutation_of result ≡ mutation_row_of (number, mutation.now) }
+    ensures columns { fits_mutation (number, mutation.now) ≡ true → FitsMutation result }
+{
+    MutationCells {
+        number,
+        lodger: mutation.lodger,
+        reference: mutation.reference.as_str(),
+        source: mutation.source,
+        lodged: mutation.lodged,
+        act: act_word(&mutation.content),
+        content,
+        state: state_word(mutation.state),
+    }
+}
+
+/// Whether a mutation keeps the limits within which it is read from its cells. The share of what it asks for is a fraction by its type, and
+/// its outlines are outlines.
+pub fn fits_mutation(number: u64, mutation: &MutationRecord) -> bool
+    ensures fits { result ≡ fits_mutation (number, mutation.now) }
+    ensures exact { IsExactMutation mutation.now }
+{
+    content_is_exact(&mutation.content);
+    content_is_kept(&mutation.content);
+    is_number(number)
+        && is_number(mutation.lodger)
+        && is_reference(&mutation.reference)
+        && is_number(mutation.source)
+        && is_moment(mutation.lodged)
+        && mutation.content.is_well_formed()
+}
+
+/// Whether it is a moment: 0 to 4_102_444_799_999 milliseconds since 1970 UTC.
+fn is_moment(at: i64) -> bool
+    ensures { result ≡ is_moment at }
+{
+    0 <= at && at <= 4_102_444_799_999
+}
+
+/// The texts of what a mutation asks for are in UTF-8, by their type. It changes nothing.
+fn content_is_kept(content: &Content)
+    ensures { is_content_kept content.now ≡ true }
+{
+    match content {
+        Content::Transfer(_) => {}
+        Content::Subdivision(it) => {
+            is_in_utf8(&it.first.label);
+            parts_are_kept(it.rest.as_slice());
+        }
+        Content::Merger(it) => is_in_utf8(&it.label),
+        Content::Mortgage(it) => is_in_utf8(&it.currency),
+        Content::Discharge(_) => {}
+    }
+}
+
+fn parts_are_kept(parts: &[Part])
+    ensures { list_all is_part_kept parts.now ≡ true }
+{
+    for part in parts {
+        part_is_kept(part);
+    }
+}
+
+fn part_is_kept(part: &Part)
+    ensures { is_part_kept part.now ≡ true }
+{
+    is_in_utf8(&part.label);
+    new_name_is_kept(&part.unit);
+}
+
+fn new_name_is_kept(name: &Option<Text>)
+    ensures { is_new_name_kept name.now ≡ true }
+{
+    match name {
+        None => {}
+        Some(name) => is_in_utf8(name),
+    }
+}

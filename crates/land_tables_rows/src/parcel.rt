@@ -1,0 +1,6 @@
+//! Parcels: labels and outlines (LA_SpatialUnit).
+
+pub mod cells;
+pub mod reading;
+pub mod recording;
+pub mod writing;

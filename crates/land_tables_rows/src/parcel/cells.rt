@@ -1,0 +1,49 @@
+//! Parcels as they are written (LA_SpatialUnit).
+ghost use Rattle.std.specs.Prelude.{◌≡◌, IfOk, true};
+ghost use Rattle.land_tables_rows.specs.Parcel.Cells.{FitsParcel, IsExactParcel, fits_parcel, parcel_of, parcel_row_of};
+
+use crate::cells::texts::is_label;
+use land_core::limits::is_number;
+use land_core::parcel::ParcelRecord;
+use std::alloc::AllocError;
+
+/// What the cells of a parcel's row hold.
+#[derive(Debug, Drop)]
+pub struct ParcelCells<'a> {
+    /// The parcel's number.
+    pub number: u64,
+    /// The number of its unit.
+    pub unit: u64,
+    /// Its label.
+    pub label: &'a str,
+    /// Its outline as it is printed.
+    pub outline: String,
+    /// The number of its source.
+    pub source: u64,
+}
+
+/// The cells of a parcel. An error is a want of memory.
+pub fn parcel_cells(number: u64, parcel: &ParcelRecord) -> Result<ParcelCells<'_>, AllocError>
+    ensures row { IfOk result (λ cells. parcel_of cells ≡ parcel_row_of (number, parcel.now)) }
+    ensures columns { IfOk result (λ cells. fits_parcel (number, parcel.now) ≡ true → FitsParcel cells) }
+{
+    Ok(ParcelCells {
+        number,
+        unit: parcel.unit,
+        label: parcel.label.as_str(),
+        outline: parcel.outline.write_wkt()?,
+        source: parcel.source,
+    })
+}
+
+/// Whether a parcel keeps the limits within which it is read from its cells. Its outline is one by its type.
+pub fn fits_parcel(number: u64, parcel: &ParcelRecord) -> bool
+    ensures fits { result ≡ fits_parcel (number, parcel.now) }
+    ensures exact { IsExactParcel parcel.now }
+{
+    parcel.outline.points();
+    is_number(number)
+        && is_number(parcel.unit)
+        && is_label(&parcel.label)
+        && is_number(parcel.source)
+}

@@ -1,0 +1,60 @@
+//! Parcels (LA_SpatialUnit).
+ghost use Rattle.std.specs.Prelude.{◌≡◌, ◌<◌, ◌^◌, IsTrue, nat_eq};
+ghost use Rattle.land_tables_rows.specs.Parcel.Cells.{fits_parcel};
+ghost use Rattle.land_tables_rows.specs.Parcel.Writing.{parcels};
+ghost use Rattle.land_tables_rows.specs.Writing.Holding.{Begins, Closes, IsMoment};
+ghost use Rattle.land_tables_schema.specs.Land.{IsLand};
+ghost use Rattle.land_tables_schema.specs.Steps.{IsStep};
+ghost use Rattle.sqlite.specs.Held.{state};
+ghost use Rattle.sqlite.specs.State.{HasCleanDisk};
+
+use crate::cells::laws::parcels_read_back;
+use crate::parcel::cells::{fits_parcel, parcel_cells};
+use land_core::parcel::ParcelRecord;
+use land_tables_schema::rows::tables as rows;
+use sqlite::{Alter, Error, Transaction};
+
+/// Whether a parcel can be written: its numbers and its label are within their limits.
+pub fn fits(number: u64, parcel: &ParcelRecord) -> bool
+    ensures { result ≡ fits_parcel (number, parcel.now) }
+{
+    fits_parcel(number, parcel)
+}
+
+/// Begins a version of a parcel.
+pub fn begin<S: Alter>(
+    tx: &mut Transaction<'_, S>,
+    number: u64,
+    parcel: &ParcelRecord,
+    since: i64,
+) -> Result<usize, Error>
+    requires fits { IsTrue (fits_parcel (number, parcel.now)) }
+    requires moment { IsMoment since }
+    requires land { HasCleanDisk (state S.Store tx.old.conn.now) → IsLand (state S.Store tx.old.conn.now).now.schema }
+    ensures same_reference { tx.new.conn.ghost_name ≡ tx.old.conn.ghost_name }
+    ensures step { IsStep result (Begins parcels (number, parcel.now) since) (state S.Store tx.old.conn.now) (state S.Store tx.new.conn.now) }
+{
+    parcels_read_back();
+    parcel.outline.points();
+    let cells = parcel_cells(number, parcel)?;
+    rows::parcel::begin(
+        tx,
+        cells.number,
+        cells.unit,
+        cells.label,
+        cells.outline.as_str(),
+        cells.source,
+        since,
+    )
+}
+
+/// Closes the version of a parcel that stands.
+pub fn close<S: Alter>(tx: &mut Transaction<'_, S>, number: u64, stamp: i64) -> Result<usize, Error>
+    requires number_fits { number < 2 ^ 63 }
+    requires moment { IsMoment stamp }
+    requires land { HasCleanDisk (state S.Store tx.old.conn.now) → IsLand (state S.Store tx.old.conn.now).now.schema }
+    ensures same_reference { tx.new.conn.ghost_name ≡ tx.old.conn.ghost_name }
+    ensures step { IsStep result (Closes parcels (λ e. nat_eq e.0 number) stamp) (state S.Store tx.old.conn.now) (state S.Store tx.new.conn.now) }
+{
+    rows::parcel::close(tx, number, stamp)
+}

@@ -1,0 +1,54 @@
+//! Parties (LA_Party).
+ghost use Rattle.std.specs.Prelude.{◌≡◌, ◌<◌, ◌^◌, IsTrue, nat_eq};
+ghost use Rattle.land_tables_rows.specs.Party.Writing.{fits_party, parties};
+ghost use Rattle.land_tables_rows.specs.Writing.Holding.{Begins, Closes, IsMoment};
+ghost use Rattle.land_tables_schema.specs.Land.{IsLand};
+ghost use Rattle.land_tables_schema.specs.Steps.{IsStep};
+ghost use Rattle.sqlite.specs.Held.{state};
+ghost use Rattle.sqlite.specs.State.{HasCleanDisk};
+
+use land_core::limits::{is_name, is_number};
+use land_core::party::PartyRecord;
+use land_core::words::party_word;
+use land_tables_schema::rows::tables as rows;
+use sqlite::{Alter, Error, Transaction};
+
+/// Whether a party can be written: its number and its name are within their limits.
+pub fn fits(number: u64, party: &PartyRecord) -> bool
+    ensures { result ≡ fits_party number party.now }
+{
+    is_number(number) && is_name(party.name.as_str())
+}
+
+/// Begins a version of a party.
+pub fn begin<S: Alter>(
+    tx: &mut Transaction<'_, S>,
+    number: u64,
+    party: &PartyRecord,
+    since: i64,
+) -> Result<usize, Error>
+    requires fits { IsTrue (fits_party number party.now) }
+    requires moment { IsMoment since }
+    requires land { HasCleanDisk (state S.Store tx.old.conn.now) → IsLand (state S.Store tx.old.conn.now).now.schema }
+    ensures same_reference { tx.new.conn.ghost_name ≡ tx.old.conn.ghost_name }
+    ensures step { IsStep result (Begins parties (number, party.now) since) (state S.Store tx.old.conn.now) (state S.Store tx.new.conn.now) }
+{
+    rows::party::begin(
+        tx,
+        number,
+        party.name.as_str(),
+        party_word(party.kind),
+        since,
+    )
+}
+
+/// Closes the version of a party that stands.
+pub fn close<S: Alter>(tx: &mut Transaction<'_, S>, number: u64, stamp: i64) -> Result<usize, Error>
+    requires number_fits { number < 2 ^ 63 }
+    requires moment { IsMoment stamp }
+    requires land { HasCleanDisk (state S.Store tx.old.conn.now) → IsLand (state S.Store tx.old.conn.now).now.schema }
+    ensures same_reference { tx.new.conn.ghost_name ≡ tx.old.conn.ghost_name }
+    ensures step { IsStep result (Closes parties (λ e. nat_eq e.0 number) stamp) (state S.Store tx.old.conn.now) (state S.Store tx.new.conn.now) }
+{
+    rows::party::close(tx, number, stamp)
+}

@@ -1,0 +1,210 @@
+//! The cells of a row.
+ghost use Rattle.std.specs.Prelude.{◌≡◌};
+ghost use Rattle.land_tables_rows.specs.Reading.Cells.{amount_in, currency_in, end_in, flag_in, integer_in, label_in, moment_in, name_in, natural_in, next_in, null_in, number_in, reference_in, share_in, text_in, title_in, words_in};
+ghost use Rattle.land_wire_json.specs.Bodies.WireFaults.{Gives, seen_by};
+ghost use Rattle.sqlite_value.specs.Order.{column};
+ghost use Rattle.sqlite_value.specs.Value.{owned};
+
+use land_core::content::is_amount;
+use land_core::limits::is_number;
+use land_core::text::Text;
+use land_fraction::Fraction;
+use land_wire_json::bodies::content::currency_of;
+use land_wire_json::bodies::fields::{label_of, name_of};
+use land_wire_json::bodies::wire_fault::WireFault;
+use sqlite::Row;
+use sqlite::types::ValueRef;
+use std::alloc::Global;
+
+/// The cell of a column, counted from 0; NULL past the last one.
+pub fn cell(row: &Row, at: usize) -> ValueRef<'_>
+    ensures { owned result ≡ column row.now at }
+{
+    match row.get_ref(at) {
+        Ok(cell) => cell,
+        Err(_) => ValueRef::Null,
+    }
+}
+
+/// NULL. 131: anything else.
+pub fn null_at(row: &Row, at: usize) -> Result<(), WireFault>
+    ensures { result ≡ null_in (column row.now at) }
+{
+    match cell(row, at) {
+        ValueRef::Null => Ok(()),
+        _ => Err(WireFault::Field),
+    }
+}
+
+/// A text in UTF-8. 131: it is of another kind. 133: it is not in UTF-8.
+pub fn text_at(row: &Row, at: usize) -> Result<&str, WireFault>
+    ensures { seen_by (λ text. text.now) result ≡ text_in (column row.now at) }
+{
+    text_of(cell(row, at))
+}
+
+fn text_of(cell: ValueRef<'_>) -> Result<&str, WireFault>
+    ensures { seen_by (λ text. text.now) result ≡ text_in (owned cell.entry) }
+{
+    match cell {
+        ValueRef::Text(bytes) => match std::str::from_utf8(bytes) {
+            Ok(text) => Ok(text),
+            Err(_) => Err(WireFault::Text),
+        },
+        _ => Err(WireFault::Field),
+    }
+}
+
+/// An integer. 131: it is of another kind.
+pub fn integer_at(row: &Row, at: usize) -> Result<i64, WireFault>
+    ensures { result ≡ integer_in (column row.now at) }
+{
+    match cell(row, at) {
+        ValueRef::Int(integer) => Ok(integer),
+        _ => Err(WireFault::Field),
+    }
+}
+
+/// An integer from 0 on. 131: it is of another kind. 132: it is negative.
+#[tactic(auto, unfolding(crate::specs::Reading::Cells::natural_in))]
+pub fn natural_at(row: &Row, at: usize) -> Result<u64, WireFault>
+    ensures { result ≡ natural_in (column row.now at) }
+{
+    match u64::try_from(integer_at(row, at)?) {
+        Ok(natural) => Ok(natural),
+        Err(_) => Err(WireFault::Number),
+    }
+}
+
+/// The number of an object, 1 to 1_000_000_000. 131: it is of another kind. 132: it is out of range.
+#[tactic(auto, unfolding(crate::specs::Reading::Cells::number_in))]
+pub fn number_at(row: &Row, at: usize) -> Result<u64, WireFault>
+    ensures { result ≡ number_in (column row.now at) }
+{
+    let number = natural_at(row, at)?;
+    if is_number(number) {
+        Ok(number)
+    } else {
+        Err(WireFault::Number)
+    }
+}
+
+/// The number that the next new object takes, 2 to 1_000_000_001. 131: it is of another kind. 132: it is out of range.
+#[tactic(auto, unfolding(crate::specs::Reading::Cells::next_in))]
+pub fn next_at(row: &Row, at: usize) -> Result<u64, WireFault>
+    ensures { result ≡ next_in (column row.now at) }
+{
+    let next = natural_at(row, at)?;
+    if 2 <= next && next <= 1_000_000_001 {
+        Ok(next)
+    } else {
+        Err(WireFault::Number)
+    }
+}
+
+/// An amount in minor units, 1 to 1_000_000_000_000_000. 131: it is of another kind. 132: it is out of range.
+#[tactic(auto, unfolding(crate::specs::Reading::Cells::amount_in))]
+pub fn amount_at(row: &Row, at: usize) -> Result<u64, WireFault>
+    ensures { result ≡ amount_in (column row.now at) }
+{
+    let amount = natural_at(row, at)?;
+    if is_amount(amount) {
+        Ok(amount)
+    } else {
+        Err(WireFault::Number)
+    }
+}
+
+/// Whether something is so: 0 no, 1 yes. 131: it is of another kind. 132: it is another integer.
+#[tactic(auto, unfolding(crate::specs::Reading::Cells::flag_in))]
+pub fn flag_at(row: &Row, at: usize) -> Result<bool, WireFault>
+    ensures { result ≡ flag_in (column row.now at) }
+{
+    match natural_at(row, at)? {
+        0 => Ok(false),
+        1 => Ok(true),
+        _ => Err(WireFault::Number),
+    }
+}
+
+/// A moment in milliseconds since 1970 UTC, 0 to 4_102_444_799_999. 131: it is of another kind. 132: it is out of range.
+#[tactic(auto, unfolding(crate::specs::Reading::Cells::moment_in))]
+pub fn moment_at(row: &Row, at: usize) -> Result<i64, WireFault>
+    ensures { result ≡ moment_in (column row.now at) }
+{
+    let moment = integer_at(row, at)?;
+    if 0 <= moment && moment <= 4_102_444_799_999 {
+        Ok(moment)
+    } else {
+        Err(WireFault::Number)
+    }
+}
+
+/// The end of a lifespan: a moment, or 4_102_444_800_000. 131: it is of another kind. 132: it is out of range.
+#[tactic(auto, unfolding(crate::specs::Reading::Cells::end_in))]
+pub fn end_at(row: &Row, at: usize) -> Result<i64, WireFault>
+    ensures { result ≡ end_in (column row.now at) }
+{
+    let end = integer_at(row, at)?;
+    if 0 <= end && end <= 4_102_444_800_000 {
+        Ok(end)
+    } else {
+        Err(WireFault::Number)
+    }
+}
+
+/// A share in two columns, numerator and denominator, in lowest terms or not. 131: one is of another kind. 132: one is negative. 101 to
+/// 103: they make no fraction.
+#[tactic(auto, unfolding(crate::specs::Reading::Cells::share_in))]
+pub fn share_at(row: &Row, numerator: usize, denominator: usize) -> Result<Fraction, WireFault>
+    ensures { result ≡ share_in (column row.now numerator) (column row.now denominator) }
+{
+    let parts = natural_at(row, numerator)?;
+    let whole = natural_at(row, denominator)?;
+    match Fraction::new(parts, whole) {
+        Ok(share) => Ok(share),
+        Err(fault) => Err(WireFault::Share(fault)),
+    }
+}
+
+/// A name: 1 to 200 characters. 131: it is of another kind. 133: it is another text. 501: there was no memory.
+pub fn name_at(alloc: Global, row: &Row, at: usize) -> Result<Text, WireFault>
+    ensures { Gives (λ text. text) result (name_in (column row.now at)) }
+{
+    name_of(alloc, text_at(row, at)?)
+}
+
+/// The title of a document, with the limits and faults of a name.
+pub fn title_at(alloc: Global, row: &Row, at: usize) -> Result<Text, WireFault>
+    ensures { Gives (λ text. text) result (title_in (column row.now at)) }
+{
+    name_at(alloc, row, at)
+}
+
+/// The words of a burden, with the limits and faults of a name.
+pub fn words_at(alloc: Global, row: &Row, at: usize) -> Result<Text, WireFault>
+    ensures { Gives (λ text. text) result (words_in (column row.now at)) }
+{
+    name_at(alloc, row, at)
+}
+
+/// A label: 1 to 40 characters. 131: it is of another kind. 133: it is another text. 501: there was no memory.
+pub fn label_at(alloc: Global, row: &Row, at: usize) -> Result<Text, WireFault>
+    ensures { Gives (λ text. text) result (label_in (column row.now at)) }
+{
+    label_of(alloc, text_at(row, at)?)
+}
+
+/// The reference of a lodging, with the limits and faults of a label.
+pub fn reference_at(alloc: Global, row: &Row, at: usize) -> Result<Text, WireFault>
+    ensures { Gives (λ text. text) result (reference_in (column row.now at)) }
+{
+    label_at(alloc, row, at)
+}
+
+/// A currency: three letters from A to Z (ISO 4217). 131: it is of another kind. 133: it is another text. 501: there was no memory.
+pub fn currency_at(alloc: Global, row: &Row, at: usize) -> Result<Text, WireFault>
+    ensures { Gives (λ text. text) result (currency_in (column row.now at)) }
+{
+    currency_of(alloc, text_at(row, at)?)
+}

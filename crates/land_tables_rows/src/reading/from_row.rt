@@ -1,0 +1,32 @@
+//! What rows say.
+ghost use Rattle.std.specs.Prelude.{◌≡◌, Result};
+ghost use Rattle.land_tables_rows.specs.Reading.Readings.{each_of};
+ghost use Rattle.land_wire_json.specs.Bodies.WireFaults.{Gives};
+ghost use Rattle.land_wire_json.specs.declared.bodies.wire_fault.WireFault.{WireFault as Fault};
+ghost use Rattle.sqlite_value.specs.Order.{Row as SqlRow};
+
+use land_core::sequence::Sequence;
+use land_wire_json::bodies::wire_fault::WireFault;
+use sqlite::Row;
+use std::alloc::Global;
+
+/// What a row of a table says.
+pub trait FromRow: Drop {
+    /// What the cells of a row say, or the fault of the first that cannot be read as its field.
+    ghost said: { SqlRow → Result Self Fault };
+
+    /// Reads a row.
+    fn from_row(alloc: Global, row: &Row) -> Result<Self, WireFault>
+        ensures { Gives (λ it. it) result (said row.now) };
+}
+
+/// What some rows say, each read in its turn.
+pub fn read_all<X: FromRow>(alloc: Global, rows: &[Row]) -> Result<Sequence<X>, WireFault>
+    ensures { Gives (λ it. it) result (each_of X.FromRow.said rows.now) }
+{
+    let mut all = Sequence::new(alloc);
+    for row in rows {
+        all.push(X::from_row(alloc, row)?)?;
+    }
+    Ok(all)
+}

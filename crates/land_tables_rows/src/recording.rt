@@ -1,0 +1,10 @@
+//! A change of the register is written in its tables, statement by statement.
+
+pub mod all;
+pub mod change;
+mod estates;
+mod kinds;
+mod lists;
+mod papers;
+mod people;
+pub mod recorded;

@@ -1,0 +1,104 @@
+//! Loops over what is begun, and over what is closed.
+ghost use Rattle.std.specs.Prelude.{◌≡◌, ◌++◌, IsTrue, map};
+ghost use Rattle.std.specs.List.{list_all, list_any};
+ghost use Rattle.land_tables_rows.specs.Recording.{BeginsAll, Changes};
+ghost use Rattle.land_tables_rows.specs.Writing.Holding.{Closes, IsMoment};
+ghost use Rattle.land_tables_schema.specs.Land.{IsLand};
+ghost use Rattle.land_tables_schema.specs.Steps.{IsStep};
+ghost use Rattle.sqlite.specs.Held.{state};
+ghost use Rattle.sqlite.specs.State.{HasCleanDisk};
+
+use crate::recording::recorded::{Closing, Known, Recorded};
+use sqlite::{Alter, Error, Transaction};
+use std::alloc::Global;
+
+/// Whether all can be written.
+pub fn fit<X: Recorded>(put: &[X]) -> bool
+    ensures { result ≡ list_all X.fits put.now }
+{
+    put.iter().all(|x| x.fits())
+}
+
+/// Whether all keys can be written.
+pub fn keys_fit<K, X: Closing<K>>(keys: &[K]) -> bool
+    ensures { result ≡ list_all X.fits_key keys.now }
+{
+    keys.iter().all(|key| X::fits_key(key))
+}
+
+/// Begins a version of each.
+pub fn begin_all<S: Alter, X: Recorded>(
+    alloc: Global,
+    tx: &mut Transaction<'_, S>,
+    put: &[X],
+    since: i64,
+) -> Result<(), Error>
+    requires fits { IsTrue (list_all X.fits put.now) }
+    requires moment { IsMoment since }
+    requires land { HasCleanDisk (state S.Store tx.old.conn.now) → IsLand (state S.Store tx.old.conn.now).now.schema }
+    ensures same_reference { tx.new.conn.ghost_name ≡ tx.old.conn.ghost_name }
+    ensures step { IsStep result (BeginsAll X.reading put.now since) (state S.Store tx.old.conn.now) (state S.Store tx.new.conn.now) }
+{
+    for x in put {
+        x.begin(alloc, tx, since)?;
+    }
+    Ok(())
+}
+
+/// Closes what is known by some keys.
+pub fn close_all<S: Alter, K, X: Closing<K>>(
+    tx: &mut Transaction<'_, S>,
+    keys: &[K],
+    stamp: i64,
+) -> Result<(), Error>
+    requires fits { IsTrue (list_all X.fits_key keys.now) }
+    requires moment { IsMoment stamp }
+    requires land { HasCleanDisk (state S.Store tx.old.conn.now) → IsLand (state S.Store tx.old.conn.now).now.schema }
+    ensures same_reference { tx.new.conn.ghost_name ≡ tx.old.conn.ghost_name }
+    ensures step { IsStep result (Closes X.reading (λ x. list_any (X.has x) keys.now) stamp) (state S.Store tx.old.conn.now) (state S.Store tx.new.conn.now) }
+{
+    for key in keys {
+        X::close(tx, key, stamp)?;
+    }
+    Ok(())
+}
+
+/// Closes what is known by the keys of what is put.
+pub fn close_put<S: Alter, K, P: Known<K>, X: Closing<K>>(
+    tx: &mut Transaction<'_, S>,
+    put: &[P],
+    stamp: i64,
+) -> Result<(), Error>
+    requires fits { IsTrue (list_all (λ x. X.fits_key (P.key x)) put.now) }
+    requires moment { IsMoment stamp }
+    requires land { HasCleanDisk (state S.Store tx.old.conn.now) → IsLand (state S.Store tx.old.conn.now).now.schema }
+    ensures same_reference { tx.new.conn.ghost_name ≡ tx.old.conn.ghost_name }
+    ensures step { IsStep result (Closes X.reading (λ x. list_any (X.has x) (map P.key put.now)) stamp) (state S.Store tx.old.conn.now) (state S.Store tx.new.conn.now) }
+{
+    for x in put {
+        X::close(tx, x.key(), stamp)?;
+    }
+    Ok(())
+}
+
+/// Closes what is known by the keys of what is put and by other keys, and begins what is put.
+pub fn change<S: Alter, K, X: Known<K> + Closing<K>>(
+    alloc: Global,
+    tx: &mut Transaction<'_, S>,
+    put: &[X],
+    ended: &[K],
+    stamp: i64,
+) -> Result<(), Error>
+    requires fits { IsTrue (list_all X.fits put.now) }
+    requires keys { IsTrue (list_all (λ x. X.fits_key (X.key x)) put.now) }
+    requires ended { IsTrue (list_all X.fits_key ended.now) }
+    requires moment { IsMoment stamp }
+    requires land { HasCleanDisk (state S.Store tx.old.conn.now) → IsLand (state S.Store tx.old.conn.now).now.schema }
+    ensures same_reference { tx.new.conn.ghost_name ≡ tx.old.conn.ghost_name }
+    ensures step { IsStep result (Changes X.reading put.now (λ x. list_any (X.has x) (map X.key put.now ++ ended.now)) stamp)
+        (state S.Store tx.old.conn.now) (state S.Store tx.new.conn.now) }
+{
+    close_put::<S, K, X, X>(tx, put, stamp)?;
+    close_all::<S, K, X>(tx, ended, stamp)?;
+    begin_all(alloc, tx, put, stamp)
+}

@@ -1,0 +1,94 @@
+//! A whole change of the register is written in its tables.
+ghost use Rattle.std.specs.Prelude.{◌≡◌, IsTrue};
+ghost use Rattle.land_tables_history.specs.Changed.{changed};
+ghost use Rattle.land_tables_rows.specs.Recording.Whole.{Edits, Records, fits_change, fits_estates, fits_papers, fits_people};
+ghost use Rattle.land_tables_rows.specs.Writing.Holding.{IsMoment};
+ghost use Rattle.land_tables_schema.specs.Land.{IsLand};
+ghost use Rattle.land_tables_schema.specs.Steps.{IsStep};
+ghost use Rattle.sqlite.specs.Held.{state};
+ghost use Rattle.sqlite.specs.State.{HasCleanDisk};
+
+use crate::moment::writing;
+use crate::recording::estates::record_estates;
+use crate::recording::kinds::{fit_kind, groups_fit};
+use crate::recording::papers::record_papers;
+use crate::recording::people::record_people;
+use crate::writing::laws::changes_are_held;
+use land_core::change::Change;
+use sqlite::{Alter, Error, Transaction};
+use std::alloc::Global;
+
+/// Whether a change can be written: all that it puts is within the limits of its fields, what it ends is known by numbers of objects, and the
+/// next number from then on is 2 to 1_000_000_001.
+pub fn fits(change: &Change) -> bool
+    ensures { result ≡ fits_change change.now }
+{
+    people_fit(change) && estates_fit(change) && papers_fit(change) && writing::fits(change.next)
+}
+
+/// Whether what a change says of parties, roles and members can be written.
+fn people_fit(change: &Change) -> bool
+    ensures { result ≡ fits_people change.now }
+{
+    fit_kind(&change.put.parties, &change.ended.parties)
+        && fit_kind(&change.put.roles, &change.ended.roles)
+        && groups_fit(&change.put.members, &change.ended.members)
+}
+
+/// Whether what it says of units, parcels and entries can be written.
+fn estates_fit(change: &Change) -> bool
+    ensures { result ≡ fits_estates change.now }
+{
+    fit_kind(&change.put.units, &change.ended.units)
+        && fit_kind(&change.put.parcels, &change.ended.parcels)
+        && fit_kind(&change.put.rrrs, &change.ended.rrrs)
+}
+
+/// Whether what it says of sources and mutations can be written.
+fn papers_fit(change: &Change) -> bool
+    ensures { result ≡ fits_papers change.now }
+{
+    fit_kind(&change.put.sources, &change.ended.sources)
+        && fit_kind(&change.put.mutations, &change.ended.mutations)
+}
+
+/// Writes a change with its moment, inside a transaction: what it puts begins at the stamp, and what it ends, or puts in another form, ends
+/// there. The units begin to be named that those mutations name whose numbers are none below `next`, the number that the next new object took
+/// before. An error is the store's, `OutOfMemory` after want of memory; the transaction is then to be given up.
+pub fn record_change<S: Alter>(
+    alloc: Global,
+    tx: &mut Transaction<'_, S>,
+    change: &Change,
+    next: u64,
+    stamp: i64,
+) -> Result<(), Error>
+    requires fits { IsTrue (fits_change change.now) }
+    requires moment { IsMoment stamp }
+    requires land { HasCleanDisk (state S.Store tx.old.conn.now) → IsLand (state S.Store tx.old.conn.now).now.schema }
+    ensures same_reference { tx.new.conn.ghost_name ≡ tx.old.conn.ghost_name }
+    ensures step { IsStep result (Records change.now next stamp) (state S.Store tx.old.conn.now) (state S.Store tx.new.conn.now) }
+{
+    changes_are_held();
+    record_objects(alloc, tx, change, next, stamp)?;
+    writing::insert(tx, stamp, change.next)?;
+    Ok(())
+}
+
+/// Writes what a change says of all kinds of objects.
+fn record_objects<S: Alter>(
+    alloc: Global,
+    tx: &mut Transaction<'_, S>,
+    change: &Change,
+    next: u64,
+    stamp: i64,
+) -> Result<(), Error>
+    requires fits { IsTrue (fits_change change.now) }
+    requires moment { IsMoment stamp }
+    requires land { HasCleanDisk (state S.Store tx.old.conn.now) → IsLand (state S.Store tx.old.conn.now).now.schema }
+    ensures same_reference { tx.new.conn.ghost_name ≡ tx.old.conn.ghost_name }
+    ensures step { IsStep result (Edits (changed next change.now stamp)) (state S.Store tx.old.conn.now) (state S.Store tx.new.conn.now) }
+{
+    record_people(alloc, tx, change, stamp)?;
+    record_estates(alloc, tx, change, stamp)?;
+    record_papers(alloc, tx, change, next, stamp)
+}

@@ -1,0 +1,121 @@
+//! What a change says of one kind: what it puts, and the keys of what it ends.
+ghost use Rattle.std.specs.FinMap as map;
+ghost use Rattle.std.specs.List.{list_all, list_any};
+ghost use Rattle.std.specs.Prelude.{◌≡◌, ◌++◌, IsTrue, map as map_list};
+ghost use Rattle.land_core.specs.Numbers.{is_number};
+ghost use Rattle.land_tables_history.specs.Changed.{is_changed, listed_members, named_by, new_mutations};
+ghost use Rattle.land_tables_rows.specs.Member.Writing.{members};
+ghost use Rattle.land_tables_rows.specs.Mutation.Cells.{fits_mutation};
+ghost use Rattle.land_tables_rows.specs.Naming.Writing.{namings};
+ghost use Rattle.land_tables_rows.specs.Recording.{BeginsAll, Changes};
+ghost use Rattle.land_tables_rows.specs.Recording.Whole.{fits_group, fits_kind};
+ghost use Rattle.land_tables_rows.specs.Writing.Holding.{IsMoment};
+ghost use Rattle.land_tables_schema.specs.Land.{IsLand};
+ghost use Rattle.land_tables_schema.specs.Steps.{IsStep};
+ghost use Rattle.sqlite.specs.Held.{state};
+ghost use Rattle.sqlite.specs.State.{HasCleanDisk};
+
+use crate::recording::all::{begin_all, change, close_all, close_put, fit, keys_fit};
+use crate::recording::lists::{list_members, list_names};
+use crate::recording::recorded::{Closing, Known};
+use land_core::limits::is_number;
+use land_core::member::Members;
+use land_core::mutation::MutationRecord;
+use land_core::sequence::{NumberList, Sequence};
+use land_tables_history::group_member::GroupMember;
+use sqlite::{Alter, Error, Transaction};
+use std::alloc::Global;
+
+/// Whether what is put can be written, and so can the keys of what ends.
+pub(crate) fn fit_kind<K, X: Closing<K>>(put: &Sequence<X>, ended: &Sequence<K>) -> bool
+    ensures { result ≡ fits_kind X.fits X.fits_key put.now ended.now }
+{
+    fit(put.as_slice()) && keys_fit::<K, X>(ended.as_slice())
+}
+
+/// Whether groups can be written, and so can the numbers of those that end.
+pub(crate) fn groups_fit(put: &Sequence<(u64, Members)>, ended: &NumberList) -> bool
+    ensures { result ≡ fits_kind fits_group is_number put.now ended.now }
+{
+    all_groups_fit(put.as_slice()) && keys_fit::<u64, GroupMember>(ended.as_slice())
+}
+
+fn all_groups_fit(groups: &[(u64, Members)]) -> bool
+    ensures { result ≡ list_all fits_group groups.now }
+{
+    groups
+        .iter()
+        .all(|(group, members)| group_fits(*group, members))
+}
+
+/// Whether a group's number and those of its members are within their limits.
+fn group_fits(group: u64, members: &Members) -> bool
+    ensures { result ≡ fits_group (group, members.now) }
+{
+    is_number(group) && are_numbers(members)
+}
+
+fn are_numbers(members: &Members) -> bool
+    ensures { result ≡ list_all (λ e. is_number e.0) (map.entries members.now) }
+{
+    members.iter().all(|(party, _)| is_number(*party))
+}
+
+/// Writes what is put and ended of a kind.
+pub(crate) fn change_kind<S: Alter, K, X: Known<K> + Closing<K>>(
+    alloc: Global,
+    tx: &mut Transaction<'_, S>,
+    put: &Sequence<X>,
+    ended: &Sequence<K>,
+    stamp: i64,
+) -> Result<(), Error>
+    requires fits { IsTrue (list_all X.fits put.now) }
+    requires keys { IsTrue (list_all (λ x. X.fits_key (X.key x)) put.now) }
+    requires ended { IsTrue (list_all X.fits_key ended.now) }
+    requires moment { IsMoment stamp }
+    requires land { HasCleanDisk (state S.Store tx.old.conn.now) → IsLand (state S.Store tx.old.conn.now).now.schema }
+    ensures same_reference { tx.new.conn.ghost_name ≡ tx.old.conn.ghost_name }
+    ensures step { IsStep result (Changes X.reading put.now (λ x. list_any (X.has x) (map_list X.key put.now ++ ended.now)) stamp)
+        (state S.Store tx.old.conn.now) (state S.Store tx.new.conn.now) }
+{
+    change(alloc, tx, put.as_slice(), ended.as_slice(), stamp)
+}
+
+/// Writes the members of groups: those of the groups that are put begin, and all that were in a changed group end.
+pub(crate) fn change_members<S: Alter>(
+    alloc: Global,
+    tx: &mut Transaction<'_, S>,
+    put: &Sequence<(u64, Members)>,
+    ended: &NumberList,
+    stamp: i64,
+) -> Result<(), Error>
+    requires fits { IsTrue (fits_kind fits_group is_number put.now ended.now) }
+    requires moment { IsMoment stamp }
+    requires land { HasCleanDisk (state S.Store tx.old.conn.now) → IsLand (state S.Store tx.old.conn.now).now.schema }
+    ensures same_reference { tx.new.conn.ghost_name ≡ tx.old.conn.ghost_name }
+    ensures step { IsStep result (Changes members (listed_members put.now) (λ e. is_changed put.now ended.now e.group) stamp)
+        (state S.Store tx.old.conn.now) (state S.Store tx.new.conn.now) }
+{
+    let listed = list_members(alloc, put.as_slice())?;
+    close_put::<S, u64, (u64, Members), GroupMember>(tx, put.as_slice(), stamp)?;
+    close_all::<S, u64, GroupMember>(tx, ended.as_slice(), stamp)?;
+    begin_all(alloc, tx, listed.as_slice(), stamp)
+}
+
+/// Writes which units new mutations name: those whose numbers are none below the next one.
+pub(crate) fn begin_names<S: Alter>(
+    alloc: Global,
+    tx: &mut Transaction<'_, S>,
+    next: u64,
+    put: &Sequence<(u64, MutationRecord)>,
+    stamp: i64,
+) -> Result<(), Error>
+    requires fits { IsTrue (list_all fits_mutation put.now) }
+    requires moment { IsMoment stamp }
+    requires land { HasCleanDisk (state S.Store tx.old.conn.now) → IsLand (state S.Store tx.old.conn.now).now.schema }
+    ensures same_reference { tx.new.conn.ghost_name ≡ tx.old.conn.ghost_name }
+    ensures step { IsStep result (BeginsAll namings (named_by (new_mutations next put.now)) stamp) (state S.Store tx.old.conn.now) (state S.Store tx.new.conn.now) }
+{
+    let names = list_names(alloc, next, put.as_slice())?;
+    begin_all(alloc, tx, names.as_slice(), stamp)
+}

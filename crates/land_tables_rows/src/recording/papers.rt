@@ -1,0 +1,40 @@
+//! Sources and mutations are written, and the units that new mutations name.
+ghost use Rattle.std.specs.Prelude.{◌≡◌, IsTrue};
+ghost use Rattle.land_tables_rows.specs.Recording.Whole.{Edits, changed_papers, fits_papers};
+ghost use Rattle.land_tables_rows.specs.Writing.Holding.{IsMoment};
+ghost use Rattle.land_tables_schema.specs.Land.{IsLand};
+ghost use Rattle.land_tables_schema.specs.Steps.{IsStep};
+ghost use Rattle.sqlite.specs.Held.{state};
+ghost use Rattle.sqlite.specs.State.{HasCleanDisk};
+
+use crate::recording::kinds::{begin_names, change_kind};
+use crate::writing::laws::changes_are_held;
+use land_core::change::Change;
+use sqlite::{Alter, Error, Transaction};
+use std::alloc::Global;
+
+/// Writes what a change says of sources and mutations, and the units that those mutations name whose numbers are none below `next`.
+pub(crate) fn record_papers<S: Alter>(
+    alloc: Global,
+    tx: &mut Transaction<'_, S>,
+    change: &Change,
+    next: u64,
+    stamp: i64,
+) -> Result<(), Error>
+    requires fits { IsTrue (fits_papers change.now) }
+    requires moment { IsMoment stamp }
+    requires land { HasCleanDisk (state S.Store tx.old.conn.now) → IsLand (state S.Store tx.old.conn.now).now.schema }
+    ensures same_reference { tx.new.conn.ghost_name ≡ tx.old.conn.ghost_name }
+    ensures step { IsStep result (Edits (changed_papers next change.now stamp)) (state S.Store tx.old.conn.now) (state S.Store tx.new.conn.now) }
+{
+    changes_are_held();
+    change_kind(alloc, tx, &change.put.sources, &change.ended.sources, stamp)?;
+    change_kind(
+        alloc,
+        tx,
+        &change.put.mutations,
+        &change.ended.mutations,
+        stamp,
+    )?;
+    begin_names(alloc, tx, next, &change.put.mutations, stamp)
+}

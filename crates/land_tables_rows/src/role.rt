@@ -1,0 +1,5 @@
+//! The roles of parties.
+
+pub mod reading;
+pub mod recording;
+pub mod writing;

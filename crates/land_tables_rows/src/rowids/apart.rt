@@ -1,0 +1,47 @@
+//! Whether rowids are each another.
+ghost use Rattle.std.specs.Prelude.{◌≡◌, ◌≢◌, ◌↔◌, true, IfErr, IfOk, OnOk};
+ghost use Rattle.std.specs.List.{IsDistinct};
+ghost use Rattle.std.specs.Ordering.{int_eq};
+ghost use Rattle.land_tables_schema.specs.Rows.Forms.{AreNumbered};
+ghost use Rattle.sqlite.specs.declared.error.Error.TheVariants.{SqliteFailure};
+ghost use Rattle.sqlite.specs.declared.error.ErrorCode.TheVariants.{DatabaseCorrupt};
+ghost use Rattle.sqlite_rules.specs.Calls.{ids_of};
+ghost use Rattle.sqlite_rules.specs.Edit.{have_rowids};
+
+use sqlite::{Error, ErrorCode, Row};
+use std::alloc::{AllocError, Global};
+use std::collections::BTreeSet;
+
+/// Refuses rows of which two lie under one rowid, or one under none, as those of a damaged store. Each row begins with its rowid.
+pub(crate) fn are_numbered(alloc: Global, rows: &[Row]) -> Result<(), Error>
+    ensures numbered { OnOk result (AreNumbered rows.now) }
+    ensures damaged { IfErr result (λ e. e ≡ SqliteFailure DatabaseCorrupt → ¬ AreNumbered rows.now) }
+{
+    let ids = rowids(alloc, rows)?;
+    if are_apart(alloc, ids.as_slice())? {
+        Ok(())
+    } else {
+        Err(Error::SqliteFailure(ErrorCode::DatabaseCorrupt))
+    }
+}
+
+/// The rowids of rows, which are all integers.
+fn rowids(alloc: Global, rows: &[Row]) -> Result<Vec<i64>, Error>
+    ensures ids { IfOk result (λ ids. ids.items ≡ ids_of rows.now) }
+    ensures whole { OnOk result (have_rowids rows.now ≡ true) }
+    ensures other { IfErr result (λ e. e ≢ SqliteFailure DatabaseCorrupt) }
+{
+    let mut ids = Vec::new(alloc);
+    for row in rows {
+        ids.push(row.get::<i64>(0)?)?;
+    }
+    Ok(ids)
+}
+
+/// Whether no two numbers are the same.
+fn are_apart(alloc: Global, ids: &[i64]) -> Result<bool, AllocError>
+    ensures { IfOk result (λ it. (it ≡ true) ↔ IsDistinct int_eq ids.now) }
+{
+    let distinct: BTreeSet<i64> = ids.iter().copied().collect(alloc)?;
+    Ok(distinct.len() == ids.len())
+}

@@ -1,0 +1,5 @@
+//! Sources: the documents that changes rest on (LA_Source).
+
+pub mod reading;
+pub mod recording;
+pub mod writing;

@@ -1,0 +1,54 @@
+//! Sources (LA_Source).
+ghost use Rattle.std.specs.Prelude.{◌≡◌, ◌<◌, ◌^◌, IsTrue, nat_eq};
+ghost use Rattle.land_tables_rows.specs.Source.Writing.{fits_source, sources};
+ghost use Rattle.land_tables_rows.specs.Writing.Holding.{Begins, Closes, IsMoment};
+ghost use Rattle.land_tables_schema.specs.Land.{IsLand};
+ghost use Rattle.land_tables_schema.specs.Steps.{IsStep};
+ghost use Rattle.sqlite.specs.Held.{state};
+ghost use Rattle.sqlite.specs.State.{HasCleanDisk};
+
+use land_core::limits::{is_number, is_title};
+use land_core::source::SourceRecord;
+use land_core::words::source_word;
+use land_tables_schema::rows::tables as rows;
+use sqlite::{Alter, Error, Transaction};
+
+/// Whether a source can be written: its number and its title are within their limits.
+pub fn fits(number: u64, source: &SourceRecord) -> bool
+    ensures { result ≡ fits_source number source.now }
+{
+    is_number(number) && is_title(source.title.as_str())
+}
+
+/// Begins a version of a source.
+pub fn begin<S: Alter>(
+    tx: &mut Transaction<'_, S>,
+    number: u64,
+    source: &SourceRecord,
+    since: i64,
+) -> Result<usize, Error>
+    requires fits { IsTrue (fits_source number source.now) }
+    requires moment { IsMoment since }
+    requires land { HasCleanDisk (state S.Store tx.old.conn.now) → IsLand (state S.Store tx.old.conn.now).now.schema }
+    ensures same_reference { tx.new.conn.ghost_name ≡ tx.old.conn.ghost_name }
+    ensures step { IsStep result (Begins sources (number, source.now) since) (state S.Store tx.old.conn.now) (state S.Store tx.new.conn.now) }
+{
+    rows::source::begin(
+        tx,
+        number,
+        source_word(source.kind),
+        source.title.as_str(),
+        since,
+    )
+}
+
+/// Closes the version of a source that stands.
+pub fn close<S: Alter>(tx: &mut Transaction<'_, S>, number: u64, stamp: i64) -> Result<usize, Error>
+    requires number_fits { number < 2 ^ 63 }
+    requires moment { IsMoment stamp }
+    requires land { HasCleanDisk (state S.Store tx.old.conn.now) → IsLand (state S.Store tx.old.conn.now).now.schema }
+    ensures same_reference { tx.new.conn.ghost_name ≡ tx.old.conn.ghost_name }
+    ensures step { IsStep result (Closes sources (λ e. nat_eq e.0 number) stamp) (state S.Store tx.old.conn.now) (state S.Store tx.new.conn.now) }
+{
+    rows::source::close(tx, number, stamp)
+}

@@ -1,0 +1,47 @@
+//! Basic administrative units (LA_BAUnit).
+ghost use Rattle.std.specs.Prelude.{◌≡◌, ◌<◌, ◌^◌, IsTrue, nat_eq};
+ghost use Rattle.land_tables_rows.specs.Unit.Writing.{fits_unit, units};
+ghost use Rattle.land_tables_rows.specs.Writing.Holding.{Begins, Closes, IsMoment};
+ghost use Rattle.land_tables_schema.specs.Land.{IsLand};
+ghost use Rattle.land_tables_schema.specs.Steps.{IsStep};
+ghost use Rattle.sqlite.specs.Held.{state};
+ghost use Rattle.sqlite.specs.State.{HasCleanDisk};
+
+use land_core::limits::{is_name, is_number};
+use land_core::unit::UnitRecord;
+use land_tables_schema::rows::tables as rows;
+use sqlite::{Alter, Error, Transaction};
+
+/// Whether a unit can be written: its number and its name are within their limits.
+pub fn fits(number: u64, unit: &UnitRecord) -> bool
+    ensures { result ≡ fits_unit number unit.now }
+{
+    is_number(number) && is_name(unit.name.as_str())
+}
+
+/// Begins a version of a unit.
+pub fn begin<S: Alter>(
+    tx: &mut Transaction<'_, S>,
+    number: u64,
+    unit: &UnitRecord,
+    since: i64,
+) -> Result<usize, Error>
+    requires fits { IsTrue (fits_unit number unit.now) }
+    requires moment { IsMoment since }
+    requires land { HasCleanDisk (state S.Store tx.old.conn.now) → IsLand (state S.Store tx.old.conn.now).now.schema }
+    ensures same_reference { tx.new.conn.ghost_name ≡ tx.old.conn.ghost_name }
+    ensures step { IsStep result (Begins units (number, unit.now) since) (state S.Store tx.old.conn.now) (state S.Store tx.new.conn.now) }
+{
+    rows::unit::begin(tx, number, unit.name.as_str(), unit.checked, since)
+}
+
+/// Closes the version of a unit that stands.
+pub fn close<S: Alter>(tx: &mut Transaction<'_, S>, number: u64, stamp: i64) -> Result<usize, Error>
+    requires number_fits { number < 2 ^ 63 }
+    requires moment { IsMoment stamp }
+    requires land { HasCleanDisk (state S.Store tx.old.conn.now) → IsLand (state S.Store tx.old.conn.now).now.schema }
+    ensures same_reference { tx.new.conn.ghost_name ≡ tx.old.conn.ghost_name }
+    ensures step { IsStep result (Closes units (λ e. nat_eq e.0 number) stamp) (state S.Store tx.old.conn.now) (state S.Store tx.new.conn.now) }
+{
+    rows::unit::close(tx, number, stamp)
+}

@@ -1,0 +1,12 @@
+//! Laws, each stated over the definitions alone.
+ghost use Rattle.land_tables_rows.specs.Writing.Laws.{ChangesAreHeld, NewRegistersAreHeld};
+
+/// Where one table holds other versions and all others are as they were, the tables hold the history with these versions.
+pub fn changes_are_held()
+    ensures { ChangesAreHeld }
+{}
+
+/// The rows that a new register is made with are those of its history.
+pub fn new_registers_are_held()
+    ensures { NewRegistersAreHeld }
+{}

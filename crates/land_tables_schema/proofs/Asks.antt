@@ -1,0 +1,113 @@
+-- What a text answers that lists a table whole.
+use Rattle.std.proofs.Common.{◌≡◌, ℕ, false, List, [], ◌∷◌, map, filter, IfErr, IfOk, OnErr, OnOk, Ok, Err, IsTrue, Result, inl, inr, refl, sym, ap, ap₂, subst, ◌∙◌, IsPermutation, arith}
+use Rattle.std.proofs.lemmas.Result.{IfOk-weaker}
+use Rattle.land_tables_schema.proofs.Indexes.{whatever_indexes}
+use Rattle.land_tables_schema.proofs.Updates.{answer_is, passes, plainly}
+use Rattle.land_tables_schema.specs.Land.{IsLand, land_with}
+use Rattle.land_tables_schema.specs.Rows.Looks.{IsLeft, IsLook}
+use Rattle.sqlite.proofs.Callers.{IsPlain, command_of, never_commits, reads_as}
+use Rattle.sqlite.proofs.StateLemmas.{survives_weaker}
+use Rattle.sqlite.specs.Clock.{timed}
+use Rattle.sqlite.specs.Command.TheVariants.{Select}
+use Rattle.sqlite.specs.Listing.{reads_listing, understood}
+use Rattle.sqlite.specs.Program.{overlay}
+use Rattle.sqlite.specs.Query.{IsAnswer, Query}
+use Rattle.sqlite.specs.State.{CommitsShowing, FailsToQuery, FailsToShow, HasCleanDisk, IsNotRun, IsRolledBack, IsUnchanged, Shown, ShowsRows, State, Survives}
+use Rattle.sqlite.specs.Term.{Term, eval_all}
+use Rattle.sqlite.specs.declared.error.Error.{Error}
+use Rattle.sqlite.specs.declared.types.Value.TheVariants.{Null}
+use Rattle.sqlite_schema.specs.declared.schema.Index.{Index}
+use Rattle.sqlite_schema.specs.declared.schema.Schema.{Schema}
+use Rattle.sqlite_trees.specs.Tree.{Trees}
+use Rattle.sqlite_value.specs.Order.{Row}
+
+-- a text is this query and nothing else
+pub record Asks (schema : Schema) (sql : List ℕ) (q : Query) : Type 0 where
+  pub names : List (List ℕ)
+  pub command : command_of (understood schema sql) ≡ Select (record { lets = []; body = q }) names
+  pub unlisted : reads_listing schema sql ≡ false
+  pub plain : IsPlain (understood schema sql)
+
+-- a text lists what is shown of each row of a table
+pub record IsListing (tree : ℕ) (text : List ℕ) (project : List Term) (shown : Row → Row) : Type 0 where
+  pub asks : (indexes : List Index) → Asks (land_with indexes) text (plainly tree [] project)
+  pub read : (db : Trees) → overlay db [] tree ≡ db tree
+  pub shows : (r : Row) → eval_all project ([] ∷ r ∷ []) ≡ shown r
+
+-- a disk that is clean was clean before
+pub clean_before : {old new : State} {Commits : Trees → Type 0} → Survives old new Commits → HasCleanDisk new → HasCleanDisk old
+clean_before s clean = omega (arith, s.clean)
+
+module _ (tree : ℕ) (text : List ℕ) (project : List Term) (shown : Row → Row) (is : IsListing tree text project shown) (old new : State) where
+  all_pass : (rows : List Row) → filter (passes [] []) rows ≡ rows
+  all_pass [] = refl
+  all_pass (r ∷ rs) = ap (λ l. r ∷ l) (all_pass rs)
+
+  each_shown : (rows : List Row) → map (λ r. eval_all project ([] ∷ r ∷ [])) rows ≡ map shown rows
+  each_shown [] = refl
+  each_shown (r ∷ rs) = ap₂ (λ a b. a ∷ b) (is.shows r) (each_shown rs)
+
+  module _ (land : IsLand old.now.schema) where
+    abbrev schema : Schema
+    schema = land_with old.now.schema.indexes
+
+    asks_now : Asks schema text (plainly tree [] project)
+    asks_now = is.asks old.now.schema.indexes
+
+    plain_now : IsPlain (understood old.now.schema text)
+    plain_now = subst (λ s. IsPlain (understood s text)) (sym ((whatever_indexes old.now.schema).0 land)) asks_now.plain
+
+    pub listed : (rows : List Row) → Shown text [] old new rows → IsPermutation (map shown (old.now.trees tree)) rows
+    listed rows h =
+        let answer : IsAnswer (plainly tree [] project) (overlay old.now.trees []) [] rows =
+        (reads_as text [] old new schema ((whatever_indexes old.now.schema).0 land) _ asks_now.command asks_now.plain asks_now.unlisted rows h).answer Null in
+        subst (λ l. IsPermutation l rows) (ap (map (λ r. eval_all project ([] ∷ r ∷ []))) (all_pass (old.now.trees tree)) ∙ each_shown (old.now.trees tree))
+        (subst (λ l. IsPermutation (map (λ r. eval_all project ([] ∷ r ∷ [])) (filter (passes [] []) l)) rows) (is.read old.now.trees) (answer_is tree [] project (overlay old.now.trees []) [] rows answer))
+
+    pub unchanged : (rows : List Row) → Shown text [] old new rows → IsUnchanged old new
+    unfolding Shown
+    unchanged rows h =
+        let none = (subst IsPlain h.1.is plain_now).0 in
+        (subst (ShowsRows old new text h.0 (timed [] h.0.formats h.1.now) rows) none h.2).3
+
+    left_same : IsUnchanged old new → IsLeft old new
+    left_same h = record { was_open = h.0.was_open; now = inl h.0.now_is; committed = h.0.committed_is }
+
+    left_undone : IsRolledBack old new → IsTrue new.is_open → IsLeft old new
+    left_undone h is_open = record { was_open = h.was_open is_open; now = inr (h.undone is_open).0; committed = (h.undone is_open).1 }
+
+    pub left_by : (e : Error) → FailsToQuery text [] old new e → IsTrue new.is_open → IsLeft old new
+    unfolding FailsToQuery IsNotRun
+    left_by e (inl (inl refused)) is_open = left_same refused.1
+    left_by e (inl (inr fails)) is_open = left_undone fails.3 is_open
+    left_by e (inr h) is_open =
+        let none = (subst IsPlain h.1.is plain_now).0 in
+        left_same (subst (FailsToShow old new text h.0 (timed [] h.0.formats h.1.now) e) none h.2).3
+
+    commits_nothing : Survives old new (CommitsShowing text [] old) → Survives old new (λ _. ⊥)
+    commits_nothing = survives_weaker old new _ _ (λ _ db. never_commits text [] old db plain_now)
+
+  same_on_ok : {X : Type 0} (items : X → List Row) (r : Result X Error) → IsLand old.now.schema → IfOk r (λ x. Shown text [] old new (items x)) → OnOk r (IsUnchanged old new)
+  same_on_ok items (Ok x) land h = unchanged land (items x) h
+  same_on_ok items (Err e) land h = tt
+
+  left_on_err : {X : Type 0} (r : Result X Error) → IsLand old.now.schema → IfErr r (FailsToQuery text [] old new) → OnErr r (IsTrue new.is_open → IsLeft old new)
+  left_on_err (Ok x) land h = tt
+  left_on_err (Err e) land h = left_by land e h
+
+  -- a call that answers the text is a look that gives all rows
+  pub looks : {X : Type 0} (items : X → List Row) (r : Result X Error) → (HasCleanDisk old → IsLand old.now.schema) → (HasCleanDisk new → IfOk r (λ x. Shown text [] old new (items x)))
+      → (HasCleanDisk new → IfErr r (FailsToQuery text [] old new)) → Survives old new (CommitsShowing text [] old) → IsLook r (λ x. IsPermutation (map shown (old.now.trees tree)) (items x)) old new
+  looks items r land answers refuses safe = record {
+    given = λ clean. IfOk-weaker r _ _ (λ x. listed (land (clean_before safe clean)) (items x)) (answers clean);
+    same = λ clean. same_on_ok items r (land (clean_before safe clean)) (answers clean);
+    left = λ clean. left_on_err r (land (clean_before safe clean)) (refuses clean);
+    survives = record {
+      clean = safe.clean;
+      shield = safe.shield;
+      counts = safe.counts;
+      limit = safe.limit;
+      closes = safe.closes;
+      crash = λ clean. (commits_nothing (land (clean_before safe clean)) safe).crash clean;
+    };
+  }

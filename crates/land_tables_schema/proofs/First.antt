@@ -1,0 +1,102 @@
+-- The rows of a new register are put into empty tables.
+use Rattle.std.proofs.Common.{◌≡◌, pos, [], ◌∷◌, codes, Ok, refl, subst, ◌∙◌}
+use Rattle.std.proofs.lemmas.List.Sorted.{IsPermutation-refl}
+use Rattle.std.specs.List.{AllByRecursion, IsDistinct}
+use Rattle.std.specs.Ordering.{int_eq}
+use Rattle.land_tables_schema.proofs.Changes.{with_editions, with_moments, with_parties, with_roles}
+use Rattle.land_tables_schema.proofs.Steps.{step_then, was_clean}
+use Rattle.land_tables_schema.specs.Land.{IsLand, made_schema}
+use Rattle.land_tables_schema.specs.Making.{IsMade}
+use Rattle.land_tables_schema.specs.Rows.Held.{HoldsRows, IsNew, Rows}
+use Rattle.land_tables_schema.specs.Rows.Edition.{edition_row, first_edition}
+use Rattle.land_tables_schema.specs.Rows.Forms.{Form, Holds, Adds, Appends}
+use Rattle.land_tables_schema.specs.Rows.Member.{members}
+use Rattle.land_tables_schema.specs.Rows.Moments.{moment_row}
+use Rattle.land_tables_schema.specs.Rows.Mutation.{mutations}
+use Rattle.land_tables_schema.specs.Rows.Names.{namings}
+use Rattle.land_tables_schema.specs.Rows.Parcel.{parcels}
+use Rattle.land_tables_schema.specs.Rows.Party.{parties}
+use Rattle.land_tables_schema.specs.Rows.Role.{roles}
+use Rattle.land_tables_schema.specs.Rows.Rrr.{rrrs}
+use Rattle.land_tables_schema.specs.Rows.Source.{sources}
+use Rattle.land_tables_schema.specs.Rows.Unit.{units}
+use Rattle.land_tables_schema.specs.Rows.Versions.{begun}
+use Rattle.land_tables_schema.specs.Steps.{IsStep}
+use Rattle.land_tables_schema.specs.Tables as table
+use Rattle.sqlite.specs.Effect.{Database}
+use Rattle.sqlite.specs.State.{HasCleanDisk, State}
+use Rattle.sqlite_schema.specs.declared.schema.Schema.{Schema}
+use Rattle.sqlite_schema.specs.declared.schema.Table.{Table}
+use Rattle.sqlite_trees.specs.Tree.{Trees}
+
+-- the schema that was made is that of a register
+pub made_is_land : (s : Schema) → s ≡ made_schema → IsLand s
+made_is_land s is = rw is (record { tables = refl; views = refl })
+
+none_apart : IsDistinct int_eq []
+unfolding IsDistinct
+none_apart = tt
+
+-- an empty table holds nothing
+none_held : {X : Type 0} (form : Form X) (db : Trees) → db form.table.tree ≡ [] → Holds form db []
+none_held form db none = record { rows = rw none (IsPermutation-refl []); numbered = rw none (record { whole = refl; apart = none_apart }) }
+
+none_in : (db : Database) (s : Schema) → s ≡ made_schema → AllByRecursion (λ (t : Table). db.trees t.tree ≡ []) s.tables → AllByRecursion (λ (t : Table). db.trees t.tree ≡ []) made_schema.tables
+none_in db s is none = subst (λ (s : Schema). AllByRecursion (λ (t : Table). db.trees t.tree ≡ []) s.tables) is none
+
+abbrev no_rows : Rows
+no_rows = record { editions = []; moments = []; parties = []; roles = []; members = []; units = []; parcels = []; rrrs = []; sources = []; mutations = []; namings = [] }
+
+-- tables that were just made hold nothing
+nothing_held : (db : Database) → IsMade db → HoldsRows db.trees no_rows
+nothing_held db made =
+    let none = none_in db db.schema made.schema made.empty in
+    record {
+      the_editions = rw none.0 (IsPermutation-refl []);
+      the_moments = rw none.1.0 (IsPermutation-refl []);
+      the_parties = none_held parties db.trees none.1.1.0;
+      the_roles = none_held roles db.trees none.1.1.1.0;
+      the_members = none_held members db.trees none.1.1.1.1.0;
+      the_units = none_held units db.trees none.1.1.1.1.1.0;
+      the_parcels = none_held parcels db.trees none.1.1.1.1.1.1.0;
+      the_rrrs = none_held rrrs db.trees none.1.1.1.1.1.1.1.0;
+      the_sources = none_held sources db.trees none.1.1.1.1.1.1.1.1.0;
+      the_mutations = none_held mutations db.trees none.1.1.1.1.1.1.1.1.1.0;
+      the_namings = none_held namings db.trees none.1.1.1.1.1.1.1.1.1.1.0;
+    }
+
+-- the first rows, one after another
+pub first_rows : (made a b c d : Database) → IsMade made → Appends table.edition edition_row first_edition made a → Appends table.moments moment_row (record { stamp = pos 0; next = 2 }) a b
+    → Adds parties (begun (record { number = 1; name = codes "Land Office"; kind = codes "nonNaturalPerson" }) (pos 0)) b c → Adds roles (begun (record { party = 1; role = codes "stateAdministrator" }) (pos 0)) c d → IsNew d
+first_rows made a b c d is edition moment party role =
+    let none = nothing_held made is in
+    let one = with_editions made.trees a.trees no_rows none (first_edition ∷ []) edition.kept (edition.listed [] none.the_editions) in
+    let two = with_moments a.trees b.trees _ one (record { stamp = pos 0; next = 2 } ∷ []) moment.kept (moment.listed [] one.the_moments) in
+    let three = with_parties b.trees c.trees _ two _ party.kept (party.held [] two.the_parties) in
+    let four = with_roles c.trees d.trees _ three _ role.kept (role.held [] three.the_roles) in
+    record { schema = role.schema ∙ party.schema ∙ moment.schema ∙ edition.schema ∙ is.schema; rows = four }
+
+abbrev Anything : Database → Database → Type 0
+Anything old new = Unit {0}
+
+-- the calls that put them in, one after another
+pub first_steps : {W X Y Z E : Type 0} {w : W} {x : X} {y : Y} {z : Z} (made a b c d : State) → (HasCleanDisk made → IsMade made.now)
+    → IsStep {X = W} {E = E} (Ok w) (Appends table.edition edition_row first_edition) made a
+    → IsStep {X = X} {E = E} (Ok x) (Appends table.moments moment_row (record { stamp = pos 0; next = 2 })) a b
+    → IsStep {X = Y} {E = E} (Ok y) (Adds parties (begun (record { number = 1; name = codes "Land Office"; kind = codes "nonNaturalPerson" }) (pos 0))) b c
+    → IsStep {X = Z} {E = E} (Ok z) (Adds roles (begun (record { party = 1; role = codes "stateAdministrator" }) (pos 0))) c d
+    → IsStep {X = Unit {0}} {E = E} (Ok tt) (λ _ new. IsNew new) made d
+first_steps {E = E} made a b c d is edition moment party role =
+    let two : IsStep {X = Unit {0}} {E = E} (Ok tt) Anything made b = step_then made a b edition moment (λ _ _ _. tt) in
+    let three : IsStep {X = Unit {0}} {E = E} (Ok tt) Anything made c = step_then made b c two party (λ _ _ _. tt) in
+    let four : IsStep {X = Unit {0}} {E = E} (Ok tt) Anything made d = step_then made c d three role (λ _ _ _. tt) in
+    record {
+      done = λ clean.
+          let at_c = was_clean c d role.survives clean in
+          let at_b = was_clean b c party.survives at_c in
+          let at_a = was_clean a b moment.survives at_b in
+          first_rows made.now a.now b.now c.now d.now (is (was_clean made a edition.survives at_a)) (edition.done at_a) (moment.done at_b) (party.done at_c) (role.done clean);
+      inside = four.inside;
+      kept = four.kept;
+      survives = four.survives;
+    }

@@ -1,0 +1,58 @@
+-- The statements on `parcel`.
+use Rattle.std.proofs.Common.{◌&&◌, ℕ, pos, false, List, [], ◌∷◌, refl, ap, ◌∙◌, codes}
+use Rattle.std.specs.Ordering.{int_eq}
+use Rattle.land_tables_schema.proofs.Asks.{Asks, IsListing}
+use Rattle.land_tables_schema.proofs.Casts.{cast_null, cast_whole, same_number}
+use Rattle.land_tables_schema.proofs.Statements.{IsInsertion, IsUpdate}
+use Rattle.land_tables_schema.proofs.Updates.{plainly}
+use Rattle.land_tables_schema.proofs.Versions.{IsBeginning, IsClosing, begin_terms, close_terms, columns_of}
+use Rattle.land_tables_schema.specs.Land.{land_with}
+use Rattle.land_tables_schema.specs.Rows.Looks.{columns_from}
+use Rattle.land_tables_schema.specs.Rows.Parcel.{is_parcel, parcel_cells}
+use Rattle.land_tables_schema.specs.Rows.Versions.{never, whole}
+use Rattle.land_tables_schema.specs.Tables.{parcel}
+use Rattle.land_tables_schema.specs.declared.rows.tables.parcel.TheConstants.{ALL, BEGIN, CLOSE}
+use Rattle.sqlite.specs.Listing.{understood}
+use Rattle.sqlite.specs.Term.{Term, lit, col, op2}
+use Rattle.sqlite.specs.declared.types.Value.TheVariants.{Int}
+use Rattle.sqlite_schema.specs.declared.schema.Index.{Index}
+use Rattle.sqlite_sql.specs.declared.ops.BinaryOp.TheVariants.{Compare}
+use Rattle.sqlite_sql.specs.declared.ops.CompareOp.TheVariants.{Eq}
+use Rattle.sqlite_tied.specs.Compute.{everything}
+use Rattle.sqlite_typed.proofs.TestLemmas.{at_ints, then_term, last_term}
+use Rattle.sqlite_value.specs.declared.keys.Collation.TheVariants.{Binary}
+
+inserts_one : (indexes : List Index) → IsInsertion (land_with indexes) BEGIN.now 6 parcel (begin_terms 5) 8
+unfolding understood everything
+inserts_one indexes = record { command = refl; plain = (refl, refl); table = refl; one = λ _. refl; alone = λ _ _. refl }
+
+pub beginning : IsBeginning parcel parcel_cells BEGIN.now 6 5
+beginning = record { insertion = inserts_one; fills = λ id v. refl; shows = λ c since. refl; exact = λ c since. simp (cast_null, cast_whole) }
+
+abbrev pub where_it_stands : List Term
+where_it_stands = op2 (Compare Eq Binary) (col 1 1) (col 0 0) ∷ op2 (Compare Eq Binary) (col 1 7) (lit (Int never)) ∷ []
+
+updates_it : (indexes : List Index) → IsUpdate (land_with indexes) CLOSE.now 6 parcel (plainly 10 where_it_stands (close_terms 5 1))
+unfolding understood everything
+updates_it indexes = record { command = refl; plain = (refl, refl); table = refl; alone = λ _ _ _. refl }
+
+pub closing : (number : ℕ) → IsClosing parcel 5 parcel_cells CLOSE.now 6 where_it_stands (close_terms 5 1) (whole number ∷ []) (is_parcel number)
+closing number = record {
+  update = updates_it;
+  turning = λ stamp. record {
+    read = λ db. refl;
+    fills = λ id v. refl;
+    tests_alike = λ r. refl;
+    shows_alike = λ r. refl;
+    tests = λ id v. then_term (at_ints false Eq (pos v.what.number) (pos number)) (last_term (at_ints false Eq v.until never)) ∙ ap (λ b. b && int_eq v.until never) (same_number v.what.number number);
+    id_shown = λ r. refl;
+    writes = λ id v. simp (cast_whole);
+  };
+}
+
+asks_all : (indexes : List Index) → Asks (land_with indexes) ALL.now (plainly 10 [] (columns_of 1 1 7))
+unfolding understood everything
+asks_all indexes = record { names = codes "number" ∷ codes "unit" ∷ codes "label" ∷ codes "outline" ∷ codes "source" ∷ codes "since" ∷ codes "until" ∷ []; command = refl; unlisted = refl; plain = (refl, refl) }
+
+pub listing : IsListing 10 ALL.now (columns_of 1 1 7) (columns_from 1 7)
+listing = record { asks = asks_all; read = λ db. refl; shows = λ r. refl }

@@ -1,0 +1,68 @@
+-- The statements on `role`.
+use Rattle.std.proofs.Common.{◌≡◌, ◌&&◌, ℕ, pos, Bool, true, false, List, [], ◌∷◌, refl, ap₂, ◌∙◌, codes}
+use Rattle.std.specs.Ordering.{int_eq}
+use Rattle.land_tables_schema.proofs.Asks.{Asks, IsListing}
+use Rattle.land_tables_schema.proofs.Casts.{cast_null, cast_whole, same_number, same_text}
+use Rattle.land_tables_schema.proofs.Statements.{IsInsertion, IsUpdate}
+use Rattle.land_tables_schema.proofs.Updates.{plainly}
+use Rattle.land_tables_schema.proofs.Versions.{IsBeginning, IsClosing, begin_terms, close_terms, columns_of}
+use Rattle.land_tables_schema.specs.Land.{land_with}
+use Rattle.land_tables_schema.specs.Rows.Looks.{columns_from}
+use Rattle.land_tables_schema.specs.Rows.Role.{is_grant, role_cells}
+use Rattle.land_tables_schema.specs.Rows.Versions.{never, whole}
+use Rattle.land_tables_schema.specs.Tables as table
+use Rattle.land_tables_schema.specs.declared.rows.tables.role.TheConstants.{ALL, BEGIN, CLOSE}
+use Rattle.sqlite.specs.Listing.{understood}
+use Rattle.sqlite.specs.Term.{Term, lit, col, op2}
+use Rattle.sqlite.specs.declared.types.Value.TheVariants.{Int, Text}
+use Rattle.sqlite_schema.specs.declared.schema.Index.{Index}
+use Rattle.sqlite_sql.specs.declared.ops.BinaryOp.TheVariants.{Compare}
+use Rattle.sqlite_sql.specs.declared.ops.CompareOp.TheVariants.{Eq}
+use Rattle.sqlite_tied.specs.Compute.{everything}
+use Rattle.sqlite_typed.proofs.TestLemmas.{at_ints, at_texts, then_term, last_term}
+use Rattle.sqlite_value.specs.declared.keys.Collation.TheVariants.{Binary}
+
+inserts_one : (indexes : List Index) → IsInsertion (land_with indexes) BEGIN.now 3 table.role (begin_terms 2) 5
+unfolding understood everything
+inserts_one indexes = record { command = refl; plain = (refl, refl); table = refl; one = λ _. refl; alone = λ _ _. refl }
+
+pub beginning : IsBeginning table.role role_cells BEGIN.now 3 2
+beginning = record { insertion = inserts_one; fills = λ id v. refl; shows = λ c since. refl; exact = λ c since. simp (cast_null, cast_whole) }
+
+abbrev pub where_it_stands : List Term
+where_it_stands = op2 (Compare Eq Binary) (col 1 1) (col 0 0) ∷ op2 (Compare Eq Binary) (col 1 2) (col 0 1) ∷ op2 (Compare Eq Binary) (col 1 4) (lit (Int never)) ∷ []
+
+updates_it : (indexes : List Index) → IsUpdate (land_with indexes) CLOSE.now 3 table.role (plainly 4 where_it_stands (close_terms 2 2))
+unfolding understood everything
+updates_it indexes = record { command = refl; plain = (refl, refl); table = refl; alone = λ _ _ _. refl }
+
+-- two tests and a third, one after another
+all_three : {a b c d : Bool} (e : Bool) → a ≡ b → c ≡ d → (a && (c && e)) ≡ ((b && d) && e)
+all_three {b = b} {d = d} e p q = ap₂ (λ x y. x && (y && e)) p q ∙ grouped b d e
+  where
+    grouped : (x y z : Bool) → (x && (y && z)) ≡ ((x && y) && z)
+    grouped true y z = refl
+    grouped false y z = refl
+
+pub closing : (party : ℕ) (word : List ℕ) → IsClosing table.role 2 role_cells CLOSE.now 3 where_it_stands (close_terms 2 2) (whole party ∷ Text word ∷ []) (is_grant party word)
+closing party word = record {
+  update = updates_it;
+  turning = λ stamp. record {
+    read = λ db. refl;
+    fills = λ id v. refl;
+    tests_alike = λ r. refl;
+    shows_alike = λ r. refl;
+    tests = λ id v.
+        then_term (at_ints false Eq (pos v.what.party) (pos party)) (then_term (at_texts false Eq v.what.role word) (last_term (at_ints false Eq v.until never)))
+        ∙ all_three (int_eq v.until never) (same_number v.what.party party) (same_text v.what.role word);
+    id_shown = λ r. refl;
+    writes = λ id v. simp (cast_whole);
+  };
+}
+
+asks_all : (indexes : List Index) → Asks (land_with indexes) ALL.now (plainly 4 [] (columns_of 1 1 4))
+unfolding understood everything
+asks_all indexes = record { names = codes "party" ∷ codes "role" ∷ codes "since" ∷ codes "until" ∷ []; command = refl; unlisted = refl; plain = (refl, refl) }
+
+pub listing : IsListing 4 ALL.now (columns_of 1 1 4) (columns_from 1 4)
+listing = record { asks = asks_all; read = λ db. refl; shows = λ r. refl }

@@ -1,0 +1,62 @@
+-- What the statements do that begin and close a version of something.
+use Rattle.std.proofs.Common.{◌≡◌, ◌&&◌, ℕ, zero, suc, ◌+◌, ℤ, List, [], ◌∷◌, ◌++◌, Bool, Ok, subst}
+use Rattle.std.specs.Ordering.{int_eq}
+use Rattle.land_tables_schema.proofs.Indexes.{whatever_indexes}
+use Rattle.land_tables_schema.proofs.Inserts.{adds}
+use Rattle.land_tables_schema.proofs.Statements.{IsEdited, IsInsertion, IsUpdate, bare, inserts, updates}
+use Rattle.land_tables_schema.proofs.Updates.{IsTurning, plainly, turns}
+use Rattle.land_tables_schema.specs.Land.{IsLand, land_with}
+use Rattle.land_tables_schema.specs.Rows.Forms.{Adds, Turns}
+use Rattle.land_tables_schema.specs.Rows.Looks.{columns_from}
+use Rattle.land_tables_schema.specs.Rows.Versions.{Version, begun, closed, never, versions_in}
+use Rattle.sqlite.specs.Cast.{cast_row}
+use Rattle.sqlite.specs.Edit.{edit_of}
+use Rattle.sqlite.specs.Rowids.TheVariants.{Chosen}
+use Rattle.sqlite.specs.State.{State, Executes}
+use Rattle.sqlite.specs.Term.{Term, lit, col, eval_all}
+use Rattle.sqlite.specs.declared.types.Value.TheVariants.{Null, Int}
+use Rattle.sqlite_schema.specs.declared.schema.Index.{Index}
+use Rattle.sqlite_schema.specs.declared.schema.Table.{Table}
+use Rattle.sqlite_value.specs.Order.{Row}
+
+-- some columns of a slot, from one on
+abbrev pub columns_of : (slot from count : ℕ) → List Term
+columns_of slot from zero = []
+columns_of slot from (suc count) = col slot from ∷ columns_of slot (suc from) count
+
+-- what a statement that begins a version puts in: no rowid, the cells and the beginning, which are its parameters, and the open end
+abbrev pub begin_terms : ℕ → List Term
+begin_terms count = lit Null ∷ (columns_of 0 0 (suc count) ++ lit (Int never) ∷ [])
+
+-- a text begins a version, of things with some number of cells
+pub record IsBeginning {C : Type 0} (table : Table) (cells : C → Row) (text : List ℕ) (place count : ℕ) : Type 0 where
+  pub insertion : (indexes : List Index) → IsInsertion (land_with indexes) text place table (begin_terms count) (count + 3)
+  pub fills : (id : ℤ) (v : Version C) → columns_from 1 (suc (suc count)) (Int id ∷ (cells v.what ++ Int v.since ∷ Int v.until ∷ [])) ≡ cells v.what ++ Int v.since ∷ Int v.until ∷ []
+  pub shows : (c : C) (since : ℤ) → eval_all (begin_terms count) ((cells c ++ Int since ∷ []) ∷ []) ≡ Null ∷ (cells c ++ Int since ∷ Int never ∷ [])
+  pub exact : (c : C) (since : ℤ) → cast_row (bare table) (Null ∷ (cells c ++ Int since ∷ Int never ∷ [])) ≡ Null ∷ (cells c ++ Int since ∷ Int never ∷ [])
+
+module _ {C : Type 0} (table : Table) (cells : C → Row) (text : List ℕ) (place count : ℕ) (is : IsBeginning table cells text place count) (old new : State) (c : C) (since : ℤ) (done : ℕ) where
+  pub begins : IsLand old.now.schema → Executes text (cells c ++ Int since ∷ []) old new (Ok done) → Adds (versions_in table count cells) (begun c since) old.now new.now
+  begins land h =
+      let indexes = old.now.schema.indexes in
+      let has = (whatever_indexes old.now.schema).0 land in
+      let did = inserts (land_with indexes) text place table (begin_terms count) (count + 3) (is.insertion indexes) old new (cells c ++ Int since ∷ []) done has h in
+      adds (versions_in table count cells) (begun c since) is.fills indexes old.now new.now (subst (λ row. IsEdited (land_with indexes) (edit_of old.now.trees (bare table) [] Chosen 0 (row ∷ [])) old.now new.now) (is.shows c since) did) has (is.exact c since)
+
+-- what a statement that closes a version writes: the rowid, then the row as it was but for its end, which is a parameter
+abbrev pub close_terms : (count key : ℕ) → List Term
+close_terms count key = col 1 0 ∷ (columns_of 1 0 (count + 2) ++ col 0 key ∷ [])
+
+-- a text closes the versions of what is meant by some cells
+pub record IsClosing {C : Type 0} (table : Table) (count : ℕ) (cells : C → Row) (text : List ℕ) (place : ℕ) (filter project : List Term) (key : Row) (meant : C → Bool) : Type 0 where
+  pub update : (indexes : List Index) → IsUpdate (land_with indexes) text place table (plainly table.tree filter project)
+  pub turning : (stamp : ℤ) → IsTurning (versions_in table count cells) filter project (key ++ Int stamp ∷ []) (λ v. meant v.what && int_eq v.until never) (λ v. record v { until = stamp })
+
+module _ {C : Type 0} (table : Table) (count : ℕ) (cells : C → Row) (text : List ℕ) (place : ℕ) (filter project : List Term) (key : Row) (meant : C → Bool) (is : IsClosing table count cells text place filter project key meant)
+    (old new : State) (stamp : ℤ) (done : ℕ) where
+  pub closes : IsLand old.now.schema → Executes text (key ++ Int stamp ∷ []) old new (Ok done) → Turns (versions_in table count cells) (closed meant stamp) old.now new.now
+  closes land h =
+      let indexes = old.now.schema.indexes in
+      let has = (whatever_indexes old.now.schema).0 land in
+      turns (versions_in table count cells) filter project (key ++ Int stamp ∷ []) (λ v. meant v.what && int_eq v.until never) (λ v. record v { until = stamp }) (is.turning stamp) indexes old.now new.now
+      (updates (land_with indexes) text place table (plainly table.tree filter project) (is.update indexes) old new (key ++ Int stamp ∷ []) done has h) has

@@ -1,0 +1,61 @@
+-- What CREATEs make of a schema, as sqlite understands their texts.
+use Rattle.std.specs.Prelude.{◌≡◌, ℕ, List, [], ◌∷◌, fold, false, Option, Some, None, Ok, Err, Result, slice_get, ⊤}
+use Rattle.sqlite.proofs.Callers.{command_of, statement_of}
+use Rattle.sqlite.specs.Command.{Command}
+use Rattle.sqlite.specs.Command.TheVariants.{CreateTable, CreateIndex}
+use Rattle.sqlite.specs.Compile.{table_defined_by}
+use Rattle.sqlite.specs.Does.{lacks_sequence}
+use Rattle.sqlite.specs.Given.{IsPlain}
+use Rattle.sqlite.specs.Listing.{understood}
+use Rattle.sqlite_catalog.specs.Change.{created, indexed}
+use Rattle.sqlite_resolve.specs.Compile.{index_defined_by}
+use Rattle.sqlite_resolve.specs.declared.error.CompileError.{CompileError}
+use Rattle.sqlite_schema.specs.declared.schema.Index.{Index}
+use Rattle.sqlite_schema.specs.declared.schema.Schema.{Schema}
+use Rattle.sqlite_schema.specs.declared.schema.Table.{Table}
+
+-- a table that a text defines is made; a text that defines none makes nothing
+abbrev pub table_made : Schema → Result Table CompileError → Schema
+table_made s (Ok t) = created s t
+table_made s (Err e) = s
+
+-- so is an index on a table
+abbrev pub index_made : Schema → Table → Result Index CompileError → Schema
+index_made s t (Ok i) = indexed s t i
+index_made s t (Err e) = s
+
+-- an index is made on a table that is there
+abbrev pub index_on : Schema → List ℕ → Option Table → Schema
+index_on s text (Some t) = index_made s t (index_defined_by t text)
+index_on s text None = s
+
+-- the schema after a text that is understood as this command
+abbrev pub made_as : Schema → List ℕ → Command → Schema
+made_as s text CreateTable = table_made s (table_defined_by text)
+made_as s text (CreateIndex at) = index_on s text (slice_get s.tables at)
+made_as s text _ = s
+
+-- the schema after a text
+abbrev pub made_by : Schema → List ℕ → Schema
+made_by s text = made_as s text (command_of (understood s text))
+
+-- the schema after texts, one after another
+abbrev pub made : Schema → List (List ℕ) → Schema
+made = fold made_by
+
+-- the command makes a table, none that counts its rows, or an index
+abbrev pub IsDefining : Command → Schema → Type 0
+IsDefining CreateTable after = lacks_sequence after ≡ false
+IsDefining (CreateIndex at) after = ⊤
+IsDefining _ after = ⊥
+
+-- the text is one CREATE and nothing else
+pub record IsDefinition (s : Schema) (text : List ℕ) : Type 0 where
+  pub plain : IsPlain (understood s text)
+  pub whole : statement_of text (understood s text) ≡ text
+  pub defining : IsDefining (command_of (understood s text)) (made_by s text)
+
+-- each text is one CREATE and nothing else, after those before it
+abbrev pub AreDefinitions : Schema → List (List ℕ) → Type 0
+AreDefinitions s [] = ⊤
+AreDefinitions s (text ∷ texts) = IsDefinition s text × AreDefinitions (made_by s text) texts

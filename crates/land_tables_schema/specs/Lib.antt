@@ -1,0 +1,10 @@
+-- Definitions of the tables of the register.
+pub mod Columns
+pub mod Definitions
+pub mod Land
+pub mod Laws
+pub mod Making
+pub mod Rows
+pub mod Shapes
+pub mod Steps
+pub mod Tables

@@ -1,0 +1,16 @@
+-- Definitions of what the tables of the register hold, and of the statements on it.
+pub mod Edition
+pub mod Forms
+pub mod Held
+pub mod Looks
+pub mod Member
+pub mod Moments
+pub mod Mutation
+pub mod Names
+pub mod Parcel
+pub mod Party
+pub mod Role
+pub mod Rrr
+pub mod Source
+pub mod Unit
+pub mod Versions

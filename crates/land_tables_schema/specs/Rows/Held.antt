@@ -1,0 +1,68 @@
+-- All that the tables of the register hold.
+use Rattle.std.specs.Prelude.{◌≡◌, pos, List, [], ◌∷◌, codes}
+use Rattle.land_tables_schema.specs.Land.{made_schema}
+use Rattle.land_tables_schema.specs.Rows.Edition.{Edition, edition_row, first_edition}
+use Rattle.land_tables_schema.specs.Rows.Forms.{Holds, Lists}
+use Rattle.land_tables_schema.specs.Rows.Member.{MemberRow, members}
+use Rattle.land_tables_schema.specs.Rows.Moments.{Moment, moment_row}
+use Rattle.land_tables_schema.specs.Rows.Mutation.{MutationRow, mutations}
+use Rattle.land_tables_schema.specs.Rows.Names.{NamesRow, namings}
+use Rattle.land_tables_schema.specs.Rows.Parcel.{ParcelRow, parcels}
+use Rattle.land_tables_schema.specs.Rows.Party.{PartyRow, parties}
+use Rattle.land_tables_schema.specs.Rows.Role.{RoleRow, roles}
+use Rattle.land_tables_schema.specs.Rows.Rrr.{RrrRow, rrrs}
+use Rattle.land_tables_schema.specs.Rows.Source.{SourceRow, sources}
+use Rattle.land_tables_schema.specs.Rows.Unit.{UnitRow, units}
+use Rattle.land_tables_schema.specs.Rows.Versions.{Version, begun}
+use Rattle.land_tables_schema.specs.Tables as table
+use Rattle.sqlite.specs.Effect.{Database}
+use Rattle.sqlite_trees.specs.Tree.{Trees}
+
+-- the version of the tables, the moments at which the register was changed, and all versions of its records
+pub record Rows : Type 0 where
+  pub editions : List Edition
+  pub moments : List Moment
+  pub parties : List (Version PartyRow)
+  pub roles : List (Version RoleRow)
+  pub members : List (Version MemberRow)
+  pub units : List (Version UnitRow)
+  pub parcels : List (Version ParcelRow)
+  pub rrrs : List (Version RrrRow)
+  pub sources : List (Version SourceRow)
+  pub mutations : List (Version MutationRow)
+  pub namings : List (Version NamesRow)
+
+-- the tables hold these and nothing else
+pub record HoldsRows (db : Trees) (rows : Rows) : Type 0 where
+  pub the_editions : Lists table.edition edition_row db rows.editions
+  pub the_moments : Lists table.moments moment_row db rows.moments
+  pub the_parties : Holds parties db rows.parties
+  pub the_roles : Holds roles db rows.roles
+  pub the_members : Holds members db rows.members
+  pub the_units : Holds units db rows.units
+  pub the_parcels : Holds parcels db rows.parcels
+  pub the_rrrs : Holds rrrs db rows.rrrs
+  pub the_sources : Holds sources db rows.sources
+  pub the_mutations : Holds mutations db rows.mutations
+  pub the_namings : Holds namings db rows.namings
+
+-- a new register: from the first moment on party 1, the land office itself, is state administrator, and 2 is the next number
+abbrev pub new_rows : Rows
+new_rows = record {
+  editions = first_edition ∷ [];
+  moments = record { stamp = pos 0; next = 2 } ∷ [];
+  parties = begun (record { number = 1; name = codes "Land Office"; kind = codes "nonNaturalPerson" }) (pos 0) ∷ [];
+  roles = begun (record { party = 1; role = codes "stateAdministrator" }) (pos 0) ∷ [];
+  members = [];
+  units = [];
+  parcels = [];
+  rrrs = [];
+  sources = [];
+  mutations = [];
+  namings = [];
+}
+
+-- the database of a new register: the tables and indexes, and its rows
+pub record IsNew (db : Database) : Type 0 where
+  pub schema : db.schema ≡ made_schema
+  pub rows : HoldsRows db.trees new_rows

@@ -1,0 +1,49 @@
+-- The rows of `mutation`.
+use Rattle.std.specs.Prelude.{ℕ, ℤ, Bool, ◌==◌, ◌<◌, ◌^◌, List, [], ◌∷◌}
+use Rattle.land_tables_schema.specs.Rows.Forms.{Form}
+use Rattle.land_tables_schema.specs.Rows.Versions.{Version, versions_in, whole}
+use Rattle.land_tables_schema.specs.Tables.{mutation}
+use Rattle.land_tables_schema.specs.declared.rows.tables.mutation.MutationCells.{MutationCells}
+use Rattle.sqlite_value.specs.Order.{Row}
+use Rattle.sqlite_value.specs.declared.value.Value.TheVariants.{Int, Text}
+
+-- a mutation: its number, that of its lodger, its reference, the number of its source, when it was lodged, the word of the act that lodged it, what it asks
+-- for as it is written, and the word for how far it has come
+pub record MutationRow : Type 0 where
+  pub number : ℕ
+  pub lodger : ℕ
+  pub reference : List ℕ
+  pub source : ℕ
+  pub lodged : ℤ
+  pub act : List ℕ
+  pub content : List ℕ
+  pub state : List ℕ
+
+abbrev pub mutation_cells : MutationRow → Row
+mutation_cells r = whole r.number ∷ whole r.lodger ∷ Text r.reference ∷ whole r.source ∷ Int r.lodged ∷ Text r.act ∷ Text r.content ∷ Text r.state ∷ []
+
+abbrev pub mutations : Form (Version MutationRow)
+mutations = versions_in mutation 8 mutation_cells
+
+-- whether it is that mutation
+abbrev pub is_mutation : ℕ → MutationRow → Bool
+is_mutation number r = r.number == number
+
+-- the mutation that the cells of a row say
+abbrev pub mutation_of : MutationCells → MutationRow
+mutation_of c = record {
+  number = c.number;
+  lodger = c.lodger;
+  reference = c.reference.now;
+  source = c.source;
+  lodged = c.lodged;
+  act = c.act.now;
+  content = c.content.now;
+  state = c.state.now;
+}
+
+-- a column can hold each of its numbers
+pub record FitsMutation (c : MutationCells) : Type 0 where
+  pub number : c.number < 2 ^ 63
+  pub lodger : c.lodger < 2 ^ 63
+  pub source : c.source < 2 ^ 63

@@ -1,0 +1,17 @@
+-- The rows of `names`.
+use Rattle.std.specs.Prelude.{ℕ, [], ◌∷◌}
+use Rattle.land_tables_schema.specs.Rows.Forms.{Form}
+use Rattle.land_tables_schema.specs.Rows.Versions.{Version, versions_in, whole}
+use Rattle.land_tables_schema.specs.Tables.{names}
+use Rattle.sqlite_value.specs.Order.{Row}
+
+-- a mutation names a unit: the number of the mutation, and that of the unit
+pub record NamesRow : Type 0 where
+  pub mutation : ℕ
+  pub unit : ℕ
+
+abbrev pub names_cells : NamesRow → Row
+names_cells r = whole r.mutation ∷ whole r.unit ∷ []
+
+abbrev pub namings : Form (Version NamesRow)
+namings = versions_in names 2 names_cells

@@ -1,0 +1,69 @@
+//! The rows of `party`.
+ghost use Rattle.std.specs.Prelude.{◌≡◌, ◌<◌, ◌^◌, false};
+ghost use Rattle.land_tables_schema.specs.Land.{IsLand};
+ghost use Rattle.land_tables_schema.specs.Rows.Forms.{Adds, Turns};
+ghost use Rattle.land_tables_schema.specs.Rows.Looks.{IsLook, AreAll};
+ghost use Rattle.land_tables_schema.specs.Rows.Party.{is_party, parties};
+ghost use Rattle.land_tables_schema.specs.Rows.Versions.{begun, closed};
+ghost use Rattle.land_tables_schema.specs.Steps.{IsStep};
+ghost use Rattle.land_tables_schema.specs.Tables as table;
+ghost use Rattle.sqlite.specs.Held.{state};
+ghost use Rattle.sqlite.specs.State.{HasCleanDisk};
+
+use crate::rows::cells::{of_moment, of_number, of_text};
+use sqlite::{Alter, Connection, Error, Row, Transaction};
+
+/// The text that begins a version.
+const BEGIN: &str =
+    "INSERT INTO party (number, name, kind, since, until) VALUES (?1, ?2, ?3, ?4, 4102444800000)";
+
+/// The text that closes the version that stands.
+const CLOSE: &str = "UPDATE party SET until = ?2 WHERE number = ?1 AND until = 4102444800000";
+
+/// The text that lists all versions.
+const ALL: &str = "SELECT number, name, kind, since, until FROM party";
+
+/// Begins a version of a party.
+pub fn begin<S: Alter>(
+    tx: &mut Transaction<'_, S>,
+    number: u64,
+    name: &str,
+    kind: &str,
+    since: i64,
+) -> Result<usize, Error>
+    requires number_fits { number < 2 ^ 63 }
+    requires land { HasCleanDisk (state S.Store tx.old.conn.now) → IsLand (state S.Store tx.old.conn.now).now.schema }
+    ensures same_reference { tx.new.conn.ghost_name ≡ tx.old.conn.ghost_name }
+    ensures step { IsStep result (Adds parties (begun (record { number = number; name = name.now; kind = kind.now }) since))
+        (state S.Store tx.old.conn.now) (state S.Store tx.new.conn.now) }
+{
+    tx.execute(
+        BEGIN,
+        &[
+            of_number(number),
+            of_text(name),
+            of_text(kind),
+            of_moment(since),
+        ],
+    )
+}
+
+/// Closes the version of a party that stands.
+pub fn close<S: Alter>(tx: &mut Transaction<'_, S>, number: u64, stamp: i64) -> Result<usize, Error>
+    requires number_fits { number < 2 ^ 63 }
+    requires land { HasCleanDisk (state S.Store tx.old.conn.now) → IsLand (state S.Store tx.old.conn.now).now.schema }
+    ensures same_reference { tx.new.conn.ghost_name ≡ tx.old.conn.ghost_name }
+    ensures step { IsStep result (Turns parties (closed (is_party number) stamp)) (state S.Store tx.old.conn.now) (state S.Store tx.new.conn.now) }
+{
+    tx.execute(CLOSE, &[of_number(number), of_moment(stamp)])
+}
+
+/// All versions, each as the cells of its row with its lifespan, in whatever order.
+pub fn all<S: Alter>(conn: &mut Connection<S>) -> Result<Vec<Row>, Error>
+    requires { HasCleanDisk (state S.Store conn.old) → IsLand (state S.Store conn.old).now.schema }
+    ensures look { IsLook result (λ rows. AreAll table.party 3 (state S.Store conn.old).now.trees rows.items)
+        (state S.Store conn.old) (state S.Store conn.new) }
+    ensures mode { conn.old.in_transaction ≡ false → conn.new.in_transaction ≡ false }
+{
+    conn.query_all(ALL, &[])
+}

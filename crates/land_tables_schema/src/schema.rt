@@ -1,0 +1,50 @@
+//! Whether a schema has the tables of the register.
+ghost use Rattle.std.specs.Prelude.{◌≡◌, ◌↔◌, IsTrue, map};
+ghost use Rattle.land_tables_schema.specs.Land.{IsLand, no_schema};
+ghost use Rattle.land_tables_schema.specs.Shapes.{table_of};
+
+use crate::columns::are_columns;
+use crate::keys::{are_rows, is_plain};
+use crate::shape::TableShape;
+use crate::tables::shapes;
+use sqlite_schema::schema::{Schema, Table};
+
+/// Whether a table is that of a shape.
+fn is_table(table: &Table, shape: &TableShape<'_>) -> bool
+    ensures { IsTrue result ↔ (table.now ≡ table_of shape.now) }
+{
+    table.name.as_slice() == shape.name.as_bytes()
+        && table.tree == shape.tree
+        && are_columns(table.columns.as_slice(), shape.columns)
+        && are_rows(table, shape.rows)
+        && is_plain(table)
+}
+
+/// Whether tables are those of these shapes, one by one and no others.
+fn are_tables(tables: &[Table], shapes: &[TableShape<'_>]) -> bool
+    ensures { IsTrue result ↔ (tables.now ≡ map table_of shapes.now) }
+{
+    if tables.len() != shapes.len() {
+        return false;
+    }
+    for at in 0..tables.len() {
+        if !is_table(&tables[at], &shapes[at]) {
+            return false;
+        }
+    }
+    true
+}
+
+/// Whether a schema has the tables of the register and no others, and no views. It may have whatever indexes.
+pub fn is_land(schema: &Schema) -> bool
+    ensures { IsTrue result ↔ IsLand schema.now }
+{
+    are_tables(schema.tables.as_slice(), shapes()) && schema.views.is_empty()
+}
+
+/// Whether a schema has nothing: no table, no index and no view.
+pub fn is_empty(schema: &Schema) -> bool
+    ensures { IsTrue result ↔ (schema.now ≡ no_schema) }
+{
+    schema.tables.is_empty() && schema.indexes.is_empty() && schema.views.is_empty()
+}

@@ -1,0 +1,84 @@
+//! A stream of a thousand requests in one input, and one whose bytes come one by one.
+use crate::desk::office::{Office, is_answered};
+use land_test_scenario::scenario::STEPS;
+use land_test_scenario::stop::{Stop, expect};
+use land_test_scenario::talk::{Talk, Told};
+use std::alloc::{AllocError, Global};
+use std::fmt::Write;
+
+/// The parties that are enrolled, and the requests that come with each: the enrolment, a list, and 98 that name no route.
+const PARTIES: u64 = 10;
+
+const ENROLMENT: &[u8] =
+    b"POST /acts/enrol HTTP/1.1\r\nRegister-Party: 1\r\nRegister-Role: stateAdministrator\r\nContent-Length: 38\r\n\r\n{\"kind\":\"naturalPerson\",\"name\":\"Anna\"}";
+
+const LIST: &[u8] =
+    b"GET /parties HTTP/1.1\r\nRegister-Party: 1\r\nRegister-Role: stateAdministrator\r\n\r\n";
+
+const NO_ROUTE: &[u8] = b"GET / HTTP/1.1\r\n\r\n";
+
+/// A party is enrolled: party 2 at 1000, the next ones each a moment later.
+fn ask_enrolment(talk: &mut Talk, text: &mut String, party: u64) -> Result<(), AllocError> {
+    let stamp = party.saturating_add(998);
+    text.clear();
+    write!(
+        text,
+        "{{\"made\":[{party}],\"number\":{party},\"stamp\":{stamp}}}"
+    )?;
+    talk.input.extend_from_slice(ENROLMENT)?;
+    talk.tell_text(text.as_str())
+}
+
+/// The parties up to this one are listed.
+fn ask_list(talk: &mut Talk, text: &mut String, party: u64) -> Result<(), AllocError> {
+    text.clear();
+    text.push_str("{\"numbers\":[1")?;
+    for number in 2..=party {
+        write!(text, ",{number}")?;
+    }
+    text.push_str("]}")?;
+    talk.input.extend_from_slice(LIST)?;
+    talk.tell_text(text.as_str())
+}
+
+fn ask_a_hundred(talk: &mut Talk, text: &mut String, party: u64) -> Result<(), AllocError> {
+    ask_enrolment(talk, text, party)?;
+    ask_list(talk, text, party)?;
+    for _ in 0..98 {
+        talk.input.extend_from_slice(NO_ROUTE)?;
+        talk.tell(Told::Fault(136), false)?;
+    }
+    Ok(())
+}
+
+fn are_a_thousand_answered(alloc: Global) -> Result<bool, Stop> {
+    let mut talk = Talk::new(alloc)?;
+    let mut text = String::with_capacity(alloc, 256)?;
+    for place in 0..PARTIES {
+        ask_a_hundred(&mut talk, &mut text, place + 2)?;
+    }
+    is_answered(alloc, &talk.input, 65536, 1000, talk.output.as_bytes())
+}
+
+/// A thousand requests in one input are answered.
+pub fn a_thousand_requests_are_answered(alloc: Global) -> Result<(), Stop> {
+    expect(are_a_thousand_answered(alloc)?, "a thousand", 0)
+}
+
+/// The name and the place of the first of ten steps that is answered otherwise where bytes come one by one.
+fn wrong_byte_by_byte(alloc: Global) -> Result<Option<(&'static str, usize)>, Stop> {
+    let mut talk = Talk::new(alloc)?;
+    for (place, step) in STEPS.iter().take(10).enumerate() {
+        talk.ask("the scenario", place, step)?;
+    }
+    let mut office = Office::new(alloc, &[])?;
+    office.first_wrong(alloc, &talk, 1)
+}
+
+/// The bytes of requests may come one by one.
+pub fn bytes_come_one_by_one(alloc: Global) -> Result<(), Stop> {
+    match wrong_byte_by_byte(alloc)? {
+        Some((name, place)) => Err(Stop::Unlike(name, place)),
+        None => Ok(()),
+    }
+}

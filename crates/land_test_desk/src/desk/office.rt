@@ -1,0 +1,115 @@
+//! An office that answers streams in tests.
+use land_desk::serve::{DeskFault, Served, serve};
+use land_keep::keeper::Keeper;
+use land_keep::plain_keeper::PlainKeeper;
+use land_test_scenario::doubles::{Pieces, Readings, Sink};
+pub use land_test_scenario::playing::open_sink;
+use land_test_scenario::stop::Stop;
+pub use land_test_scenario::talk::common;
+use land_test_scenario::talk::{Talk, Told};
+use std::alloc::{AllocError, Global};
+
+/// A register in memory, with its clock.
+#[derive(Drop)]
+pub struct Office {
+    pub keeper: PlainKeeper,
+    pub clock: Readings,
+}
+
+impl Office {
+    /// A new register. The clock reads these moments in turn, and then 1000 each time.
+    pub fn new(alloc: Global, clock: &'static [i64]) -> Result<Office, AllocError> {
+        Ok(Office {
+            keeper: PlainKeeper::new(alloc)?,
+            clock: Readings { left: clock },
+        })
+    }
+
+    /// Serves a stream.
+    pub fn serve(
+        &mut self,
+        alloc: Global,
+        reader: Pieces<'_>,
+        writer: &mut Sink,
+    ) -> Result<Served, DeskFault> {
+        let mut reader = reader;
+        serve(
+            alloc,
+            &mut reader,
+            writer,
+            &mut self.keeper,
+            &mut self.clock,
+        )
+    }
+
+    /// Whether the input, which comes in pieces, is answered by these bytes, which are so many replies. Want of memory
+    /// ends the test.
+    pub fn answers(
+        &mut self,
+        alloc: Global,
+        input: &[u8],
+        piece: usize,
+        replies: u64,
+        answer: &[u8],
+    ) -> Result<bool, Stop> {
+        let mut sink = open_sink(alloc, answer.len())?;
+        let reader = Pieces {
+            left: input,
+            piece,
+            reads: u64::MAX,
+        };
+        let served = self.serve(alloc, reader, &mut sink);
+        if is_want_of_memory(&served, &sink.taken, answer) {
+            return Err(Stop::Memory);
+        }
+        Ok(served == Ok(Served { replies }) && sink.taken.as_slice() == answer)
+    }
+
+    /// The name and the place of the first row that is not answered as it says, if any. The requests come in pieces.
+    pub fn first_wrong(
+        &mut self,
+        alloc: Global,
+        talk: &Talk,
+        piece: usize,
+    ) -> Result<Option<(&'static str, usize)>, Stop> {
+        let mut sink = open_sink(alloc, talk.output.len())?;
+        let reader = Pieces {
+            left: talk.input.as_slice(),
+            piece,
+            reads: u64::MAX,
+        };
+        let served = self.serve(alloc, reader, &mut sink);
+        if is_want_of_memory(&served, &sink.taken, talk.output.as_bytes()) {
+            return Err(Stop::Memory);
+        }
+        Ok(talk.first_wrong(&served, &sink.taken))
+    }
+}
+
+/// Whether serving came to an end for want of memory, or the first reply that is not as it was to be has the status 503.
+pub fn is_want_of_memory(served: &Result<Served, DeskFault>, taken: &[u8], wanted: &[u8]) -> bool {
+    if *served == Err(DeskFault::NoMemory) {
+        return true;
+    }
+    let same = common(taken, wanted);
+    9 <= same && same <= taken.len() && taken[same - 9..].starts_with(b"HTTP/1.1 5")
+}
+
+/// Whether a new office answers the input, which comes in pieces, by these bytes, which are so many replies.
+pub fn is_answered(
+    alloc: Global,
+    input: &[u8],
+    piece: usize,
+    replies: u64,
+    answer: &[u8],
+) -> Result<bool, Stop> {
+    let mut office = Office::new(alloc, &[])?;
+    office.answers(alloc, input, piece, replies, answer)
+}
+
+/// Whether a new office tells this of the input, which is one item, and ends the connection or not.
+pub fn is_told(alloc: Global, input: &[u8], told: Told, ends: bool) -> Result<bool, Stop> {
+    let mut talk = Talk::new(alloc)?;
+    talk.tell(told, ends)?;
+    is_answered(alloc, input, 50, 1, talk.output.as_bytes())
+}

@@ -1,0 +1,484 @@
+//! Commands over files, in the folder in which the tests run. What is done is written over any machine, and done on this one by
+//! `land_local`.
+use land_commands::host::Host;
+use land_commands::local::machine::{Work, on_local_host};
+use land_commands::program_fault::ProgramFault;
+use land_commands::run::run_command;
+use land_commands::words::command::Command;
+use land_core::caller::Caller;
+use land_core::kind::Kind;
+use land_core::role::Role;
+use land_select::sql_keeper::SqlKeeper;
+use land_tables::tables::Tables;
+use land_test_scenario::doubles::{Readings, Sink};
+use land_test_scenario::playing::{open_sink, play_steps};
+use land_test_scenario::stop::{Stop, expect};
+use sqlite::{Alter, Connection};
+use std::fs;
+use std::net::TcpListener;
+use std::rt::HostRuntime;
+
+/// A file of a test, and the log beside it.
+#[derive(Clone, Copy)]
+struct Place(&'static str, &'static str);
+
+/// What is to be done with a file.
+#[derive(Clone, Copy)]
+enum Deed {
+    /// A register is made.
+    New,
+    /// The register is checked.
+    Check,
+    /// A connection is served on this port.
+    Serve(u16),
+    /// The entries are extracted that this party sees in this role at a moment, or now.
+    Extract(u64, Role, Option<i64>),
+}
+
+/// What is done with a file, the status that it ends with, what it says, and what it says on the output of errors.
+#[derive(Clone, Copy)]
+struct Step(Deed, u8, &'static str, &'static str);
+
+/// What is said of a new register.
+const NEW_IS_SOUND: &str = "sound: last 0, next 2\n";
+
+const CANNOT_OPEN: &str = "land: cannot open\n";
+
+const CANNOT_LISTEN: &str = "land: cannot listen\n";
+
+/// Said where a register was to be made in a store that has tables.
+const HAS_TABLES: &str = "land: fault 502\n";
+
+/// Said of what has not the tables of a register.
+const NOT_OURS: &str = "land: fault 520\n";
+
+/// The words that ask for a deed.
+fn command(deed: Deed, file: &'static str) -> Command<'static> {
+    match deed {
+        Deed::New => Command::New { file },
+        Deed::Check => Command::Check { file },
+        Deed::Serve(port) => Command::Serve {
+            file,
+            port,
+            connections: 1,
+        },
+        Deed::Extract(party, role, at) => Command::Extract {
+            file,
+            clock: 1000,
+            caller: Caller { party, role },
+            kind: Kind::Rrr,
+            at,
+        },
+    }
+}
+
+/// Does a command on a machine, and gives its status.
+fn status<H: Host>(host: &mut H, command: Command<'_>, output: &mut Sink, errors: &mut Sink) -> u8 {
+    let mut input: &[u8] = b"";
+    let mut clock = Readings { left: &[] };
+    run_command(host, command, &mut input, output, errors, &mut clock)
+}
+
+/// Whether a command has said that there was no memory.
+fn lacked_memory(errors: &Sink) -> bool {
+    errors.taken.as_slice() == b"land: fault 501\n".as_slice()
+}
+
+/// A command has ended as a step says. Want of memory stops the test.
+fn expect_end(
+    file: &'static str,
+    place: usize,
+    step: Step,
+    status: u8,
+    output: &Sink,
+    errors: &Sink,
+) -> Result<(), Stop> {
+    if lacked_memory(errors) {
+        return Err(Stop::Memory);
+    }
+    let is_said = output.taken.as_slice() == step.2.as_bytes()
+        && errors.taken.as_slice() == step.3.as_bytes();
+    expect(is_said && status == step.1, file, place)
+}
+
+/// A step ends as it says, on this output.
+fn take_on<H: Host>(
+    host: &mut H,
+    file: &'static str,
+    place: usize,
+    step: Step,
+    output: &mut Sink,
+) -> Result<(), Stop> {
+    let mut errors = open_sink(host.alloc(), 64)?;
+    let status = status(host, command(step.0, file), output, &mut errors);
+    expect_end(file, place, step, status, output, &errors)
+}
+
+/// A step ends as it says.
+fn take<H: Host>(host: &mut H, file: &'static str, place: usize, step: Step) -> Result<(), Stop> {
+    let mut output = open_sink(host.alloc(), 64)?;
+    take_on(host, file, place, step, &mut output)
+}
+
+/// Steps end one after another as they say.
+fn take_all<H: Host>(host: &mut H, file: &'static str, steps: &[Step]) -> Result<(), Stop> {
+    for (place, step) in steps.iter().enumerate() {
+        take(host, file, place, *step)?;
+    }
+    Ok(())
+}
+
+/// Nothing stands in a place.
+fn clear(rt: &HostRuntime, place: Place) {
+    let _ = fs::remove_file(rt, place.0);
+    let _ = fs::remove_file(rt, place.1);
+}
+
+/// Writes these bytes to a new file.
+fn write(rt: &HostRuntime, place: Place, bytes: &[u8]) -> Result<(), Stop> {
+    clear(rt, place);
+    Ok(fs::write(rt, place.0, bytes)?)
+}
+
+/// A file still has these bytes, and no log beside it.
+fn expect_untouched(rt: &HostRuntime, place: Place, bytes: &[u8]) -> Result<(), Stop> {
+    let has_log = fs::exists(rt, place.1)?;
+    let read = fs::read(rt, place.0)?;
+    expect(read.as_slice() == bytes && !has_log, place.0, usize::MAX)
+}
+
+/// What is tried over files.
+#[derive(Clone, Copy)]
+enum Case {
+    New,
+    Played,
+    Missing,
+    NoFile,
+    Empty,
+    Notes,
+    Foreign,
+    Held,
+    Taken,
+}
+
+/// A case, and what lets a test look at files by itself.
+#[derive(Clone, Copy)]
+struct Trial<'a> {
+    rt: &'a HostRuntime,
+    case: Case,
+}
+
+impl Work for Trial<'_> {
+    type Outcome = Result<(), Stop>;
+
+    fn done_on<H: Host>(self, host: &mut H) -> Result<(), Stop> {
+        match self.case {
+            Case::New => new_is_sound(self.rt, host),
+            Case::Played => played_is_sound(self.rt, host),
+            Case::Missing => missing_is_not_made(self.rt, host),
+            Case::NoFile => no_file_is_opened(host),
+            Case::Empty => empty_stays_empty(self.rt, host),
+            Case::Notes => notes_stay(self.rt, host),
+            Case::Foreign => foreign_is_refused(self.rt, host),
+            Case::Held => held_is_refused(self.rt, host),
+            Case::Taken => taken_is_refused(self.rt, host),
+        }
+    }
+}
+
+/// Tries a case on the machine that the tests run on.
+fn tried(rt: &HostRuntime, case: Case) -> Result<(), Stop> {
+    on_local_host(rt, Trial { rt, case })
+}
+
+const NEW: Place = Place("land_new.land", "land_new.land-wal");
+
+/// A register is made once.
+const MADE: &[Step] = &[
+    Step(Deed::New, 0, "", ""),
+    Step(Deed::Check, 0, NEW_IS_SOUND, ""),
+    Step(Deed::New, 1, "", HAS_TABLES),
+    Step(Deed::Check, 0, NEW_IS_SOUND, ""),
+];
+
+/// A register that is made is sound, and is not made again.
+fn new_is_sound<H: Host>(rt: &HostRuntime, host: &mut H) -> Result<(), Stop> {
+    clear(rt, NEW);
+    take_all(host, NEW.0, MADE)?;
+    clear(rt, NEW);
+    Ok(())
+}
+
+/// A new register is sound.
+pub fn a_new_register_is_sound(rt: &HostRuntime) -> Result<(), Stop> {
+    tried(rt, Case::New)
+}
+
+/// Why a test stops where a store cannot be opened.
+fn stop_of(fault: ProgramFault) -> Stop {
+    match fault {
+        ProgramFault::NoMemory => Stop::Memory,
+        _ => Stop::Call,
+    }
+}
+
+/// The store of a file, which is made.
+fn opened<H: Host>(
+    rt: &HostRuntime,
+    host: &mut H,
+    place: Place,
+) -> Result<Connection<H::Store>, Stop> {
+    clear(rt, place);
+    match host.open_new(place.0) {
+        Ok(conn) => Ok(conn),
+        Err(fault) => Err(stop_of(fault)),
+    }
+}
+
+/// The tables of a new register in a file.
+fn made<H: Host>(rt: &HostRuntime, host: &mut H, place: Place) -> Result<Tables<H::Store>, Stop> {
+    match Tables::create(opened(rt, host, place)?) {
+        Ok(tables) => Ok(tables),
+        Err((_, fault)) => Err(Stop::from(fault)),
+    }
+}
+
+/// Plays the scenario over a new register in a file.
+fn play<H: Host>(rt: &HostRuntime, host: &mut H, place: Place) -> Result<(), Stop> {
+    let mut keeper = SqlKeeper::new(made(rt, host, place)?);
+    play_steps(host.alloc(), &mut keeper)
+}
+
+const PLAYED: Place = Place("land_played.land", "land_played.land-wal");
+
+/// The entries that Ben sees after the scenario.
+const ENTRIES: &str = r#"number,unit,party,name,class,share,amount,currency,rank,words,source
+13,9,6,Sam,lease,1/1,,,,,8
+16,9,4,"Bank, ""North""",mortgage,,2500000,EUR,1,,14
+21,9,3,Ben,ownership,1/1,,,,,19
+27,25,6,Sam,lease,1/1,,,,,8
+28,25,4,"Bank, ""North""",mortgage,,2500000,EUR,1,,14
+29,25,3,Ben,ownership,1/1,,,,,19
+"#;
+
+/// The entries of somebody who sees none.
+const NO_ENTRIES: &str = "number,unit,party,name,class,share,amount,currency,rank,words,source\n";
+
+/// The last stamp and the next number after the scenario, and extracts.
+const AFTER_STEPS: &[Step] = &[
+    Step(Deed::Check, 0, "sound: last 1017, next 30\n", ""),
+    Step(Deed::Extract(3, Role::Citizen, None), 0, ENTRIES, ""),
+    Step(
+        Deed::Extract(6, Role::CertifiedSurveyor, None),
+        0,
+        NO_ENTRIES,
+        "",
+    ),
+    Step(
+        Deed::Extract(3, Role::Citizen, Some(1018)),
+        1,
+        "",
+        "land: fault 135\n",
+    ),
+    Step(
+        Deed::Extract(9, Role::Citizen, None),
+        1,
+        "",
+        "land: denied 1\n",
+    ),
+];
+
+/// The register is sound after the scenario, and is extracted.
+fn played_is_sound<H: Host>(rt: &HostRuntime, host: &mut H) -> Result<(), Stop> {
+    play(rt, host, PLAYED)?;
+    take_all(host, PLAYED.0, AFTER_STEPS)?;
+    clear(rt, PLAYED);
+    Ok(())
+}
+
+/// The scenario leaves a sound register.
+pub fn the_scenario_leaves_a_sound_register(rt: &HostRuntime) -> Result<(), Stop> {
+    tried(rt, Case::Played)
+}
+
+const MISSING: Place = Place("land_missing.land", "land_missing.land-wal");
+
+/// No register can be found, for the file cannot be opened.
+const UNOPENED: &[Step] = &[
+    Step(Deed::Check, 1, "", CANNOT_OPEN),
+    Step(Deed::Serve(1), 1, "", CANNOT_OPEN),
+    Step(Deed::Extract(1, Role::Citizen, None), 1, "", CANNOT_OPEN),
+];
+
+/// Nor can one be made.
+const UNMADE: &[Step] = &[Step(Deed::New, 1, "", CANNOT_OPEN)];
+
+/// A file that is missing stays so.
+fn missing_is_not_made<H: Host>(rt: &HostRuntime, host: &mut H) -> Result<(), Stop> {
+    clear(rt, MISSING);
+    take_all(host, MISSING.0, UNOPENED)?;
+    let is_there = fs::exists(rt, MISSING.0)?;
+    let has_log = fs::exists(rt, MISSING.1)?;
+    expect(!is_there && !has_log, MISSING.0, usize::MAX)
+}
+
+/// What is not there is not made.
+pub fn what_is_not_there_is_not_made(rt: &HostRuntime) -> Result<(), Stop> {
+    tried(rt, Case::Missing)
+}
+
+/// Names under which no file can be: a folder, none, one in a folder that is not there.
+const NO_FILES: &[&str] = &[".", "", "no/such/folder"];
+
+/// No register is found or made under such a name.
+fn no_file_is_opened<H: Host>(host: &mut H) -> Result<(), Stop> {
+    for name in NO_FILES {
+        take_all(host, name, UNOPENED)?;
+        take_all(host, name, UNMADE)?;
+    }
+    Ok(())
+}
+
+/// What is no file cannot be opened.
+pub fn what_is_no_file_cannot_be_opened(rt: &HostRuntime) -> Result<(), Stop> {
+    tried(rt, Case::NoFile)
+}
+
+const EMPTY: Place = Place("land_empty.land", "land_empty.land-wal");
+
+/// A file has no tables of a register.
+const UNOWNED: &[Step] = &[
+    Step(Deed::Check, 1, "", NOT_OURS),
+    Step(Deed::Serve(1), 1, "", NOT_OURS),
+];
+
+/// An empty file is no register and stays empty, until one is made in it.
+fn empty_stays_empty<H: Host>(rt: &HostRuntime, host: &mut H) -> Result<(), Stop> {
+    write(rt, EMPTY, b"")?;
+    take_all(host, EMPTY.0, UNOWNED)?;
+    expect_untouched(rt, EMPTY, b"")?;
+    take_all(host, EMPTY.0, MADE)?;
+    clear(rt, EMPTY);
+    Ok(())
+}
+
+/// An empty file is no register and stays empty.
+pub fn an_empty_file_is_no_register_and_stays_empty(rt: &HostRuntime) -> Result<(), Stop> {
+    tried(rt, Case::Empty)
+}
+
+const NOTES: Place = Place("land_notes.txt", "land_notes.txt-wal");
+
+/// What stands in a file that is no store.
+const NOTE: &[u8] = b"SQLite format 3, and no more\n";
+
+/// A file that is no store is left as it is.
+fn notes_stay<H: Host>(rt: &HostRuntime, host: &mut H) -> Result<(), Stop> {
+    write(rt, NOTES, NOTE)?;
+    take_all(host, NOTES.0, UNOPENED)?;
+    take_all(host, NOTES.0, UNMADE)?;
+    expect_untouched(rt, NOTES, NOTE)?;
+    clear(rt, NOTES);
+    Ok(())
+}
+
+/// Another file is left as it is.
+pub fn another_file_is_left_as_it_is(rt: &HostRuntime) -> Result<(), Stop> {
+    tried(rt, Case::Notes)
+}
+
+const FOREIGN: Place = Place("land_foreign.db", "land_foreign.db-wal");
+
+/// Runs a text on a store.
+fn run<S: Alter>(conn: &mut Connection<S>, text: &str) -> Result<(), Stop> {
+    conn.execute_batch(text)?;
+    Ok(())
+}
+
+/// Makes a store of another application.
+fn make_foreign<H: Host>(rt: &HostRuntime, host: &mut H) -> Result<(), Stop> {
+    let mut conn = opened(rt, host, FOREIGN)?;
+    run(&mut conn, "CREATE TABLE note (title TEXT)")
+}
+
+/// No register is made in it.
+const OWNED_ELSEWHERE: &[Step] = &[Step(Deed::New, 1, "", HAS_TABLES)];
+
+/// A store of another application is no register, and none is made in it.
+fn foreign_is_refused<H: Host>(rt: &HostRuntime, host: &mut H) -> Result<(), Stop> {
+    make_foreign(rt, host)?;
+    take_all(host, FOREIGN.0, UNOWNED)?;
+    take_all(host, FOREIGN.0, OWNED_ELSEWHERE)?;
+    take_all(host, FOREIGN.0, UNOWNED)?;
+    clear(rt, FOREIGN);
+    Ok(())
+}
+
+/// A store of another application is refused.
+pub fn a_store_of_another_application_is_refused(rt: &HostRuntime) -> Result<(), Stop> {
+    tried(rt, Case::Foreign)
+}
+
+const HELD: Place = Place("land_held.land", "land_held.land-wal");
+
+/// A file cannot be opened while its tables are in other hands, which then let them go.
+fn take_while_held<H: Host>(host: &mut H, tables: Tables<H::Store>) -> Result<(), Stop> {
+    let found = take_all(host, HELD.0, UNOPENED);
+    let made = take_all(host, HELD.0, UNMADE);
+    drop(tables);
+    found.and(made)
+}
+
+/// What is let go is as it was.
+const LET_GO: &[Step] = &[Step(Deed::Check, 0, NEW_IS_SOUND, "")];
+
+/// A file that is held elsewhere is refused until it is let go.
+fn held_is_refused<H: Host>(rt: &HostRuntime, host: &mut H) -> Result<(), Stop> {
+    let tables = made(rt, host, HELD)?;
+    take_while_held(host, tables)?;
+    take_all(host, HELD.0, LET_GO)?;
+    clear(rt, HELD);
+    Ok(())
+}
+
+/// A file that is held elsewhere cannot be opened.
+pub fn a_file_that_is_held_elsewhere_cannot_be_opened(rt: &HostRuntime) -> Result<(), Stop> {
+    tried(rt, Case::Held)
+}
+
+const TAKEN: Place = Place("land_taken.land", "land_taken.land-wal");
+
+/// A register that is to be served on a port that is taken.
+fn serve_on<H: Host>(rt: &HostRuntime, host: &mut H, port: u16) -> Result<(), Stop> {
+    clear(rt, TAKEN);
+    take(host, TAKEN.0, 0, Step(Deed::New, 0, "", ""))?;
+    take(
+        host,
+        TAKEN.0,
+        1,
+        Step(Deed::Serve(port), 1, "", CANNOT_LISTEN),
+    )?;
+    clear(rt, TAKEN);
+    Ok(())
+}
+
+/// The same on the port of a listener.
+fn serve_beside<H: Host>(
+    rt: &HostRuntime,
+    host: &mut H,
+    listener: &TcpListener,
+) -> Result<(), Stop> {
+    let at = listener.local_addr()?;
+    serve_on(rt, host, at.port())
+}
+
+/// A port that is taken cannot be listened on.
+fn taken_is_refused<H: Host>(rt: &HostRuntime, host: &mut H) -> Result<(), Stop> {
+    let listener = TcpListener::bind(rt, "127.0.0.1:0")?;
+    serve_beside(rt, host, &listener)
+}
+
+/// A port that is taken cannot be listened on.
+pub fn a_port_that_is_taken_cannot_be_listened_on(rt: &HostRuntime) -> Result<(), Stop> {
+    tried(rt, Case::Taken)
+}

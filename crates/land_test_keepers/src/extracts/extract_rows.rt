@@ -1,0 +1,223 @@
+//! The rows of extracts.
+use crate::extracts::page::Page;
+use crate::extracts::texts;
+use land_core::caller::Caller;
+use land_core::kind::Kind;
+use land_core::role::Role;
+use land_keep::keeper::Keeper;
+use land_keep::store_fault::StoreFault;
+use land_select::sql_keeper::SqlKeeper;
+use land_sheet::extracts::extract::extract_to;
+use land_sheet::extracts::fault::ExtractFault;
+use land_tables::tables::Tables;
+use land_test_scenario::playing::{plain, play_steps};
+use land_test_scenario::stop::{Stop, expect};
+use sqlite::{Connection, MemStore};
+use std::alloc::Global;
+
+/// An extract: who asks in which role, the kind, the moment, what is told, and the bytes that are then written.
+#[derive(Drop)]
+struct Extract(
+    u64,
+    Role,
+    Kind,
+    Option<i64>,
+    Result<u64, ExtractFault>,
+    &'static str,
+);
+
+/// Extracts to a writer that takes all. The first ones are known to the byte, the others by their texts.
+const EXTRACTS: &[Extract] = &[
+    Extract(3, Role::Citizen, Kind::Rrr, None, Ok(296), texts::ENTRIES),
+    Extract(
+        6,
+        Role::CertifiedSurveyor,
+        Kind::Rrr,
+        None,
+        Ok(69),
+        texts::NO_ENTRIES,
+    ),
+    Extract(
+        3,
+        Role::Citizen,
+        Kind::Rrr,
+        Some(1018),
+        Err(ExtractFault::Fault(135)),
+        "",
+    ),
+    Extract(
+        9,
+        Role::Citizen,
+        Kind::Rrr,
+        None,
+        Err(ExtractFault::Denied(1)),
+        "",
+    ),
+    Extract(
+        3,
+        Role::Notary,
+        Kind::Parcel,
+        None,
+        Err(ExtractFault::Denied(2)),
+        "",
+    ),
+    Extract(
+        4,
+        Role::Bank,
+        Kind::Rrr,
+        Some(1012),
+        Err(ExtractFault::Denied(3)),
+        "",
+    ),
+    Extract(
+        3,
+        Role::Citizen,
+        Kind::Rrr,
+        Some(1011),
+        Ok(221),
+        texts::OLD_ENTRIES,
+    ),
+    Extract(
+        5,
+        Role::Notary,
+        Kind::Parcel,
+        Some(1011),
+        Ok(123),
+        texts::OLD_PARCEL,
+    ),
+    Extract(
+        2,
+        Role::Citizen,
+        Kind::Parcel,
+        None,
+        Ok(209),
+        texts::PARCELS,
+    ),
+    Extract(5, Role::Notary, Kind::Party, None, Ok(188), texts::PARTIES),
+    Extract(5, Role::Notary, Kind::Unit, None, Ok(48), texts::UNITS),
+    Extract(
+        1,
+        Role::StateAdministrator,
+        Kind::Source,
+        None,
+        Ok(135),
+        texts::SOURCES,
+    ),
+    Extract(
+        1,
+        Role::StateAdministrator,
+        Kind::Mutation,
+        None,
+        Ok(187),
+        texts::MUTATIONS,
+    ),
+];
+
+/// Whether a page has a text or, where there was no memory, so many first bytes of it as were told.
+fn has_front(page: &Page, text: &str, written: u64) -> bool {
+    let taken = page.taken.as_slice();
+    taken.len() as u64 == written && text.as_bytes().starts_with(taken)
+}
+
+/// Stops a test where there was no memory: a front of the text is written then, as long as is told.
+fn pass_memory(
+    told: Result<u64, ExtractFault>,
+    page: &Page,
+    text: &str,
+    place: usize,
+) -> Result<(), Stop> {
+    match told {
+        Err(
+            ExtractFault::Store {
+                fault: StoreFault::NoMemory,
+                written,
+            },
+        ) => {
+            expect(has_front(page, text, written), "a front", place)?;
+            Err(Stop::Memory)
+        }
+        _ => Ok(()),
+    }
+}
+
+/// Writes an extract over a keeper, where the clock reads 1000, and compares what is told and what is written.
+fn compare<K: Keeper>(
+    alloc: Global,
+    keeper: &mut K,
+    extract: &Extract,
+    place: usize,
+) -> Result<(), Stop> {
+    let Extract(party, role, kind, at, wanted, text) = extract;
+    let caller = Caller {
+        party: *party,
+        role: *role,
+    };
+    let mut page = Page::new(alloc, 4096, false)?;
+    let told = extract_to(alloc, keeper, 1000, caller, *kind, *at, &mut page);
+    pass_memory(told, &page, text, place)?;
+    let is_text = page.taken.as_slice() == text.as_bytes();
+    expect(told == *wanted && is_text, "an extract", place)
+}
+
+/// Writes all extracts.
+fn compare_all<K: Keeper>(alloc: Global, keeper: &mut K) -> Result<(), Stop> {
+    for (place, extract) in EXTRACTS.iter().enumerate() {
+        compare(alloc, keeper, extract, place)?;
+    }
+    Ok(())
+}
+
+/// A writer with room for so many bytes has so many of Ben's entries, and that is told.
+fn compare_cut<K: Keeper>(
+    alloc: Global,
+    keeper: &mut K,
+    room: usize,
+    fails: bool,
+) -> Result<(), Stop> {
+    let caller = Caller {
+        party: 3,
+        role: Role::Citizen,
+    };
+    let mut page = Page::new(alloc, room, fails)?;
+    let told = extract_to(alloc, keeper, 1000, caller, Kind::Rrr, None, &mut page);
+    pass_memory(told, &page, texts::ENTRIES, room)?;
+    let written = room as u64;
+    let is_cut = told == Err(ExtractFault::Write { written });
+    expect(
+        is_cut && has_front(&page, texts::ENTRIES, written),
+        "a cut",
+        room,
+    )
+}
+
+/// Writers that take a part: in the header, at its end, in rows, at the end of a row, one byte too few.
+fn compare_cuts<K: Keeper>(alloc: Global, keeper: &mut K) -> Result<(), Stop> {
+    for room in [0usize, 1, 68, 69, 70, 96, 100, 101, 295] {
+        compare_cut(alloc, keeper, room, true)?;
+        compare_cut(alloc, keeper, room, false)?;
+    }
+    Ok(())
+}
+
+/// Over the keeper in memory.
+pub fn extract_rows(alloc: Global) -> Result<(), Stop> {
+    let mut keeper = plain(alloc)?;
+    compare_all(alloc, &mut keeper)?;
+    compare_cuts(alloc, &mut keeper)
+}
+
+/// The tables of a new register.
+pub fn new_tables(alloc: Global) -> Result<Tables<MemStore>, Stop> {
+    match Tables::create(Connection::open_in_memory(alloc)?) {
+        Ok(tables) => Ok(tables),
+        Err((_, fault)) => Err(Stop::from(fault)),
+    }
+}
+
+/// Over the keeper of joins.
+pub fn extract_rows_of_joins(alloc: Global) -> Result<(), Stop> {
+    let mut keeper = SqlKeeper::new(new_tables(alloc)?);
+    play_steps(alloc, &mut keeper)?;
+    compare_all(alloc, &mut keeper)?;
+    compare_cuts(alloc, &mut keeper)
+}

@@ -1,0 +1,79 @@
+//! Rows that are lent one at a time.
+use crate::extracts::extract_rows::new_tables;
+use land_core::caller::Caller;
+use land_core::kind::Kind;
+use land_core::object::Object;
+use land_core::role::Role;
+use land_keep::keeper::Keeper;
+use land_select::sql_keeper::SqlKeeper;
+use land_sheet::extracts::extract_row::ExtractRow;
+use land_sheet::extracts::seen::{Seen, each_seen};
+use land_test_scenario::playing::{plain, play_steps};
+use land_test_scenario::stop::{Stop, expect};
+use std::alloc::Global;
+
+/// Ben, as a citizen.
+const BEN: Caller = Caller {
+    party: 3,
+    role: Role::Citizen,
+};
+
+/// The entries that Ben sees after the scenario: their numbers, and what their parties are called.
+const ENTRIES: &[(u64, &str)] = &[
+    (13, "Sam"),
+    (16, "Bank, \"North\""),
+    (21, "Ben"),
+    (27, "Sam"),
+    (28, "Bank, \"North\""),
+    (29, "Ben"),
+];
+
+/// Whether a row is of the entry of this number, and its party is called so.
+fn is_row(row: &ExtractRow, wanted: (u64, &str)) -> bool {
+    match &row.object {
+        Object::Rrr(entry) => entry.number == wanted.0 && row.name.as_str() == wanted.1,
+        _ => false,
+    }
+}
+
+/// Whether the next row is as it should be.
+fn is_next<K: Keeper>(seen: &mut Seen<'_, K>, wanted: (u64, &str)) -> Result<bool, Stop> {
+    match seen.next()? {
+        Some(row) => Ok(is_row(&row, wanted)),
+        None => Ok(false),
+    }
+}
+
+/// Whether no row is left.
+fn is_end<K: Keeper>(seen: &mut Seen<'_, K>) -> Result<bool, Stop> {
+    Ok(seen.next()?.is_none())
+}
+
+/// The entries that Ben sees are lent in their order, and then none, however often one is asked for.
+fn are_lent<K: Keeper>(seen: &mut Seen<'_, K>) -> Result<(), Stop> {
+    for (place, wanted) in ENTRIES.iter().enumerate() {
+        expect(is_next(seen, *wanted)?, "a row", place)?;
+    }
+    expect(is_end(seen)?, "the end", 0)?;
+    expect(is_end(seen)?, "the end", 1)
+}
+
+/// They are lent by a keeper.
+fn are_lent_by<K: Keeper>(alloc: Global, keeper: &mut K) -> Result<(), Stop> {
+    let last = keeper.last();
+    let mut seen = each_seen(alloc, keeper, BEN, Kind::Rrr, last)?;
+    are_lent(&mut seen)
+}
+
+/// Rows are lent by the keeper in memory.
+pub fn rows_are_lent_by_the_keeper_in_memory(alloc: Global) -> Result<(), Stop> {
+    let mut keeper = plain(alloc)?;
+    are_lent_by(alloc, &mut keeper)
+}
+
+/// Rows are lent by joins.
+pub fn rows_are_lent_by_joins(alloc: Global) -> Result<(), Stop> {
+    let mut keeper = SqlKeeper::new(new_tables(alloc)?);
+    play_steps(alloc, &mut keeper)?;
+    are_lent_by(alloc, &mut keeper)
+}

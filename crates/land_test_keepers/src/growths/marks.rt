@@ -1,0 +1,15 @@
+//! Marks: lines before which and after which allocations are counted.
+use land_test_scenario::stop::Stop;
+
+/// Writes a line.
+pub fn mark(rt: &impl Print, line: &str) -> Result<(), Stop> {
+    match println!(rt; "{line}") {
+        Ok(()) => Ok(()),
+        Err(_) => Err(Stop::Call),
+    }
+}
+
+/// Writes the line after the last call.
+pub fn mark_end(rt: &impl Print) -> Result<(), Stop> {
+    mark(rt, "the end")
+}

@@ -1,0 +1,70 @@
+//! The registers over which calls are counted.
+use land_core::ask::Request;
+use land_keep::keeper::Keeper;
+use land_keep::machine::answer;
+use land_keep::reply::Reply;
+use land_select::sql_keeper::SqlKeeper;
+use land_tables::tables::Tables;
+use land_test_scenario::first::first_request;
+use land_test_scenario::playing::play_steps;
+use land_test_scenario::stop::Stop;
+use sqlite::{Connection, MemStore};
+use std::alloc::Global;
+
+/// How many parties are enrolled after the scenario.
+const NEIGHBOURS: usize = 300;
+
+/// The tables of a new register.
+pub fn new_tables(alloc: Global) -> Result<Tables<MemStore>, Stop> {
+    match Tables::create(Connection::open_in_memory(alloc)?) {
+        Ok(tables) => Ok(tables),
+        Err((_, fault)) => Err(Stop::from(fault)),
+    }
+}
+
+/// The store fault that the caller of an enrolment is told, 0 where somebody is enrolled, 1 where anything else is told.
+fn fault_of<K: Keeper>(alloc: Global, keeper: &mut K, request: &Request) -> u16 {
+    if !request.is_well_formed() {
+        return 1;
+    }
+    match answer(alloc, keeper, 1000, request) {
+        Reply::Done(_) => 0,
+        Reply::Store(number) => number,
+        _ => 1,
+    }
+}
+
+/// Goes on where somebody is enrolled.
+fn pass(fault: u16) -> Result<(), Stop> {
+    match fault {
+        0 => Ok(()),
+        501 => Err(Stop::Memory),
+        _ => Err(Stop::Call),
+    }
+}
+
+/// Somebody is enrolled, so many times.
+fn enrol_neighbours<K: Keeper>(
+    alloc: Global,
+    keeper: &mut K,
+    request: &Request,
+) -> Result<(), Stop> {
+    for _ in 0..NEIGHBOURS {
+        pass(fault_of(alloc, keeper, request))?;
+    }
+    Ok(())
+}
+
+/// Plays the scenario, after which some hundreds of parties are enrolled that hold nothing.
+fn grow<K: Keeper>(alloc: Global, keeper: &mut K) -> Result<(), Stop> {
+    play_steps(alloc, keeper)?;
+    let request = first_request(alloc)?;
+    enrol_neighbours(alloc, keeper, &request)
+}
+
+/// The tables of such a register.
+pub fn large_tables(alloc: Global) -> Result<Tables<MemStore>, Stop> {
+    let mut keeper = SqlKeeper::new(new_tables(alloc)?);
+    grow(alloc, &mut keeper)?;
+    Ok(keeper.into_tables())
+}

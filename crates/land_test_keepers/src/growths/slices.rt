@@ -1,0 +1,146 @@
+//! What acts need of the register.
+use crate::growths::marks::mark;
+use land_acts::slice::Slice;
+use land_core::act::{Act, Decision, Enrol, Lift, Lodging};
+use land_core::caller::Caller;
+use land_core::content::{Content, Discharge};
+use land_core::kind::PartyKind;
+use land_core::role::Role;
+use land_core::roles::Grant;
+use land_core::text::Text;
+use land_keep::keeper::Keeper;
+use land_test_scenario::stop::{Stop, expect};
+use std::alloc::{AllocError, Global};
+
+/// What is asked for.
+#[derive(Clone, Copy)]
+enum Asked {
+    /// That somebody is enrolled.
+    Enrol,
+    /// That Anna becomes a bank.
+    Grant,
+    /// That the mortgage on the garden is approved, once more.
+    Approve,
+    /// That the mortgage on the garden ends.
+    Discharge,
+    /// That the lease is lifted.
+    Lift,
+}
+
+/// What a slice has: how many parties, units and entries.
+#[derive(Clone, Copy)]
+struct Sizes(usize, usize, usize);
+
+/// An act: its name, who asks for it, in which role, what is asked for, and what is needed for it.
+struct Sliced(&'static str, u64, Role, Asked, Sizes);
+
+/// The office is needed for each. What names the garden needs its three entries, what names a party or has a creditor needs that party.
+const SLICED: &[Sliced] = &[
+    Sliced(
+        "for an enrolment",
+        1,
+        Role::StateAdministrator,
+        Asked::Enrol,
+        Sizes(1, 0, 0),
+    ),
+    Sliced(
+        "for a grant",
+        1,
+        Role::StateAdministrator,
+        Asked::Grant,
+        Sizes(2, 0, 0),
+    ),
+    Sliced(
+        "for an approval",
+        1,
+        Role::StateAdministrator,
+        Asked::Approve,
+        Sizes(2, 1, 3),
+    ),
+    Sliced(
+        "for a lodging",
+        4,
+        Role::Bank,
+        Asked::Discharge,
+        Sizes(1, 1, 3),
+    ),
+    Sliced(
+        "for a lift",
+        1,
+        Role::StateAdministrator,
+        Asked::Lift,
+        Sizes(1, 0, 1),
+    ),
+];
+
+fn enrol(alloc: Global) -> Result<Act, AllocError> {
+    let name = Text::new(String::from_str(alloc, "Carl")?);
+    let kind = PartyKind::NaturalPerson;
+    Ok(Act::Enrol(Enrol { kind, name }))
+}
+
+fn discharge(alloc: Global) -> Result<Act, AllocError> {
+    let reference = Text::new(String::from_str(alloc, "D1")?);
+    let document = Text::new(String::from_str(alloc, "Letter")?);
+    let content = Content::Discharge(Discharge {
+        unit: 9,
+        mortgage: 16,
+    });
+    Ok(Act::Lodge(Lodging {
+        reference,
+        document,
+        content,
+    }))
+}
+
+/// The act that is asked for.
+fn act_of(alloc: Global, asked: Asked) -> Result<Act, AllocError> {
+    match asked {
+        Asked::Enrol => enrol(alloc),
+        Asked::Grant => Ok(Act::Grant(Grant {
+            party: 2,
+            role: Role::Bank,
+        })),
+        Asked::Approve => Ok(Act::Approve(Decision { mutation: 15 })),
+        Asked::Discharge => discharge(alloc),
+        Asked::Lift => Ok(Act::Lift(Lift { rrr: 13 })),
+    }
+}
+
+/// Whether a slice has so many of each.
+fn has_sizes(slice: &Slice, sizes: Sizes) -> bool {
+    slice.parties.iter().count() == sizes.0
+        && slice.units.iter().count() == sizes.1
+        && slice.rrrs.iter().count() == sizes.2
+}
+
+/// Whether a keeper gives so much for an act.
+fn gives<K: Keeper>(
+    alloc: Global,
+    keeper: &mut K,
+    caller: Caller,
+    act: &Act,
+    sizes: Sizes,
+) -> Result<bool, Stop> {
+    let slice = keeper.slice(alloc, caller, act)?;
+    Ok(has_sizes(&slice, sizes))
+}
+
+/// Whether what is needed for an act is given.
+fn is_given<K: Keeper>(alloc: Global, keeper: &mut K, sliced: &Sliced) -> Result<bool, Stop> {
+    let caller = Caller {
+        party: sliced.1,
+        role: sliced.2,
+    };
+    let act = act_of(alloc, sliced.3)?;
+    gives(alloc, keeper, caller, &act, sliced.4)
+}
+
+/// What is needed for each act is given.
+pub fn are_given<K: Keeper>(rt: &impl Print, alloc: Global, keeper: &mut K) -> Result<(), Stop> {
+    for (place, sliced) in SLICED.iter().enumerate() {
+        mark(rt, sliced.0)?;
+        expect(is_given(alloc, keeper, sliced)?, sliced.0, place)?;
+    }
+    Ok(())
+}

@@ -1,0 +1,113 @@
+//! The texts of lists read less than whole tables: lists after the scenario, over tables and over joins.
+use crate::growths::marks::{mark, mark_end};
+use crate::growths::registers::new_tables;
+use land_core::caller::Caller;
+use land_core::kind::Kind;
+use land_core::role::Role;
+use land_keep::keeper::Keeper;
+use land_select::sql_keeper::SqlKeeper;
+use land_tables::table_keeper::TableKeeper;
+use land_test_scenario::playing::play_steps;
+use land_test_scenario::stop::{Stop, expect};
+use std::alloc::Global;
+
+/// A list that is asked for: its name, who asks, in which role, for which kind, and what is told.
+struct List(&'static str, u64, Role, Kind, &'static [u64]);
+
+/// The parcels in each role, and each kind as notary.
+const LISTS: &[List] = &[
+    List(
+        "parcels, citizen",
+        2,
+        Role::Citizen,
+        Kind::Parcel,
+        &[24, 26],
+    ),
+    List(
+        "parcels, conveyancer",
+        3,
+        Role::Conveyancer,
+        Kind::Parcel,
+        &[24, 26],
+    ),
+    List("parcels, bank", 4, Role::Bank, Kind::Parcel, &[24, 26]),
+    List(
+        "parcels, certifiedSurveyor",
+        6,
+        Role::CertifiedSurveyor,
+        Kind::Parcel,
+        &[24, 26],
+    ),
+    List(
+        "parcels, stateAdministrator",
+        1,
+        Role::StateAdministrator,
+        Kind::Parcel,
+        &[24, 26],
+    ),
+    List("parcels, notary", 5, Role::Notary, Kind::Parcel, &[24, 26]),
+    List(
+        "parties, notary",
+        5,
+        Role::Notary,
+        Kind::Party,
+        &[1, 2, 3, 4, 5, 6, 7],
+    ),
+    List("units, notary", 5, Role::Notary, Kind::Unit, &[9, 25]),
+    List(
+        "rrrs, notary",
+        5,
+        Role::Notary,
+        Kind::Rrr,
+        &[13, 16, 21, 27, 28, 29],
+    ),
+    List(
+        "sources, notary",
+        5,
+        Role::Notary,
+        Kind::Source,
+        &[8, 14, 17, 19, 22],
+    ),
+    List(
+        "mutations, notary",
+        5,
+        Role::Notary,
+        Kind::Mutation,
+        &[15, 18, 20, 23],
+    ),
+];
+
+/// The moment of the last step.
+const LAST: i64 = 1017;
+
+/// Whether a keeper tells a list as it is.
+fn is_told<K: Keeper>(alloc: Global, keeper: &mut K, list: &List) -> Result<bool, Stop> {
+    let caller = Caller {
+        party: list.1,
+        role: list.2,
+    };
+    let numbers = keeper.sight(alloc, caller, list.3, LAST)?;
+    Ok(numbers.as_slice() == list.4)
+}
+
+/// Plays the scenario, and then asks for each list. A line comes before each, and one after the last.
+fn are_told<K: Keeper>(rt: &impl Print, alloc: Global, keeper: &mut K) -> Result<(), Stop> {
+    play_steps(alloc, keeper)?;
+    for (place, list) in LISTS.iter().enumerate() {
+        mark(rt, list.0)?;
+        expect(is_told(alloc, keeper, list)?, list.0, place)?;
+    }
+    mark_end(rt)
+}
+
+/// Lists by tables.
+pub fn lists_by_tables(rt: &impl Print, alloc: Global) -> Result<(), Stop> {
+    let mut keeper = TableKeeper::new(new_tables(alloc)?);
+    are_told(rt, alloc, &mut keeper)
+}
+
+/// Lists by joins.
+pub fn lists_by_joins(rt: &impl Print, alloc: Global) -> Result<(), Stop> {
+    let mut keeper = SqlKeeper::new(new_tables(alloc)?);
+    are_told(rt, alloc, &mut keeper)
+}

@@ -1,0 +1,140 @@
+//! Verdicts, of whom holds nothing and of whom holds a part.
+use crate::growths::marks::mark;
+use land_core::act::{Act, Decision, Lift};
+use land_core::ask::Ask;
+use land_core::caller::Caller;
+use land_core::kind::Kind;
+use land_core::role::Role;
+use land_core::roles::Grant;
+use land_keep::keeper::Keeper;
+use land_keep::moments::named_moment;
+use land_rules::verdict::Verdict;
+use land_test_scenario::stop::{Stop, expect};
+use std::alloc::Global;
+
+/// What is asked for now.
+#[derive(Clone, Copy)]
+enum Asked {
+    /// An object of a kind, by its number.
+    View(Kind, u64),
+    /// The title sheet of a unit.
+    Sheet(u64),
+    /// That a party is given a role.
+    Grant(u64, Role),
+    /// That a mutation is approved.
+    Approve(u64),
+    /// That a burden is lifted.
+    Lift(u64),
+}
+
+/// What is judged: its name, who asks, in which role, for what, and the rule that denies it, 0 where none does.
+struct Judged(&'static str, u64, Role, Asked, u8);
+
+/// The garden, the ownership in it, and its subdivision, which Sam lodged.
+const GARDEN: Asked = Asked::View(Kind::Unit, 9);
+
+const OWNERSHIP: Asked = Asked::View(Kind::Rrr, 21);
+
+const SUBDIVISION: Asked = Asked::View(Kind::Mutation, 23);
+
+/// Nora holds nothing, Ben owns the garden, Sam has a lease in it and the bank a mortgage on it.
+const JUDGED: &[Judged] = &[
+    Judged("a unit, denied", 5, Role::Citizen, GARDEN, 11),
+    Judged("a unit, allowed", 3, Role::Citizen, GARDEN, 0),
+    Judged("an entry, denied", 5, Role::Citizen, OWNERSHIP, 12),
+    Judged("an entry, allowed", 3, Role::Citizen, OWNERSHIP, 0),
+    Judged("a sheet, denied", 5, Role::Citizen, Asked::Sheet(9), 11),
+    Judged("a sheet, allowed", 6, Role::Citizen, Asked::Sheet(9), 0),
+    Judged("a unit, to a bank", 4, Role::Bank, GARDEN, 0),
+    Judged("a unit, to a notary", 5, Role::Notary, GARDEN, 0),
+    Judged("a mutation, denied", 5, Role::Citizen, SUBDIVISION, 14),
+    Judged("a mutation, allowed", 3, Role::Citizen, SUBDIVISION, 0),
+    Judged(
+        "a mutation, to its lodger",
+        6,
+        Role::CertifiedSurveyor,
+        SUBDIVISION,
+        0,
+    ),
+    Judged("a mutation, to another", 4, Role::Bank, SUBDIVISION, 18),
+    Judged(
+        "a grant, allowed",
+        1,
+        Role::StateAdministrator,
+        Asked::Grant(2, Role::Bank),
+        0,
+    ),
+    Judged(
+        "an approval, denied",
+        5,
+        Role::Notary,
+        Asked::Approve(18),
+        4,
+    ),
+    Judged(
+        "a lift, allowed",
+        1,
+        Role::StateAdministrator,
+        Asked::Lift(13),
+        0,
+    ),
+];
+
+/// What is asked for, as a keeper is asked.
+fn ask_of(asked: Asked) -> Ask {
+    match asked {
+        Asked::View(kind, number) => Ask::View {
+            kind,
+            number,
+            at: None,
+        },
+        Asked::Sheet(unit) => Ask::Sheet { unit, at: None },
+        Asked::Grant(party, role) => Ask::Do(Act::Grant(Grant { party, role })),
+        Asked::Approve(mutation) => Ask::Do(Act::Approve(Decision { mutation })),
+        Asked::Lift(rrr) => Ask::Do(Act::Lift(Lift { rrr })),
+    }
+}
+
+/// The number of a verdict.
+fn rule_of(verdict: Verdict) -> u8 {
+    match verdict {
+        Verdict::Allowed => 0,
+        Verdict::Denied(rule) => rule,
+    }
+}
+
+/// Whether a keeper denies an ask now by this rule, or allows it for 0.
+fn is_denied_by<K: Keeper>(
+    alloc: Global,
+    keeper: &mut K,
+    caller: Caller,
+    ask: &Ask,
+    rule: u8,
+) -> Result<bool, Stop> {
+    let now = keeper.last();
+    let at = named_moment(ask).unwrap_or(now);
+    if now < at {
+        return Ok(false);
+    }
+    let verdict = keeper.first_denial(alloc, caller, ask, now)?;
+    Ok(rule_of(verdict) == rule)
+}
+
+/// Whether a keeper judges as it is to be.
+fn is_judged<K: Keeper>(alloc: Global, keeper: &mut K, judged: &Judged) -> Result<bool, Stop> {
+    let caller = Caller {
+        party: judged.1,
+        role: judged.2,
+    };
+    let ask = ask_of(judged.3);
+    is_denied_by(alloc, keeper, caller, &ask, judged.4)
+}
+
+/// Each of them is judged as it is to be.
+pub fn are_judged<K: Keeper>(rt: &impl Print, alloc: Global, keeper: &mut K) -> Result<(), Stop> {
+    for (place, judged) in JUDGED.iter().enumerate() {
+        mark(rt, judged.0)?;
+        expect(is_judged(alloc, keeper, judged)?, judged.0, place)?;
+    }
+    Ok(())
+}

@@ -1,0 +1,67 @@
+//! Streams that end before a request does, and heads at their limit.
+use land_test_scenario::talk::Told::{self, Fault, Shown};
+use land_test_scenario::talk::{ENROL, OFFICE, Row, Talk};
+use std::alloc::{AllocError, Global};
+
+const NAME: &str = "streams";
+
+/// A head may have so many bytes.
+const LONGEST_HEAD: usize = 8192;
+
+const ENROLLED: Row = Row(
+    "POST /acts/enrol",
+    OFFICE,
+    ENROL,
+    Shown(r#"{"made":[2],"number":2,"stamp":1000}"#),
+);
+
+/// The same request without the last byte of its body.
+const CUT: &[u8] =
+    b"POST /acts/enrol HTTP/1.1\r\nRegister-Party: 1\r\nRegister-Role: stateAdministrator\r\nContent-Length: 38\r\n\r\n{\"kind\":\"naturalPerson\",\"name\":\"Anna\"";
+
+/// What a head begins with that lists the parties, up to the padding that fills it.
+const LISTING: &[u8] =
+    b"GET /parties HTTP/1.1\r\nRegister-Party: 1\r\nRegister-Role: stateAdministrator\r\nPadding: ";
+
+const END_OF_HEAD: &[u8] = b"\r\n\r\n";
+
+/// This is told of what the input has had since the row before.
+fn tell_next(talk: &mut Talk, told: Told, ends: bool) -> Result<(), AllocError> {
+    talk.tell(told, ends)?;
+    if let Some(mark) = talk.marks.last() {
+        let mut next = *mark;
+        next.asked = talk.input.len();
+        next.told = talk.output.len();
+        talk.marks.push(next)?;
+    }
+    Ok(())
+}
+
+/// A head of so many bytes comes next, which lists the parties.
+fn push_head(talk: &mut Talk, length: usize) -> Result<(), AllocError> {
+    talk.input.extend_from_slice(LISTING)?;
+    for _ in LISTING.len() + END_OF_HEAD.len()..length {
+        talk.input.push(b'a')?;
+    }
+    talk.input.extend_from_slice(END_OF_HEAD)
+}
+
+/// An enrolment, and the same once more, which ends a byte too early.
+pub(crate) fn cut_in_a_body(alloc: Global) -> Result<Talk, AllocError> {
+    let mut talk = Talk::new(alloc)?;
+    talk.ask(NAME, 0, &ENROLLED)?;
+    talk.input.extend_from_slice(CUT)?;
+    tell_next(&mut talk, Fault(144), true)?;
+    Ok(talk)
+}
+
+/// An enrolment, then the longest head that is read, and one that is longer by a byte.
+pub(crate) fn heads_at_their_limit(alloc: Global) -> Result<Talk, AllocError> {
+    let mut talk = Talk::new(alloc)?;
+    talk.ask(NAME, 0, &ENROLLED)?;
+    push_head(&mut talk, LONGEST_HEAD)?;
+    tell_next(&mut talk, Shown(r#"{"numbers":[1,2]}"#), false)?;
+    push_head(&mut talk, LONGEST_HEAD + 1)?;
+    tell_next(&mut talk, Fault(141), true)?;
+    Ok(talk)
+}

@@ -1,0 +1,123 @@
+//! Worked rows as bytes, over the two keepers of tables beside the one in memory: the scenario with what is told beside it, and other turns
+//! that the register may take.
+use crate::keepers::keepers::play_over_each;
+use crate::keepers::looks::{FIRST_LOOKS, LAST_LOOKS};
+use crate::keepers::parcels::PARCELS;
+use crate::keepers::requests::{BODIES, CALLERS, ROUTES, SHARES_AND_OUTLINES, TARGETS};
+use crate::keepers::story::Story;
+use crate::keepers::streams::{cut_in_a_body, heads_at_their_limit};
+use crate::keepers::turns::{EARLY, ROLES, TRANSFERS};
+use land_test_scenario::scenario::STEPS;
+use land_test_scenario::stop::Stop;
+use land_test_scenario::talk::Talk;
+use std::alloc::{AllocError, Global};
+
+/// Requests over a new register.
+const REQUESTS: &[Story] = &[
+    Story("routes", 0, &[], ROUTES),
+    Story("targets", 0, &[], TARGETS),
+    Story("callers", 0, &[], CALLERS),
+];
+
+/// Bodies of acts over a new register.
+const ACTS: &[Story] = &[
+    Story("bodies", 0, &[], BODIES),
+    Story("shares and outlines", 0, &[], SHARES_AND_OUTLINES),
+];
+
+/// The talk of a story, the steps before it among its rows.
+fn talk_of(alloc: Global, story: &Story) -> Result<Talk, AllocError> {
+    let mut talk = Talk::new(alloc)?;
+    for (place, step) in STEPS.iter().enumerate() {
+        if place < story.1 {
+            talk.ask("the scenario", place, step)?;
+        }
+    }
+    talk.ask_all(story.0, story.3)?;
+    Ok(talk)
+}
+
+fn is_told(alloc: Global, story: &Story) -> Result<(), Stop> {
+    let talk = talk_of(alloc, story)?;
+    play_over_each(alloc, story.2, &talk)
+}
+
+/// Stories are told by each keeper, each over a new register.
+fn are_told(alloc: Global, stories: &[Story]) -> Result<(), Stop> {
+    for story in stories {
+        is_told(alloc, story)?;
+    }
+    Ok(())
+}
+
+/// Requests are told their first fault.
+pub fn requests_are_told_their_first_fault(alloc: Global) -> Result<(), Stop> {
+    are_told(alloc, REQUESTS)
+}
+
+/// Bodies are told their first fault.
+pub fn bodies_are_told_their_first_fault(alloc: Global) -> Result<(), Stop> {
+    are_told(alloc, ACTS)
+}
+
+/// The register takes early turns.
+pub fn the_register_takes_early_turns(alloc: Global) -> Result<(), Stop> {
+    are_told(alloc, EARLY)
+}
+
+/// Rights are transferred.
+pub fn rights_are_transferred(alloc: Global) -> Result<(), Stop> {
+    are_told(alloc, TRANSFERS)
+}
+
+/// Roles and banks come and go.
+pub fn roles_and_banks_come_and_go(alloc: Global) -> Result<(), Stop> {
+    are_told(alloc, ROLES)
+}
+
+/// Parcels are cut and merged.
+pub fn parcels_are_cut_and_merged(alloc: Global) -> Result<(), Stop> {
+    are_told(alloc, PARCELS)
+}
+
+fn ask_beside(talk: &mut Talk, looks: &[Story], steps: usize) -> Result<(), AllocError> {
+    for look in looks {
+        if look.1 == steps {
+            talk.ask_all(look.0, look.3)?;
+        }
+    }
+    Ok(())
+}
+
+/// The talk of the whole scenario, where after each step comes what is told beside it.
+fn talk_beside(alloc: Global, looks: &[Story]) -> Result<Talk, AllocError> {
+    let mut talk = Talk::new(alloc)?;
+    for (place, step) in STEPS.iter().enumerate() {
+        ask_beside(&mut talk, looks, place)?;
+        talk.ask("the scenario", place, step)?;
+    }
+    ask_beside(&mut talk, looks, STEPS.len())?;
+    Ok(talk)
+}
+
+fn are_told_beside(alloc: Global, looks: &[Story]) -> Result<(), Stop> {
+    let talk = talk_beside(alloc, looks)?;
+    play_over_each(alloc, &[], &talk)
+}
+
+/// The scenario with what is told beside its first steps.
+pub fn the_scenario_with_what_is_told_beside_its_first_steps(alloc: Global) -> Result<(), Stop> {
+    are_told_beside(alloc, FIRST_LOOKS)
+}
+
+/// The scenario with what is told beside its last steps.
+pub fn the_scenario_with_what_is_told_beside_its_last_steps(alloc: Global) -> Result<(), Stop> {
+    are_told_beside(alloc, LAST_LOOKS)
+}
+
+/// A stream that ends within a request, one that has no byte, and heads at their limit.
+pub fn streams_end_where_they_are_cut(alloc: Global) -> Result<(), Stop> {
+    play_over_each(alloc, &[], &Talk::new(alloc)?)?;
+    play_over_each(alloc, &[], &cut_in_a_body(alloc)?)?;
+    play_over_each(alloc, &[], &heads_at_their_limit(alloc)?)
+}

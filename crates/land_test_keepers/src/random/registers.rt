@@ -1,0 +1,98 @@
+//! Registers that chance makes.
+use crate::random::dice::Dice;
+use crate::random::drawn::{OFFICE, draw};
+use crate::random::keepers::Keepers;
+use crate::random::looks::{KINDS, look_around};
+use crate::random::page::Page;
+use land_keep::keeper::Keeper;
+use land_test_scenario::stop::{Stop, expect};
+use std::alloc::Global;
+
+/// How many requests are made.
+const REQUESTS: u32 = 600;
+
+/// How many changes, and objects that stand, there are at least in the end, and how many lists are compared.
+const CHANGES: i64 = 190;
+
+const OBJECTS: usize = 390;
+
+const LISTS: usize = 3800;
+
+/// One request more, which now and then is the one before it again, is told alike.
+fn tell_one(
+    alloc: Global,
+    keepers: &mut Keepers,
+    page: &mut Page,
+    dice: &mut Dice,
+    place: u32,
+) -> Result<(), Stop> {
+    if dice.throw(12) != 0 || place == 1 {
+        let drawn = draw(alloc, &mut keepers.plain, dice, place)?;
+        page.write(dice, &drawn)?;
+    }
+    keepers.tell_alike(alloc, page, place as usize)
+}
+
+/// How many objects stand now.
+fn objects(alloc: Global, keepers: &mut Keepers) -> Result<usize, Stop> {
+    let last = keepers.plain.last();
+    let mut count = 0usize;
+    for kind in KINDS {
+        let numbers = keepers.plain.sight(alloc, OFFICE, *kind, last)?;
+        count = count.saturating_add(numbers.as_slice().len());
+    }
+    Ok(count)
+}
+
+/// Makes so many requests one after another; each is told alike.
+fn tell_all(
+    alloc: Global,
+    keepers: &mut Keepers,
+    page: &mut Page,
+    dice: &mut Dice,
+) -> Result<(), Stop> {
+    for place in 1..=REQUESTS {
+        tell_one(alloc, keepers, page, dice, place)?;
+    }
+    Ok(())
+}
+
+/// The same, of which a good part was done, denied and refused.
+fn tell_enough(alloc: Global, keepers: &mut Keepers, dice: &mut Dice) -> Result<(), Stop> {
+    let mut page = Page::new(alloc)?;
+    tell_all(alloc, keepers, &mut page, dice)?;
+    page.tally.expect_enough()
+}
+
+/// Makes a register of a seed: it has changed often enough, has enough objects, and is shown alike.
+fn play(alloc: Global, keepers: &mut Keepers, seed: u64) -> Result<(), Stop> {
+    let mut dice = Dice { state: seed };
+    keepers.play_scenario(alloc)?;
+    tell_enough(alloc, keepers, &mut dice)?;
+    let changes = keepers.plain.last().saturating_sub(999);
+    expect(CHANGES <= changes, "changes", 0)?;
+    let count = objects(alloc, keepers)?;
+    expect(OBJECTS <= count, "objects", count)?;
+    look_around(alloc, keepers, &mut dice)?;
+    expect(LISTS <= keepers.lists, "lists", keepers.lists)
+}
+
+fn are_alike(alloc: Global, seed: u64) -> Result<(), Stop> {
+    let mut keepers = Keepers::new(alloc)?;
+    play(alloc, &mut keepers, seed)
+}
+
+/// The register of seed 1.
+pub fn the_register_of_seed_1(alloc: Global) -> Result<(), Stop> {
+    are_alike(alloc, 1)
+}
+
+/// The register of seed 2.
+pub fn the_register_of_seed_2(alloc: Global) -> Result<(), Stop> {
+    are_alike(alloc, 2)
+}
+
+/// The register of seed 3.
+pub fn the_register_of_seed_3(alloc: Global) -> Result<(), Stop> {
+    are_alike(alloc, 3)
+}

@@ -1,0 +1,39 @@
+//! How often requests had which reply.
+use land_test_scenario::stop::{Stop, expect};
+
+/// How often something was done or shown, denied, and refused.
+#[derive(Clone, Copy)]
+pub struct Tally {
+    done: usize,
+    denied: usize,
+    refused: usize,
+}
+
+impl Tally {
+    /// No reply yet.
+    pub fn new() -> Tally {
+        Tally {
+            done: 0,
+            denied: 0,
+            refused: 0,
+        }
+    }
+
+    /// Counts a reply.
+    pub fn count(&mut self, told: &[u8]) {
+        if told.starts_with(b"HTTP/1.1 200 ") {
+            self.done = self.done.saturating_add(1);
+        } else if told.starts_with(b"HTTP/1.1 403 ") {
+            self.denied = self.denied.saturating_add(1);
+        } else if told.starts_with(b"HTTP/1.1 409 ") {
+            self.refused = self.refused.saturating_add(1);
+        }
+    }
+
+    /// Goes on where a good part of each was told.
+    pub fn expect_enough(&self) -> Result<(), Stop> {
+        expect(200 <= self.done, "done", self.done)?;
+        expect(150 <= self.denied, "denied", self.denied)?;
+        expect(50 <= self.refused, "refused", self.refused)
+    }
+}

@@ -1,0 +1,132 @@
+//! Connections that a command serves one after another.
+ghost use Rattle.std.specs.Prelude.{IfErr};
+ghost use Rattle.land_commands.specs.ProgramFaults.{IsFaultOfClosing};
+
+use land_commands::host::Host;
+use land_commands::program_fault::ProgramFault;
+use land_commands::run::run_command;
+use land_commands::words::command::Command;
+use land_desk::service::connections::Connections;
+use land_keep::store_fault::StoreFault;
+use land_tables::tables::Tables;
+use land_test_scenario::calls::{CALLS, Call, Calls, expect_all_told, sinks};
+use land_test_scenario::doubles::{Readings, Sink};
+use land_test_scenario::playing::open_sink;
+use land_test_scenario::stop::{Stop, expect};
+use sqlite::{Connection, MemStore};
+use std::alloc::Global;
+use std::io;
+
+/// A machine with a register in memory under every name, and with connections that are heard once.
+#[derive(Drop)]
+struct TownHost<L> {
+    alloc: Global,
+    visits: Option<L>,
+}
+
+impl<L: Connections + Drop> Host for TownHost<L> {
+    type Store = MemStore;
+
+    type Listener = L;
+
+    ghost holds = { λ _ _. Unit {0} };
+
+    fn alloc(&self) -> Global {
+        self.alloc
+    }
+
+    fn open_new(&mut self, _file: &str) -> Result<Connection<MemStore>, ProgramFault> {
+        Ok(Connection::open_in_memory(self.alloc)?)
+    }
+
+    fn open_found(&mut self, file: &str) -> Result<Connection<MemStore>, ProgramFault> {
+        match Tables::create(self.open_new(file)?) {
+            Ok(tables) => Ok(tables.into_connection()),
+            Err((_, StoreFault::NoMemory)) => Err(ProgramFault::NoMemory),
+            Err(_) => Err(ProgramFault::Open),
+        }
+    }
+
+    fn close(_left: &mut Option<Connection<MemStore>>) -> Result<(), ProgramFault>
+        ensures { IfErr result IsFaultOfClosing }
+    {
+        Ok(())
+    }
+
+    fn listen(&mut self, _port: u16) -> io::Result<L> {
+        match self.visits.take() {
+            Some(visits) => Ok(visits),
+            None => Err(io::Error::from(io::ErrorKind::AddrInUse)),
+        }
+    }
+}
+
+/// Does the command that serves so many of these connections, and gives its status.
+fn status<L: Connections + Drop>(
+    alloc: Global,
+    visits: L,
+    connections: u32,
+    output: &mut Sink,
+    errors: &mut Sink,
+) -> u8 {
+    let command = Command::Serve {
+        file: "town.land",
+        port: 8080,
+        connections,
+    };
+    let mut town = TownHost {
+        alloc,
+        visits: Some(visits),
+    };
+    let mut input: &[u8] = b"";
+    let mut clock = Readings { left: &[] };
+    run_command(&mut town, command, &mut input, output, errors, &mut clock)
+}
+
+/// Connections that a command serves: how many, the status that it ends with, and what it says on the output of errors.
+#[derive(Clone, Copy)]
+struct Ending(u32, u8, &'static str);
+
+/// Whether a command has said that there was no memory.
+fn lacked_memory(errors: &Sink) -> bool {
+    errors.taken.as_slice() == b"land: fault 501\n".as_slice()
+}
+
+/// A command has ended so, and has said nothing else. Want of memory stops the test.
+fn expect_ending(ending: Ending, status: u8, output: &Sink, errors: &Sink) -> Result<(), Stop> {
+    if lacked_memory(errors) {
+        return Err(Stop::Memory);
+    }
+    let is_said = output.taken.is_empty() && errors.taken.as_slice() == ending.2.as_bytes();
+    expect(is_said && status == ending.1, "the ending", 0)
+}
+
+/// The command that serves what is heard ends so.
+fn expect_end<L: Connections + Drop>(alloc: Global, visits: L, ending: Ending) -> Result<(), Stop> {
+    let mut output = open_sink(alloc, 0)?;
+    let mut errors = open_sink(alloc, 64)?;
+    let status = status(alloc, visits, ending.0, &mut output, &mut errors);
+    expect_ending(ending, status, &output, &errors)
+}
+
+/// The command that serves these connections ends so, and on each of them is told what it is to be.
+fn expect_service(alloc: Global, calls: &'static [Call], ending: Ending) -> Result<(), Stop> {
+    let mut sinks = sinks(alloc, calls)?;
+    let visits = Calls {
+        calls,
+        sinks: sinks.iter_mut(),
+    };
+    expect_end(alloc, visits, ending)?;
+    expect_all_told(calls, &sinks)
+}
+
+/// A command serves connections.
+pub fn a_command_serves_connections(alloc: Global) -> Result<(), Stop> {
+    expect_service(alloc, CALLS, Ending(5, 0, ""))
+}
+
+/// A command tells that a connection cannot be had.
+pub fn a_command_tells_that_a_connection_cannot_be_had(alloc: Global) -> Result<(), Stop> {
+    let ending = Ending(2, 1, "land: input or output failed\n");
+    expect_service(alloc, &CALLS[..1], ending)
+}

@@ -1,0 +1,156 @@
+//! Rows: requests that are run in turn over a new register, each with its full reply.
+use crate::cases::asked::{RowAsk, ask};
+use crate::cases::told::is_told;
+use crate::stop::Stop;
+use land_core::ask::Request;
+use land_core::caller::Caller;
+use land_keep::clock::Clock;
+use land_keep::machine::{are_well_formed, run};
+use land_keep::plain_keeper::PlainKeeper;
+use land_keep::reply::Reply;
+use std::alloc::{AllocError, Global};
+
+/// A reading of the clock, who asks what, and the reply in one line.
+pub struct Row(pub i64, pub Caller, pub RowAsk, pub &'static str);
+
+/// A clock that reads the rows' readings in turn, and then 0.
+#[derive(Drop)]
+struct RowClock<'a> {
+    rows: &'a [&'a Row],
+    next: usize,
+}
+
+impl Clock for RowClock<'_> {
+    ghost reads = { λ _ _ _. Unit {0} };
+
+    fn read(&mut self) -> i64 {
+        let place = self.next;
+        self.next = place.saturating_add(1);
+        match self.rows.get(place) {
+            Some(row) => row.0,
+            None => 0,
+        }
+    }
+}
+
+fn add_all<'a>(all: &mut Vec<&'a Row>, rows: &'a [Row]) -> Result<(), AllocError> {
+    for row in rows {
+        all.push(row)?;
+    }
+    Ok(())
+}
+
+/// The rows of some parts, in their order.
+fn rows_of<'a>(alloc: Global, parts: &[&'a [Row]]) -> Result<Vec<&'a Row>, AllocError> {
+    let mut all = Vec::new(alloc);
+    for part in parts {
+        add_all(&mut all, part)?;
+    }
+    Ok(all)
+}
+
+/// The rows that others begin with, and these, in their order.
+fn all_of<'a>(
+    alloc: Global,
+    base: &[&'a [Row]],
+    rows: &'a [Row],
+) -> Result<Vec<&'a Row>, AllocError> {
+    let mut all = rows_of(alloc, base)?;
+    add_all(&mut all, rows)?;
+    Ok(all)
+}
+
+pub fn request(alloc: Global, caller: Caller, it: &RowAsk) -> Result<Request, Stop> {
+    Ok(Request {
+        caller,
+        ask: ask(alloc, it)?,
+    })
+}
+
+fn requests(alloc: Global, rows: &[&Row]) -> Result<Vec<Request>, Stop> {
+    let mut requests = Vec::new(alloc);
+    for row in rows {
+        requests.push(request(alloc, row.1, &row.2)?)?;
+    }
+    Ok(requests)
+}
+
+/// The replies to requests over a keeper; the rows read the clock.
+fn answered_by(
+    alloc: Global,
+    keeper: &mut PlainKeeper,
+    rows: &[&Row],
+    requests: &[Request],
+) -> Result<Vec<Reply>, Stop> {
+    if !are_well_formed(requests) {
+        return Err(Stop::Unmade("a request that is well formed"));
+    }
+    let mut clock = RowClock { rows, next: 0 };
+    Ok(run(alloc, keeper, &mut clock, requests)?)
+}
+
+/// The replies to requests over a new register; the rows read the clock.
+pub fn answered(alloc: Global, rows: &[&Row], requests: &[Request]) -> Result<Vec<Reply>, Stop> {
+    let mut keeper = PlainKeeper::new(alloc)?;
+    answered_by(alloc, &mut keeper, rows, requests)
+}
+
+/// The place of the first row with another reply, if any.
+fn wrong_row(alloc: Global, rows: &[&Row], replies: &[Reply]) -> Result<Option<usize>, AllocError> {
+    if rows.len() != replies.len() {
+        return Ok(Some(replies.len()));
+    }
+    for (place, reply) in replies.iter().enumerate() {
+        if !is_told(alloc, reply, rows[place].3)? {
+            return Ok(Some(place));
+        }
+    }
+    Ok(None)
+}
+
+fn wrong_reply(alloc: Global, rows: &[&Row], requests: &[Request]) -> Result<Option<usize>, Stop> {
+    let replies = answered(alloc, rows, requests)?;
+    Ok(wrong_row(alloc, rows, replies.as_slice())?)
+}
+
+fn wrong_of(alloc: Global, rows: &[&Row]) -> Result<Option<usize>, Stop> {
+    let requests = requests(alloc, rows)?;
+    wrong_reply(alloc, rows, requests.as_slice())
+}
+
+fn wrong_of_all(alloc: Global, base: &[&[Row]], rows: &[Row]) -> Result<Option<usize>, Stop> {
+    let rows = all_of(alloc, base, rows)?;
+    wrong_of(alloc, rows.as_slice())
+}
+
+/// Plays rows over a keeper, and compares the replies in full.
+fn play_over(alloc: Global, keeper: &mut PlainKeeper, rows: &[&Row]) -> Result<(), Stop> {
+    let requests = requests(alloc, rows)?;
+    let replies = answered_by(alloc, keeper, rows, requests.as_slice())?;
+    match wrong_row(alloc, rows, replies.as_slice())? {
+        Some(place) => Err(Stop::Unlike("row", place)),
+        None => Ok(()),
+    }
+}
+
+/// Plays the rows of some parts over a keeper, likewise.
+fn play_parts(alloc: Global, keeper: &mut PlainKeeper, parts: &[&[Row]]) -> Result<(), Stop> {
+    let rows = rows_of(alloc, parts)?;
+    play_over(alloc, keeper, rows.as_slice())
+}
+
+/// Plays rows over a new keeper, one after another, compares the replies in full, and gives the keeper as they left it.
+pub fn keeper_after(alloc: Global, parts: &[&[Row]]) -> Result<PlainKeeper, Stop> {
+    let mut keeper = PlainKeeper::new(alloc)?;
+    play_parts(alloc, &mut keeper, parts)?;
+    Ok(keeper)
+}
+
+/// Plays the rows that these begin with and then these, one after another, over a new register, and compares the replies
+/// in full. The place of a row is counted from the first of them all.
+pub fn play_rows(alloc: Global, base: &[&[Row]], rows: &[Row]) -> Result<(), Stop> {
+    match wrong_of_all(alloc, base, rows)? {
+        Some(place) => Err(Stop::Unlike("row", place)),
+        None => Ok(()),
+    }
+}

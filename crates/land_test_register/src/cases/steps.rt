@@ -1,0 +1,197 @@
+//! The steps that other rows begin with.
+use crate::cases::asked::RowAct::{Approve, Enrol, Grant, Group, Lodge, Register, RegisterAs};
+use crate::cases::asked::RowAsk::Do;
+use crate::cases::asked::{OFFICE, Right, RowAsk, Share};
+use crate::cases::lodged::RowContent::{Mortgage, Transfer};
+use crate::cases::rows::{Row, play_rows};
+use crate::stop::Stop;
+use land_core::caller::Caller;
+use land_core::kind::PartyKind::{NaturalPerson, NonNaturalPerson};
+use land_core::role::Role::{Bank, CertifiedSurveyor, Citizen, Notary};
+use land_core::rrr::RightType::{Lease, Ownership};
+use std::alloc::Global;
+
+pub const ANNA: Caller = Caller {
+    party: 2,
+    role: Citizen,
+};
+
+pub const BEN: Caller = Caller {
+    party: 3,
+    role: Citizen,
+};
+
+pub const BANK: Caller = Caller {
+    party: 4,
+    role: Bank,
+};
+
+/// The bank, looking after its own holdings.
+pub const BANK_ITSELF: Caller = Caller {
+    party: 4,
+    role: Citizen,
+};
+
+pub const NORA: Caller = Caller {
+    party: 5,
+    role: Notary,
+};
+
+pub const NORA_HERSELF: Caller = Caller {
+    party: 5,
+    role: Citizen,
+};
+
+pub const SURVEYOR: Caller = Caller {
+    party: 6,
+    role: CertifiedSurveyor,
+};
+
+pub const SAM: Caller = Caller {
+    party: 6,
+    role: Citizen,
+};
+
+const ANNA_A_THIRD: &[Share] = &[(2, 1, 3), (3, 2, 3)];
+
+/// Anna, Ben and the bank are enrolled.
+const ENROLLED: &[Row] = &[
+    Row(
+        1000,
+        OFFICE,
+        Do(Enrol(NaturalPerson, "Anna")),
+        "done 2 made [2] at 1000",
+    ),
+    Row(
+        1000,
+        OFFICE,
+        Do(Enrol(NaturalPerson, "Ben")),
+        "done 3 made [3] at 1001",
+    ),
+    Row(
+        1000,
+        OFFICE,
+        Do(Enrol(NonNaturalPerson, "Bank, \"North\"")),
+        "done 4 made [4] at 1002",
+    ),
+];
+
+/// The bank has its role, Nora and Sam are enrolled and have theirs, and Anna and Ben become a group.
+const GROUPED: &[Row] = &[
+    Row(1000, OFFICE, Do(Grant(4, Bank)), "done 4 made [] at 1003"),
+    Row(
+        1000,
+        OFFICE,
+        Do(Enrol(NaturalPerson, "Nora")),
+        "done 5 made [5] at 1004",
+    ),
+    Row(1000, OFFICE, Do(Grant(5, Notary)), "done 5 made [] at 1005"),
+    Row(
+        1000,
+        OFFICE,
+        Do(Enrol(NaturalPerson, "Sam")),
+        "done 6 made [6] at 1006",
+    ),
+    Row(
+        1000,
+        OFFICE,
+        Do(Grant(6, CertifiedSurveyor)),
+        "done 6 made [] at 1007",
+    ),
+    Row(
+        1000,
+        OFFICE,
+        Do(Group("Anna and Ben", ANNA_A_THIRD)),
+        "done 7 made [7] at 1008",
+    ),
+];
+
+/// Anna a quarter, the group of Anna and Ben the rest, and Sam's lease.
+pub const SHARED: &[Right] = &[(2, Ownership, 1, 4), (7, Ownership, 3, 4), (6, Lease, 1, 1)];
+
+/// The garden is registered.
+const REGISTERED: &[Row] = &[Row(
+    1000,
+    OFFICE,
+    Do(Register(true, 1, SHARED)),
+    "done 9 made [8, 9, 10, 11, 12, 13] at 1009",
+)];
+
+/// In place of the garden the field is registered: a unit under another name, of which Anna and the group have a half each.
+const FIELD_REGISTERED: &[Row] = &[Row(
+    1000,
+    OFFICE,
+    Do(RegisterAs(
+        "Field",
+        &[(2, Ownership, 1, 2), (7, Ownership, 1, 2), (6, Lease, 1, 1)],
+    )),
+    "done 9 made [8, 9, 10, 11, 12, 13] at 1009",
+)];
+
+/// The bank lends on the garden.
+pub const LOAN: RowAsk = Do(Lodge("M1", "Loan 1", Mortgage(9, 4, 2_500_000)));
+
+/// The loan is lodged.
+const LODGED: &[Row] = &[Row(1000, BANK, LOAN, "done 15 made [14, 15] at 1010")];
+
+/// The loan is approved.
+const MORTGAGED: &[Row] = &[Row(1000, OFFICE, Do(Approve(15)), "done 15 made [16] at 1011")];
+
+/// Anna's quarter of the garden goes to the group.
+pub const QUARTER: RowAsk = Do(Lodge("T1", "Deed 2", Transfer(9, 11, 7, 1, 4)));
+
+/// The group's whole of the garden goes to Ben.
+pub const WHOLE: RowAsk = Do(Lodge("T2", "Deed 3", Transfer(9, 12, 3, 1, 1)));
+
+/// Ben has bought the garden.
+const SOLD: &[Row] = &[
+    Row(1000, NORA, QUARTER, "done 18 made [17, 18] at 1012"),
+    Row(1000, OFFICE, Do(Approve(18)), "done 18 made [] at 1013"),
+    Row(1000, NORA, WHOLE, "done 20 made [19, 20] at 1014"),
+    Row(1000, OFFICE, Do(Approve(20)), "done 20 made [21] at 1015"),
+];
+
+/// The steps up to the mortgage on the garden.
+pub const WITH_GARDEN: &[&[Row]] = &[ENROLLED, GROUPED, REGISTERED, LODGED, MORTGAGED];
+
+/// The same steps, with the field in the garden's place.
+pub const WITH_FIELD: &[&[Row]] = &[ENROLLED, GROUPED, FIELD_REGISTERED, LODGED, MORTGAGED];
+
+/// Plays rows over a new register, and compares the replies in full.
+pub fn play_anew(alloc: Global, rows: &[Row]) -> Result<(), Stop> {
+    play_rows(alloc, &[], rows)
+}
+
+/// Plays rows where Anna, Ben and the bank are enrolled.
+pub fn play_with_parties(alloc: Global, rows: &[Row]) -> Result<(), Stop> {
+    play_rows(alloc, &[ENROLLED], rows)
+}
+
+/// Plays rows where there is the group of Anna and Ben, too.
+pub fn play_with_group(alloc: Global, rows: &[Row]) -> Result<(), Stop> {
+    play_rows(alloc, &[ENROLLED, GROUPED], rows)
+}
+
+/// Plays rows where the garden is registered, too.
+pub fn play_with_garden(alloc: Global, rows: &[Row]) -> Result<(), Stop> {
+    play_rows(alloc, &[ENROLLED, GROUPED, REGISTERED], rows)
+}
+
+/// Plays rows where the loan is lodged, too.
+pub fn play_with_loan(alloc: Global, rows: &[Row]) -> Result<(), Stop> {
+    play_rows(alloc, &[ENROLLED, GROUPED, REGISTERED, LODGED], rows)
+}
+
+/// Plays rows where the loan is approved, too.
+pub fn play_with_mortgage(alloc: Global, rows: &[Row]) -> Result<(), Stop> {
+    play_rows(alloc, WITH_GARDEN, rows)
+}
+
+/// Plays rows where Ben has bought the garden, too.
+pub fn play_with_sale(alloc: Global, rows: &[Row]) -> Result<(), Stop> {
+    play_rows(
+        alloc,
+        &[ENROLLED, GROUPED, REGISTERED, LODGED, MORTGAGED, SOLD],
+        rows,
+    )
+}

@@ -1,0 +1,226 @@
+//! Two worlds that differ in one registration, and whether a caller is told the same of both.
+use crate::cases::asked::OFFICE;
+use crate::cases::rows::keeper_after;
+use crate::cases::steps::{ANNA, BANK, BEN, NORA, SAM, WITH_FIELD, WITH_GARDEN};
+use crate::cases::told::are_alike;
+use crate::stop::{Stop, expect};
+use land_core::ask::{Ask, Request};
+use land_core::caller::Caller;
+use land_core::kind::Kind;
+use land_core::role::Role;
+use land_keep::machine::answer;
+use land_keep::plain_keeper::PlainKeeper;
+use land_keep::reply::Reply;
+use std::alloc::Global;
+
+/// What is looked at in a world.
+#[derive(Clone, Copy, PartialEq, Eq)]
+enum Look {
+    View(Kind, u64),
+    List(Kind),
+    Sheet(u64),
+}
+
+/// The reading of the clock at each look, which is later than all stamps of both worlds.
+const NOW: i64 = 2000;
+
+const KINDS: &[Kind] = &[
+    Kind::Party,
+    Kind::Unit,
+    Kind::Parcel,
+    Kind::Rrr,
+    Kind::Source,
+    Kind::Mutation,
+];
+
+const ROLES: &[Role] = &[
+    Role::Citizen,
+    Role::Conveyancer,
+    Role::Notary,
+    Role::Bank,
+    Role::CertifiedSurveyor,
+    Role::StateAdministrator,
+];
+
+/// No moment, now, before the first stamp, and each stamp of both worlds.
+const MOMENTS: &[Option<i64>] = &[
+    None,
+    Some(NOW),
+    Some(999),
+    Some(1000),
+    Some(1001),
+    Some(1002),
+    Some(1003),
+    Some(1004),
+    Some(1005),
+    Some(1006),
+    Some(1007),
+    Some(1008),
+    Some(1009),
+    Some(1010),
+    Some(1011),
+];
+
+/// Who sees the unit in which the worlds differ, each from which moment on: the office, its owners, its lessee and the notary from its
+/// registration on, and the bank, which is shown nothing of the past, now.
+const SEERS: &[(Caller, i64)] = &[
+    (OFFICE, 1009),
+    (ANNA, 1009),
+    (BEN, 1009),
+    (SAM, 1009),
+    (NORA, 1009),
+    (BANK, NOW),
+];
+
+fn ask_of(look: Look, at: Option<i64>) -> Ask {
+    match look {
+        Look::View(kind, number) => Ask::View { kind, number, at },
+        Look::List(kind) => Ask::List { kind, at },
+        Look::Sheet(unit) => Ask::Sheet { unit, at },
+    }
+}
+
+fn told(
+    alloc: Global,
+    keeper: &mut PlainKeeper,
+    caller: Caller,
+    look: Look,
+    at: Option<i64>,
+) -> Result<Reply, Stop> {
+    let request = Request {
+        caller,
+        ask: ask_of(look, at),
+    };
+    if !request.is_well_formed() {
+        return Err(Stop::Unmade("a request that is well formed"));
+    }
+    Ok(answer(alloc, keeper, NOW, &request))
+}
+
+/// Two registers through time.
+#[derive(Drop)]
+struct Worlds {
+    one: PlainKeeper,
+    other: PlainKeeper,
+}
+
+impl Worlds {
+    fn differ(
+        &mut self,
+        alloc: Global,
+        caller: Caller,
+        look: Look,
+        at: Option<i64>,
+    ) -> Result<bool, Stop> {
+        let one = told(alloc, &mut self.one, caller, look, at)?;
+        let other = told(alloc, &mut self.other, caller, look, at)?;
+        Ok(!are_alike(alloc, &one, &other)?)
+    }
+
+    /// The first view of a kind, by numbers from 1 to 20, whose replies differ.
+    fn first_view(
+        &mut self,
+        alloc: Global,
+        caller: Caller,
+        kind: Kind,
+        at: Option<i64>,
+    ) -> Result<Option<Look>, Stop> {
+        for number in 1..21 {
+            let look = Look::View(kind, number);
+            if self.differ(alloc, caller, look, at)? {
+                return Ok(Some(look));
+            }
+        }
+        Ok(None)
+    }
+
+    /// The first sheet, by numbers from 1 to 20, whose replies differ.
+    fn first_sheet(
+        &mut self,
+        alloc: Global,
+        caller: Caller,
+        at: Option<i64>,
+    ) -> Result<Option<Look>, Stop> {
+        for unit in 1..21 {
+            let look = Look::Sheet(unit);
+            if self.differ(alloc, caller, look, at)? {
+                return Ok(Some(look));
+            }
+        }
+        Ok(None)
+    }
+
+    /// The first list whose replies differ.
+    fn first_list(
+        &mut self,
+        alloc: Global,
+        caller: Caller,
+        at: Option<i64>,
+    ) -> Result<Option<Look>, Stop> {
+        for kind in KINDS {
+            let look = Look::List(*kind);
+            if self.differ(alloc, caller, look, at)? {
+                return Ok(Some(look));
+            }
+        }
+        Ok(None)
+    }
+
+    /// The first look whose replies differ, the views kind by kind before the lists, and these before the sheets.
+    fn first_difference(
+        &mut self,
+        alloc: Global,
+        caller: Caller,
+        at: Option<i64>,
+    ) -> Result<Option<Look>, Stop> {
+        for kind in KINDS {
+            let found = self.first_view(alloc, caller, *kind, at)?;
+            if found.is_some() {
+                return Ok(found);
+            }
+        }
+        let found = self.first_list(alloc, caller, at)?;
+        if found.is_some() {
+            return Ok(found);
+        }
+        self.first_sheet(alloc, caller, at)
+    }
+
+    /// At each moment the first difference is the unit where the caller sees it, and there is none where it does not.
+    fn are_told_alike(&mut self, alloc: Global, caller: Caller) -> Result<(), Stop> {
+        for (place, at) in MOMENTS.iter().enumerate() {
+            let found = self.first_difference(alloc, caller, *at)?;
+            expect(found == difference_for(caller, *at), "moment", place)?;
+        }
+        Ok(())
+    }
+}
+
+/// The first difference that a caller may be told of.
+fn difference_for(caller: Caller, at: Option<i64>) -> Option<Look> {
+    let moment = at.unwrap_or(NOW);
+    let is_seer = SEERS.iter().any(|(seer, from)| {
+        seer.party == caller.party && seer.role == caller.role && *from <= moment
+    });
+    if is_seer {
+        Some(Look::View(Kind::Unit, 9))
+    } else {
+        None
+    }
+}
+
+/// Every party, and one that does not stand, in every role, at every moment, is told the same of both worlds in all views, lists and sheets,
+/// but for those who see the unit in which the worlds differ: the first difference that they are told is that unit.
+pub fn are_alike_to_whom_they_look_alike(alloc: Global) -> Result<(), Stop> {
+    let mut worlds = Worlds {
+        one: keeper_after(alloc, WITH_GARDEN)?,
+        other: keeper_after(alloc, WITH_FIELD)?,
+    };
+    for party in 1..9 {
+        for role in ROLES {
+            let caller = Caller { party, role: *role };
+            worlds.are_told_alike(alloc, caller)?;
+        }
+    }
+    Ok(())
+}

@@ -1,0 +1,98 @@
+//! Registers that are told facts.
+use crate::facts::facts::Fact;
+use crate::facts::lodged::mutation;
+use crate::facts::making::{crowd, members, parcel, party, rrr, source, unit};
+use crate::stop::Stop;
+use land_core::kind::Kind;
+use land_core::records::Records;
+use land_core::register::Register;
+use land_core::role::Role;
+use land_core::roles::{Grant, Roles};
+use land_core::soundness::Unsound;
+use land_core::soundness::check::check;
+use std::alloc::Global;
+
+/// Puts a record in, where it was made. It takes the answer of what makes it, so that its callers have no exit.
+fn enter<V: Drop>(
+    records: &mut Records<V>,
+    number: u64,
+    record: Result<V, Stop>,
+) -> Result<(), Stop> {
+    Ok(records.insert(number, record?)?)
+}
+
+/// A role of a party begins.
+fn grant(roles: &mut Roles, party: u64, role: Role) -> Result<(), Stop> {
+    Ok(roles.insert(Grant { party, role })?)
+}
+
+/// A role of a party ends.
+fn revoke(roles: &mut Roles, party: u64, role: Role) -> Result<(), Stop> {
+    roles.remove(Grant { party, role });
+    Ok(())
+}
+
+/// New numbers begin with this one.
+fn go_on_from(register: &mut Register, next: u64) -> Result<(), Stop> {
+    register.next = next;
+    Ok(())
+}
+
+/// Puts a fact into a register.
+fn tell(alloc: Global, register: &mut Register, fact: &Fact) -> Result<(), Stop> {
+    match fact {
+        Fact::Next(next) => go_on_from(register, *next),
+        Fact::Party(number, kind, name) => {
+            enter(&mut register.parties, *number, party(alloc, *kind, name))
+        }
+        Fact::Grant(party, role) => grant(&mut register.roles, *party, *role),
+        Fact::Revoke(party, role) => revoke(&mut register.roles, *party, *role),
+        Fact::Members(group, shares) => {
+            enter(&mut register.members, *group, members(alloc, shares))
+        }
+        Fact::Crowd(group, count) => enter(&mut register.members, *group, crowd(alloc, *count)),
+        Fact::Source(number) => enter(&mut register.sources, *number, source(alloc)),
+        Fact::Unit(number, name, checked) => {
+            enter(&mut register.units, *number, unit(alloc, name, *checked))
+        }
+        Fact::Parcel(number, unit, label, source) => {
+            let parcel = parcel(alloc, *unit, label, *source);
+            enter(&mut register.parcels, *number, parcel)
+        }
+        Fact::Rrr(number, unit, party, source, held) => {
+            let entry = rrr(alloc, *unit, *party, *source, held);
+            enter(&mut register.rrrs, *number, entry)
+        }
+        Fact::Mutation(number, lodged) => {
+            enter(&mut register.mutations, *number, mutation(alloc, lodged))
+        }
+        Fact::Ended(kind, number) => end(register, *kind, *number),
+    }
+}
+
+/// Ends a parcel or an entry.
+fn end(register: &mut Register, kind: Kind, number: u64) -> Result<(), Stop> {
+    match kind {
+        Kind::Parcel => register.parcels.remove(number),
+        Kind::Rrr => register.rrrs.remove(number),
+        _ => return Err(Stop::Unmade("an end")),
+    }
+    Ok(())
+}
+
+/// Puts facts into a register, one after another.
+pub fn tell_all(alloc: Global, register: &mut Register, facts: &[Fact]) -> Result<(), Stop> {
+    for fact in facts {
+        tell(alloc, register, fact)?;
+    }
+    Ok(())
+}
+
+/// The fault that a register has, or `None`.
+pub fn fault(alloc: Global, register: &Register) -> Result<Option<Unsound>, Stop> {
+    match check(alloc, register) {
+        Ok(()) => Ok(None),
+        Err(Unsound::Memory) => Err(Stop::Memory),
+        Err(fault) => Ok(Some(fault)),
+    }
+}

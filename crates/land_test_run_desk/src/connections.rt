@@ -1,0 +1,84 @@
+//! Connections that are served one after another.
+use crate::conclusion::conclude;
+use land_desk::service::connections::Connections;
+use land_desk::service::serving::{ServiceFault, serve_connections};
+use land_keep::plain_keeper::PlainKeeper;
+use land_test_scenario::calls::{
+    CALLS, Call, Calls, ENROL, ENROLLED, expect_all_told, expect_told, sinks,
+};
+use land_test_scenario::doubles::Readings;
+use land_test_scenario::stop::{Stop, expect};
+use std::alloc::Global;
+use std::io::{Read, Write};
+use std::net::{TcpListener, TcpStream};
+use std::rt::HostRuntime;
+use std::test::Fail;
+
+/// Serves so many connections over a new register.
+fn served<L: Connections>(
+    alloc: Global,
+    listener: &mut L,
+    connections: u32,
+) -> Result<Result<(), ServiceFault>, Stop> {
+    let mut keeper = PlainKeeper::new(alloc)?;
+    let mut clock = Readings { left: &[] };
+    Ok(serve_connections(alloc, listener, connections, &mut keeper, &mut clock))
+}
+
+/// Serving so many connections ends so, and on each of these is told what it is to be.
+fn expect_served(
+    alloc: Global,
+    calls: &'static [Call],
+    connections: u32,
+    ending: Result<(), ServiceFault>,
+) -> Result<(), Stop> {
+    let mut sinks = sinks(alloc, calls)?;
+    let mut all = Calls {
+        calls,
+        sinks: sinks.iter_mut(),
+    };
+    let served = served(alloc, &mut all, connections)?;
+    expect(served == ending, "the ending", 0)?;
+    expect_all_told(calls, &sinks)
+}
+
+#[test]
+fn a_connection_that_breaks_off_ends_alone(rt: HostRuntime) -> Result<(), Fail> {
+    conclude(&rt, expect_served(rt.alloc(), CALLS, 5, Ok(())))
+}
+
+#[test]
+fn a_connection_that_cannot_be_had_is_told(rt: HostRuntime) -> Result<(), Fail> {
+    let outcome = expect_served(rt.alloc(), &CALLS[..1], 2, Err(ServiceFault::Accept));
+    conclude(&rt, outcome)
+}
+
+/// All that comes to a client. Want of memory may end its connection with the request unread, which resets it.
+fn told_to(client: &mut TcpStream, alloc: Global) -> Result<Vec<u8>, Stop> {
+    let mut told = Vec::new(alloc);
+    match client.read_to_end(&mut told) {
+        Ok(_) => Ok(told),
+        Err(_) => Err(Stop::Memory),
+    }
+}
+
+/// A client of this process asks, is served, and is told.
+fn exchange(rt: &HostRuntime, listener: &mut TcpListener) -> Result<(), Stop> {
+    let mut client = TcpStream::connect(rt, listener.local_addr()?)?;
+    client.write_all(ENROL)?;
+    let served = served(rt.alloc(), listener, 1)?;
+    expect(served == Ok(()), "the ending", 0)?;
+    let told = told_to(&mut client, rt.alloc())?;
+    expect_told(0, &told, ENROLLED)
+}
+
+/// The same over a port of this machine.
+fn loopback(rt: &HostRuntime) -> Result<(), Stop> {
+    let mut listener = TcpListener::bind(rt, "127.0.0.1:0")?;
+    exchange(rt, &mut listener)
+}
+
+#[test]
+fn loopback_one_process(rt: HostRuntime) -> Result<(), Fail> {
+    conclude(&rt, loopback(&rt))
+}

@@ -1,0 +1,69 @@
+//! A unit with as many entries, or parcels, as it may have.
+use land_core::parcel::ParcelRecord;
+use land_core::register::Register;
+use land_core::rrr::{Class, RrrRecord};
+use land_shape::read_wkt;
+use land_test_register::cases::asked::text;
+use land_test_register::stop::Stop;
+use std::alloc::{AllocError, Global};
+
+/// A restriction of Anna on the unit 6.
+fn restriction(alloc: Global) -> Result<RrrRecord, AllocError> {
+    Ok(RrrRecord {
+        unit: 6,
+        party: 2,
+        class: Class::Restriction {
+            words: text(alloc, "No fence")?,
+        },
+        source: 5,
+    })
+}
+
+/// Puts so many restrictions into a register, under the numbers from 20 on, and makes 1000 the next number.
+pub(super) fn crowd(alloc: Global, register: &mut Register, count: u64) -> Result<bool, Stop> {
+    for place in 0..count {
+        register
+            .rrrs
+            .insert(place.saturating_add(20), restriction(alloc)?)?;
+    }
+    register.next = 1000;
+    Ok(true)
+}
+
+/// A square of ten metres in a row of them.
+fn square_at(alloc: Global, place: u64) -> Result<String, AllocError> {
+    let left = place.saturating_mul(10_000);
+    let right = left.saturating_add(10_000);
+    let mut outline = String::new(alloc);
+    write!(
+        outline,
+        "POLYGON (({left} 0, {right} 0, {right} 10000, {left} 10000, {left} 0))"
+    )?;
+    Ok(outline)
+}
+
+/// A parcel of the unit 6, in a row of them.
+fn parcel(alloc: Global, place: u64) -> Result<ParcelRecord, Stop> {
+    let outline = square_at(alloc, place)?;
+    Ok(ParcelRecord {
+        unit: 6,
+        label: text(alloc, "12")?,
+        outline: read_wkt(alloc, outline.as_str())?,
+        source: 5,
+    })
+}
+
+/// Puts so many parcels, side by side, into a register, under the numbers from 20 on, and makes 1000 the next number.
+pub(super) fn crowd_parcels(
+    alloc: Global,
+    register: &mut Register,
+    count: u64,
+) -> Result<bool, Stop> {
+    for place in 0..count {
+        register
+            .parcels
+            .insert(place.saturating_add(20), parcel(alloc, place)?)?;
+    }
+    register.next = 1000;
+    Ok(true)
+}

@@ -1,0 +1,141 @@
+//! A unit of 64 parcels and 64 rights: as many as a first registration may have.
+use crate::conclusion::conclude;
+use land_core::act::{Act, NewRight, NewUnit};
+use land_core::ask::{Ask, Request};
+use land_core::change::Done;
+use land_core::kind::PartyKind::NaturalPerson;
+use land_core::rrr::RightType;
+use land_core::sequence::Sequence;
+use land_fraction::Fraction;
+use land_keep::reply::Reply;
+use land_keep::view::{NamedRrr, View};
+use land_test_register::cases::asked::RowAct::Enrol;
+use land_test_register::cases::asked::RowAsk::{Do, Sheet};
+use land_test_register::cases::asked::{GARDEN, OFFICE, RowAsk, new_unit};
+use land_test_register::cases::rows::{answered, request};
+use land_test_register::stop::{Stop, expect};
+use std::alloc::{AllocError, Global};
+use std::test::Fail;
+
+const ENROL: RowAsk = Do(Enrol(NaturalPerson, "Anna"));
+
+/// How many parties have the rights: each an ownership and a lease, and all but two a usufruct.
+const HOLDERS: u64 = 22;
+
+/// Adds rights of one type, whose shares make a whole.
+fn add_rights(
+    rights: &mut Sequence<NewRight>,
+    right_type: RightType,
+    count: u64,
+) -> Result<(), Stop> {
+    let share = Fraction::new(1, count)?;
+    for place in 0..count {
+        rights.push(NewRight {
+            party: place.saturating_add(2),
+            right_type,
+            share,
+        })?;
+    }
+    Ok(())
+}
+
+fn rights(alloc: Global) -> Result<Sequence<NewRight>, Stop> {
+    let mut rights = Sequence::new(alloc);
+    add_rights(&mut rights, RightType::Ownership, HOLDERS)?;
+    add_rights(&mut rights, RightType::Lease, HOLDERS)?;
+    add_rights(&mut rights, RightType::Usufruct, 20)?;
+    Ok(rights)
+}
+
+fn registration(alloc: Global) -> Result<NewUnit, Stop> {
+    let mut unit = new_unit(alloc, &GARDEN, true, 64, &[])?;
+    unit.rights = rights(alloc)?;
+    Ok(unit)
+}
+
+/// The office enrols the holders, registers the unit, and asks for its title sheet.
+fn requests(alloc: Global) -> Result<Vec<Request>, Stop> {
+    let mut requests = Vec::new(alloc);
+    for _ in 0..HOLDERS {
+        requests.push(request(alloc, OFFICE, &ENROL)?)?;
+    }
+    requests.push(Request {
+        caller: OFFICE,
+        ask: Ask::Do(Act::Register(registration(alloc)?)),
+    })?;
+    requests.push(request(alloc, OFFICE, &Sheet(25, None))?)?;
+    Ok(requests)
+}
+
+/// Whether numbers are those from the first one on.
+fn count_on(numbers: &[u64], first: u64) -> bool {
+    let mut next = first;
+    for number in numbers {
+        if *number != next {
+            return false;
+        }
+        next = next.saturating_add(1);
+    }
+    true
+}
+
+/// After parties 2 to 23: the source, the unit, the parcels 26 to 89, and the rights 90 to 153.
+fn is_made(done: &Done) -> bool {
+    let made = done.made.as_slice();
+    done.number == 25 && done.stamp == 23 && made.len() == 130 && count_on(made, 24)
+}
+
+/// Whether the entries are those of the list, in its order: numbers from 90 on, of parties 2 to 23 in turn.
+fn are_held(entries: &[NamedRrr]) -> bool {
+    let mut number = 90u64;
+    let mut party = 2u64;
+    for entry in entries {
+        if entry.rrr.number != number || entry.rrr.party != party {
+            return false;
+        }
+        number = number.saturating_add(1);
+        party = if party == 23 {
+            2
+        } else {
+            party.saturating_add(1)
+        };
+    }
+    true
+}
+
+fn is_shown(view: &View) -> bool {
+    let entries = view.rrrs.as_slice();
+    view.parcels.as_slice().len() == 64 && entries.len() == 64 && are_held(entries)
+}
+
+/// Whether the last two replies are the registration's and the sheet. A reply of 501 is want of memory.
+fn are_told(replies: &[Reply]) -> Result<bool, AllocError> {
+    for reply in replies {
+        if let Reply::Store(501) = reply {
+            return Err(AllocError);
+        }
+    }
+    match replies {
+        [.., Reply::Done(done), Reply::Sheet(view)] => Ok(is_made(done) && is_shown(view)),
+        _ => Ok(false),
+    }
+}
+
+fn is_large(alloc: Global, requests: &[Request]) -> Result<bool, Stop> {
+    let replies = answered(alloc, &[], requests)?;
+    Ok(are_told(replies.as_slice())?)
+}
+
+fn is_registered(alloc: Global) -> Result<bool, Stop> {
+    let requests = requests(alloc)?;
+    is_large(alloc, requests.as_slice())
+}
+
+fn register(alloc: Global) -> Result<(), Stop> {
+    expect(is_registered(alloc)?, "registration", 0)
+}
+
+#[test]
+fn a_unit_has_64_parcels_and_64_rights(rt: HostRuntime) -> Result<(), Fail> {
+    conclude(&rt, register(rt.alloc()))
+}

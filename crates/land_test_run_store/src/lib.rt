@@ -1,0 +1,38 @@
+//! The tests of what stands on a store: its tables, the keepers over them, extracts, commands. Each of them is a call of a trial in the
+//! library of its name (`land_tables_trials`, ..). There is nothing else here: a crate that has tests is proved twice, and its
+//! program is compiled with all that it stands on, so that one crate has the tests of all those libraries.
+//!
+//! Want of memory ends a test with an `Err`, so that it fails unless an allocation was refused; all else that is wrong fails an assertion.
+//! `.ci/refusals` runs these tests with each allocation refused in turn: a test may then end for want of memory, and no assertion may fail.
+#![tactic(auto)]
+
+#[cfg(test)]
+mod adopting;
+#[cfg(test)]
+mod calls_read_less;
+#[cfg(test)]
+mod commands;
+#[cfg(test)]
+mod conclusion;
+#[cfg(test)]
+mod extracts;
+#[cfg(test)]
+mod joins;
+#[cfg(test)]
+mod random;
+#[cfg(test)]
+mod rows;
+#[cfg(test)]
+mod stops;
+#[cfg(test)]
+mod tables;
+#[cfg(test)]
+mod texts_read_less;
+#[cfg(test)]
+mod town;
+#[cfg(test)]
+mod two_keepers;
+#[cfg(test)]
+mod versions;
+#[cfg(test)]
+mod words;

@@ -1,0 +1,14 @@
+//! Lists over whole tables and by joins: `.ci/growths` counts how often each asks for memory.
+use crate::conclusion::conclude;
+use land_test_keepers::growths::texts_read_less;
+use std::test::Fail;
+
+#[test]
+fn lists_by_tables(rt: HostRuntime) -> Result<(), Fail> {
+    conclude(&rt, texts_read_less::lists_by_tables(&rt, rt.alloc()))
+}
+
+#[test]
+fn lists_by_joins(rt: HostRuntime) -> Result<(), Fail> {
+    conclude(&rt, texts_read_less::lists_by_joins(&rt, rt.alloc()))
+}

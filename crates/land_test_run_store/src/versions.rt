@@ -1,0 +1,61 @@
+//! What the rows of the tables say, and which histories are lawful.
+use crate::conclusion::conclude;
+use land_test_store::versions::{contents, damages, lawful, lifespans, spellings, words};
+use std::test::Fail;
+
+#[test]
+fn contents_are_read_by_their_act(rt: HostRuntime) -> Result<(), Fail> {
+    conclude(&rt, contents::contents_are_read_by_their_act(rt.alloc()))
+}
+
+#[test]
+fn each_value_of_each_column_has_its_fault(rt: HostRuntime) -> Result<(), Fail> {
+    conclude(
+        &rt,
+        damages::each_value_of_each_column_has_its_fault(rt.alloc()),
+    )
+}
+
+#[test]
+fn histories_are_lawful_or_not(rt: HostRuntime) -> Result<(), Fail> {
+    conclude(&rt, lawful::histories_are_lawful_or_not(rt.alloc()))
+}
+
+#[test]
+fn the_latest_moment_is_found(rt: HostRuntime) -> Result<(), Fail> {
+    conclude(&rt, lawful::the_latest_moment_is_found())
+}
+
+#[test]
+fn a_lifespan_has_its_beginning_and_not_its_end(rt: HostRuntime) -> Result<(), Fail> {
+    conclude(
+        &rt,
+        lifespans::a_lifespan_has_its_beginning_and_not_its_end(rt.alloc()),
+    )
+}
+
+#[test]
+fn lifespans_of_one_key_do_not_overlap(rt: HostRuntime) -> Result<(), Fail> {
+    conclude(
+        &rt,
+        lifespans::lifespans_of_one_key_do_not_overlap(rt.alloc()),
+    )
+}
+
+#[test]
+fn other_keys_have_other_lifespans(rt: HostRuntime) -> Result<(), Fail> {
+    conclude(&rt, lifespans::other_keys_have_other_lifespans(rt.alloc()))
+}
+
+#[test]
+fn rows_say_the_same_however_spelled(rt: HostRuntime) -> Result<(), Fail> {
+    conclude(
+        &rt,
+        spellings::rows_say_the_same_however_spelled(rt.alloc()),
+    )
+}
+
+#[test]
+fn each_word_stands_for_one_thing(rt: HostRuntime) -> Result<(), Fail> {
+    conclude(&rt, words::each_word_stands_for_one_thing(rt.alloc()))
+}

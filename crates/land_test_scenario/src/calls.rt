@@ -1,0 +1,125 @@
+//! Connections that a test makes, and what is to be told on each.
+use crate::doubles::{Pieces, Sink};
+use crate::playing::open_sink;
+use crate::stop::{Stop, expect};
+use crate::talk::common;
+use land_desk::service::connections::Connections;
+use std::alloc::{AllocError, Global};
+use std::io;
+use std::slice::IterMut;
+
+/// Anna is enrolled, and the connection ends.
+pub const ENROL: &[u8] =
+    b"POST /acts/enrol HTTP/1.1\r\nRegister-Party: 1\r\nRegister-Role: stateAdministrator\r\nContent-Length: 38\r\nConnection: close\r\n\r\n{\"kind\":\"naturalPerson\",\"name\":\"Anna\"}";
+
+pub const ENROLLED: &[u8] =
+    b"HTTP/1.1 200 OK\r\nContent-Type: application/json\r\nContent-Length: 36\r\nConnection: close\r\n\r\n{\"made\":[2],\"number\":2,\"stamp\":1000}";
+
+/// The same, of the next party.
+const ENROLLED_NEXT: &[u8] =
+    b"HTTP/1.1 200 OK\r\nContent-Type: application/json\r\nContent-Length: 36\r\nConnection: close\r\n\r\n{\"made\":[3],\"number\":3,\"stamp\":1001}";
+
+const CUT: &[u8] =
+    b"HTTP/1.1 400 Bad Request\r\nContent-Type: application/json\r\nContent-Length: 13\r\nConnection: close\r\n\r\n{\"fault\":144}";
+
+/// A connection: what it brings, how often it can be read, how often it can be written to, and what is told on it.
+pub struct Call {
+    pub brings: &'static [u8],
+    pub reads: u64,
+    pub writes: usize,
+    pub told: &'static [u8],
+}
+
+/// A whole request, one that is cut in its head, one that breaks off in its body, one whose reply breaks off, and a whole one.
+pub const CALLS: &[Call] = &[
+    Call {
+        brings: ENROL,
+        reads: u64::MAX,
+        writes: usize::MAX,
+        told: ENROLLED,
+    },
+    Call {
+        brings: b"POST /acts/enrol HT",
+        reads: u64::MAX,
+        writes: usize::MAX,
+        told: CUT,
+    },
+    Call {
+        brings: ENROL,
+        reads: 3,
+        writes: usize::MAX,
+        told: b"",
+    },
+    Call {
+        brings: b"GET / HTTP/1.1\r\n\r\n",
+        reads: u64::MAX,
+        writes: 3,
+        told: b"HTTP/1.1 ",
+    },
+    Call {
+        brings: ENROL,
+        reads: u64::MAX,
+        writes: usize::MAX,
+        told: ENROLLED_NEXT,
+    },
+];
+
+/// Connections that a test makes, each with its own writer.
+#[derive(Drop)]
+pub struct Calls<'a> {
+    pub calls: &'static [Call],
+    pub sinks: IterMut<'a, Sink>,
+}
+
+impl<'a> Connections for Calls<'a> {
+    type Reader = Pieces<'static>;
+
+    type Writer = &'a mut Sink;
+
+    fn next_connection(&mut self) -> io::Result<(Pieces<'static>, &'a mut Sink)> {
+        let Some((call, calls)) = self.calls.split_first() else {
+            return Err(io::Error::from(io::ErrorKind::ConnectionAborted));
+        };
+        let Some(sink) = self.sinks.next() else {
+            return Err(io::Error::from(io::ErrorKind::ConnectionAborted));
+        };
+        self.calls = calls;
+        let reader = Pieces {
+            left: call.brings,
+            piece: 50,
+            reads: call.reads,
+        };
+        Ok((reader, sink))
+    }
+}
+
+/// Writers for these connections.
+pub fn sinks(alloc: Global, calls: &[Call]) -> Result<Vec<Sink>, AllocError> {
+    let mut sinks = Vec::new(alloc);
+    for call in calls {
+        let mut sink = open_sink(alloc, call.told.len())?;
+        sink.writes = call.writes;
+        sinks.push(sink)?;
+    }
+    Ok(sinks)
+}
+
+/// This was told on a connection. A reply of 501, or one that is missing, stops the test for want of memory.
+pub fn expect_told(place: usize, taken: &[u8], wanted: &[u8]) -> Result<(), Stop> {
+    let same = common(taken, wanted);
+    if same == taken.len() && same < wanted.len() {
+        return Err(Stop::Memory);
+    }
+    if 9 <= same && same < taken.len() && taken[same - 9..].starts_with(b"HTTP/1.1 5") {
+        return Err(Stop::Memory);
+    }
+    expect(taken == wanted, "connections", place)
+}
+
+/// On each connection was told what it is to be.
+pub fn expect_all_told(calls: &[Call], sinks: &[Sink]) -> Result<(), Stop> {
+    for (place, (call, sink)) in calls.iter().zip(sinks.iter()).enumerate() {
+        expect_told(place, &sink.taken, call.told)?;
+    }
+    Ok(())
+}

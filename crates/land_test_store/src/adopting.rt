@@ -1,0 +1,341 @@
+//! Stores that are taken for a register's, and damaged ones that are not.
+use crate::cases::playing::played;
+use crate::cases::stores::{expect_fault, run, store};
+use land_tables::tables::Tables;
+use land_test_scenario::looks::look_at_steps;
+use land_test_scenario::stop::Stop;
+use sqlite::{Connection, MemStore};
+use std::alloc::Global;
+
+/// Statements on the tables after the scenario, others that undo them, and the fault that `adopt` has between, 0 where it takes the tables.
+struct Damage(&'static str, &'static str, u16);
+
+/// What cannot be read: a value of each table, an edition that is not the one row of id 1, another schema.
+const UNREADABLE: &[Damage] = &[
+    Damage(
+        "UPDATE edition SET version = -1",
+        "UPDATE edition SET version = 1",
+        520,
+    ),
+    Damage(
+        "UPDATE edition SET id = 2",
+        "UPDATE edition SET id = 1",
+        520,
+    ),
+    Damage(
+        "INSERT INTO edition VALUES (2, 1)",
+        "DELETE FROM edition WHERE id = 2",
+        520,
+    ),
+    Damage(
+        "DELETE FROM edition",
+        "INSERT INTO edition VALUES (1, 1)",
+        520,
+    ),
+    Damage(
+        "UPDATE moments SET next = 1 WHERE stamp = 0",
+        "UPDATE moments SET next = 2 WHERE stamp = 0",
+        520,
+    ),
+    Damage(
+        "UPDATE party SET name = '' WHERE number = 2",
+        "UPDATE party SET name = 'Anna' WHERE number = 2",
+        520,
+    ),
+    Damage(
+        "UPDATE role SET role = 'banker' WHERE role = 'bank'",
+        "UPDATE role SET role = 'bank' WHERE role = 'banker'",
+        520,
+    ),
+    Damage(
+        "UPDATE member SET num = 4 WHERE party = 2",
+        "UPDATE member SET num = 1 WHERE party = 2",
+        520,
+    ),
+    Damage(
+        "UPDATE unit SET checked = 2 WHERE number = 9",
+        "UPDATE unit SET checked = 1 WHERE number = 9",
+        520,
+    ),
+    Damage(
+        "UPDATE parcel SET outline = 'POLYGON ((0 0, 2 2, 2 0, 0 2, 0 0))' WHERE number = 24",
+        "UPDATE parcel SET outline = 'POLYGON ((0 0, 5000 0, 5000 10000, 0 10000, 0 0))' WHERE number = 24",
+        520,
+    ),
+    Damage(
+        "UPDATE rrr SET num = NULL WHERE number = 13",
+        "UPDATE rrr SET num = 1 WHERE number = 13",
+        520,
+    ),
+    Damage(
+        "UPDATE rrr SET amount = 0 WHERE number = 13",
+        "UPDATE rrr SET amount = NULL WHERE number = 13",
+        520,
+    ),
+    Damage(
+        "UPDATE source SET kind = 'oral' WHERE number = 22",
+        "UPDATE source SET kind = 'spatial' WHERE number = 22",
+        520,
+    ),
+    Damage(
+        "UPDATE mutation SET act = 'discharge' WHERE number = 15",
+        "UPDATE mutation SET act = 'mortgage' WHERE number = 15",
+        520,
+    ),
+    Damage(
+        "UPDATE names SET unit = 0 WHERE mutation = 15",
+        "UPDATE names SET unit = 9 WHERE mutation = 15",
+        520,
+    ),
+    Damage("CREATE TABLE other (x INTEGER)", "DROP TABLE other", 520),
+    Damage("CREATE VIEW other AS SELECT 1", "DROP VIEW other", 520),
+];
+
+/// Another version, and what else is then told before and after it.
+const VERSIONS: &[Damage] = &[
+    Damage(
+        "UPDATE edition SET version = 7",
+        "UPDATE edition SET version = 1",
+        523,
+    ),
+    Damage(
+        "UPDATE edition SET version = 7; UPDATE party SET name = '' WHERE number = 2",
+        "UPDATE edition SET version = 1; UPDATE party SET name = 'Anna' WHERE number = 2",
+        520,
+    ),
+    Damage(
+        "UPDATE edition SET version = 7; UPDATE unit SET since = 1 WHERE number = 9",
+        "UPDATE edition SET version = 1; UPDATE unit SET since = 1009 WHERE number = 9",
+        523,
+    ),
+];
+
+/// Lifespans that overlap, or begin or end at no stamp.
+const LIFESPANS: &[Damage] = &[
+    Damage(
+        "UPDATE rrr SET until = 1014 WHERE number = 12 AND since = 1009",
+        "UPDATE rrr SET until = 1013 WHERE number = 12 AND since = 1009",
+        521,
+    ),
+    Damage(
+        "INSERT INTO parcel VALUES (10, 9, '12', 'POLYGON ((0 0, 1 0, 0 1, 0 0))', 8, 1016, 4102444800000)",
+        "DELETE FROM parcel WHERE number = 10 AND since = 1016",
+        521,
+    ),
+    Damage(
+        "UPDATE unit SET since = 1 WHERE number = 9",
+        "UPDATE unit SET since = 1009 WHERE number = 9",
+        521,
+    ),
+    Damage(
+        "UPDATE role SET until = 1500 WHERE role = 'notary'",
+        "UPDATE role SET until = 4102444800000 WHERE role = 'notary'",
+        521,
+    ),
+    Damage(
+        "UPDATE names SET since = 1 WHERE mutation = 15",
+        "UPDATE names SET since = 1010 WHERE mutation = 15",
+        521,
+    ),
+    Damage(
+        "DELETE FROM moments WHERE stamp = 1003",
+        "INSERT INTO moments VALUES (1003, 5)",
+        521,
+    ),
+    // before an unsound register
+    Damage(
+        "UPDATE unit SET since = 1 WHERE number = 9; UPDATE rrr SET unit = 999 WHERE number = 13",
+        "UPDATE unit SET since = 1009 WHERE number = 9; UPDATE rrr SET unit = 9 WHERE number = 13",
+        521,
+    ),
+];
+
+/// Registers that are not sound, next numbers that fall, and names that are not those of the mutations.
+const UNSOUND: &[Damage] = &[
+    Damage(
+        "UPDATE rrr SET unit = 999 WHERE number = 13",
+        "UPDATE rrr SET unit = 9 WHERE number = 13",
+        522,
+    ),
+    Damage(
+        "UPDATE rrr SET num = 1, den = 3 WHERE number = 21",
+        "UPDATE rrr SET num = 1, den = 1 WHERE number = 21",
+        522,
+    ),
+    Damage(
+        "UPDATE rrr SET den = 2 WHERE number = 21; INSERT INTO rrr VALUES (11, 9, 2, 'ownership', 1, 3, NULL, NULL, NULL, NULL, 8, 1015, 4102444800000)",
+        "UPDATE rrr SET den = 1 WHERE number = 21; DELETE FROM rrr WHERE number = 11 AND since = 1015",
+        522,
+    ),
+    Damage(
+        "UPDATE moments SET next = 5 WHERE stamp = 1017",
+        "UPDATE moments SET next = 30 WHERE stamp = 1017",
+        522,
+    ),
+    Damage(
+        "UPDATE role SET until = 1017 WHERE role = 'stateAdministrator'",
+        "UPDATE role SET until = 4102444800000 WHERE role = 'stateAdministrator'",
+        522,
+    ),
+    Damage(
+        "DELETE FROM names",
+        "INSERT INTO names VALUES (15, 9, 1010, 4102444800000), (18, 9, 1012, 4102444800000), (20, 9, 1014, 4102444800000), (23, 9, 1016, 4102444800000)",
+        522,
+    ),
+    Damage(
+        "UPDATE names SET until = 1011 WHERE mutation = 15",
+        "UPDATE names SET until = 4102444800000 WHERE mutation = 15",
+        522,
+    ),
+    Damage(
+        "INSERT INTO names VALUES (15, 25, 1017, 4102444800000)",
+        "DELETE FROM names WHERE mutation = 15 AND unit = 25",
+        522,
+    ),
+];
+
+/// What is read as it was meant, and other indexes.
+const HARMLESS: &[Damage] = &[
+    Damage("", "", 0),
+    Damage(
+        "UPDATE rrr SET num = 2, den = 2 WHERE number = 21",
+        "UPDATE rrr SET num = 1, den = 1 WHERE number = 21",
+        0,
+    ),
+    Damage(
+        "UPDATE rrr SET den = 2 WHERE number = 21; INSERT INTO rrr VALUES (11, 9, 2, 'ownership', 2, 4, NULL, NULL, NULL, NULL, 8, 1015, 4102444800000)",
+        "UPDATE rrr SET den = 1 WHERE number = 21; DELETE FROM rrr WHERE number = 11 AND since = 1015",
+        0,
+    ),
+    Damage(
+        "UPDATE parcel SET outline = 'polygon((0 0,0.0 10000,5000 10000,5000 0,0 0))' WHERE number = 24",
+        "UPDATE parcel SET outline = 'POLYGON ((0 0, 5000 0, 5000 10000, 0 10000, 0 0))' WHERE number = 24",
+        0,
+    ),
+    Damage("CREATE INDEX more ON party (name)", "DROP INDEX more", 0),
+    Damage(
+        "DROP INDEX rrr_party",
+        "CREATE INDEX rrr_party ON rrr (party)",
+        0,
+    ),
+];
+
+/// A begun transaction.
+const BEGUN: &[Damage] = &[Damage("BEGIN", "ROLLBACK", 502)];
+
+/// Texts that are run on an empty store, which then has no register.
+const OTHERS: &[&str] = &[
+    "",
+    "CREATE TABLE other (x INTEGER)",
+    "CREATE TABLE party (number INTEGER NOT NULL, name TEXT NOT NULL)",
+];
+
+/// The number of the fault with which a store is given back, 0 where it is taken for that of the scenario.
+fn adopted(alloc: Global, conn: Connection<MemStore>) -> (u16, Connection<MemStore>) {
+    match Tables::adopt(alloc, conn) {
+        Ok(tables) => {
+            let is_last = tables.last() == 1017 && tables.next() == 30 && !tables.is_closed();
+            (if is_last { 0 } else { 1 }, tables.into_connection())
+        }
+        Err((conn, fault)) => (fault.number(), conn),
+    }
+}
+
+/// Takes the tables of the store that is left, and leaves it again.
+fn adopt_back(alloc: Global, left: &mut Option<Connection<MemStore>>) -> Result<u16, Stop> {
+    match left.take() {
+        Some(conn) => {
+            let (fault, back) = adopted(alloc, conn);
+            *left = Some(back);
+            Ok(fault)
+        }
+        None => Err(Stop::Call),
+    }
+}
+
+/// Runs a text on the store that is left.
+fn run_on(left: &mut Option<Connection<MemStore>>, text: &str) -> Result<(), Stop> {
+    match left.as_mut() {
+        Some(conn) => run(conn, text),
+        None => Err(Stop::Call),
+    }
+}
+
+/// Damages the tables, takes them, and undoes the damage: the fault that they had.
+fn undone(
+    alloc: Global,
+    left: &mut Option<Connection<MemStore>>,
+    damage: &Damage,
+) -> Result<u16, Stop> {
+    run_on(left, damage.0)?;
+    let fault = adopt_back(alloc, left)?;
+    run_on(left, damage.1)?;
+    Ok(fault)
+}
+
+/// Each of some damages has its fault.
+fn have_faults(
+    alloc: Global,
+    left: &mut Option<Connection<MemStore>>,
+    name: &'static str,
+    damages: &[Damage],
+) -> Result<(), Stop> {
+    for (place, damage) in damages.iter().enumerate() {
+        expect_fault(undone(alloc, left, damage)?, damage.2, name, place)?;
+    }
+    Ok(())
+}
+
+const DAMAGES: &[(&str, &[Damage])] = &[
+    ("unreadable", UNREADABLE),
+    ("version", VERSIONS),
+    ("lifespan", LIFESPANS),
+    ("unsound", UNSOUND),
+    ("harmless", HARMLESS),
+    ("begun", BEGUN),
+];
+
+/// Each damage has its fault.
+fn all_have_faults(alloc: Global, left: &mut Option<Connection<MemStore>>) -> Result<(), Stop> {
+    for (name, damages) in DAMAGES {
+        have_faults(alloc, left, name, damages)?;
+    }
+    Ok(())
+}
+
+/// What is undone leaves the rows of the scenario.
+fn look_on(alloc: Global, left: &mut Option<Connection<MemStore>>) -> Result<(), Stop> {
+    match left.as_mut() {
+        Some(conn) => look_at_steps(alloc, conn),
+        None => Err(Stop::Call),
+    }
+}
+
+/// The store of the tables after the scenario.
+fn played_store(alloc: Global) -> Result<Option<Connection<MemStore>>, Stop> {
+    Ok(Some(played(alloc)?.into_connection()))
+}
+
+fn are_damaged(alloc: Global, left: &mut Option<Connection<MemStore>>) -> Result<(), Stop> {
+    all_have_faults(alloc, left)?;
+    look_on(alloc, left)
+}
+
+/// Each damage has its fault, and what is undone leaves the rows of the scenario.
+pub fn damaged_tables_have_their_faults(alloc: Global) -> Result<(), Stop> {
+    let mut left = played_store(alloc)?;
+    are_damaged(alloc, &mut left)
+}
+
+/// The fault of a store after a text.
+fn fault_after(alloc: Global, text: &str) -> Result<u16, Stop> {
+    Ok(adopted(alloc, store(alloc, text)?).0)
+}
+
+/// Stores of others are not taken.
+pub fn stores_of_others_are_520(alloc: Global) -> Result<(), Stop> {
+    for (place, text) in OTHERS.iter().enumerate() {
+        expect_fault(fault_after(alloc, text)?, 520, "other", place)?;
+    }
+    Ok(())
+}

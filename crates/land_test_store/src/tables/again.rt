@@ -1,0 +1,91 @@
+//! Calls that lack memory and are made again. `.ci/refusals` refuses each of their allocations in turn: then nothing has changed, and the
+//! same call succeeds.
+use crate::cases::playing::{created, taken};
+use land_core::ask::Request;
+use land_keep::keeper::Keeper;
+use land_keep::store_fault::StoreFault;
+use land_tables::fault::AdoptFault;
+use land_tables::table_keeper::TableKeeper;
+use land_tables::tables::Tables;
+use land_test_scenario::first::{first_fault, first_request};
+use land_test_scenario::looks::{Look, look_at};
+use land_test_scenario::stop::{Stop, expect};
+use sqlite::{Connection, MemStore};
+use std::alloc::Global;
+
+/// What the tables have once Anna is enrolled, whatever had to be done again.
+const ONCE: &[Look] = &[
+    Look("SELECT * FROM edition", "1|1|\n"),
+    Look("SELECT * FROM moments ORDER BY stamp", "0|2|\n1000|3|\n"),
+    Look(
+        "SELECT * FROM party ORDER BY number",
+        "1|Land Office|nonNaturalPerson|0|4102444800000|\n\
+        2|Anna|naturalPerson|1000|4102444800000|\n",
+    ),
+    Look(
+        "SELECT * FROM role ORDER BY party",
+        "1|stateAdministrator|0|4102444800000|\n\
+        2|citizen|1000|4102444800000|\n",
+    ),
+];
+
+/// The tables of a new register in a store in which none could be made for want of memory.
+fn created_after(conn: Connection<MemStore>, fault: StoreFault) -> Result<Tables<MemStore>, Stop> {
+    match fault {
+        StoreFault::NoMemory => created(conn),
+        _ => Err(Stop::Call),
+    }
+}
+
+/// The tables of a new register in a store, made again where there was no memory.
+fn created_at_last(conn: Connection<MemStore>) -> Result<Tables<MemStore>, Stop> {
+    match Tables::create(conn) {
+        Ok(tables) => Ok(tables),
+        Err((conn, fault)) => created_after(conn, fault),
+    }
+}
+
+/// The tables of a store that was not taken for want of memory.
+fn taken_after(
+    alloc: Global,
+    conn: Connection<MemStore>,
+    fault: AdoptFault,
+) -> Result<Tables<MemStore>, Stop> {
+    match fault {
+        AdoptFault::NoMemory => taken(alloc, conn),
+        _ => Err(Stop::Call),
+    }
+}
+
+/// The tables of a store, taken again where there was no memory.
+fn taken_at_last(alloc: Global, conn: Connection<MemStore>) -> Result<Tables<MemStore>, Stop> {
+    match Tables::adopt(alloc, conn) {
+        Ok(tables) => Ok(tables),
+        Err((conn, fault)) => taken_after(alloc, conn, fault),
+    }
+}
+
+/// What the caller of the first step is told, which asks again where there was no memory.
+fn fault_at_last<K: Keeper>(alloc: Global, keeper: &mut K, request: &Request) -> u16 {
+    match first_fault(alloc, keeper, request) {
+        501 => first_fault(alloc, keeper, request),
+        fault => fault,
+    }
+}
+
+/// A register that is made, taken as a store, and written to.
+fn written(alloc: Global, request: &Request) -> Result<(u16, Tables<MemStore>), Stop> {
+    let new = created_at_last(Connection::open_in_memory(alloc)?)?;
+    let mut keeper = TableKeeper::new(taken_at_last(alloc, new.into_connection())?);
+    let fault = fault_at_last(alloc, &mut keeper, request);
+    Ok((fault, keeper.into_tables()))
+}
+
+/// It has what it would have if memory had been there all the time.
+pub fn calls_that_lacked_memory_are_made_again(alloc: Global) -> Result<(), Stop> {
+    let request = first_request(alloc)?;
+    let (fault, tables) = written(alloc, &request)?;
+    let mut conn = tables.into_connection();
+    expect(fault == 0, "fault", 0)?;
+    look_at(alloc, &mut conn, ONCE)
+}

@@ -1,0 +1,23 @@
+//! A new register that is taken as a store, and goes on: each allocation of this may be refused in turn.
+use crate::cases::playing::{new_tables, taken};
+use land_tables::table_keeper::TableKeeper;
+use land_tables::tables::Tables;
+use land_test_scenario::playing::play_first;
+use land_test_scenario::stop::{Stop, expect};
+use sqlite::MemStore;
+use std::alloc::Global;
+
+/// The tables of a new register, as they are taken.
+fn new_taken(alloc: Global) -> Result<Tables<MemStore>, Stop> {
+    let conn = new_tables(alloc)?.into_connection();
+    taken(alloc, conn)
+}
+
+/// A new register that is taken shows its last stamp and its next number, and goes on.
+pub fn a_new_register_goes_on(alloc: Global) -> Result<(), Stop> {
+    let tables = new_taken(alloc)?;
+    let is_new = tables.last() == 0 && tables.next() == 2;
+    let mut keeper = TableKeeper::new(tables);
+    expect(is_new, "a new register", 0)?;
+    play_first(alloc, &mut keeper)
+}

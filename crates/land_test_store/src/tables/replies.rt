@@ -1,0 +1,157 @@
+//! What callers are told over tables, as over the plain keeper.
+use crate::cases::playing::played;
+use land_core::ask::{Ask, Request};
+use land_core::caller::Caller;
+use land_core::kind::Kind;
+use land_core::role::Role;
+use land_keep::keeper::Keeper;
+use land_keep::machine::answer;
+use land_keep::reply::Reply;
+use land_tables::table_keeper::TableKeeper;
+use land_test_scenario::playing::plain;
+use land_test_scenario::stop::{Stop, expect};
+use std::alloc::Global;
+
+/// A caller, by its party and role.
+const CALLERS: &[(u64, Role)] = &[
+    (1, Role::StateAdministrator),
+    (2, Role::Citizen),
+    (3, Role::Citizen),
+    (4, Role::Bank),
+    (5, Role::Notary),
+    (6, Role::Citizen),
+    (6, Role::CertifiedSurveyor),
+    (9, Role::Citizen),
+];
+
+const KINDS: &[Kind] = &[
+    Kind::Party,
+    Kind::Unit,
+    Kind::Parcel,
+    Kind::Rrr,
+    Kind::Source,
+    Kind::Mutation,
+];
+
+/// Moments that are asked for: none, past ones, and one that is still to come.
+const MOMENTS: &[Option<i64>] = &[None, Some(1009), Some(1011), Some(1015), Some(5000)];
+
+/// Whether a reply tells of want of memory.
+fn wants_memory(reply: &Reply) -> bool {
+    match reply {
+        Reply::Store(number) => *number == 501,
+        _ => false,
+    }
+}
+
+/// Whether a reply is this list.
+fn lists(reply: &Reply, numbers: &[u64]) -> bool {
+    match reply {
+        Reply::Numbers(found) => found.as_slice() == numbers,
+        _ => false,
+    }
+}
+
+/// Whether a reply denies by this rule.
+fn denies(reply: &Reply, rule: u8) -> bool {
+    match reply {
+        Reply::Denied(found) => *found == rule,
+        _ => false,
+    }
+}
+
+/// Whether a reply tells this fault of the request.
+fn tells_fault(reply: &Reply, number: u16) -> bool {
+    match reply {
+        Reply::Fault(found) => *found == number,
+        _ => false,
+    }
+}
+
+/// Whether a reply to a list is what another is.
+fn is_alike(reply: &Reply, other: &Reply) -> bool {
+    match other {
+        Reply::Numbers(numbers) => lists(reply, numbers.as_slice()),
+        Reply::Denied(rule) => denies(reply, *rule),
+        Reply::Fault(number) => tells_fault(reply, *number),
+        _ => false,
+    }
+}
+
+/// The same, where want of memory stops the test.
+fn is_one(reply: &Reply, other: &Reply) -> Result<bool, Stop> {
+    if wants_memory(reply) || wants_memory(other) {
+        Err(Stop::Memory)
+    } else {
+        Ok(is_alike(reply, other))
+    }
+}
+
+/// Whether two keepers tell a caller the same of a kind at a moment.
+fn tell_one<K: Keeper, L: Keeper>(
+    alloc: Global,
+    keeper: &mut K,
+    other: &mut L,
+    request: &Request,
+) -> Result<bool, Stop> {
+    if !request.is_well_formed() {
+        return Ok(false);
+    }
+    let reply = answer(alloc, keeper, 1000, request);
+    is_one(&reply, &answer(alloc, other, 1000, request))
+}
+
+/// Whether two keepers tell a caller the same of all kinds at a moment.
+fn tell_kinds<K: Keeper, L: Keeper>(
+    alloc: Global,
+    keeper: &mut K,
+    other: &mut L,
+    caller: Caller,
+    at: Option<i64>,
+) -> Result<bool, Stop> {
+    for kind in KINDS {
+        let ask = Ask::List { kind: *kind, at };
+        if !tell_one(alloc, keeper, other, &Request { caller, ask })? {
+            return Ok(false);
+        }
+    }
+    Ok(true)
+}
+
+/// Whether two keepers tell a caller the same at all moments.
+fn tell_same<K: Keeper, L: Keeper>(
+    alloc: Global,
+    keeper: &mut K,
+    other: &mut L,
+    caller: &(u64, Role),
+) -> Result<bool, Stop> {
+    let caller = Caller {
+        party: caller.0,
+        role: caller.1,
+    };
+    for at in MOMENTS {
+        if !tell_kinds(alloc, keeper, other, caller, *at)? {
+            return Ok(false);
+        }
+    }
+    Ok(true)
+}
+
+/// All callers are told the same.
+fn tell_all<K: Keeper, L: Keeper>(
+    alloc: Global,
+    keeper: &mut K,
+    other: &mut L,
+) -> Result<(), Stop> {
+    for (place, caller) in CALLERS.iter().enumerate() {
+        expect(tell_same(alloc, keeper, other, caller)?, "caller", place)?;
+    }
+    Ok(())
+}
+
+/// Callers are told by the tables what the plain keeper tells them.
+pub fn callers_are_told_what_the_plain_keeper_tells(alloc: Global) -> Result<(), Stop> {
+    let mut plain = plain(alloc)?;
+    let mut keeper = TableKeeper::new(played(alloc)?);
+    tell_all(alloc, &mut keeper, &mut plain)
+}

@@ -1,0 +1,233 @@
+//! What stands at a moment, and which lifespans there may be.
+use crate::versions::cell::Cell;
+use crate::versions::histories::{OPEN, Span, add, history_of, nothing};
+use crate::versions::table::Table;
+use land_core::member::Members;
+use land_core::register::Register;
+use land_core::role::Role;
+use land_core::roles::Grant;
+use land_tables_history::intervals::has_intervals;
+use land_tables_history::moment::Moment;
+use land_tables_history::register::register_at;
+use land_test_scenario::stop::{Stop, expect};
+use sqlite::{Alter, Connection, Error};
+use std::alloc::Global;
+
+/// Samples that stand together, and what one of them becomes.
+const SPANS: &[Span] = &[
+    Span(Table::Party, &[], 1000, 1005),
+    Span(Table::Party, &[(1, Cell::Words("Anna Stone"))], 1005, OPEN),
+    Span(Table::Role, &[], 1000, 1005),
+    Span(Table::Member, &[], 1000, 1005),
+    Span(Table::Member, &[(1, Cell::Number(3))], 1000, 1005),
+    Span(Table::Unit, &[], 1000, 1005),
+    Span(Table::Parcel, &[], 1000, 1005),
+    Span(Table::Right, &[], 1000, 1005),
+    Span(Table::Burden, &[], 1000, 1005),
+    Span(Table::Mortgage, &[], 1000, 1005),
+    Span(Table::Source, &[], 1000, 1005),
+    Span(Table::Mutation, &[], 1000, 1005),
+];
+
+fn are_two(members: &Members) -> bool {
+    members.get(2).is_some() && members.get(3).is_some() && members.get(4).is_none()
+}
+
+const NOTARY: Grant = Grant {
+    party: 5,
+    role: Role::Notary,
+};
+
+/// How many of the samples stand in a register, its party and the members of its group aside.
+fn count(register: &Register) -> usize {
+    usize::from(register.roles.contains(NOTARY))
+        + usize::from(register.units.get(9).is_some())
+        + usize::from(register.parcels.get(10).is_some())
+        + usize::from(register.rrrs.get(11).is_some())
+        + usize::from(register.rrrs.get(13).is_some())
+        + usize::from(register.rrrs.get(16).is_some())
+        + usize::from(register.sources.get(8).is_some())
+        + usize::from(register.mutations.get(18).is_some())
+}
+
+/// Whether a party of that name stands under the sample's number, or none does.
+fn is_called(register: &Register, name: &str) -> bool {
+    match register.parties.get(2) {
+        Some(party) => party.name.as_str() == name,
+        None => name.is_empty(),
+    }
+}
+
+/// Whether the group of the sample has its two members, or there is none.
+fn is_group(register: &Register, stands: bool) -> bool {
+    match register.members.get(7) {
+        Some(members) => stands && are_two(members),
+        None => !stands,
+    }
+}
+
+/// A moment, what the party is called then, and whether the other samples stand.
+struct At(i64, &'static str, bool);
+
+const AT: &[At] = &[
+    At(0, "", false),
+    At(999, "", false),
+    At(1000, "Anna", true),
+    At(1004, "Anna", true),
+    At(1005, "Anna Stone", false),
+    At(4_102_444_799_999, "Anna Stone", false),
+    At(4_102_444_800_000, "", false),
+];
+
+fn is_as_said(register: &Register, at: &At) -> bool {
+    let samples = if at.2 { 8 } else { 0 };
+    is_called(register, at.1)
+        && is_group(register, at.2)
+        && count(register) == samples
+        && register.next == 19
+}
+
+/// Whether what stands at each moment is what is said of it.
+fn are_as_said<S: Alter>(alloc: Global, conn: &mut Connection<S>) -> Result<bool, Error> {
+    let history = history_of(alloc, conn, SPANS)?;
+    for at in AT {
+        if !is_as_said(&register_at(alloc, &history, at.0, 19)?, at) {
+            return Ok(false);
+        }
+    }
+    Ok(true)
+}
+
+/// A lifespan has its beginning, and not its end.
+pub fn a_lifespan_has_its_beginning_and_not_its_end(alloc: Global) -> Result<(), Stop> {
+    let mut conn = Connection::open_in_memory(alloc)?;
+    expect(are_as_said(alloc, &mut conn)?, "register", 0)
+}
+
+/// When the register was changed.
+const MOMENTS: &[Moment] = &[
+    Moment {
+        stamp: 1005,
+        next: 19,
+    },
+    Moment { stamp: 0, next: 2 },
+    Moment {
+        stamp: 1003,
+        next: 19,
+    },
+    Moment {
+        stamp: 1000,
+        next: 19,
+    },
+];
+
+const VERSIONED: &[Table] = &[
+    Table::Party,
+    Table::Role,
+    Table::Member,
+    Table::Unit,
+    Table::Parcel,
+    Table::Right,
+    Table::Source,
+    Table::Mutation,
+    Table::Names,
+];
+
+/// Lifespans of one key, and whether a history may have them.
+struct Lives(&'static [(i64, i64)], bool);
+
+const LIVES: &[Lives] = &[
+    Lives(&[], true),
+    Lives(&[(1000, 1005)], true),
+    Lives(&[(0, OPEN)], true),
+    Lives(&[(1003, OPEN), (1000, 1003)], true),
+    // the one ends after the other begins
+    Lives(&[(1000, 1005), (1003, OPEN)], false),
+    Lives(&[(1003, OPEN), (1000, 1005)], false),
+    Lives(&[(1000, 1003), (1000, 1003)], false),
+    Lives(&[(0, OPEN), (1000, 1003)], false),
+    Lives(&[(0, 1000), (1003, 1005), (1000, OPEN)], false),
+    // its beginning or its end is no stamp
+    Lives(&[(1001, 1005)], false),
+    Lives(&[(1001, OPEN)], false),
+    Lives(&[(1000, 1004)], false),
+    Lives(&[(1000, 4_102_444_799_999)], false),
+    // its end is not after its beginning
+    Lives(&[(1003, 1003)], false),
+    Lives(&[(1003, 1000)], false),
+];
+
+/// Whether a history may have some lifespans of the sample of a table.
+fn may_have<S: Alter>(
+    alloc: Global,
+    conn: &mut Connection<S>,
+    table: Table,
+    lives: &[(i64, i64)],
+) -> Result<bool, Error> {
+    let mut history = nothing(alloc);
+    for (since, until) in lives {
+        add(alloc, conn, &mut history, &Span(table, &[], *since, *until))?;
+    }
+    Ok(has_intervals(alloc, &history, MOMENTS)?)
+}
+
+/// Lifespans of one key do not overlap, in any table.
+pub fn lifespans_of_one_key_do_not_overlap(alloc: Global) -> Result<(), Stop> {
+    let mut conn = Connection::open_in_memory(alloc)?;
+    for table in VERSIONED {
+        for (place, lives) in LIVES.iter().enumerate() {
+            let may_have = may_have(alloc, &mut conn, *table, lives.0)?;
+            expect(may_have == lives.1, "row", place)?;
+        }
+    }
+    Ok(())
+}
+
+/// A table, what another version has in a column otherwise than the sample there, and whether both may stand together.
+struct Beside(Table, &'static [(usize, Cell)], bool);
+
+const BESIDE: &[Beside] = &[
+    Beside(Table::Party, &[(0, Cell::Number(3))], true),
+    Beside(Table::Party, &[(1, Cell::Words("Ben"))], false),
+    Beside(Table::Role, &[(0, Cell::Number(4))], true),
+    Beside(Table::Role, &[(1, Cell::Words("bank"))], true),
+    Beside(Table::Member, &[(0, Cell::Number(6))], true),
+    Beside(Table::Member, &[(1, Cell::Number(3))], true),
+    Beside(Table::Member, &[(3, Cell::Number(3))], false),
+    Beside(Table::Unit, &[(0, Cell::Number(8))], true),
+    Beside(Table::Unit, &[(2, Cell::Number(0))], false),
+    Beside(Table::Parcel, &[(0, Cell::Number(11))], true),
+    Beside(Table::Parcel, &[(1, Cell::Number(8))], false),
+    Beside(Table::Right, &[(0, Cell::Number(12))], true),
+    Beside(Table::Right, &[(2, Cell::Number(3))], false),
+    Beside(Table::Source, &[(0, Cell::Number(9))], true),
+    Beside(Table::Source, &[(1, Cell::Words("spatial"))], false),
+    Beside(Table::Mutation, &[(0, Cell::Number(19))], true),
+    Beside(Table::Mutation, &[(7, Cell::Words("approved"))], false),
+    Beside(Table::Names, &[(0, Cell::Number(19))], true),
+    Beside(Table::Names, &[(1, Cell::Number(10))], true),
+];
+
+/// Whether a sample and another version may stand together.
+fn may_stand<S: Alter>(
+    alloc: Global,
+    conn: &mut Connection<S>,
+    beside: &Beside,
+) -> Result<bool, Error> {
+    let both = [
+        Span(beside.0, &[], 1000, 1005),
+        Span(beside.0, beside.1, 1003, OPEN),
+    ];
+    let history = history_of(alloc, conn, &both)?;
+    Ok(has_intervals(alloc, &history, MOMENTS)?)
+}
+
+/// Other keys have lifespans of their own.
+pub fn other_keys_have_other_lifespans(alloc: Global) -> Result<(), Stop> {
+    let mut conn = Connection::open_in_memory(alloc)?;
+    for (place, beside) in BESIDE.iter().enumerate() {
+        let may_stand = may_stand(alloc, &mut conn, beside)?;
+        expect(may_stand == beside.2, "row", place)?;
+    }
+    Ok(())
+}

@@ -1,7 +1,0 @@
-use Rattle.std.proofs.Common.{◌≡◌, map, take}
-use Rattle.serde_json.specs.View.{view}
-use Rattle.land_texts.specs.Parties.{role_data}
-use Rattle.land_texts.proofs.party.roles_value.Given as goal
-
-abbrev pub invariant-loop-role : goal.invariant-loop-role
-invariant-loop-role l = map view l.list.items ≡ map role_data (take l.role-index l.roles)

@@ -1,9 +1,0 @@
--- What all rows of a list say, each in its turn: the first fault, or all that was read.
-use Rattle.std.specs.Prelude.{List, [], ◌∷◌, Result, Ok}
-use Rattle.land_bodies.specs.WireFaults.{◌>>=◌}
-use Rattle.land_bodies.specs.declared.wire_fault.WireFault.{WireFault}
-use Rattle.sqlite_value.specs.Order.{Row}
-
-abbrev pub each_of : {X : Type 0} → (Row → Result X WireFault) → List Row → Result (List X) WireFault
-each_of read [] = Ok []
-each_of read (row ∷ rows) = read row >>= λ first. each_of read rows >>= λ rest. Ok (first ∷ rest)

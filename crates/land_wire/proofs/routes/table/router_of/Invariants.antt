@@ -1,0 +1,9 @@
+-- The router holds the entries that were looked at, and each of the others is free.
+use Rattle.std.proofs.Common.{◌≡◌, [], take, drop, true}
+use Rattle.std.specs.List.{fold}
+use Rattle.land_wire.specs.Routes.Table.{are_free, with_entry}
+use Rattle.land_wire.proofs.routes.table.router_of.Given as goal
+
+abbrev pub invariant-loop-entry : goal.invariant-loop-entry
+invariant-loop-entry l =
+    (l.router ≡ fold with_entry [] (take l.entry-index l.entries)) × (are_free l.router (drop l.entry-index l.entries) ≡ true)

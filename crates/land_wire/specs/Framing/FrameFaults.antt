@@ -1,0 +1,12 @@
+-- The numbers of the faults of framing.
+use Rattle.std.specs.Prelude.{ℕ}
+use Rattle.land_wire.specs.declared.framing.frame_fault.FrameFault.{FrameFault}
+use Rattle.land_wire.specs.declared.framing.frame_fault.FrameFault.TheVariants.{Head, HeadLong, BodyLong, Encoding, Cut}
+
+-- the number that a reply says
+abbrev pub number_of : FrameFault → ℕ
+number_of Head = 140
+number_of HeadLong = 141
+number_of BodyLong = 142
+number_of Encoding = 143
+number_of Cut = 144

@@ -1,0 +1,66 @@
+//! What a head says of its connection and of the reply's body.
+ghost use Rattle.std.specs.Prelude.{◌≡◌};
+ghost use Rattle.httparse.specs.Grammar.{RequestHead, trim_ows};
+ghost use Rattle.httparse.specs.Spans.{IsRequestAt, IsRequestWithin};
+ghost use Rattle.land_wire.specs.Framing.Frame.{ends, is_head, says_close, is_close};
+
+use crate::words::is_word_in_any_case;
+use httparse::is_space_or_tab;
+use httparse::spans::{HeaderSpan, RequestSpans};
+
+/// Whether the connection ends after the request (RFC 9112, section 9.3): it is of HTTP/1.0, or a
+/// `Connection` field has `close`, in any letter case, among its words.
+#[tactic(auto, unfolding(crate::specs::Framing::Frame::ends))]
+pub fn ends(spans: &RequestSpans, head: &[u8], headers: &[HeaderSpan]) -> bool
+    requires { IsRequestWithin head.now headers.now spans.now }
+    ensures { (h : RequestHead) → IsRequestAt head.now headers.now spans.now h → result ≡ ends h }
+{
+    if spans.version == 0 {
+        return true;
+    }
+    for field in &headers[..spans.headers] {
+        if is_word_in_any_case(field.name.of(head), "connection")
+            && says_close(field.value.of(head))
+        {
+            return true;
+        }
+    }
+    false
+}
+
+/// Whether the method is `HEAD`: the reply's body is not sent (RFC 9110, section 9.3.2).
+#[tactic(auto, unfolding(crate::specs::Framing::Frame::is_head))]
+pub fn is_head(spans: &RequestSpans, head: &[u8], headers: &[HeaderSpan]) -> bool
+    requires { IsRequestWithin head.now headers.now spans.now }
+    ensures { (h : RequestHead) → IsRequestAt head.now headers.now spans.now h → result ≡ is_head h }
+{
+    spans.method.of(head) == b"HEAD".as_slice()
+}
+
+/// Whether `close` is among the words between the commas.
+fn says_close(value: &[u8]) -> bool
+    ensures { result ≡ says_close value.now }
+{
+    value.split(|byte| *byte == b',').any(is_close)
+}
+
+fn is_close(word: &[u8]) -> bool
+    ensures { result ≡ is_close word.now }
+{
+    is_word_in_any_case(trimmed(word), "close")
+}
+
+/// The bytes without the spaces and tabs around them.
+fn trimmed(bytes: &[u8]) -> &[u8]
+    ensures { result.now ≡ trim_ows bytes.now }
+{
+    let mut start = 0;
+    let mut end = bytes.len();
+    while start < end && is_space_or_tab(bytes[start]) {
+        start += 1;
+    }
+    while start < end && is_space_or_tab(bytes[end - 1]) {
+        end -= 1;
+    }
+    &bytes[start..end]
+}

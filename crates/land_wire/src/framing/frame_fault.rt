@@ -1,0 +1,33 @@
+//! What can be wrong with a stream.
+ghost use Rattle.std.specs.Prelude.{◌≡◌};
+ghost use Rattle.land_wire.specs.Framing.FrameFaults.{number_of};
+
+/// Why the bytes at the front of a stream are no whole request.
+#[derive(Clone, Copy, Debug, PartialEq, Eq)]
+pub enum FrameFault {
+    /// The bytes can be no beginning of a head, or a whole head has too many fields or a wrong length.
+    Head,
+    /// 8192 bytes hold no whole head.
+    HeadLong,
+    /// The body would have more than 1_048_576 bytes.
+    BodyLong,
+    /// The head has a `Transfer-Encoding`.
+    Encoding,
+    /// The input ends inside a head or a body.
+    Cut,
+}
+
+impl FrameFault {
+    /// The number of the fault that is answered: 140 `Head`, 141 `HeadLong`, 142 `BodyLong`, 143 `Encoding`, 144 `Cut`.
+    pub fn number(self) -> u16
+        ensures { result ≡ number_of self }
+    {
+        match self {
+            FrameFault::Head => 140,
+            FrameFault::HeadLong => 141,
+            FrameFault::BodyLong => 142,
+            FrameFault::Encoding => 143,
+            FrameFault::Cut => 144,
+        }
+    }
+}

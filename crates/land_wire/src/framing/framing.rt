@@ -1,0 +1,54 @@
+//! How many bytes of body follow a whole head.
+ghost use Rattle.std.specs.Prelude.{◌≡◌, ◌≤◌, IfOk};
+ghost use Rattle.httparse.specs.Grammar.{RequestHead};
+ghost use Rattle.httparse.specs.Spans.{IsRequestAt, IsRequestWithin};
+ghost use Rattle.land_wire.specs.Framing.Frame.{frame, length_of};
+
+use crate::framing::frame_fault::FrameFault;
+use crate::framing::named::{Occurrence, look_up};
+use httparse::spans::{HeaderSpan, RequestSpans};
+use land_wire_json::bodies::decimals::read_digits;
+
+/// A head has at most so many fields.
+pub const MOST_FIELDS: usize = 64;
+
+/// A body has at most so many bytes.
+pub const BODY_LIMIT: u64 = 1_048_576;
+
+/// A length has at most so many digits.
+const LENGTH_DIGITS: usize = 18;
+
+/// The length of the body that follows a head, by the `Content-Length` (RFC 9110, section 8.6), or the first
+/// of these faults: 140 `Head` more than 64 fields; 143 `Encoding` a `Transfer-Encoding`; 140 `Head` more than
+/// one `Content-Length`, or one that is not 1 to 18 digits; 142 `BodyLong` more than 1_048_576 bytes.
+pub fn frame(spans: &RequestSpans, head: &[u8], headers: &[HeaderSpan]) -> Result<usize, FrameFault>
+    requires { IsRequestWithin head.now headers.now spans.now }
+    ensures value { (h : RequestHead) → IsRequestAt head.now headers.now spans.now h → result ≡ frame h }
+    ensures bound { IfOk result (λ n. n ≤ 1048576) }
+{
+    if spans.headers > MOST_FIELDS {
+        return Err(FrameFault::Head);
+    }
+    let fields = &headers[..spans.headers];
+    match look_up(head, fields, "transfer-encoding") {
+        Occurrence::Absent => {}
+        _ => return Err(FrameFault::Encoding),
+    }
+    match look_up(head, fields, "content-length") {
+        Occurrence::Absent => Ok(0),
+        Occurrence::Once(value) => read_length(value.of(head)),
+        Occurrence::Repeated => Err(FrameFault::Head),
+    }
+}
+
+/// The length that a value says.
+fn read_length(value: &[u8]) -> Result<usize, FrameFault>
+    ensures value { result ≡ length_of value.now }
+    ensures bound { IfOk result (λ n. n ≤ 1048576) }
+{
+    match read_digits(value, LENGTH_DIGITS) {
+        None => Err(FrameFault::Head),
+        Some(length) if length > BODY_LIMIT => Err(FrameFault::BodyLong),
+        Some(length) => Ok(length as usize),
+    }
+}

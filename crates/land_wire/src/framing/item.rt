@@ -1,0 +1,74 @@
+//! The item at the front of a stream.
+ghost use Rattle.std.specs.Prelude.{◌≡◌, ◌≤◌, ◌<◌, ◌+◌, ◌*◌, ◌⊎◌, ℕ, List, length, vec_len, vec_capacity, IfOk, IfErr, IfSome};
+ghost use Rattle.std.specs.Io.KnownBytes.{Keeps, prepend_known};
+ghost use Rattle.httparse.specs.Grammar.{RequestHead};
+ghost use Rattle.land_wire.specs.Framing.Items.{fault_front, request, IsItem, IsFrontIn, IsFrontOf};
+
+use crate::framing::frame_fault::FrameFault;
+use crate::framing::framing::frame;
+use crate::framing::head::{Found, read_head};
+use httparse::spans::{HeaderSpan, RequestSpans};
+use land_streams::buffer::read_to;
+use land_streams::counted_reader::CountedReader;
+use land_streams::read_fault::ReadFault;
+use std::io::Read;
+
+/// What stands at the front of a stream.
+#[derive(Clone, Copy, Debug, PartialEq, Eq)]
+pub enum Front {
+    /// No byte is left.
+    End,
+    /// A fault of framing, after which nothing is looked at.
+    Fault(FrameFault),
+    /// A whole request: the spans of its head, and the length of the body after it.
+    Request(RequestSpans, usize),
+}
+
+/// The item at the front of what the buffer holds and the reader has left, where a request's parts lie in the
+/// buffer. The error is the reader's, or of memory; no byte of the stream is lost. Where the buffer begins with a whole
+/// request, the reader is not asked.
+pub fn read_item<R: Read>(
+    reader: &mut CountedReader<R>,
+    buffer: &mut Vec<u8>,
+    headers: &mut [HeaderSpan],
+) -> Result<Front, ReadFault>
+    requires { 2731 ≤ length headers.old }
+    ensures room { length headers.new ≡ length headers.old }
+    ensures bound { length buffer.new.items + 1024 * reader.new.left ≤ length buffer.old.items + 1024 * reader.old.left }
+    ensures stream { Keeps (prepend_known buffer.old.items (R.remaining reader.old.reader))
+        (prepend_known buffer.new.items (R.remaining reader.new.reader)) }
+    ensures unread { (h : RequestHead) (body rest : List ℕ) → IsItem buffer.old.items (request h body) rest → reader.new ≡ reader.old }
+    ensures front { IfOk result (λ f. IsFrontIn buffer.new.items headers.new f) }
+    ensures item { IfOk result (λ f. IfSome (prepend_known buffer.new.items (R.remaining reader.new.reader))
+        (λ stream. IsFrontOf stream f)) }
+
+    // Want of memory is told where there was no room for a piece, and a reader's failure after it was made.
+    ensures memory { IfErr result (λ e. e ≡ ReadFault.NoMemory → vec_capacity buffer.new < vec_len buffer.new + 1024) }
+    ensures failed { IfErr result (λ e. e ≡ ReadFault.Read
+        → (reader.new.left ≡ 0) ⊎ (vec_len buffer.new + 1024 ≤ vec_capacity buffer.new)) }
+{
+    let spans = match read_head(reader, buffer, headers) {
+        Err(fault) => return Err(fault),
+        Ok(Found::Fault(fault)) => return Ok(fault_front(fault, buffer.is_empty())),
+        Ok(Found::Whole(spans)) => spans,
+    };
+    let length = match frame(&spans, buffer, headers) {
+        Err(fault) => return Ok(Front::Fault(fault)),
+        Ok(length) => length,
+    };
+    match read_to(reader, buffer, spans.len + length) {
+        Err(fault) => Err(fault),
+        Ok(false) => Ok(Front::Fault(FrameFault::Cut)),
+        Ok(true) => Ok(Front::Request(spans, length)),
+    }
+}
+
+/// What a fault before the end of a head stands for.
+fn fault_front(fault: FrameFault, empty: bool) -> Front
+    ensures { result ≡ fault_front fault empty }
+{
+    match fault {
+        FrameFault::Cut if empty => Front::End,
+        _ => Front::Fault(fault),
+    }
+}

@@ -1,0 +1,108 @@
+//! Routes: what a path names, and by which method.
+ghost use Rattle.std.specs.Prelude.{◌≡◌, ◌+◌, ◌≤◌, length, drop, option_map};
+ghost use Rattle.land_wire.specs.Routes.{allows, before_slash, list_path, method_of, resource, route_of};
+ghost use Rattle.land_wire.specs.Routes.Table.{FindsRoutes, named_by};
+
+use crate::routes::act_word::ActWord;
+use crate::routes::table::Goal;
+use land_core::kind::Kind;
+use matchit::Router;
+
+/// What a path names.
+#[derive(Clone, Copy, Debug)]
+pub enum Route<'a> {
+    /// `/parties`, `/units` and so on: all objects of a kind.
+    List(Kind),
+    /// `/parties/{number}` and so on: one object of a kind, by the part of the path that has its number.
+    View(Kind, &'a [u8]),
+    /// `/units/{number}/sheet`: a unit's title sheet, by the part of the path that has the unit's number.
+    Sheet(&'a [u8]),
+    /// `/acts/{word}`: an act, by its word.
+    Act(ActWord),
+}
+
+impl<'a> Route<'a> {
+    /// The method of a route: GET for lists, objects and title sheets, POST for acts.
+    pub fn method(&self) -> &'static str
+        ensures { result.now ≡ method_of (resource self.now) }
+    {
+        match self {
+            Route::List(_) | Route::View(_, _) | Route::Sheet(_) => "GET",
+            Route::Act(_) => "POST",
+        }
+    }
+}
+
+/// Whether a method is the one of a route. Letter case counts.
+pub fn allows(route: &Route<'_>, method: &[u8]) -> bool
+    ensures { result ≡ allows (resource route.now) method.now }
+{
+    method == route.method().as_bytes()
+}
+
+/// The route of a path, asked of a router that `routes` made; none where the path names nothing.
+pub fn find_route<'a>(router: &Router<Goal>, path: &'a str) -> Option<Route<'a>>
+    requires { FindsRoutes router.now }
+    ensures { option_map resource result ≡ route_of path.now }
+{
+    match router.at(path) {
+        Ok(found) => route_at(*found.value, path.as_bytes()),
+        Err(_) => None,
+    }
+}
+
+fn route_at(goal: Goal, path: &[u8]) -> Option<Route<'_>>
+    ensures { option_map resource result ≡ named_by path.now goal }
+{
+    match goal {
+        Goal::List(kind) => Some(Route::List(kind)),
+        Goal::View(kind) => {
+            let part = behind(path, list_path_length(kind) + 1);
+            Some(Route::View(kind, part))
+        }
+        Goal::Sheet => Some(Route::Sheet(first_part(behind(path, 7)))),
+        Goal::Act => Some(Route::Act(ActWord::of(behind(path, 6))?)),
+    }
+}
+
+fn list_path_length(kind: Kind) -> usize
+    ensures { result ≡ length (list_path kind) }
+{
+    match kind {
+        Kind::Party => 8,
+        Kind::Unit => 6,
+        Kind::Parcel => 8,
+        Kind::Rrr => 5,
+        Kind::Source => 8,
+        Kind::Mutation => 10,
+    }
+}
+
+fn behind(path: &[u8], count: usize) -> &[u8]
+    ensures { result.now ≡ drop count path.now }
+{
+    if count <= path.len() {
+        &path[count..]
+    } else {
+        &[]
+    }
+}
+
+fn first_part(path: &[u8]) -> &[u8]
+    ensures { result.now ≡ before_slash path.now }
+{
+    let at = slash_at(path);
+    if at < path.len() { &path[..at] } else { path }
+}
+
+fn slash_at(path: &[u8]) -> usize
+    ensures count { result ≡ length (before_slash path.now) }
+    ensures within { result ≤ length path.now }
+{
+    for (at, byte) in path.iter().enumerate() {
+        if *byte == b'/' {
+            return at;
+        }
+    }
+    path.len()
+}

@@ -1,0 +1,54 @@
+-- Values in JSON, and texts that are made of others.
+use Rattle.std.specs.Prelude.{ℕ, Bool, true, false, List, [], ◌∷◌, ◌++◌, map, codes}
+use Rattle.land_fraction.specs.Ratio.{Ratio}
+use Rattle.land_fraction.specs.Text.{text_of}
+use Rattle.land_shape.specs.Place.{Place}
+use Rattle.land_shape.specs.Printed.{printed}
+use Rattle.serde_json.specs.Data.{Data, unsigned, number, string, array, object, no_members, member}
+use Rattle.serde_json.specs.View.{items_of}
+use Rattle.serde_json.specs.Written.{compact_text}
+
+abbrev pub number_data : ℕ → Data
+number_data n = number (unsigned n)
+
+abbrev pub numbers_data : List ℕ → Data
+numbers_data numbers = array (items_of (map number_data numbers))
+
+-- a share as it is printed
+abbrev pub share_data : Ratio → Data
+share_data share = string (text_of share)
+
+-- an object with one member
+abbrev pub one_member : List ℕ → Data → Data
+one_member key value = object (member key value no_members)
+
+-- ---- texts
+
+-- texts with commas between
+abbrev pub after_comma : List (List ℕ) → List ℕ
+after_comma [] = []
+after_comma (text ∷ texts) = codes "," ++ (text ++ after_comma texts)
+
+abbrev pub with_commas : List (List ℕ) → List ℕ
+with_commas [] = []
+with_commas (text ∷ texts) = text ++ after_comma texts
+
+abbrev pub quoted_word : List ℕ → List ℕ
+quoted_word word = codes "\"" ++ (word ++ codes "\"")
+
+-- a share as JSON writes it
+abbrev pub share_text : Ratio → List ℕ
+share_text share = compact_text (share_data share)
+
+-- an outline as JSON writes it
+abbrev pub outline_text : List Place → List ℕ
+outline_text ring = compact_text (string (printed ring))
+
+-- a text of the register as JSON writes it, in quotation marks
+abbrev pub string_text : List ℕ → List ℕ
+string_text s = compact_text (string s)
+
+-- true or false
+abbrev pub truth_text : Bool → List ℕ
+truth_text true = codes "true"
+truth_text false = codes "false"

@@ -1,0 +1,34 @@
+//! Outlines in bodies.
+ghost use Rattle.std.specs.Prelude.{◌≡◌};
+ghost use Rattle.land_wire_json.specs.Bodies.Outlines.{outline_in, outline_of};
+ghost use Rattle.land_wire_json.specs.Bodies.WireFaults.{Gives};
+ghost use Rattle.serde_json.specs.View.{view};
+
+use crate::bodies::fields::text_at;
+use crate::bodies::laws;
+use crate::bodies::wire_fault::WireFault;
+use land_shape::{Ring, ShapeFault, read_wkt};
+use serde_json::Value;
+use std::alloc::Global;
+
+/// The outline under the key `outline`, in millimetres. 131: it is missing, or no text. 110 to 120: the text stands for no ring. 501:
+/// there was no memory.
+#[tactic(auto, unfolding(crate::specs::Bodies::Outlines::outline_in))]
+pub fn outline_in(alloc: Global, value: &Value) -> Result<Ring, WireFault>
+    ensures { Gives (λ ring. ring) result (outline_in (view value.now)) }
+{
+    outline_of(alloc, text_at(value, "outline")?)
+}
+
+/// The ring that a text stands for, in millimetres, else one of faults 110 to 120. 501: there was no memory.
+pub fn outline_of(alloc: Global, text: &str) -> Result<Ring, WireFault>
+    ensures { Gives (λ ring. ring) result (outline_of text.now) }
+{
+    laws::outlines_have_their_answers();
+    land_shape::laws::one_answer();
+    match read_wkt(alloc, text) {
+        Ok(ring) => Ok(ring),
+        Err(fault) if fault == ShapeFault::NoMemory => Err(WireFault::NoMemory),
+        Err(fault) => Err(WireFault::Outline(fault)),
+    }
+}

@@ -1,0 +1,88 @@
+//! The bodies of acts on parties.
+ghost use Rattle.std.specs.Prelude.{◌≡◌};
+ghost use Rattle.land_wire_json.specs.Bodies.Fields.{each_of};
+ghost use Rattle.land_wire_json.specs.Bodies.Parties.{enrol_of, grant_of, group_of, member_of, members_of, regroup_of};
+ghost use Rattle.land_wire_json.specs.Bodies.WireFaults.{Gives};
+ghost use Rattle.serde_json.specs.View.{view, items_view};
+
+use crate::bodies::fields::{check_keys, items_at, name_at, number_at};
+use crate::bodies::share::share_at;
+use crate::bodies::wire_fault::WireFault;
+use crate::bodies::words::{kind_in, role_in};
+use land_core::act::{Enrol, NewGroup, Regroup};
+use land_core::member::Member;
+use land_core::roles::Grant;
+use land_core::sequence::Sequence;
+use serde_json::Value;
+use std::alloc::Global;
+
+/// An enrolment: `kind` (naturalPerson or nonNaturalPerson), `name`.
+#[tactic(auto, unfolding(crate::specs::Bodies::Parties::enrol_of))]
+pub fn enrol_of(alloc: Global, value: &Value) -> Result<Enrol, WireFault>
+    ensures { Gives (λ it. it) result (enrol_of (view value.now)) }
+{
+    check_keys(value, &["kind", "name"])?;
+    let kind = kind_in(value)?;
+    let name = name_at(alloc, value, "name")?;
+    Ok(Enrol { kind, name })
+}
+
+/// A group: `name`, `members` (2 to 64 of `party`, `share`).
+#[tactic(auto, unfolding(crate::specs::Bodies::Parties::group_of))]
+pub fn group_of(alloc: Global, value: &Value) -> Result<NewGroup, WireFault>
+    ensures { Gives (λ it. it) result (group_of (view value.now)) }
+{
+    check_keys(value, &["name", "members"])?;
+    let name = name_at(alloc, value, "name")?;
+    let members = members_of(alloc, value)?;
+    Ok(NewGroup { name, members })
+}
+
+/// Other members of a group: `group`, `members` (2 to 64 of `party`, `share`).
+#[tactic(auto, unfolding(crate::specs::Bodies::Parties::regroup_of))]
+pub fn regroup_of(alloc: Global, value: &Value) -> Result<Regroup, WireFault>
+    ensures { Gives (λ it. it) result (regroup_of (view value.now)) }
+{
+    check_keys(value, &["group", "members"])?;
+    let group = number_at(value, "group")?;
+    let members = members_of(alloc, value)?;
+    Ok(Regroup { group, members })
+}
+
+/// A role that is given or ended: `party`, `role`.
+#[tactic(auto, unfolding(crate::specs::Bodies::Parties::grant_of))]
+pub fn grant_of(value: &Value) -> Result<Grant, WireFault>
+    ensures { result ≡ grant_of (view value.now) }
+{
+    check_keys(value, &["party", "role"])?;
+    let party = number_at(value, "party")?;
+    let role = role_in(value)?;
+    Ok(Grant { party, role })
+}
+
+#[tactic(auto, unfolding(crate::specs::Bodies::Parties::members_of))]
+fn members_of(alloc: Global, value: &Value) -> Result<Sequence<Member>, WireFault>
+    ensures { Gives (λ it. it) result (members_of (view value.now)) }
+{
+    each_member(alloc, items_at(value, "members", 2, 64)?)
+}
+
+fn each_member(alloc: Global, items: &[Value]) -> Result<Sequence<Member>, WireFault>
+    ensures { Gives (λ it. it) result (each_of member_of (items_view items.now)) }
+{
+    let mut members = Sequence::new(alloc);
+    for value in items {
+        members.push(member_of(value)?)?;
+    }
+    Ok(members)
+}
+
+#[tactic(auto, unfolding(crate::specs::Bodies::Parties::member_of))]
+fn member_of(value: &Value) -> Result<Member, WireFault>
+    ensures { result ≡ member_of (view value.now) }
+{
+    check_keys(value, &["party", "share"])?;
+    let party = number_at(value, "party")?;
+    let share = share_at(value, "share")?;
+    Ok(Member { party, share })
+}

@@ -1,0 +1,47 @@
+//! Contents that are kept as texts.
+ghost use Rattle.std.specs.List.{AllByRecursion};
+ghost use Rattle.land_fraction.specs.Ratio.{IsFraction};
+ghost use Rattle.land_shape.specs.Outline.{IsOutline};
+ghost use Rattle.land_wire_json.specs.Bodies.Stored.{HasOutline, IsExactContent};
+
+use land_core::content::Content;
+use land_core::subdivision::Part;
+use land_fraction::Fraction;
+use land_shape::Ring;
+
+/// The share of each content is a fraction, and its outlines are outlines, by their types. It changes nothing, and is called where that is
+/// to be known of a content that is to be kept.
+pub fn content_is_exact(content: &Content)
+    ensures { IsExactContent content.now }
+{
+    match content {
+        Content::Transfer(it) => share_is_exact(it.share),
+        Content::Subdivision(it) => {
+            outline_is_exact(&it.first.outline);
+            parts_are_exact(it.rest.as_slice());
+        }
+        Content::Merger(it) => outline_is_exact(&it.outline),
+        Content::Mortgage(_) => {}
+        Content::Discharge(_) => {}
+    }
+}
+
+fn share_is_exact(share: Fraction)
+    ensures { IsFraction share }
+{
+    share.numerator();
+}
+
+fn outline_is_exact(outline: &Ring)
+    ensures { IsOutline outline.now }
+{
+    outline.points();
+}
+
+fn parts_are_exact(parts: &[Part])
+    ensures { AllByRecursion HasOutline parts.now }
+{
+    for part in parts {
+        outline_is_exact(&part.outline);
+    }
+}

@@ -1,0 +1,113 @@
+//! Words that stand for kinds, roles, types and classes.
+ghost use Rattle.std.specs.Prelude.{◌≡◌, bytes_eq};
+ghost use Rattle.land_wire_json.specs.Bodies.Words.{class_in, class_of, kind_in, kind_of, role_in, role_of, type_in, type_of};
+ghost use Rattle.serde_json.specs.View.{view};
+
+use crate::bodies::fields::text_at;
+use crate::bodies::wire_fault::WireFault;
+use land_core::act::BurdenClass;
+use land_core::kind::PartyKind;
+use land_core::role::Role;
+use land_core::rrr::RightType;
+use serde_json::Value;
+
+/// The kind under the key `kind`. 131: it is missing, or no text. 133: it is no kind of a single party.
+#[tactic(auto, unfolding(crate::specs::Bodies::Words::kind_in))]
+pub fn kind_in(value: &Value) -> Result<PartyKind, WireFault>
+    ensures { result ≡ kind_in (view value.now) }
+{
+    kind_of(text_at(value, "kind")?)
+}
+
+/// The kind of a single party; any other word is fault 133.
+pub fn kind_of(word: &str) -> Result<PartyKind, WireFault>
+    ensures { result ≡ kind_of word.now }
+{
+    if word == "naturalPerson" {
+        Ok(PartyKind::NaturalPerson)
+    } else if word == "nonNaturalPerson" {
+        Ok(PartyKind::NonNaturalPerson)
+    } else {
+        Err(WireFault::Text)
+    }
+}
+
+/// The role under the key `role`. 131: it is missing, or no text. 134: it is no role.
+#[tactic(auto, unfolding(crate::specs::Bodies::Words::role_in))]
+pub fn role_in(value: &Value) -> Result<Role, WireFault>
+    ensures { result ≡ role_in (view value.now) }
+{
+    role_of(text_at(value, "role")?.as_bytes())
+}
+
+/// The role that the bytes are the word of; any other word is fault 134. Letter case counts.
+pub fn role_of(word: &[u8]) -> Result<Role, WireFault>
+    ensures { result ≡ role_of word.now }
+{
+    if is_word(word, "citizen") {
+        Ok(Role::Citizen)
+    } else if is_word(word, "conveyancer") {
+        Ok(Role::Conveyancer)
+    } else if is_word(word, "notary") {
+        Ok(Role::Notary)
+    } else if is_word(word, "bank") {
+        Ok(Role::Bank)
+    } else if is_word(word, "certifiedSurveyor") {
+        Ok(Role::CertifiedSurveyor)
+    } else if is_word(word, "stateAdministrator") {
+        Ok(Role::StateAdministrator)
+    } else {
+        Err(WireFault::Role)
+    }
+}
+
+/// Whether the bytes are those of a word.
+pub fn is_word(bytes: &[u8], word: &str) -> bool
+    ensures { result ≡ bytes_eq bytes.now word.now }
+{
+    bytes == word.as_bytes()
+}
+
+/// The type under the key `type`. 131: it is missing, or no text. 133: it is no type of rights.
+#[tactic(auto, unfolding(crate::specs::Bodies::Words::type_in))]
+pub fn type_in(value: &Value) -> Result<RightType, WireFault>
+    ensures { result ≡ type_in (view value.now) }
+{
+    type_of(text_at(value, "type")?)
+}
+
+/// The type of a right; any other word is fault 133.
+pub fn type_of(word: &str) -> Result<RightType, WireFault>
+    ensures { result ≡ type_of word.now }
+{
+    if word == "ownership" {
+        Ok(RightType::Ownership)
+    } else if word == "lease" {
+        Ok(RightType::Lease)
+    } else if word == "usufruct" {
+        Ok(RightType::Usufruct)
+    } else {
+        Err(WireFault::Text)
+    }
+}
+
+/// The class under the key `class`. 131: it is missing, or no text. 133: it is no class of burdens.
+#[tactic(auto, unfolding(crate::specs::Bodies::Words::class_in))]
+pub fn class_in(value: &Value) -> Result<BurdenClass, WireFault>
+    ensures { result ≡ class_in (view value.now) }
+{
+    class_of(text_at(value, "class")?)
+}
+
+/// The class of a burden; any other word is fault 133.
+fn class_of(word: &str) -> Result<BurdenClass, WireFault>
+    ensures { result ≡ class_of word.now }
+{
+    if word == "restriction" {
+        Ok(BurdenClass::Restriction)
+    } else if word == "responsibility" {
+        Ok(BurdenClass::Responsibility)
+    } else {
+        Err(WireFault::Text)
+    }
+}

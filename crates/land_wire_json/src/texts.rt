@@ -1,0 +1,13 @@
+//! Objects, and what mutations ask for, in JSON and as texts.
+
+pub mod laws;
+pub mod merger;
+pub mod mutation;
+pub mod object;
+pub mod parcel;
+pub mod party;
+pub mod rrr;
+pub mod source;
+pub mod subdivision;
+pub mod unit;
+pub mod values;

@@ -1,4 +1,0 @@
-use Rattle.land_words.proofs.commands.check.Goals as goal
-
-pub returns : goal.returns
-returns c = c.with_option.ensures _ _ c.named-check.ensures c.file_option-file.ensures

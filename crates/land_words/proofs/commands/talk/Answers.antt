@@ -1,4 +1,0 @@
-use Rattle.land_words.proofs.commands.talk.Goals as goal
-
-pub returns : goal.returns
-returns c = c.with_option.ensures _ _ c.named-talk.ensures c.clock_option.ensures

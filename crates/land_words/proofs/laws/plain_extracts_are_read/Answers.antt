@@ -1,5 +1,0 @@
-use Rattle.land_words.proofs.PlainExtracts.{plain_extract}
-use Rattle.land_words.proofs.laws.plain_extracts_are_read.Goals as goal
-
-pub returns : goal.returns
-returns c = plain_extract

@@ -1,5 +1,0 @@
-use Rattle.land_words.proofs.PlainWords.{plain_service}
-use Rattle.land_words.proofs.laws.plain_services_are_read.Goals as goal
-
-pub returns : goal.returns
-returns c = plain_service

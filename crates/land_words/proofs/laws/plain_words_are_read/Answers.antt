@@ -1,5 +1,0 @@
-use Rattle.land_words.proofs.PlainWords.{plain_talk}
-use Rattle.land_words.proofs.laws.plain_words_are_read.Goals as goal
-
-pub returns : goal.returns
-returns c = plain_talk
