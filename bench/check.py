@@ -42,8 +42,8 @@ def check(file):
 def listing():
     """The texts that list a whole register: all rows of all tables, and their rowids."""
     tables = re.findall(r"CREATE TABLE (\w+)", registers.schema())
-    rowids = registers.texts("land_rowids/src/listing.rt")
-    return [*(registers.texts(f"land_rows/src/tables/{table}.rt")["ALL"] for table in tables), *rowids.values()]
+    rowids = registers.texts("land_tables_rows/src/rowids/listing.rt")
+    return [*(registers.texts(f"land_tables_schema/src/rows/tables/{table}.rt")["ALL"] for table in tables), *rowids.values()]
 
 
 def read_all(file, texts):

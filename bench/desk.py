@@ -16,9 +16,9 @@ import time
 
 from registers import OPEN, texts
 
-LOOK = texts("land_lookups/src/texts.rt")
+LOOK = texts("land_select_joins/src/lookups/texts.rt")
 EVERY, OWN, HOLDER, GROUP, CREDITOR, LODGER, NAMED = (
-    texts(f"land_joins/src/{name}.rt") for name in ("all", "own", "holder", "group", "creditor", "lodger", "named"))
+    texts(f"land_select_joins/src/joins/{name}.rt") for name in ("all", "own", "holder", "group", "creditor", "lodger", "named"))
 KINDS = {"parties": "PARTY", "units": "UNIT", "parcels": "PARCEL", "rrrs": "ENTRY", "mutations": "MUTATION"}
 ALL = {"PARTY": "PARTIES", "UNIT": "UNITS", "PARCEL": "PARCELS", "ENTRY": "ENTRIES", "MUTATION": "MUTATIONS"}
 SIGHT = {

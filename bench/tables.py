@@ -45,9 +45,9 @@ def theirs(file):
     base.execute("PRAGMA journal_mode = WAL")
     base.execute("PRAGMA synchronous = FULL")
     tables = re.findall(r"CREATE TABLE (\w+)", registers.schema())
-    lists = [texts(f"land_rows/src/tables/{table}.rt")["ALL"] for table in tables]
-    party, role = (texts(f"land_rows/src/tables/{table}.rt") for table in ("party", "role"))
-    moment = texts("land_rows/src/tables/moments.rt")["INSERT"]
+    lists = [texts(f"land_tables_schema/src/rows/tables/{table}.rt")["ALL"] for table in tables]
+    party, role = (texts(f"land_tables_schema/src/rows/tables/{table}.rt") for table in ("party", "role"))
+    moment = texts("land_tables_schema/src/rows/tables/moments.rt")["INSERT"]
     last, next_number = base.execute("SELECT max(stamp), max(next) FROM moments").fetchone()
 
     def write(place):
