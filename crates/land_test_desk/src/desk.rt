@@ -1,6 +1,4 @@
-//! Trials of what stands between the wire and the keeper: requests and replies as bytes (`land_wire`), and streams of them
-//! (`land_framing`, `land_desk`). Each is a public function that answers why it stops, if it does; the tests that call them are in
-//! `land_desk_tests`. Nothing here has a contract: it is for tests alone.
+//! Trials of what stands between the wire and the keeper: requests and replies as bytes, and streams of them.
 
 pub mod exchanges;
 pub mod failures;

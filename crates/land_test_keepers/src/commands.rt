@@ -1,5 +1,5 @@
 //! Commands over files, in the folder in which the tests run. What is done is written over any machine, and done on this one by
-//! `land_local`.
+//! `land_commands::local`.
 use land_commands::host::Host;
 use land_commands::local::machine::{Work, on_local_host};
 use land_commands::program_fault::ProgramFault;

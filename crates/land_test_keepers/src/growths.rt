@@ -1,8 +1,6 @@
 //! How often calls of a keeper ask for memory: over the tables of sqlite read whole, and over the same read by joins and look-ups. By
 //! these a call has to ask for a part of it alone, or it reads what it does not tell. The same calls are made over each of the two,
-//! and what they are told is held; how often memory is asked for is counted from outside, by `.ci/growths`. Each is a public function
-//! that answers why it stops, if it does; the tests that call them are in `land_store_tests`. Nothing here has a contract: it is for
-//! tests alone.
+//! and what they are told is held; how often memory is asked for is counted from outside, by `.ci/growths`.
 
 pub mod calls_read_less;
 mod marks;

@@ -1,6 +1,5 @@
 //! The worked rows as bytes, over each keeper: the register in memory, the tables of sqlite read whole, and the same read by joins.
-//! What is told has to be, byte for byte, what the rows say, so that all keepers tell the same. Each is a public function that answers
-//! why it stops, if it does; the tests that call them are in `land_store_tests`. Nothing here has a contract: it is for tests alone.
+//! What is told has to be, byte for byte, what the rows say, so that all keepers tell the same.
 
 mod keepers;
 mod looks;

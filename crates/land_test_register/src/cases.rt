@@ -1,6 +1,5 @@
 //! Cases: acts and asks as rows of tests have them, objects and replies in one line each, and rows that are run over a new register and
-//! compared with their full replies; the steps that other rows begin with. Tests of several crates are made of them.
-//! Nothing here has a contract: it is for tests alone.
+//! compared with their full replies; the steps that other rows begin with.
 
 pub mod asked;
 pub mod lodged;

@@ -1,5 +1,4 @@
-//! Facts: registers and changes as tests have them, put together by hand, record by record. Tests of several crates are made of them.
-//! Nothing here has a contract: it is for tests alone.
+//! Facts: registers and changes as tests have them, put together by hand, record by record.
 
 pub mod changes;
 pub mod facts;

@@ -1,6 +1,4 @@
-//! Trials of `land_schema` and `land_rows`: that the calls succeed, over the kit's sqlite in memory. Each is a public function that
-//! answers why it stops, if it does; the tests that call them are in `land_store_tests`. Nothing here has a contract: it is for tests
-//! alone.
+//! Trials of `land_tables_schema` and of the rows in its tables: that the calls succeed, over the kit's sqlite in memory.
 
 pub mod openness;
 pub mod register;
