@@ -5,11 +5,11 @@ ghost use Rattle.land_commands.specs.ProgramFaults.{IsFaultOfClosing};
 
 use crate::host::Host;
 use crate::program_fault::ProgramFault;
-use land_desk::send::send;
 use land_desk::service::connections::Connections;
 use land_desk::service::serving::{ServiceFault, serve_connections};
 use land_keep::clock::Clock;
 use land_select::sql_keeper::SqlKeeper;
+use land_streams::send::send;
 use land_tables::tables::Tables;
 use sqlite::{Alter, Connection};
 use std::alloc::{AllocError, Global};
