@@ -1,8 +1,8 @@
 //! Readers and writers that fail at each place of a small stream.
 use crate::desk::office::{Office, common, is_want_of_memory, open_sink};
-use land_desk::send::send;
 use land_desk::serve::{DeskFault, Served};
 use land_keep::keeper::Keeper;
+use land_streams::send::send;
 use land_test_scenario::doubles::{Pieces, Sink};
 use land_test_scenario::stop::{Stop, expect};
 use land_test_scenario::talk::Told::{Fault, Shown};
