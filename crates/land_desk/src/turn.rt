@@ -24,8 +24,8 @@ use land_keep::clock::Clock;
 use land_keep::keeper::Keeper;
 use land_streams::buffer::drop_front;
 use land_streams::counted_reader::CountedReader;
-use land_streams::read_fault::ReadFault;
 use land_streams::send::send;
+use land_streams::stream_fault::StreamFault;
 use land_wire::framing::connection::{ends, is_head};
 use land_wire::framing::header_map::header_map;
 use land_wire::framing::item::{Front, read_item};
@@ -75,8 +75,8 @@ pub(crate) fn take_turn<R: Read, W: Write, K: Keeper, C: Clock>(
     ensures was { K.honest keeper.new → K.honest keeper.old }
 {
     match read_item(reader, buffer, headers) {
-        Err(ReadFault::Read) => Err(DeskFault::Read),
-        Err(ReadFault::NoMemory) => Err(DeskFault::NoMemory),
+        Err(StreamFault::Read) => Err(DeskFault::Read),
+        Err(StreamFault::NoMemory) => Err(DeskFault::NoMemory),
         Ok(Front::End) => Ok(Turn::End),
         Ok(Front::Fault(fault)) => say(writer, &refuse(alloc, fault)),
         Ok(Front::Request(spans, length)) => {

@@ -3,7 +3,7 @@ ghost use Rattle.std.specs.Prelude.{◌≡◌, ◌≤◌, ◌<◌, ◌+◌, ◌*
 ghost use Rattle.std.specs.Io.KnownBytes.{Consumes, IsAtEnd, Keeps, prepend_known};
 
 use crate::counted_reader::CountedReader;
-use crate::read_fault::ReadFault;
+use crate::stream_fault::StreamFault;
 use std::io::Read;
 
 /// The bytes that one read asks for.
@@ -18,7 +18,7 @@ const ROOM_KEPT: usize = 16_384;
 pub fn read_more<R: Read>(
     reader: &mut CountedReader<R>,
     buffer: &mut Vec<u8>,
-) -> Result<usize, ReadFault>
+) -> Result<usize, StreamFault>
     ensures spends { IfOk result (λ n. reader.old.left ≡ reader.new.left + 1) }
     ensures bound { length buffer.new.items + 1024 * reader.new.left ≤ length buffer.old.items + 1024 * reader.old.left }
     ensures grows { IfOk result (λ n. (piece : List ℕ) × (length piece ≡ n)
@@ -29,19 +29,19 @@ pub fn read_more<R: Read>(
     ensures end { IfOk result (λ n. n ≡ 0 → IsAtEnd (R.remaining reader.new.reader)) }
 
     // Want of memory is told where there was no room for a piece, and a reader's failure after it was made.
-    ensures memory { IfErr result (λ e. e ≡ ReadFault.NoMemory → vec_capacity buffer.new < vec_len buffer.new + 1024) }
-    ensures failed { IfErr result (λ e. e ≡ ReadFault.Read
+    ensures memory { IfErr result (λ e. e ≡ StreamFault.NoMemory → vec_capacity buffer.new < vec_len buffer.new + 1024) }
+    ensures failed { IfErr result (λ e. e ≡ StreamFault.Read
         → (reader.new.left ≡ 0) ⊎ (vec_len buffer.new + 1024 ≤ vec_capacity buffer.new)) }
 {
     if buffer.reserve(PIECE).is_err() {
-        return Err(ReadFault::NoMemory);
+        return Err(StreamFault::NoMemory);
     }
     let mut piece = [0; PIECE];
     let Ok(n) = reader.read(&mut piece) else {
-        return Err(ReadFault::Read);
+        return Err(StreamFault::Read);
     };
     if buffer.extend_from_slice(&piece[..n]).is_err() {
-        return Err(ReadFault::NoMemory);
+        return Err(StreamFault::NoMemory);
     }
     Ok(n)
 }
@@ -51,7 +51,7 @@ pub fn read_to<R: Read>(
     reader: &mut CountedReader<R>,
     buffer: &mut Vec<u8>,
     end: usize,
-) -> Result<bool, ReadFault>
+) -> Result<bool, StreamFault>
     ensures bound { length buffer.new.items + 1024 * reader.new.left ≤ length buffer.old.items + 1024 * reader.old.left }
     ensures stream { Keeps (prepend_known buffer.old.items (R.remaining reader.old.reader))
         (prepend_known buffer.new.items (R.remaining reader.new.reader)) }
@@ -62,8 +62,8 @@ pub fn read_to<R: Read>(
         (λ stream. length stream < end)) }
 
     // Want of memory is told where there was no room for a piece, and a reader's failure after it was made.
-    ensures memory { IfErr result (λ e. e ≡ ReadFault.NoMemory → vec_capacity buffer.new < vec_len buffer.new + 1024) }
-    ensures failed { IfErr result (λ e. e ≡ ReadFault.Read
+    ensures memory { IfErr result (λ e. e ≡ StreamFault.NoMemory → vec_capacity buffer.new < vec_len buffer.new + 1024) }
+    ensures failed { IfErr result (λ e. e ≡ StreamFault.Read
         → (reader.new.left ≡ 0) ⊎ (vec_len buffer.new + 1024 ≤ vec_capacity buffer.new)) }
 {
     loop {

@@ -3,7 +3,7 @@ ghost use Rattle.std.specs.Prelude.{◌≡◌, ◌<◌, ◌-◌, IfOk};
 ghost use Rattle.std.specs.Io.{ReadsAtMost};
 ghost use Rattle.std.specs.Io.KnownBytes.{ReadConsumes};
 
-use crate::read_fault::ReadFault;
+use crate::stream_fault::StreamFault;
 use std::io::Read;
 
 /// How often the reader of a stream is asked before it counts as failed.
@@ -37,7 +37,7 @@ impl<R> CountedReader<R> {
 impl<R: Read> CountedReader<R> {
     /// Asks the reader once, and counts it. `Read`: the reader failed, or has been asked as often as it may be, and then
     /// it is not asked.
-    pub fn read(&mut self, piece: &mut [u8]) -> Result<usize, ReadFault>
+    pub fn read(&mut self, piece: &mut [u8]) -> Result<usize, StreamFault>
         ensures spends { self.new.left ≡ self.old.left - 1 }
         ensures asked { IfOk result (λ n. 0 < self.old.left) }
         ensures unasked { self.old.left ≡ 0 → self.new.reader ≡ self.old.reader }
@@ -45,12 +45,12 @@ impl<R: Read> CountedReader<R> {
         ensures bytes { ReadConsumes (R.remaining self.old.reader) (R.remaining self.new.reader) result piece.new }
     {
         if self.left == 0 {
-            return Err(ReadFault::Read);
+            return Err(StreamFault::Read);
         }
         self.left -= 1;
         match self.reader.read(piece) {
             Ok(n) => Ok(n),
-            Err(_) => Err(ReadFault::Read),
+            Err(_) => Err(StreamFault::Read),
         }
     }
 }

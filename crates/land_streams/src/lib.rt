@@ -6,5 +6,5 @@
 pub mod buffer;
 pub mod counted_reader;
 pub mod put;
-pub mod read_fault;
 pub mod send;
+pub mod stream_fault;

@@ -6,7 +6,7 @@ use crate::desk::office::is_told;
 use httparse::spans::{EMPTY_HEADER_SPAN, HeaderSpan, RequestSpans};
 use land_streams::buffer::drop_front;
 use land_streams::counted_reader::{CountedReader, MOST_READS};
-use land_streams::read_fault::ReadFault;
+use land_streams::stream_fault::StreamFault;
 use land_test_scenario::doubles::Pieces;
 use land_test_scenario::stop::{Stop, expect};
 use land_test_scenario::talk::Told;
@@ -577,9 +577,9 @@ impl Reading<'_> {
     }
 
     /// Reads the item at the front, and drops nothing.
-    fn front(&mut self) -> Result<Front, ReadFault> {
+    fn front(&mut self) -> Result<Front, StreamFault> {
         if self.headers.len() < FIELD_ROOM {
-            return Err(ReadFault::NoMemory);
+            return Err(StreamFault::NoMemory);
         }
         read_item(&mut self.reader, &mut self.buffer, &mut self.headers)
     }
@@ -590,8 +590,8 @@ impl Reading<'_> {
             return Err(Stop::Call);
         }
         match read_item(&mut self.reader, &mut self.buffer, &mut self.headers) {
-            Err(ReadFault::NoMemory) => Err(Stop::Memory),
-            Err(ReadFault::Read) => Ok(false),
+            Err(StreamFault::NoMemory) => Err(Stop::Memory),
+            Err(StreamFault::Read) => Ok(false),
             Ok(Front::End) => Ok(matches!(item, Item::End)),
             Ok(Front::Fault(fault)) => Ok(is_fault(item, fault.number())),
             Ok(Front::Request(spans, length)) => {
@@ -718,8 +718,8 @@ fn is_unread(alloc: Global, budget: u64) -> Result<bool, Stop> {
     let left = b"POST / HTTP/1.1\r\nContent-Length: 5\r\n\r\nhello".as_slice();
     let mut stream = Reading::new(alloc, left, 10, budget)?;
     match stream.front() {
-        Err(ReadFault::NoMemory) => Err(Stop::Memory),
-        Err(ReadFault::Read) => Ok(
+        Err(StreamFault::NoMemory) => Err(Stop::Memory),
+        Err(StreamFault::Read) => Ok(
             left.starts_with(stream.buffer.as_slice())
                 && u64::try_from(stream.buffer.len()) == Ok(budget.saturating_mul(10)),
         ),
@@ -737,8 +737,8 @@ fn is_failed(alloc: Global, reads: u64) -> Result<bool, Stop> {
         reads,
     });
     match stream.front() {
-        Err(ReadFault::NoMemory) => Err(Stop::Memory),
-        Err(ReadFault::Read) => Ok(true),
+        Err(StreamFault::NoMemory) => Err(Stop::Memory),
+        Err(StreamFault::Read) => Ok(true),
         Ok(_) => Ok(false),
     }
 }

@@ -10,7 +10,7 @@ use httparse::spans::{HeaderSpan, RequestSpans, parse_request};
 use httparse::{Error, Status};
 use land_streams::buffer::read_more;
 use land_streams::counted_reader::CountedReader;
-use land_streams::read_fault::ReadFault;
+use land_streams::stream_fault::StreamFault;
 use std::io::Read;
 
 /// A head is looked for in so many bytes, the empty lines before it among them.
@@ -46,7 +46,7 @@ pub fn read_head<R: Read>(
     reader: &mut CountedReader<R>,
     buffer: &mut Vec<u8>,
     headers: &mut [HeaderSpan],
-) -> Result<Found, ReadFault>
+) -> Result<Found, StreamFault>
     requires { 2731 ≤ length headers.old }
     ensures room { length headers.new ≡ length headers.old }
     ensures bound { length buffer.new.items + 1024 * reader.new.left ≤ length buffer.old.items + 1024 * reader.old.left }
@@ -60,8 +60,8 @@ pub fn read_head<R: Read>(
         (λ stream. IsFoundFault stream f)) }
 
     // Want of memory is told where there was no room for a piece, and a reader's failure after it was made.
-    ensures memory { IfErr result (λ e. e ≡ ReadFault.NoMemory → vec_capacity buffer.new < vec_len buffer.new + 1024) }
-    ensures failed { IfErr result (λ e. e ≡ ReadFault.Read
+    ensures memory { IfErr result (λ e. e ≡ StreamFault.NoMemory → vec_capacity buffer.new < vec_len buffer.new + 1024) }
+    ensures failed { IfErr result (λ e. e ≡ StreamFault.Read
         → (reader.new.left ≡ 0) ⊎ (vec_len buffer.new + 1024 ≤ vec_capacity buffer.new)) }
 {
     loop {

@@ -10,7 +10,7 @@ use crate::framing::head::{Found, read_head};
 use httparse::spans::{HeaderSpan, RequestSpans};
 use land_streams::buffer::read_to;
 use land_streams::counted_reader::CountedReader;
-use land_streams::read_fault::ReadFault;
+use land_streams::stream_fault::StreamFault;
 use std::io::Read;
 
 /// What stands at the front of a stream.
@@ -31,7 +31,7 @@ pub fn read_item<R: Read>(
     reader: &mut CountedReader<R>,
     buffer: &mut Vec<u8>,
     headers: &mut [HeaderSpan],
-) -> Result<Front, ReadFault>
+) -> Result<Front, StreamFault>
     requires { 2731 ≤ length headers.old }
     ensures room { length headers.new ≡ length headers.old }
     ensures bound { length buffer.new.items + 1024 * reader.new.left ≤ length buffer.old.items + 1024 * reader.old.left }
@@ -43,8 +43,8 @@ pub fn read_item<R: Read>(
         (λ stream. IsFrontOf stream f)) }
 
     // Want of memory is told where there was no room for a piece, and a reader's failure after it was made.
-    ensures memory { IfErr result (λ e. e ≡ ReadFault.NoMemory → vec_capacity buffer.new < vec_len buffer.new + 1024) }
-    ensures failed { IfErr result (λ e. e ≡ ReadFault.Read
+    ensures memory { IfErr result (λ e. e ≡ StreamFault.NoMemory → vec_capacity buffer.new < vec_len buffer.new + 1024) }
+    ensures failed { IfErr result (λ e. e ≡ StreamFault.Read
         → (reader.new.left ≡ 0) ⊎ (vec_len buffer.new + 1024 ≤ vec_capacity buffer.new)) }
 {
     let spans = match read_head(reader, buffer, headers) {
