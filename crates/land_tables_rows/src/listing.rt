@@ -2,4 +2,6 @@
 
 pub mod fault;
 pub mod history;
+pub mod listed;
 pub mod reading;
+mod tables;

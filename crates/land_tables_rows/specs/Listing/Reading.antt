@@ -40,6 +40,10 @@ pub record Listing (X : Type 0) : Type 0 where
   pub shown : Row → Row
   pub said : Row → Result X WireFault
 
+-- the rows of a table, each as the columns that are listed, in whatever order
+abbrev pub AreListed : {X : Type 0} → Listing X → Trees → List Row → Type 0
+AreListed listing db rows = IsPermutation (map listing.shown (db listing.table.tree)) rows
+
 -- the rows of a table say these, in whatever order
 abbrev pub Says : {X : Type 0} → Listing X → Trees → List X → Type 0
 Says listing db xs = IsPermutation (map (λ r. listing.said (listing.shown r)) (db listing.table.tree)) (map (λ x. Ok x) xs)

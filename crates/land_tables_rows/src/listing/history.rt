@@ -8,7 +8,7 @@ ghost use Rattle.sqlite.specs.Held.{state};
 ghost use Rattle.sqlite.specs.State.{HasCleanDisk};
 
 use crate::listing::fault::ReadFault;
-use crate::listing::reading;
+use crate::listing::reading::read_table;
 use land_core::mutation::MutationRecord;
 use land_core::parcel::ParcelRecord;
 use land_core::party::PartyRecord;
@@ -54,9 +54,9 @@ fn all_persons<S: Alter>(alloc: Global, conn: &mut Connection<S>) -> Result<Pers
     ensures unreadable { HasCleanDisk (state S.Store conn.new) → IfErr result (CannotSay (SaysPersons (state S.Store conn.old).now.trees)) }
     ensures mode { conn.old.in_transaction ≡ false → conn.new.in_transaction ≡ false }
 {
-    let parties = reading::parties(alloc, conn)?;
-    let roles = reading::roles(alloc, conn)?;
-    let members = reading::members(alloc, conn)?;
+    let parties = read_table(alloc, conn)?;
+    let roles = read_table(alloc, conn)?;
+    let members = read_table(alloc, conn)?;
     Ok(Persons {
         parties,
         roles,
@@ -70,9 +70,9 @@ fn all_holdings<S: Alter>(alloc: Global, conn: &mut Connection<S>) -> Result<Hol
     ensures unreadable { HasCleanDisk (state S.Store conn.new) → IfErr result (CannotSay (SaysHoldings (state S.Store conn.old).now.trees)) }
     ensures mode { conn.old.in_transaction ≡ false → conn.new.in_transaction ≡ false }
 {
-    let units = reading::units(alloc, conn)?;
-    let parcels = reading::parcels(alloc, conn)?;
-    let rrrs = reading::rrrs(alloc, conn)?;
+    let units = read_table(alloc, conn)?;
+    let parcels = read_table(alloc, conn)?;
+    let rrrs = read_table(alloc, conn)?;
     Ok(Holdings {
         units,
         parcels,
@@ -86,9 +86,9 @@ fn all_papers<S: Alter>(alloc: Global, conn: &mut Connection<S>) -> Result<Paper
     ensures unreadable { HasCleanDisk (state S.Store conn.new) → IfErr result (CannotSay (SaysPapers (state S.Store conn.old).now.trees)) }
     ensures mode { conn.old.in_transaction ≡ false → conn.new.in_transaction ≡ false }
 {
-    let sources = reading::sources(alloc, conn)?;
-    let mutations = reading::mutations(alloc, conn)?;
-    let namings = reading::namings(alloc, conn)?;
+    let sources = read_table(alloc, conn)?;
+    let mutations = read_table(alloc, conn)?;
+    let namings = read_table(alloc, conn)?;
     Ok(Papers {
         sources,
         mutations,

@@ -1,0 +1,131 @@
+//! Which table each thing is read from.
+ghost use Rattle.std.specs.Prelude.{refl};
+ghost use Rattle.land_tables_rows.specs.Listing.Reading as listing;
+
+use crate::edition::reading::Edition;
+use crate::listing::listed::Listed;
+use land_core::mutation::MutationRecord;
+use land_core::parcel::ParcelRecord;
+use land_core::party::PartyRecord;
+use land_core::roles::Grant;
+use land_core::rrr::RrrRecord;
+use land_core::source::SourceRecord;
+use land_core::unit::UnitRecord;
+use land_tables_history::group_member::GroupMember;
+use land_tables_history::moment::Moment;
+use land_tables_history::naming::Naming;
+use land_tables_history::version::Version;
+use land_tables_schema::rows::tables::{
+    edition, member, moments, mutation, names, parcel, party, role, rrr, source, unit,
+};
+use sqlite::{Alter, Connection, Error, Row};
+
+impl Listed for Version<(u64, PartyRecord)> {
+    ghost listing = { listing.parties };
+
+    fn all<S: Alter>(conn: &mut Connection<S>) -> Result<Vec<Row>, Error> {
+        party::all(conn)
+    }
+
+    ghost says = { refl };
+}
+
+impl Listed for Version<Grant> {
+    ghost listing = { listing.roles };
+
+    fn all<S: Alter>(conn: &mut Connection<S>) -> Result<Vec<Row>, Error> {
+        role::all(conn)
+    }
+
+    ghost says = { refl };
+}
+
+impl Listed for Version<GroupMember> {
+    ghost listing = { listing.members };
+
+    fn all<S: Alter>(conn: &mut Connection<S>) -> Result<Vec<Row>, Error> {
+        member::all(conn)
+    }
+
+    ghost says = { refl };
+}
+
+impl Listed for Version<(u64, UnitRecord)> {
+    ghost listing = { listing.units };
+
+    fn all<S: Alter>(conn: &mut Connection<S>) -> Result<Vec<Row>, Error> {
+        unit::all(conn)
+    }
+
+    ghost says = { refl };
+}
+
+impl Listed for Version<(u64, ParcelRecord)> {
+    ghost listing = { listing.parcels };
+
+    fn all<S: Alter>(conn: &mut Connection<S>) -> Result<Vec<Row>, Error> {
+        parcel::all(conn)
+    }
+
+    ghost says = { refl };
+}
+
+impl Listed for Version<(u64, RrrRecord)> {
+    ghost listing = { listing.rrrs };
+
+    fn all<S: Alter>(conn: &mut Connection<S>) -> Result<Vec<Row>, Error> {
+        rrr::all(conn)
+    }
+
+    ghost says = { refl };
+}
+
+impl Listed for Version<(u64, SourceRecord)> {
+    ghost listing = { listing.sources };
+
+    fn all<S: Alter>(conn: &mut Connection<S>) -> Result<Vec<Row>, Error> {
+        source::all(conn)
+    }
+
+    ghost says = { refl };
+}
+
+impl Listed for Version<(u64, MutationRecord)> {
+    ghost listing = { listing.mutations };
+
+    fn all<S: Alter>(conn: &mut Connection<S>) -> Result<Vec<Row>, Error> {
+        mutation::all(conn)
+    }
+
+    ghost says = { refl };
+}
+
+impl Listed for Version<Naming> {
+    ghost listing = { listing.namings };
+
+    fn all<S: Alter>(conn: &mut Connection<S>) -> Result<Vec<Row>, Error> {
+        names::all(conn)
+    }
+
+    ghost says = { refl };
+}
+
+impl Listed for Moment {
+    ghost listing = { listing.moments };
+
+    fn all<S: Alter>(conn: &mut Connection<S>) -> Result<Vec<Row>, Error> {
+        moments::all(conn)
+    }
+
+    ghost says = { refl };
+}
+
+impl Listed for Edition {
+    ghost listing = { listing.editions };
+
+    fn all<S: Alter>(conn: &mut Connection<S>) -> Result<Vec<Row>, Error> {
+        edition::all(conn)
+    }
+
+    ghost says = { refl };
+}
