@@ -1,6 +1,6 @@
 //! The rows of the tables, read as versions.
 ghost use Rattle.std.specs.Prelude.{◌≡◌, false, IfErr};
-ghost use Rattle.land_tables_rows.specs.Listing.Reading.{IsRead, IsUnreadable, Says, SaysHistory, editions, moments};
+ghost use Rattle.land_tables_rows.specs.Listing.Reading.{IsRead, IsUnreadable, Says, editions, moments};
 ghost use Rattle.land_tables_schema.specs.Land.{IsLand};
 ghost use Rattle.land_tables_schema.specs.Rows.Looks.{IsLook};
 ghost use Rattle.sqlite.specs.Held.{state};

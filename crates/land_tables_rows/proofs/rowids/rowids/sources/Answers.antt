@@ -1,8 +1,0 @@
-use Rattle.land_tables_rows.proofs.Keyed.{keyed_look}
-use Rattle.land_tables_schema.specs.Tables as table
-use Rattle.sqlite.specs.Held.{state}
-use Rattle.land_tables_rows.proofs.rowids.rowids.sources.Goals as goal
-
-pub returns-clause-look : goal.returns-clause-look
-returns-clause-look g c =
-    keyed_look table.source (state g.S.Store c.args.conn.now) (state g.S.Store c.source.new.conn) (λ rows. rows.items) c.in_ok-rows.rows c.in_ok-rows.ensures.look c.as_slice.result.now c.as_slice.ensures.value c.are_numbered.result c.are_numbered.ensures.numbered
