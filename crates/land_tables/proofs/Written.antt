@@ -1,5 +1,5 @@
 -- Tables in which a change was written stand for the timeline with it.
-use Rattle.std.proofs.Common.{◌≡◌, ◌≢◌, ◌∷◌, Bool, false, Result, Ok, Err, ℕ, refl, sym, ap, subst, ◌∙◌, IsTrue, arith}
+use Rattle.std.proofs.Common.{◌≡◌, ◌≢◌, ◌⊎◌, inl, inr, ◌∷◌, Bool, false, Result, Ok, Err, ℕ, refl, sym, ap, subst, ◌∙◌, IsTrue, arith}
 use Rattle.std.specs.Prelude.{ℤ, ◌≤ℤ◌}
 use Rattle.std.proofs.lemmas.Int.{ints}
 use Rattle.land_core.specs.declared.change.Change.{Change}
@@ -15,7 +15,7 @@ use Rattle.land_keep.specs.declared.store_fault.StoreFault.TheVariants.{Store}
 use Rattle.land_tables.proofs.Tellings.{tells}
 use Rattle.land_tables.proofs.WrittenTimelines.{stays_last, written_last}
 use Rattle.land_tables.specs.Calls.{IsSafeWrite, IsSame, MayRecord}
-use Rattle.land_tables.specs.Office.{HoldsRegister, IsHonest, IsOffice, IsWhole, Office, held}
+use Rattle.land_tables.specs.Office.{HoldsRegister, IsHonest, IsOffice, IsWhole, LeavesEither, Office, Rests, held}
 use Rattle.land_tables.specs.Standing.{HoldsTimeline, timeline_in}
 use Rattle.land_tables.specs.Timelines.Laws.{OrderDoesNotMatter, VersionsStandForOne}
 use Rattle.land_tables.specs.Timelines.Writing.{WritesStand}
@@ -104,6 +104,25 @@ same_office a b last next office same = record {
   last = rw same.now office.last;
   next = rw same.now office.next;
 }
+
+-- while the store is open, a crash leaves what was committed last
+abbrev pub Settles : {S : Type 0} → Ghosts S → Held S → Type 0
+Settles g conn = (db : Trees) → IsTrue (state g conn).is_open → (state g conn).may_leave db → db ≡ (state g conn).committed.trees
+
+pub rests : {S : Type 0} (g : Ghosts S) (o : Office S) → Settles g o.conn → IsWhole g o → Rests g o
+rests g o settles whole open_still clean db may =
+    let it = (whole.office (clean, open_still)).register in
+    let left : db ≡ (state g o.conn).now.trees = settles db it.is_open may ∙ ap (λ (d : Database). d.trees) it.committed in
+    rw left it.holds
+
+-- what a call leaves is what it found, or what it committed
+pub leaves_either : {S : Type 0} (g : Ghosts S) (old new : Office S) (after : Timeline) → Settles g old.conn → IsWhole g old
+    → (old.is_closed ≡ false → Survives (state g old.conn) (state g new.conn) (λ db. HoldsTimeline db after)) → LeavesEither g old new (held g old) after
+leaves_either g old new after settles whole survives open_still clean db may = go ((survives open_still).crash clean db may)
+  where
+    go : (state g old.conn).may_leave db ⊎ HoldsTimeline db after → HoldsTimeline db (held g old) ⊎ HoldsTimeline db after
+    go (inl before) = inl (rests g old settles whole open_still (clean_before (state g old.conn) (state g new.conn) (survives open_still) clean) db before)
+    go (inr commits) = inr commits
 
 -- tables after a write
 module _ {S : Type 0} (g : Ghosts S) (one : VersionsStandForOne) (order : OrderDoesNotMatter) (writes : WritesStand) (keeps : WritingKeepsSound) (change : Change) (stamp : ℤ)

@@ -51,6 +51,18 @@ pub record IsWhole {S : Type 0} (g : Ghosts S) (o : Office S) : Type 0 where
   pub moment : o.last ≤ℤ last_moment
   pub office : IsLive (IsHonest g o) o.is_closed → IsOffice (state g o.conn) o.last o.next
 
+-- whatever a crash leaves of the store, this is so of it, as long as the store has given back what was written to it
+abbrev pub Leaves : {S : Type 0} → Ghosts S → Office S → (Trees → Type 0) → Type 0
+Leaves g o IsSo = IsHonest g o → (db : Trees) → (state g o.conn).may_leave db → IsSo db
+
+-- while no call has failed, a crash leaves the timeline that the tables hold, and nothing else
+abbrev pub Rests : {S : Type 0} → Ghosts S → Office S → Type 0
+Rests g o = o.is_closed ≡ false → Leaves g o (λ db. HoldsTimeline db (held g o))
+
+-- while no call had failed before, a crash leaves one of these two
+abbrev pub LeavesEither : {S : Type 0} → Ghosts S → (old new : Office S) → (before after : Timeline) → Type 0
+LeavesEither g old new before after = old.is_closed ≡ false → Leaves g new (λ db. HoldsTimeline db before ⊎ HoldsTimeline db after)
+
 -- a new register was made: the tables hold the new timeline
 pub record IsNewOffice (s : State) : Type 0 where
   pub office : IsOffice s (pos 0) 2

@@ -41,9 +41,9 @@ fn judge_store<S: Alter>(alloc: Global, conn: &mut Connection<S>) -> Result<Mome
     judge(alloc, &found)
 }
 
-/// A fault as it is told: itself where the store is still open, else 502.
-fn told<S: Alter>(conn: &mut Connection<S>, fault: AdoptFault) -> AdoptFault
-    ensures told { (result ≡ fault) ⊎ (result ≡ why.Store) }
+/// The fault of a look that failed: its own where the store is still open, else 502.
+fn failed<S: Alter>(conn: &mut Connection<S>, fault: AdoptFault) -> AdoptFault
+    ensures fault { (result ≡ fault) ⊎ (result ≡ why.Store) }
     ensures same { HasCleanDisk (state S.Store conn.new) → result ≢ why.Store → IsUnchanged (state S.Store conn.old) (state S.Store conn.new) }
     ensures survives { Survives (state S.Store conn.old) (state S.Store conn.new) (λ _. ⊥) }
     ensures mode { conn.old.in_transaction ≡ false → conn.new.in_transaction ≡ false }
@@ -67,6 +67,6 @@ pub(crate) fn adopt_store<S: Alter>(
 {
     match judge_store(alloc, conn) {
         Ok(latest) => Ok(latest),
-        Err(fault) => Err(told(conn, fault)),
+        Err(fault) => Err(failed(conn, fault)),
     }
 }

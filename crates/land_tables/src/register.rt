@@ -42,8 +42,8 @@ fn look_at<S: Alter>(
     Ok(register::register_at(alloc, &history, at, next)?)
 }
 
-/// What a failed look is told as: 501 where memory was wanting and the store is still open, else 502.
-pub(crate) fn told<S: Alter>(conn: &mut Connection<S>, fault: ReadFault) -> StoreFault
+/// The fault of a look that failed: 501 where memory was wanting and the store is still open, else 502.
+pub(crate) fn failed<S: Alter>(conn: &mut Connection<S>, fault: ReadFault) -> StoreFault
     ensures open { result ≢ store.Closed }
     ensures same { HasCleanDisk (state S.Store conn.new) → result ≢ store.Store → IsUnchanged (state S.Store conn.old) (state S.Store conn.new) }
     ensures survives { Survives (state S.Store conn.old) (state S.Store conn.new) (λ _. ⊥) }
@@ -69,7 +69,7 @@ pub(crate) fn ask_store<S: Alter, T, Q: Question<T>>(
 {
     match question.ask(alloc, conn) {
         Ok(answer) => Ok(answer),
-        Err(fault) => Err(told(conn, fault)),
+        Err(fault) => Err(failed(conn, fault)),
     }
 }
 
@@ -87,7 +87,7 @@ fn read_at<S: Alter>(
 {
     match look_at(alloc, conn, at) {
         Ok(register) => Ok(register),
-        Err(fault) => Err(told(conn, fault)),
+        Err(fault) => Err(failed(conn, fault)),
     }
 }
 

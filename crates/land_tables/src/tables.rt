@@ -63,7 +63,7 @@ impl<S: Alter + Drop> Drop for Tables<S> {
 }
 
 impl<S: Alter> Tables<S> {
-    ghost use Rattle.land_tables.specs.Office.{IsAnswer, IsCreated, IsHonest, IsKept, held};
+    ghost use Rattle.land_tables.specs.Office.{IsAnswer, IsCreated, IsHonest, IsKept, LeavesEither, Rests, held};
 
     /// Makes the tables of a new register in a store that has none, in one transaction. 502: the store has tables, or a transaction is
     /// begun, and then nothing is done; or a call failed. 501: there was no memory. A store that is open after a fault is as it was.
@@ -147,6 +147,13 @@ impl<S: Alter> Tables<S> {
         self.is_closed
     }
 
+    /// What a crash leaves between calls, while none has failed: the timeline that the tables hold, and nothing else. It does nothing.
+    pub fn rests(&self)
+        ensures { Rests S.Store self.now }
+    {
+        let _conn = &self.conn;
+    }
+
     /// The register at a moment, in milliseconds since 1970 UTC: before the first stamp nothing, after the last what stands now. 501:
     /// there was no memory. 502: a call of the store failed, and from then on 503. Nothing changes.
     pub fn read_at(&mut self, alloc: Global, at: i64) -> Result<Register, StoreFault>
@@ -213,8 +220,10 @@ impl<S: Alter> Tables<S> {
         ensures err { IsLive (IsHonest S.Store self.new) self.new.is_closed → OnErr result (held S.Store self.new ≡ held S.Store self.old) }
         ensures was { IsHonest S.Store self.new → IsHonest S.Store self.old }
         ensures closes { Closes self.old.is_closed self.new.is_closed result }
-        ensures crash { self.old.is_closed ≡ false → Survives (state S.Store self.old.conn) (state S.Store self.new.conn)
+        ensures survives { self.old.is_closed ≡ false → Survives (state S.Store self.old.conn) (state S.Store self.new.conn)
             (λ db. HoldsTimeline db (written (held S.Store self.old) change.now stamp)) }
+        ensures crash { LeavesEither S.Store self.old self.new (held S.Store self.old) (written (held S.Store self.old) change.now stamp) }
+        ensures rests { Rests S.Store self.new }
     {
         if self.is_closed {
             return Err(StoreFault::Closed);

@@ -10,7 +10,7 @@ ghost use Rattle.land_tables_schema.specs.Land.{IsLand};
 ghost use Rattle.sqlite.specs.Held.{state};
 ghost use Rattle.sqlite.specs.State.{HasCleanDisk, Survives};
 
-use crate::register::told;
+use crate::register::failed;
 use land_core::change::Change;
 use land_core::limits::LAST_MOMENT;
 use land_keep::store_fault::StoreFault;
@@ -72,6 +72,6 @@ pub(crate) fn record<S: Alter>(
     }
     match record_at_once(alloc, conn, change, next, stamp) {
         Ok(()) => Ok(()),
-        Err(error) => Err(told(conn, ReadFault::from(error))),
+        Err(error) => Err(failed(conn, ReadFault::from(error))),
     }
 }

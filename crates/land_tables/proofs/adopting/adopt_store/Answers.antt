@@ -8,5 +8,5 @@ returns-in-Ok-clause-judgement g c =
 
 pub returns-in-Err-clause-judgement : goal.returns-in-Err-clause-judgement
 returns-in-Err-clause-judgement g c =
-    judged_err (state g.S.Store c.args.conn.now) (state g.S.Store c.judge_store.new.conn) c.requires.settled (state g.S.Store c.told.new.conn) c.in-Err.fault c.told.result
-    c.in-Err.ensures.look c.in-Err.ensures.refused c.told.ensures.told c.told.ensures.same c.told.ensures.survives
+    judged_err (state g.S.Store c.args.conn.now) (state g.S.Store c.judge_store.new.conn) c.requires.settled (state g.S.Store c.failed.new.conn) c.in-Err.fault c.failed.result
+    c.in-Err.ensures.look c.in-Err.ensures.refused c.failed.ensures.fault c.failed.ensures.same c.failed.ensures.survives

@@ -12,4 +12,4 @@ returns-in-Err-clause-safe g c =
     let b = state g.S.Store c.record_at_once.new.conn in
     let t : to_z w64 (of_z w64 c.args.stamp) ≡ c.args.stamp = search rules in
     let crash = subst (λ (x : ℤ). Survives a b (MayRecord c.args.change.now c.args.next x a.now)) t c.in-Err.ensures.crash in
-    not_recorded a b (state g.S.Store c.told.new.conn) c.told.result c.requires.register c.in-Err.ensures.neither crash c.told.ensures.same c.told.ensures.survives
+    not_recorded a b (state g.S.Store c.failed.new.conn) c.failed.result c.requires.register c.in-Err.ensures.neither crash c.failed.ensures.same c.failed.ensures.survives

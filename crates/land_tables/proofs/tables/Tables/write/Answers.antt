@@ -1,10 +1,11 @@
 use Rattle.std.proofs.Common.{false, of_z, rules, subst, sym, to_z, w64, Err, Ok, ◌≡◌, ◌≢◌, ◌≤ℤ◌}
 use Rattle.std.specs.Prelude.{ℤ}
+use Rattle.land_keep.specs.Machine.{written}
 use Rattle.land_keep.specs.Moments.{last_moment}
 use Rattle.land_keep.specs.declared.store_fault.StoreFault.TheVariants.{Store}
-use Rattle.land_tables.proofs.Written.{crash_written, timeline_written, whole_unwritten, whole_written}
+use Rattle.land_tables.proofs.Written.{crash_written, leaves_either, rests, timeline_written, whole_unwritten, whole_written}
 use Rattle.land_tables.specs.Calls.{IsSafeWrite, MayRecord}
-use Rattle.land_tables.specs.Office.{IsWhole, Office}
+use Rattle.land_tables.specs.Office.{IsWhole, Office, held}
 use Rattle.land_tables_rows.specs.Recording.Whole.{Records}
 use Rattle.sqlite.specs.Held.{state}
 use Rattle.land_tables.proofs.tables.Tables.write.Goals as goal
@@ -46,8 +47,8 @@ returns-in-Ok-clause-ok g c live =
     let open_still : c.args.self.now.is_closed ≡ false = subst (λ (o : Office _). o.is_closed ≡ false) c.self.view_is c.if-self.false in
     timeline_written S c.versions_stand_for_one.ensures c.order_does_not_matter.ensures c.writes_stand.ensures c.writing_keeps_soundness.ensures c.args.change.now c.args.stamp c.args.self.now whole open_still c.requires conn safe_now live.0
 
-pub returns-in-Ok-clause-crash : goal.returns-in-Ok-clause-crash
-returns-in-Ok-clause-crash g c open_still =
+pub returns-in-Ok-clause-survives : goal.returns-in-Ok-clause-survives
+returns-in-Ok-clause-survives g c open_still =
     let t : to_z w64 (of_z w64 c.args.stamp) ≡ c.args.stamp = search rules in
     let S = g.S.Store in
     let conn = c.record.new.conn in
@@ -56,8 +57,8 @@ returns-in-Ok-clause-crash g c open_still =
     let safe_now = subst (λ (o : Office _). IsSafeWrite {X = Unit {0}} (Ok tt) (Records c.args.change.now o.next c.args.stamp) (MayRecord c.args.change.now o.next c.args.stamp (state S o.conn).now) (state S o.conn) (state S conn)) c.self.view_is safe in
     crash_written S c.versions_stand_for_one.ensures c.order_does_not_matter.ensures c.writes_stand.ensures c.writing_keeps_soundness.ensures c.args.change.now c.args.stamp c.args.self.now whole open_still c.requires conn (Ok tt) safe_now
 
-pub returns-in-Err-clause-crash : goal.returns-in-Err-clause-crash
-returns-in-Err-clause-crash g c open_still =
+pub returns-in-Err-clause-survives : goal.returns-in-Err-clause-survives
+returns-in-Err-clause-survives g c open_still =
     let t : to_z w64 (of_z w64 c.args.stamp) ≡ c.args.stamp = search rules in
     let S = g.S.Store in
     let conn = c.record.new.conn in
@@ -65,3 +66,27 @@ returns-in-Err-clause-crash g c open_still =
     let safe = subst (λ (x : ℤ). IsSafeWrite {X = Unit {0}} (Err c.in-Err.fault) (Records c.args.change.now c.self.inside.next x) (MayRecord c.args.change.now c.self.inside.next x (state S c.self.inside.conn).now) (state S c.self.inside.conn) (state S conn)) t c.in-Err.ensures.safe in
     let safe_now = subst (λ (o : Office _). IsSafeWrite {X = Unit {0}} (Err c.in-Err.fault) (Records c.args.change.now o.next c.args.stamp) (MayRecord c.args.change.now o.next c.args.stamp (state S o.conn).now) (state S o.conn) (state S conn)) c.self.view_is safe in
     crash_written S c.versions_stand_for_one.ensures c.order_does_not_matter.ensures c.writes_stand.ensures c.writing_keeps_soundness.ensures c.args.change.now c.args.stamp c.args.self.now whole open_still c.requires conn (Err c.in-Err.fault) safe_now
+
+pub returns-in-Ok-clause-crash : goal.returns-in-Ok-clause-crash
+returns-in-Ok-clause-crash g c =
+    let S = g.S.Store in
+    let before = c.args.self.now in
+    leaves_either S before (record before { conn = c.record.new.conn }) (written (held S before) c.args.change.now c.args.stamp)
+    (λ db stays may. g.met.S.Store.settled before.conn.store db stays may) (subst (IsWhole S) c.self.view_is c.self.invariant) (returns-in-Ok-clause-survives g c)
+
+pub returns-in-Err-clause-crash : goal.returns-in-Err-clause-crash
+returns-in-Err-clause-crash g c =
+    let S = g.S.Store in
+    let before = c.args.self.now in
+    leaves_either S before (record before { conn = c.record.new.conn }) (written (held S before) c.args.change.now c.args.stamp)
+    (λ db stays may. g.met.S.Store.settled before.conn.store db stays may) (subst (IsWhole S) c.self.view_is c.self.invariant) (returns-in-Err-clause-survives g c)
+
+pub returns-in-Ok-clause-rests : goal.returns-in-Ok-clause-rests
+returns-in-Ok-clause-rests g c =
+    let S = g.S.Store in
+    rests S _ (λ db stays may. g.met.S.Store.settled c.record.new.conn.store db stays may) (invariant_of-self g c)
+
+pub returns-in-Err-clause-rests : goal.returns-in-Err-clause-rests
+returns-in-Err-clause-rests g c =
+    let S = g.S.Store in
+    rests S _ (λ db stays may. g.met.S.Store.settled c.record.new.conn.store db stays may) (invariant_of-self-in-Err g c)
