@@ -17,6 +17,7 @@ use land_core::kind::Kind;
 use land_core::mutation::MutationRecord;
 use land_core::records::Records;
 use land_core::rrr::RrrRecord;
+use land_core::unit::UnitRecord;
 use land_select_joins::lookups::{by_number, of_unit};
 use land_tables_rows::listing::fault::ReadFault;
 use sqlite::{Alter, Connection};
@@ -42,7 +43,7 @@ fn is_pending<S: Alter>(
     ensures look { IsLook result (λ it. IsPart (λ r. is_mutation_where (is_pending_on party unit) r number) at (state S.Store conn.old).now.trees it) (state S.Store conn.old) (state S.Store conn.new) }
     ensures mode { conn.old.in_transaction ≡ false → conn.new.in_transaction ≡ false }
 {
-    let found = by_number::mutation(alloc, conn, number, at)?;
+    let found = by_number::record(alloc, conn, number, at)?;
     match found {
         Some(mutation) => Ok(is_pending_on(party, unit, &mutation)),
         None => Ok(false),
@@ -102,7 +103,7 @@ fn is_unit_awaited<S: Alter>(
     if !is_lodger_on(alloc, conn, caller.party, unit, at)? {
         return Ok(false);
     }
-    let found = by_number::unit(alloc, conn, unit, at)?;
+    let found = by_number::record::<UnitRecord, S>(alloc, conn, unit, at)?;
     Ok(found.is_some())
 }
 
@@ -118,7 +119,7 @@ fn is_entry_awaited<S: Alter>(
     ensures look { IsLook result (λ it. IsPart (λ r. is_awaited r caller kinds.Rrr number) at (state S.Store conn.old).now.trees it) (state S.Store conn.old) (state S.Store conn.new) }
     ensures mode { conn.old.in_transaction ≡ false → conn.new.in_transaction ≡ false }
 {
-    let found = by_number::entry(alloc, conn, number, at)?;
+    let found = by_number::record::<RrrRecord, S>(alloc, conn, number, at)?;
     match found {
         Some(entry) => is_lodger_on(alloc, conn, caller.party, entry.unit, at),
         None => Ok(false),

@@ -31,7 +31,7 @@ pub(crate) fn has_lodged<S: Alter>(
     ensures look { IsLook result (λ it. IsPart (λ r. has_lodged r party number) at (state S.Store conn.old).now.trees it) (state S.Store conn.old) (state S.Store conn.new) }
     ensures mode { conn.old.in_transaction ≡ false → conn.new.in_transaction ≡ false }
 {
-    let found = by_number::mutation(alloc, conn, number, at)?;
+    let found = by_number::record(alloc, conn, number, at)?;
     match found {
         Some(mutation) => Ok(is_lodger_of(party, &mutation)),
         None => Ok(false),

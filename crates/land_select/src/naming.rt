@@ -95,7 +95,7 @@ pub(crate) fn is_mutation_shown<S: Alter>(
     ensures look { IsLook result (λ it. IsPart (λ r. is_shown_by_tie r caller kinds.Mutation number) at (state S.Store conn.old).now.trees it) (state S.Store conn.old) (state S.Store conn.new) }
     ensures mode { conn.old.in_transaction ≡ false → conn.new.in_transaction ≡ false }
 {
-    let found = by_number::mutation(alloc, conn, number, at)?;
+    let found = by_number::record(alloc, conn, number, at)?;
     match found {
         Some(mutation) => names_shown(alloc, conn, caller, &mutation, at),
         None => Ok(false),

@@ -37,7 +37,7 @@ fn person<S: Alter>(
     ensures look { IsLook result (λ it. IsPart (λ r. (map.get r.parties number, roles_in r number)) at (state S.Store conn.old).now.trees it) (state S.Store conn.old) (state S.Store conn.new) }
     ensures mode { conn.old.in_transaction ≡ false → conn.new.in_transaction ≡ false }
 {
-    let party = by_number::party(alloc, conn, number, at)?;
+    let party = by_number::record(alloc, conn, number, at)?;
     let roles = of_party::roles(alloc, conn, number, at)?;
     Ok((party, roles))
 }
@@ -55,7 +55,7 @@ fn entry_at<S: Alter>(
     ensures mode { conn.old.in_transaction ≡ false → conn.new.in_transaction ≡ false }
 {
     match number {
-        Some(number) => by_number::entry(alloc, conn, number, at),
+        Some(number) => by_number::record(alloc, conn, number, at),
         None => Ok(None),
     }
 }
@@ -73,7 +73,7 @@ fn mutation_at<S: Alter>(
     ensures mode { conn.old.in_transaction ≡ false → conn.new.in_transaction ≡ false }
 {
     match number {
-        Some(number) => by_number::mutation(alloc, conn, number, at),
+        Some(number) => by_number::record(alloc, conn, number, at),
         None => Ok(None),
     }
 }

@@ -152,7 +152,7 @@ pub(crate) fn is_number_shown<S: Alter>(
     ensures look { IsLook result (λ it. IsPart (λ r. is_shown_by_tie r caller kinds.Rrr number) at (state S.Store conn.old).now.trees it) (state S.Store conn.old) (state S.Store conn.new) }
     ensures mode { conn.old.in_transaction ≡ false → conn.new.in_transaction ≡ false }
 {
-    let found = by_number::entry(alloc, conn, number, at)?;
+    let found = by_number::record(alloc, conn, number, at)?;
     match found {
         Some(entry) => is_entry_shown(alloc, conn, caller, &entry, at),
         None => Ok(false),

@@ -111,7 +111,7 @@ fn named<S: Alter>(
     ensures look { IsLook result (λ it. IsPart (λ r. named_rrr r number entry.now) at (state S.Store conn.old).now.trees it) (state S.Store conn.old) (state S.Store conn.new) }
     ensures mode { conn.old.in_transaction ≡ false → conn.new.in_transaction ≡ false }
 {
-    let found = by_number::party(alloc, conn, entry.party, at)?;
+    let found = by_number::record(alloc, conn, entry.party, at)?;
     Ok(with_name(alloc, number, entry, found)?)
 }
 
@@ -254,7 +254,7 @@ fn view<S: Alter>(
     ensures mode { conn.old.in_transaction ≡ false → conn.new.in_transaction ≡ false }
 {
     soundness_by_look_ups();
-    let known = by_number::unit(alloc, conn, unit, at)?;
+    let known = by_number::record(alloc, conn, unit, at)?;
     match known {
         Some(found) => view_with(alloc, conn, caller, unit, at, found),
         None => Ok(None),

@@ -6,6 +6,7 @@ use Rattle.std.specs.FinMap as finite
 use Rattle.std.specs.FinMap.{FinMap}
 use Rattle.std.specs.List.{Contains}
 use Rattle.std.specs.Ordering.{nat_cmp}
+use Rattle.land_core.specs.declared.register.Register.{Register}
 use Rattle.land_select_joins.proofs.Containing.{first_or_later, in_nothing, later, first, to_map}
 use Rattle.land_select_joins.proofs.Passing.{passing_said, some_said}
 use Rattle.land_select_joins.proofs.Queries.{filter_of, project_of, query_of, shown, stored, tests}
@@ -13,6 +14,8 @@ use Rattle.land_select_joins.proofs.Standing.{entry_found, entry_there}
 use Rattle.land_select_joins.specs.Joins.Meaning.{given}
 use Rattle.land_select_joins.specs.Joins.Running.{HoldsNone, asked_for}
 use Rattle.land_select_joins.specs.Lookups.Finding.{AreRows, AreRowsOf, AreSaidOf, CannotBeSaid, Found, IsOneOf, is_meant, listing_of, wanted}
+use Rattle.land_select_joins.specs.Lookups.Numbered.{IsFoundBy}
+use Rattle.land_select_joins.specs.Lookups.Parts.{IsPart}
 use Rattle.land_select_joins.specs.declared.lookups.look_up.LookUp.{LookUp}
 use Rattle.land_tables_history.proofs.Permutations.{filter_permuted}
 use Rattle.land_tables_history.specs.Standing.{IsPartAt, stands, standing}
@@ -79,28 +82,26 @@ module _ {X : Type 0} (said : Row → Result X WireFault) (l : LookUp) (number :
 
 -- ---- versions
 
-module _ {X : Type 0} (listing : Listing (Version X)) (meant : X → Bool) (t : ℤ) (db : Trees) (versions : List (Version X)) (says : Says listing db versions)
-    (rows : List Row) (are : AreRows listing meant t db rows) where
-  -- the versions that are wanted are read, and no others
-  pub all_wanted : (found : List (Version X)) → each_of listing.said rows ≡ Ok found → IsPermutation found (wanted meant t versions)
-  all_wanted found said =
-      same_values found (wanted meant t versions)
-      (subst (λ m. IsPermutation m (map (λ v. Ok v) (wanted meant t versions))) (each_all listing.said rows found said) (are versions says))
+-- where rows say what is wanted
+module _ {X : Type 0} (said : Row → Result X WireFault) (rows : List Row) (wants : List X) (are : IsPermutation (map said rows) (map (λ x. Ok x) wants)) where
+  -- that is read, and nothing else
+  pub all_wanted : (found : List X) → each_of said rows ≡ Ok found → IsPermutation found wants
+  all_wanted found read = same_values found wants (subst (λ m. IsPermutation m (map (λ x. Ok x) wants)) (each_all said rows found read) are)
 
   -- they can be read
-  pub can_be_read : ((found : List (Version X)) → each_of listing.said rows ≢ Ok found) → ⊥
+  pub can_be_read : ((found : List X) → each_of said rows ≢ Ok found) → ⊥
   can_be_read cannot =
-      let read = some_said listing.said rows (wanted meant t versions) (are versions says) in
+      let read = some_said said rows wants are in
       cannot read.0 read.1
 
 module _ (l : LookUp) (number : ℕ) (t : ℤ) (db : Trees) (versions : List (Version (Found l))) (says : Says (listing_of l) db versions) where
   pub are_wanted : (found : List (Version (Found l))) → AreSaidOf (listing_of l).said l number t db found → IsPermutation found (wanted (is_meant l number) t versions)
-  are_wanted found said = all_wanted (listing_of l) (is_meant l number) t db versions says said.0 said.1 found said.2
+  are_wanted found said = all_wanted (listing_of l).said said.0 (wanted (is_meant l number) t versions) (said.1 versions says) found said.2
 
   pub can_be_said : (fault : ReadFault) → CannotBeSaid (listing_of l).said l number t db fault → fault ≡ Unreadable → ⊥
   can_be_said fault cannot is =
       let it = cannot is in
-      can_be_read (listing_of l) (is_meant l number) t db versions says it.0 it.1 it.2
+      can_be_read (listing_of l).said it.0 (wanted (is_meant l number) t versions) (it.1 versions says) it.2
 
 -- so a fault that says that they cannot is told only where the tables hold no history
 pub none_held : {Y : Type 0} (db : Trees) (r : Result Y ReadFault) (fault : ReadFault) → IsErrAnd r (λ f. f ≡ fault) → HoldsNone db fault → IfErr r (HoldsNone db)
@@ -174,3 +175,16 @@ module _ {V : Type 0} (t : ℤ) (versions : List (Version (ℕ × V))) (m : FinM
       let among = Contains-permutation (map (λ (v : Version (ℕ × V)). v.what) found) (filter (λ e. nat_eq e.0 number) (finite.entries m)) v.what under_number (to_map (λ (v : Version (ℕ × V)). v.what) found v one.1) in
       let it = passes_filter (λ e. nat_eq e.0 number) (finite.entries m) v.what among in
       ap (λ x. Some x) (sym one.2) ∙ sym (entry_there m v.what it.0) ∙ ap (finite.get m) ((Decides-eqb v.what.0 number).0 it.1)
+
+-- which a look-up finds
+module _ {V : Type 0} (said : Row → Result (Version (ℕ × V)) WireFault) (l : LookUp) (part : Register → FinMap nat_cmp V) (by : IsFoundBy said l part) (number : ℕ) (t : ℤ) (db : Trees) where
+  pub is_record : (found : List (Version (ℕ × V))) → AreSaidOf said l number t db found → (o : Option V) → IsOneOf found o → IsPart (λ r. finite.get (part r) number) t db o
+  is_record found read o one moments h held r have stands =
+      let it = by db moments h held in
+      record_is t it.versions (part r) (it.stand t r stands) number found (all_wanted said read.0 (wanted (λ e. nat_eq e.0 number) t it.versions) (it.found number t read.0 read.1) found read.2) o one
+
+  pub holds_none : (fault : ReadFault) → CannotBeSaid said l number t db fault → HoldsNone db fault
+  holds_none fault cannot is moments h held =
+      let it = by db moments h held in
+      let no = cannot is in
+      can_be_read said no.0 (wanted (λ e. nat_eq e.0 number) t it.versions) (it.found number t no.0 no.1) no.2

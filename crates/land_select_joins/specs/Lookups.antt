@@ -1,4 +1,5 @@
 -- Definitions of what look-ups find, of their texts, and of the parts of a register that are made of it.
 pub mod Finding
+pub mod Numbered
 pub mod Parts
 pub mod Texts

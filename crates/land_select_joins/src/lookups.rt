@@ -3,6 +3,7 @@
 pub mod by_number;
 pub mod finding;
 pub mod look_up;
+pub mod numbered;
 pub mod objects;
 pub mod of_group;
 pub mod of_lodger;

@@ -95,7 +95,7 @@ impl Gathers for Holdings {
         number: u64,
         at: i64,
     ) -> Result<Holdings, ReadFault> {
-        let unit = by_number::unit(alloc, conn, number, at)?;
+        let unit = by_number::record(alloc, conn, number, at)?;
         self.joined_by(alloc, conn, number, unit, at)
     }
 }

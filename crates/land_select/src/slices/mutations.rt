@@ -29,7 +29,7 @@ fn at_number<S: Alter>(
     ensures look { IsLook result (λ it. IsPart (λ r. only (λ n m. nat_eq n number) r.mutations) at (state S.Store conn.old).now.trees it) (state S.Store conn.old) (state S.Store conn.new) }
     ensures mode { conn.old.in_transaction ≡ false → conn.new.in_transaction ≡ false }
 {
-    let found = by_number::mutation(alloc, conn, number, at)?;
+    let found = by_number::record(alloc, conn, number, at)?;
     Ok(put_one(Records::new(alloc), number, found)?)
 }
 

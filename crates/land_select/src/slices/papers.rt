@@ -52,7 +52,7 @@ impl Gathers for Papers {
         number: u64,
         at: i64,
     ) -> Result<Papers, ReadFault> {
-        let source = by_number::source(alloc, conn, number, at)?;
+        let source = by_number::record(alloc, conn, number, at)?;
         Ok(self.with_source(number, source)?)
     }
 }

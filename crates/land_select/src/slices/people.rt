@@ -135,7 +135,7 @@ impl Gathers for People {
         number: u64,
         at: i64,
     ) -> Result<People, ReadFault> {
-        let party = by_number::party(alloc, conn, number, at)?;
+        let party = by_number::record(alloc, conn, number, at)?;
         self.joined_by(alloc, conn, number, party, at)
     }
 }

@@ -10,14 +10,19 @@ ghost use Rattle.land_tables_schema.specs.Rows.Looks.{IsLook};
 ghost use Rattle.sqlite.specs.Held.{state};
 ghost use Rattle.sqlite.specs.State.{HasCleanDisk};
 
-use crate::lookups::shown::{
-    entry_shown, mutation_shown, parcel_shown, party_shown, source_shown, unit_shown,
-};
+use crate::lookups::shown::{Shown, party_shown};
 use crate::lookups::{by_number, of_group, of_party};
 use land_core::kind::Kind;
+use land_core::mutation::MutationRecord;
 use land_core::object::Object;
+use land_core::parcel::ParcelRecord;
 use land_core::party::PartyRecord;
+use land_core::rrr::RrrRecord;
+use land_core::source::SourceRecord;
+use land_core::unit::UnitRecord;
+use land_tables_history::version::Version;
 use land_tables_rows::listing::fault::ReadFault;
+use land_tables_rows::reading::from_row::FromRow;
 use sqlite::{Alter, Connection};
 use std::alloc::Global;
 
@@ -51,91 +56,29 @@ fn party<S: Alter>(
     ensures unreadable { HasCleanDisk (state S.Store conn.new) → IfErr result (HoldsNone (state S.Store conn.old).now.trees) }
     ensures mode { conn.old.in_transaction ≡ false → conn.new.in_transaction ≡ false }
 {
-    let known = by_number::party(alloc, conn, number, at)?;
+    let known = by_number::record(alloc, conn, number, at)?;
     match known {
         Some(found) => party_with(alloc, conn, found, number, at),
         None => Ok(None),
     }
 }
 
-/// The unit of a number.
-fn unit<S: Alter>(
+/// What is shown as it stands in its own table, of a number.
+fn shown<V: Shown, S: Alter>(
     alloc: Global,
     conn: &mut Connection<S>,
     number: u64,
     at: i64,
 ) -> Result<Option<Object>, ReadFault>
+where
+    Version<(u64, V)>: FromRow,
     requires land { HasCleanDisk (state S.Store conn.old) → IsLand (state S.Store conn.old).now.schema }
-    ensures look { IsLook result (λ it. IsPart (λ r. object_at r kinds.Unit number) at (state S.Store conn.old).now.trees it) (state S.Store conn.old) (state S.Store conn.new) }
+    ensures look { IsLook result (λ it. IsPart (λ r. object_at r V.kind number) at (state S.Store conn.old).now.trees it) (state S.Store conn.old) (state S.Store conn.new) }
     ensures unreadable { HasCleanDisk (state S.Store conn.new) → IfErr result (HoldsNone (state S.Store conn.old).now.trees) }
     ensures mode { conn.old.in_transaction ≡ false → conn.new.in_transaction ≡ false }
 {
-    let found = by_number::unit(alloc, conn, number, at)?;
-    Ok(unit_shown(number, found))
-}
-
-/// The parcel of a number.
-fn parcel<S: Alter>(
-    alloc: Global,
-    conn: &mut Connection<S>,
-    number: u64,
-    at: i64,
-) -> Result<Option<Object>, ReadFault>
-    requires land { HasCleanDisk (state S.Store conn.old) → IsLand (state S.Store conn.old).now.schema }
-    ensures look { IsLook result (λ it. IsPart (λ r. object_at r kinds.Parcel number) at (state S.Store conn.old).now.trees it) (state S.Store conn.old) (state S.Store conn.new) }
-    ensures unreadable { HasCleanDisk (state S.Store conn.new) → IfErr result (HoldsNone (state S.Store conn.old).now.trees) }
-    ensures mode { conn.old.in_transaction ≡ false → conn.new.in_transaction ≡ false }
-{
-    let found = by_number::parcel(alloc, conn, number, at)?;
-    Ok(parcel_shown(number, found))
-}
-
-/// The entry of a number.
-fn entry<S: Alter>(
-    alloc: Global,
-    conn: &mut Connection<S>,
-    number: u64,
-    at: i64,
-) -> Result<Option<Object>, ReadFault>
-    requires land { HasCleanDisk (state S.Store conn.old) → IsLand (state S.Store conn.old).now.schema }
-    ensures look { IsLook result (λ it. IsPart (λ r. object_at r kinds.Rrr number) at (state S.Store conn.old).now.trees it) (state S.Store conn.old) (state S.Store conn.new) }
-    ensures unreadable { HasCleanDisk (state S.Store conn.new) → IfErr result (HoldsNone (state S.Store conn.old).now.trees) }
-    ensures mode { conn.old.in_transaction ≡ false → conn.new.in_transaction ≡ false }
-{
-    let found = by_number::entry(alloc, conn, number, at)?;
-    Ok(entry_shown(number, found))
-}
-
-/// The source of a number.
-fn source<S: Alter>(
-    alloc: Global,
-    conn: &mut Connection<S>,
-    number: u64,
-    at: i64,
-) -> Result<Option<Object>, ReadFault>
-    requires land { HasCleanDisk (state S.Store conn.old) → IsLand (state S.Store conn.old).now.schema }
-    ensures look { IsLook result (λ it. IsPart (λ r. object_at r kinds.Source number) at (state S.Store conn.old).now.trees it) (state S.Store conn.old) (state S.Store conn.new) }
-    ensures unreadable { HasCleanDisk (state S.Store conn.new) → IfErr result (HoldsNone (state S.Store conn.old).now.trees) }
-    ensures mode { conn.old.in_transaction ≡ false → conn.new.in_transaction ≡ false }
-{
-    let found = by_number::source(alloc, conn, number, at)?;
-    Ok(source_shown(number, found))
-}
-
-/// The mutation of a number.
-fn mutation<S: Alter>(
-    alloc: Global,
-    conn: &mut Connection<S>,
-    number: u64,
-    at: i64,
-) -> Result<Option<Object>, ReadFault>
-    requires land { HasCleanDisk (state S.Store conn.old) → IsLand (state S.Store conn.old).now.schema }
-    ensures look { IsLook result (λ it. IsPart (λ r. object_at r kinds.Mutation number) at (state S.Store conn.old).now.trees it) (state S.Store conn.old) (state S.Store conn.new) }
-    ensures unreadable { HasCleanDisk (state S.Store conn.new) → IfErr result (HoldsNone (state S.Store conn.old).now.trees) }
-    ensures mode { conn.old.in_transaction ≡ false → conn.new.in_transaction ≡ false }
-{
-    let found = by_number::mutation(alloc, conn, number, at)?;
-    Ok(mutation_shown(number, found))
+    let found = by_number::record::<V, S>(alloc, conn, number, at)?;
+    Ok(V::shown(number, found))
 }
 
 /// The object of a kind that stands at a number and a moment, in milliseconds since 1970 UTC, as it is shown, or `None`. 520: the tables hold
@@ -154,10 +97,10 @@ pub fn object<S: Alter>(
 {
     match kind {
         Kind::Party => party(alloc, conn, number, at),
-        Kind::Unit => unit(alloc, conn, number, at),
-        Kind::Parcel => parcel(alloc, conn, number, at),
-        Kind::Rrr => entry(alloc, conn, number, at),
-        Kind::Source => source(alloc, conn, number, at),
-        Kind::Mutation => mutation(alloc, conn, number, at),
+        Kind::Unit => shown::<UnitRecord, S>(alloc, conn, number, at),
+        Kind::Parcel => shown::<ParcelRecord, S>(alloc, conn, number, at),
+        Kind::Rrr => shown::<RrrRecord, S>(alloc, conn, number, at),
+        Kind::Source => shown::<SourceRecord, S>(alloc, conn, number, at),
+        Kind::Mutation => shown::<MutationRecord, S>(alloc, conn, number, at),
     }
 }

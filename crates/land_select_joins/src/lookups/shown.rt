@@ -1,13 +1,12 @@
 //! Records as objects, as they are shown.
 ghost use Rattle.std.specs.FinMap as map;
-ghost use Rattle.std.specs.FinMap.{FinMap};
-ghost use Rattle.std.specs.Option.{option_map};
-ghost use Rattle.std.specs.Ordering.{nat_cmp};
-ghost use Rattle.std.specs.Prelude.{◌≡◌, ℕ, Option, IfOk};
+ghost use Rattle.std.specs.Prelude.{◌≡◌, IfOk};
 ghost use Rattle.land_core.specs.Register.{nothing, object_at};
+ghost use Rattle.land_core.specs.declared.kind.Kind.{Kind as Which};
 ghost use Rattle.land_core.specs.declared.kind.Kind.TheVariants as kinds;
-ghost use Rattle.land_core.specs.declared.object.Object.TheVariants as object;
+ghost use Rattle.land_core.specs.declared.register.Register.{Register as Whole};
 
+use crate::lookups::numbered::Numbered;
 use land_core::kind::Kind;
 use land_core::member::Members;
 use land_core::mutation::{Mutation, MutationRecord};
@@ -20,7 +19,22 @@ use land_core::roles::Roles;
 use land_core::rrr::{Rrr, RrrRecord};
 use land_core::source::{Source, SourceRecord};
 use land_core::unit::{Unit, UnitRecord};
+use land_tables_history::version::Version;
+use land_tables_rows::reading::from_row::FromRow;
 use std::alloc::{AllocError, Global};
+
+/// What is shown as it stands in its own table.
+pub(crate) trait Shown: Numbered
+where
+    Version<(u64, Self)>: FromRow,
+{
+    /// Its kind.
+    ghost kind: { Which };
+
+    /// What is found under a number, as an object with that number.
+    fn shown(number: u64, found: Option<Self>) -> Option<Object>
+        ensures { (r : Whole) → found ≡ map.get (Self.part r) number → result ≡ object_at r kind number };
+}
 
 /// A party with its roles and its members.
 pub(crate) fn party_shown(
@@ -41,103 +55,118 @@ pub(crate) fn party_shown(
     register.object(alloc, Kind::Party, number)
 }
 
-/// A unit with its number.
-pub(crate) fn unit_shown(number: u64, found: Option<UnitRecord>) -> Option<Object>
-    ensures { result ≡ option_map object.Unit (option_map (λ u. record { number = number; name = u.name; checked = u.checked }) found) }
-{
-    match found {
-        Some(UnitRecord { name, checked }) => Some(Object::Unit(Unit {
-            number,
-            name,
-            checked,
-        })),
-        None => None,
+impl Shown for UnitRecord {
+    ghost kind = { kinds.Unit };
+
+    fn shown(number: u64, found: Option<UnitRecord>) -> Option<Object>
+        ensures { (r : Whole) → found ≡ map.get r.units number → result ≡ object_at r kinds.Unit number }
+    {
+        match found {
+            Some(UnitRecord { name, checked }) => Some(Object::Unit(Unit {
+                number,
+                name,
+                checked,
+            })),
+            None => None,
+        }
     }
 }
 
-/// A parcel with its number.
-pub(crate) fn parcel_shown(number: u64, found: Option<ParcelRecord>) -> Option<Object>
-    ensures { result ≡ option_map object.Parcel (option_map (λ p. record { number = number; unit = p.unit; label = p.label; outline = p.outline; source = p.source }) found) }
-{
-    match found {
-        Some(
-            ParcelRecord {
+impl Shown for ParcelRecord {
+    ghost kind = { kinds.Parcel };
+
+    fn shown(number: u64, found: Option<ParcelRecord>) -> Option<Object>
+        ensures { (r : Whole) → found ≡ map.get r.parcels number → result ≡ object_at r kinds.Parcel number }
+    {
+        match found {
+            Some(
+                ParcelRecord {
+                    unit,
+                    label,
+                    outline,
+                    source,
+                },
+            ) => Some(Object::Parcel(Parcel {
+                number,
                 unit,
                 label,
                 outline,
                 source,
-            },
-        ) => Some(Object::Parcel(Parcel {
-            number,
-            unit,
-            label,
-            outline,
-            source,
-        })),
-        None => None,
+            })),
+            None => None,
+        }
     }
 }
 
-/// An entry with its number.
-pub(crate) fn entry_shown(number: u64, found: Option<RrrRecord>) -> Option<Object>
-    ensures { result ≡ option_map object.Rrr (option_map (λ e. record { number = number; unit = e.unit; party = e.party; class = e.class; source = e.source }) found) }
-{
-    match found {
-        Some(
-            RrrRecord {
+impl Shown for RrrRecord {
+    ghost kind = { kinds.Rrr };
+
+    fn shown(number: u64, found: Option<RrrRecord>) -> Option<Object>
+        ensures { (r : Whole) → found ≡ map.get r.rrrs number → result ≡ object_at r kinds.Rrr number }
+    {
+        match found {
+            Some(
+                RrrRecord {
+                    unit,
+                    party,
+                    class,
+                    source,
+                },
+            ) => Some(Object::Rrr(Rrr {
+                number,
                 unit,
                 party,
                 class,
                 source,
-            },
-        ) => Some(Object::Rrr(Rrr {
-            number,
-            unit,
-            party,
-            class,
-            source,
-        })),
-        None => None,
+            })),
+            None => None,
+        }
     }
 }
 
-/// A source with its number.
-pub(crate) fn source_shown(number: u64, found: Option<SourceRecord>) -> Option<Object>
-    ensures { result ≡ option_map object.Source (option_map (λ s. record { number = number; kind = s.kind; title = s.title }) found) }
-{
-    match found {
-        Some(SourceRecord { kind, title }) => Some(Object::Source(Source {
-            number,
-            kind,
-            title,
-        })),
-        None => None,
+impl Shown for SourceRecord {
+    ghost kind = { kinds.Source };
+
+    fn shown(number: u64, found: Option<SourceRecord>) -> Option<Object>
+        ensures { (r : Whole) → found ≡ map.get r.sources number → result ≡ object_at r kinds.Source number }
+    {
+        match found {
+            Some(SourceRecord { kind, title }) => Some(Object::Source(Source {
+                number,
+                kind,
+                title,
+            })),
+            None => None,
+        }
     }
 }
 
-/// A mutation with its number.
-pub(crate) fn mutation_shown(number: u64, found: Option<MutationRecord>) -> Option<Object>
-    ensures { result ≡ option_map object.Mutation (option_map (λ m. record { number = number; lodger = m.lodger; reference = m.reference; source = m.source; lodged = m.lodged; state = m.state; content = m.content }) found) }
-{
-    match found {
-        Some(
-            MutationRecord {
+impl Shown for MutationRecord {
+    ghost kind = { kinds.Mutation };
+
+    fn shown(number: u64, found: Option<MutationRecord>) -> Option<Object>
+        ensures { (r : Whole) → found ≡ map.get r.mutations number → result ≡ object_at r kinds.Mutation number }
+    {
+        match found {
+            Some(
+                MutationRecord {
+                    lodger,
+                    reference,
+                    source,
+                    lodged,
+                    state,
+                    content,
+                },
+            ) => Some(Object::Mutation(Mutation {
+                number,
                 lodger,
                 reference,
                 source,
                 lodged,
                 state,
                 content,
-            },
-        ) => Some(Object::Mutation(Mutation {
-            number,
-            lodger,
-            reference,
-            source,
-            lodged,
-            state,
-            content,
-        })),
-        None => None,
+            })),
+            None => None,
+        }
     }
 }

@@ -15,7 +15,7 @@ returns-in-Some-clause-look g c =
     let t = c.args.at in
     let entry = c.in-Some.entry in
     let when : to_z w64 (of_z w64 t) ≡ t = search rules in
-    look_after (state g.S.Store c.args.conn.now) (state g.S.Store c.entry.new.conn) (state g.S.Store c.is_lodger_on.new.conn) c.is_lodger_on.result (rw when at c.in_ok-found.ensures.look) (rw when at c.is_lodger_on.ensures.look)
+    look_after (state g.S.Store c.args.conn.now) (state g.S.Store c.record.new.conn) (state g.S.Store c.is_lodger_on.new.conn) c.is_lodger_on.result (rw when at c.in_ok-found.ensures.look) (rw when at c.is_lodger_on.ensures.look)
     (λ it clean same is named moments h held r have stands.
     subst (λ (now : Database). IsPart (λ r. is_lodger_on r party entry.unit) t now.trees it) same named moments h held r have stands
     ∙ ap (λ o. option_map_or (λ (e : RrrRecord). is_lodger_on r party e.unit) o false) (sym c.in-Some.is ∙ is moments h held r have stands))
@@ -25,6 +25,6 @@ returns-in-None-clause-look g c =
     let party = c.args.caller.party in
     let when : to_z w64 (of_z w64 c.args.at) ≡ c.args.at = search rules in
     let look = rw when at c.in_ok-found.ensures.look in
-    look_told (state g.S.Store c.args.conn.now) (state g.S.Store c.entry.new.conn) _ look
+    look_told (state g.S.Store c.args.conn.now) (state g.S.Store c.record.new.conn) _ look
     (λ clean is moments h held r have stands.
     ap (λ o. option_map_or (λ (e : RrrRecord). is_lodger_on r party e.unit) o false) (sym c.in-None.is ∙ is moments h held r have stands))

@@ -9,7 +9,7 @@ pub returns-in-Some-clause-look : goal.returns-in-Some-clause-look
 returns-in-Some-clause-look g c =
     let when : to_z w64 (of_z w64 c.args.at) ≡ c.args.at = search rules in
     let look = rw when at c.in_ok-found.ensures.look in
-    look_told (state g.S.Store c.args.conn.now) (state g.S.Store c.mutation.new.conn) _ look
+    look_told (state g.S.Store c.args.conn.now) (state g.S.Store c.record.new.conn) _ look
     (λ clean is moments h held r have stands.
     c.is_lodger_of.ensures ∙ ap (λ o. option_map_or (is_lodger_of c.args.party) o false) (sym c.in-Some.is ∙ is moments h held r have stands))
 
@@ -17,6 +17,6 @@ pub returns-in-None-clause-look : goal.returns-in-None-clause-look
 returns-in-None-clause-look g c =
     let when : to_z w64 (of_z w64 c.args.at) ≡ c.args.at = search rules in
     let look = rw when at c.in_ok-found.ensures.look in
-    look_told (state g.S.Store c.args.conn.now) (state g.S.Store c.mutation.new.conn) _ look
+    look_told (state g.S.Store c.args.conn.now) (state g.S.Store c.record.new.conn) _ look
     (λ clean is moments h held r have stands.
     ap (λ o. option_map_or (is_lodger_of c.args.party) o false) (sym c.in-None.is ∙ is moments h held r have stands))

@@ -14,7 +14,7 @@ returns-in-Some-clause-look g c =
     let t = c.args.at in
     let mutation = c.in-Some.mutation in
     let when : to_z w64 (of_z w64 t) ≡ t = search rules in
-    look_after (state g.S.Store c.args.conn.now) (state g.S.Store c.mutation.new.conn) (state g.S.Store c.names_shown.new.conn) c.names_shown.result (rw when at c.in_ok-found.ensures.look) (rw when at c.names_shown.ensures.look)
+    look_after (state g.S.Store c.args.conn.now) (state g.S.Store c.record.new.conn) (state g.S.Store c.names_shown.new.conn) c.names_shown.result (rw when at c.in_ok-found.ensures.look) (rw when at c.names_shown.ensures.look)
     (λ it clean same is shown moments h held r have stands.
     subst (λ (now : Database). IsPart (λ r. names_shown r caller mutation) t now.trees it) same shown moments h held r have stands
     ∙ ap (λ o. option_map_or (names_shown r caller) o false) (sym c.in-Some.is ∙ is moments h held r have stands))
@@ -24,6 +24,6 @@ returns-in-None-clause-look g c =
     let caller = c.args.caller in
     let when : to_z w64 (of_z w64 c.args.at) ≡ c.args.at = search rules in
     let look = rw when at c.in_ok-found.ensures.look in
-    look_told (state g.S.Store c.args.conn.now) (state g.S.Store c.mutation.new.conn) _ look
+    look_told (state g.S.Store c.args.conn.now) (state g.S.Store c.record.new.conn) _ look
     (λ clean is moments h held r have stands.
     ap (λ o. option_map_or (names_shown r caller) o false) (sym c.in-None.is ∙ is moments h held r have stands))

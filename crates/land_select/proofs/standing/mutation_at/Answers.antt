@@ -11,7 +11,7 @@ returns-in-Some-clause-look g c =
     let a = state g.S.Store c.args.conn.now in
     let t = c.args.at in
     let when : to_z w64 (of_z w64 t) ≡ t = search rules in
-    subst (λ (o : Option ℕ). IsLook c.mutation.result (IsPart (λ r. record_at r.mutations o) t a.now.trees) a (state g.S.Store c.mutation.new.conn)) (sym c.in-Some.is) (rw when at c.mutation.ensures.look)
+    subst (λ (o : Option ℕ). IsLook c.record.result (IsPart (λ r. record_at r.mutations o) t a.now.trees) a (state g.S.Store c.record.new.conn)) (sym c.in-Some.is) (rw when at c.record.ensures.look)
 
 pub returns-in-None-clause-look : goal.returns-in-None-clause-look
 returns-in-None-clause-look g c =

@@ -8,5 +8,5 @@ pub returns-clause-look : goal.returns-clause-look
 returns-clause-look g c =
     let when : to_z w64 (of_z w64 c.args.at) ≡ c.args.at = search rules in
     let look = rw when at c.in_ok-found.ensures.look in
-    look_told (state g.S.Store c.args.conn.now) (state g.S.Store c.party.new.conn) _ look
+    look_told (state g.S.Store c.args.conn.now) (state g.S.Store c.record.new.conn) _ look
     (λ clean is moments h held r have stands. c.in_ok-with_name.ensures ∙ ap (with_name c.args.number c.args.entry.now) (is moments h held r have stands))

@@ -15,7 +15,7 @@ returns-in-Some-clause-look g c =
     let t = c.args.at in
     let found = c.in-Some.found in
     let when : to_z w64 (of_z w64 t) ≡ t = search rules in
-    look_after a (state g.S.Store c.unit.new.conn) (state g.S.Store c.view_with.new.conn) c.view_with.result (rw when at c.in_ok-known.ensures.look) (rw when at c.view_with.ensures.look)
+    look_after a (state g.S.Store c.record.new.conn) (state g.S.Store c.view_with.new.conn) c.view_with.result (rw when at c.in_ok-known.ensures.look) (rw when at c.view_with.ensures.look)
     (λ it clean same is shown moments h held r premise stands.
     subst (λ (now : Database). IsShown (λ r. Some (view_from r caller unit t found)) t now.trees it) same shown moments h held r premise stands
     ∙ view_is r caller unit t (Some found) (sym c.in-Some.is ∙ is moments h held r (have_members c.soundness_by_look_ups.ensures r premise) stands))
@@ -27,6 +27,6 @@ returns-in-None-clause-look g c =
     let t = c.args.at in
     let when : to_z w64 (of_z w64 t) ≡ t = search rules in
     let look = rw when at c.in_ok-known.ensures.look in
-    look_told (state g.S.Store c.args.conn.now) (state g.S.Store c.unit.new.conn) _ look
+    look_told (state g.S.Store c.args.conn.now) (state g.S.Store c.record.new.conn) _ look
     (λ clean is moments h held r premise stands.
     view_is r caller unit t None (sym c.in-None.is ∙ is moments h held r (have_members c.soundness_by_look_ups.ensures r premise) stands))

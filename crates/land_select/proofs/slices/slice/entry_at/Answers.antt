@@ -11,5 +11,5 @@ returns-clause-look g c =
     let when : to_z w64 (of_z w64 c.args.at) ≡ c.args.at = search rules in
     let look = rw when at c.in_ok-found.ensures.look in
     let found = c.in_ok-found.found in
-    look_told (state g.S.Store c.args.conn.now) (state g.S.Store c.entry.new.conn) _ look
+    look_told (state g.S.Store c.args.conn.now) (state g.S.Store c.record.new.conn) _ look
     (λ clean is moments h held r have stands. c.in_ok-put_one.ensures ∙ ap (λ m. put_one m n found) c.new.ensures ∙ single_kept r.rrrs n found (is moments h held r have stands))

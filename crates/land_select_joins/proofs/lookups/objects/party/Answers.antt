@@ -22,14 +22,14 @@ returns-in-Some-clause-look g c =
     let t = c.args.at in
     let found = c.in-Some.found in
     let when : to_z w64 (of_z w64 t) ≡ t = search rules in
-    look_after a (state g.S.Store c.party.new.conn) (state g.S.Store c.party_with.new.conn) c.party_with.result (rw when at c.in_ok-known.ensures.look) (rw when at c.party_with.ensures.look)
+    look_after a (state g.S.Store c.record.new.conn) (state g.S.Store c.party_with.new.conn) c.party_with.result (rw when at c.in_ok-known.ensures.look) (rw when at c.party_with.ensures.look)
     (λ it clean same is shown moments h held r have stands.
     subst (λ (now : Database). IsPart (λ r. object_at (record r { parties = map.insert map.empty n found }) kinds.Party n) t now.trees it) same shown moments h held r have stands
     ∙ as_it_stands r n found (sym c.in-Some.is ∙ is moments h held r have stands))
 
 pub returns-in-Some-clause-unreadable : goal.returns-in-Some-clause-unreadable
 returns-in-Some-clause-unreadable g c clean =
-    none_after (state g.S.Store c.args.conn.now) (state g.S.Store c.party.new.conn) (state g.S.Store c.party_with.new.conn) c.party_with.result c.party_with.result c.in_ok-known.ensures.look c.party_with.ensures.look clean
+    none_after (state g.S.Store c.args.conn.now) (state g.S.Store c.record.new.conn) (state g.S.Store c.party_with.new.conn) c.party_with.result c.party_with.result c.in_ok-known.ensures.look c.party_with.ensures.look clean
     (c.party_with.ensures.unreadable clean)
 
 pub returns-in-None-clause-look : goal.returns-in-None-clause-look
@@ -37,5 +37,5 @@ returns-in-None-clause-look g c =
     let t = c.args.at in
     let when : to_z w64 (of_z w64 t) ≡ t = search rules in
     let look = rw when at c.in_ok-known.ensures.look in
-    look_told (state g.S.Store c.args.conn.now) (state g.S.Store c.party.new.conn) _ look
+    look_told (state g.S.Store c.args.conn.now) (state g.S.Store c.record.new.conn) _ look
     (λ clean is moments h held r have stands. nobody_there r c.args.number (sym c.in-None.is ∙ is moments h held r have stands))

@@ -11,6 +11,6 @@ returns-clause-look g c =
     let t = c.args.at in
     let when : to_z w64 (of_z w64 t) ≡ t = search rules in
     let look = rw when at c.in_ok-source.ensures.look in
-    look_told (state g.S.Store c.args.conn.now) (state g.S.Store c.source.new.conn) _ look
+    look_told (state g.S.Store c.args.conn.now) (state g.S.Store c.record.new.conn) _ look
     (λ clean is moments h held r have stands asked knows. subst (KnowsPapers r (with_number n asked)) (sym c.in_ok-with_source.ensures)
     (source_known r asked c.args.self n c.in_ok-source.source (is moments h held r have stands) knows))

@@ -1,0 +1,95 @@
+//! Records that have numbers.
+ghost use Rattle.std.specs.FinMap.{FinMap};
+ghost use Rattle.std.specs.Ordering.{nat_cmp};
+ghost use Rattle.land_core.specs.declared.register.Register.{Register};
+ghost use Rattle.land_select_joins.specs.Lookups.Numbered.{IsFoundBy};
+ghost use Rattle.land_select_joins.specs.declared.lookups.look_up.LookUp.{LookUp as Which};
+ghost use Rattle.land_select_joins.specs.declared.lookups.look_up.LookUp.TheVariants as look_up;
+
+use crate::lookups::look_up::LookUp;
+use land_core::mutation::MutationRecord;
+use land_core::parcel::ParcelRecord;
+use land_core::party::PartyRecord;
+use land_core::rrr::RrrRecord;
+use land_core::source::SourceRecord;
+use land_core::unit::UnitRecord;
+use land_tables_history::version::Version;
+use land_tables_rows::reading::from_row::FromRow;
+
+/// What the register has under a number, and a table versions of.
+pub trait Numbered: Drop
+where
+    Version<(u64, Self)>: FromRow,
+{
+    /// Where the register has them.
+    ghost part: { Register → FinMap nat_cmp Self };
+
+    /// The look-up that finds one by its number.
+    const BY_NUMBER: LookUp;
+
+    /// The look-up that finds one by its number.
+    ghost BY_NUMBER: { Which };
+
+    /// It finds what stands.
+    ghost found: { IsFoundBy ⟦<Version<(u64, Self)> as FromRow>⟧.said BY_NUMBER part };
+}
+
+impl Numbered for PartyRecord {
+    ghost part = { λ r. r.parties };
+
+    const BY_NUMBER: LookUp = LookUp::Party;
+
+    ghost BY_NUMBER = { look_up.Party };
+
+    ghost found = { λ db moments h held. record { versions = h.parties; stand = λ t r stands. stands.parties; found = λ number t rows are. are h.parties held.the_parties.said } };
+}
+
+impl Numbered for UnitRecord {
+    ghost part = { λ r. r.units };
+
+    const BY_NUMBER: LookUp = LookUp::Unit;
+
+    ghost BY_NUMBER = { look_up.Unit };
+
+    ghost found = { λ db moments h held. record { versions = h.units; stand = λ t r stands. stands.units; found = λ number t rows are. are h.units held.the_units.said } };
+}
+
+impl Numbered for ParcelRecord {
+    ghost part = { λ r. r.parcels };
+
+    const BY_NUMBER: LookUp = LookUp::Parcel;
+
+    ghost BY_NUMBER = { look_up.Parcel };
+
+    ghost found = { λ db moments h held. record { versions = h.parcels; stand = λ t r stands. stands.parcels; found = λ number t rows are. are h.parcels held.the_parcels.said } };
+}
+
+impl Numbered for RrrRecord {
+    ghost part = { λ r. r.rrrs };
+
+    const BY_NUMBER: LookUp = LookUp::Entry;
+
+    ghost BY_NUMBER = { look_up.Entry };
+
+    ghost found = { λ db moments h held. record { versions = h.rrrs; stand = λ t r stands. stands.rrrs; found = λ number t rows are. are h.rrrs held.the_rrrs.said } };
+}
+
+impl Numbered for SourceRecord {
+    ghost part = { λ r. r.sources };
+
+    const BY_NUMBER: LookUp = LookUp::Source;
+
+    ghost BY_NUMBER = { look_up.Source };
+
+    ghost found = { λ db moments h held. record { versions = h.sources; stand = λ t r stands. stands.sources; found = λ number t rows are. are h.sources held.the_sources.said } };
+}
+
+impl Numbered for MutationRecord {
+    ghost part = { λ r. r.mutations };
+
+    const BY_NUMBER: LookUp = LookUp::Mutation;
+
+    ghost BY_NUMBER = { look_up.Mutation };
+
+    ghost found = { λ db moments h held. record { versions = h.mutations; stand = λ t r stands. stands.mutations; found = λ number t rows are. are h.mutations held.the_mutations.said } };
+}
