@@ -16,23 +16,23 @@ returns-in-Unit-clause-look g c =
 pub returns-in-Parcel-clause-look : goal.returns-in-Parcel-clause-look
 returns-in-Parcel-clause-look g c =
     let when : to_z w64 (of_z w64 c.args.at) ≡ c.args.at = search rules in
-    let look = rw when at c.shown.ensures.look in
+    let look = rw when at c.shown-in-Parcel.ensures.look in
     rw c.in-Parcel.is look
 
 pub returns-in-Rrr-clause-look : goal.returns-in-Rrr-clause-look
 returns-in-Rrr-clause-look g c =
     let when : to_z w64 (of_z w64 c.args.at) ≡ c.args.at = search rules in
-    let look = rw when at c.shown.ensures.look in
+    let look = rw when at c.shown-in-Rrr.ensures.look in
     rw c.in-Rrr.is look
 
 pub returns-in-Source-clause-look : goal.returns-in-Source-clause-look
 returns-in-Source-clause-look g c =
     let when : to_z w64 (of_z w64 c.args.at) ≡ c.args.at = search rules in
-    let look = rw when at c.shown.ensures.look in
+    let look = rw when at c.shown-in-Source.ensures.look in
     rw c.in-Source.is look
 
 pub returns-in-Mutation-clause-look : goal.returns-in-Mutation-clause-look
 returns-in-Mutation-clause-look g c =
     let when : to_z w64 (of_z w64 c.args.at) ≡ c.args.at = search rules in
-    let look = rw when at c.shown.ensures.look in
+    let look = rw when at c.shown-in-Mutation.ensures.look in
     rw c.in-Mutation.is look
