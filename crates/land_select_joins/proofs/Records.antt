@@ -12,20 +12,20 @@ use Rattle.land_select_joins.proofs.Passing.{passing_said, some_said}
 use Rattle.land_select_joins.proofs.Queries.{filter_of, project_of, query_of, shown, stored, tests}
 use Rattle.land_select_joins.proofs.Standing.{entry_found, entry_there}
 use Rattle.land_select_joins.specs.Joins.Meaning.{given}
-use Rattle.land_select_joins.specs.Joins.Running.{HoldsNone, asked_for}
+use Rattle.land_select_joins.specs.Joins.Running.{HoldsNone, OfHeld, asked_for}
 use Rattle.land_select_joins.specs.Lookups.Finding.{AreRows, AreRowsOf, AreSaidOf, CannotBeSaid, Found, IsOneOf, is_meant, listing_of, wanted}
 use Rattle.land_select_joins.specs.Lookups.Numbered.{IsFoundBy}
 use Rattle.land_select_joins.specs.Lookups.Parts.{IsPart}
 use Rattle.land_select_joins.specs.declared.lookups.look_up.LookUp.{LookUp}
 use Rattle.land_tables_history.proofs.Permutations.{filter_permuted}
 use Rattle.land_tables_history.specs.Standing.{IsPartAt, stands, standing}
+use Rattle.land_tables_history.specs.declared.history.History.{History}
 use Rattle.land_tables_history.specs.declared.version.Version.{Version}
 use Rattle.land_tables_rows.proofs.Readings.{each_all}
 use Rattle.land_tables_rows.proofs.ToldTables.{same_values}
 use Rattle.land_tables_rows.specs.Listing.Reading.{IsRead, Listing, Says}
 use Rattle.land_tables_rows.specs.Reading.Readings.{each_of}
 use Rattle.land_tables_rows.specs.declared.listing.fault.ReadFault.{ReadFault}
-use Rattle.land_tables_rows.specs.declared.listing.fault.ReadFault.TheVariants.{Unreadable}
 use Rattle.land_tables_schema.proofs.Updates.{answer_is, passes, plainly}
 use Rattle.land_wire_json.specs.declared.bodies.wire_fault.WireFault.{WireFault}
 use Rattle.sqlite.specs.Program.{overlay}
@@ -98,15 +98,16 @@ module _ (l : LookUp) (number : ℕ) (t : ℤ) (db : Trees) (versions : List (Ve
   pub are_wanted : (found : List (Version (Found l))) → AreSaidOf (listing_of l).said l number t db found → IsPermutation found (wanted (is_meant l number) t versions)
   are_wanted found said = all_wanted (listing_of l).said said.0 (wanted (is_meant l number) t versions) (said.1 versions says) found said.2
 
-  pub can_be_said : (fault : ReadFault) → CannotBeSaid (listing_of l).said l number t db fault → fault ≡ Unreadable → ⊥
-  can_be_said fault cannot is =
-      let it = cannot is in
-      can_be_read (listing_of l).said it.0 (wanted (is_meant l number) t versions) (it.1 versions says) it.2
-
 -- so a fault that says that they cannot is told only where the tables hold no history
 pub none_held : {Y : Type 0} (db : Trees) (r : Result Y ReadFault) (fault : ReadFault) → IsErrAnd r (λ f. f ≡ fault) → HoldsNone db fault → IfErr r (HoldsNone db)
 none_held db (Ok y) fault same none = absurd same
 none_held db (Err f) fault same none = λ is. none (sym same ∙ is)
+
+pub none_said : {Y : Type 0} (l : LookUp) (number : ℕ) (t : ℤ) (db : Trees) (versions : History → List (Version (Found l))) → OfHeld db (λ h. Says (listing_of l) db (versions h))
+    → (r : Result Y ReadFault) (fault : ReadFault) → IsErrAnd r (λ f. f ≡ fault) → CannotBeSaid (listing_of l).said l number t db fault → IfErr r (HoldsNone db)
+none_said l number t db versions says r fault same cannot =
+    none_held db r fault same
+    (λ is moments h held. let it = cannot is in can_be_read (listing_of l).said it.0 (wanted (is_meant l number) t (versions h)) (it.1 (versions h) (says moments h held)) it.2)
 
 -- ---- records
 

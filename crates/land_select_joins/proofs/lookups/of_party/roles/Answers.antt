@@ -1,9 +1,8 @@
-use Rattle.std.proofs.Common.{rules, ◌≡◌, to_z, of_z, w64, nat_eq, subst, sym}
+use Rattle.std.proofs.Common.{rules, ◌≡◌, to_z, of_z, w64, nat_eq}
 use Rattle.land_core.specs.Entries.{only}
 use Rattle.land_select_joins.proofs.Parts.{roles_found}
-use Rattle.land_select_joins.proofs.Records.{are_wanted, can_be_said, none_held}
+use Rattle.land_select_joins.proofs.Records.{are_wanted, none_said}
 use Rattle.land_select_joins.specs.declared.lookups.look_up.LookUp.TheVariants.{RolesOfParty}
-use Rattle.land_tables_history.specs.Standing.{AreRolesAt}
 use Rattle.land_tables_schema.proofs.Looking.{look_told}
 use Rattle.sqlite.specs.Held.{state}
 use Rattle.land_select_joins.proofs.lookups.of_party.roles.Goals as goal
@@ -13,16 +12,12 @@ returns-clause-look g c =
     let old = state g.S.Store c.args.conn.now in
     let when : to_z w64 (of_z w64 c.args.at) ≡ c.args.at = search rules in
     let look = rw when at c.in_ok-found.ensures.look in
-    let made = rw when at c.in_ok-roles_at.ensures.stands in
+    let made = rw (when, c.as_slice.ensures) at c.in_ok-roles_at.ensures.stands in
     look_told old (state g.S.Store c.find.new.conn) _ look
     (λ clean said moments h held r have stands.
-    made (only (λ grant u. nat_eq grant.party c.args.party) r.roles) (subst (λ l. AreRolesAt c.args.at l (only (λ grant u. nat_eq grant.party c.args.party) r.roles)) (sym c.as_slice.ensures) (roles_found c.args.at (λ grant. nat_eq grant.party c.args.party) h.roles r.roles stands.roles c.in_ok-found.found (are_wanted RolesOfParty c.args.party c.args.at old.now.trees h.roles held.the_roles.said c.in_ok-found.found said))))
+    made (only (λ grant u. nat_eq grant.party c.args.party) r.roles) (roles_found c.args.at (λ grant. nat_eq grant.party c.args.party) h.roles r.roles stands.roles c.in_ok-found.found (are_wanted RolesOfParty c.args.party c.args.at old.now.trees h.roles held.the_roles.said c.in_ok-found.found said)))
 
 pub returns-in_err-found-clause-unreadable : goal.returns-in_err-found-clause-unreadable
 returns-in_err-found-clause-unreadable g c clean =
-    let old = state g.S.Store c.args.conn.now in
     let when : to_z w64 (of_z w64 c.args.at) ≡ c.args.at = search rules in
-    let fault = c.in_err-found.field-0.0 in
-    let cannot = rw when at (c.in_err-found.ensures.unreadable clean) in
-    none_held old.now.trees c.from_residual.result fault c.from_residual.ensures.1
-    (λ is moments h held. can_be_said RolesOfParty c.args.party c.args.at old.now.trees h.roles held.the_roles.said fault cannot is)
+    none_said RolesOfParty c.args.party c.args.at _ (λ h. h.roles) (λ moments h held. held.the_roles.said) c.from_residual.result c.in_err-found.field-0.0 c.from_residual.ensures.1 (rw when at (c.in_err-found.ensures.unreadable clean))

@@ -1,9 +1,8 @@
-use Rattle.std.proofs.Common.{rules, ◌≡◌, to_z, of_z, w64, nat_eq, subst, sym}
+use Rattle.std.proofs.Common.{rules, ◌≡◌, to_z, of_z, w64, nat_eq}
 use Rattle.land_core.specs.Entries.{only}
 use Rattle.land_select_joins.proofs.Parts.{part_found}
-use Rattle.land_select_joins.proofs.Records.{are_wanted, can_be_said, none_held}
+use Rattle.land_select_joins.proofs.Records.{are_wanted, none_said}
 use Rattle.land_select_joins.specs.declared.lookups.look_up.LookUp.TheVariants.{EntriesOfUnit}
-use Rattle.land_tables_history.specs.Standing.{IsPartAt}
 use Rattle.land_tables_schema.proofs.Looking.{look_told}
 use Rattle.sqlite.specs.Held.{state}
 use Rattle.land_select_joins.proofs.lookups.of_unit.entries.Goals as goal
@@ -13,16 +12,12 @@ returns-clause-look g c =
     let old = state g.S.Store c.args.conn.now in
     let when : to_z w64 (of_z w64 c.args.at) ≡ c.args.at = search rules in
     let look = rw when at c.in_ok-found.ensures.look in
-    let made = rw when at c.in_ok-part_at.ensures.stands in
+    let made = rw (when, c.as_slice.ensures) at c.in_ok-part_at.ensures.stands in
     look_told old (state g.S.Store c.find.new.conn) _ look
     (λ clean said moments h held r have stands.
-    made (only (λ n e. nat_eq e.unit c.args.unit) r.rrrs) (subst (λ l. IsPartAt c.args.at l (only (λ n e. nat_eq e.unit c.args.unit) r.rrrs)) (sym c.as_slice.ensures) (part_found c.args.at (λ n e. nat_eq e.unit c.args.unit) h.rrrs r.rrrs stands.rrrs c.in_ok-found.found (are_wanted EntriesOfUnit c.args.unit c.args.at old.now.trees h.rrrs held.the_rrrs.said c.in_ok-found.found said))))
+    made (only (λ n e. nat_eq e.unit c.args.unit) r.rrrs) (part_found c.args.at (λ n e. nat_eq e.unit c.args.unit) h.rrrs r.rrrs stands.rrrs c.in_ok-found.found (are_wanted EntriesOfUnit c.args.unit c.args.at old.now.trees h.rrrs held.the_rrrs.said c.in_ok-found.found said)))
 
 pub returns-in_err-found-clause-unreadable : goal.returns-in_err-found-clause-unreadable
 returns-in_err-found-clause-unreadable g c clean =
-    let old = state g.S.Store c.args.conn.now in
     let when : to_z w64 (of_z w64 c.args.at) ≡ c.args.at = search rules in
-    let fault = c.in_err-found.field-0.0 in
-    let cannot = rw when at (c.in_err-found.ensures.unreadable clean) in
-    none_held old.now.trees c.from_residual.result fault c.from_residual.ensures.1
-    (λ is moments h held. can_be_said EntriesOfUnit c.args.unit c.args.at old.now.trees h.rrrs held.the_rrrs.said fault cannot is)
+    none_said EntriesOfUnit c.args.unit c.args.at _ (λ h. h.rrrs) (λ moments h held. held.the_rrrs.said) c.from_residual.result c.in_err-found.field-0.0 c.from_residual.ensures.1 (rw when at (c.in_err-found.ensures.unreadable clean))

@@ -1,6 +1,6 @@
 use Rattle.std.proofs.Common.{rules, ◌≡◌, to_z, of_z, w64}
 use Rattle.land_select_joins.proofs.Namers.{are_namers}
-use Rattle.land_select_joins.proofs.Records.{are_wanted, can_be_said, none_held}
+use Rattle.land_select_joins.proofs.Records.{are_wanted, none_said}
 use Rattle.land_select_joins.specs.declared.lookups.look_up.LookUp.TheVariants.{NamingsOfUnit}
 use Rattle.land_tables_schema.proofs.Looking.{look_told}
 use Rattle.sqlite.specs.Held.{state}
@@ -18,9 +18,5 @@ returns-clause-look g c =
 
 pub returns-in_err-found-clause-unreadable : goal.returns-in_err-found-clause-unreadable
 returns-in_err-found-clause-unreadable g c clean =
-    let old = state g.S.Store c.args.conn.now in
     let when : to_z w64 (of_z w64 c.args.at) ≡ c.args.at = search rules in
-    let fault = c.in_err-found.field-0.0 in
-    let cannot = rw when at (c.in_err-found.ensures.unreadable clean) in
-    none_held old.now.trees c.from_residual.result fault c.from_residual.ensures.1
-    (λ is moments h held. can_be_said NamingsOfUnit c.args.unit c.args.at old.now.trees h.namings held.the_namings.said fault cannot is)
+    none_said NamingsOfUnit c.args.unit c.args.at _ (λ h. h.namings) (λ moments h held. held.the_namings.said) c.from_residual.result c.in_err-found.field-0.0 c.from_residual.ensures.1 (rw when at (c.in_err-found.ensures.unreadable clean))
