@@ -3,7 +3,6 @@
 
 use crate::facts::facts::{Fact, Held, Share};
 use crate::facts::registers::{fault, tell_all};
-use crate::stop::{Stop, expect};
 use land_core::ask::Ask;
 use land_core::caller::Caller;
 use land_core::kind::PartyKind::{Group, NaturalPerson, NonNaturalPerson};
@@ -13,6 +12,7 @@ use land_core::rrr::RightType::{Lease, Ownership};
 use land_core::soundness::Unsound;
 use land_rules::rules::verdict;
 use land_rules::verdict::Verdict;
+use land_test_cases::stop::{Stop, expect};
 use std::alloc::Global;
 
 pub mod lists;

@@ -3,10 +3,10 @@
 use self::garden::{GARDEN, LODGED, RECORDS, WITH_ORCHARD, WITHOUT_RIGHTS};
 use crate::facts::facts::{Fact, Share};
 use crate::facts::registers::{fault, tell_all};
-use crate::stop::{Stop, expect};
 use land_core::kind::PartyKind::{Group, NaturalPerson};
 use land_core::register::Register;
 use land_core::soundness::Unsound;
+use land_test_cases::stop::{Stop, expect};
 use std::alloc::Global;
 
 pub mod changing;

@@ -1,10 +1,10 @@
 //! Worlds that look alike to a caller: it is told the same of both.
 use crate::conclusion::conclude;
 use land_core::kind::Kind::{Mutation, Parcel, Party, Rrr, Source, Unit};
-use land_test_register::cases::asked::RowAsk::{List, View};
-use land_test_register::cases::rows::{Row, play_rows};
-use land_test_register::cases::steps::{ANNA, NORA_HERSELF, WITH_FIELD, WITH_GARDEN};
-use land_test_register::cases::worlds::are_alike_to_whom_they_look_alike;
+use land_test_cases::asked::RowAsk::{List, View};
+use land_test_cases::rows::{Row, play_rows};
+use land_test_cases::steps::{ANNA, NORA_HERSELF, WITH_FIELD, WITH_GARDEN};
+use land_test_cases::worlds::are_alike_to_whom_they_look_alike;
 use std::test::Fail;
 
 /// What Nora, who holds nothing, is told as a citizen.

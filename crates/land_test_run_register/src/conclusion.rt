@@ -1,5 +1,5 @@
 //! How a test ends.
-use land_test_register::stop::Stop;
+use land_test_cases::stop::Stop;
 use std::process::Abort;
 use std::test::Fail;
 

@@ -4,11 +4,11 @@ use land_core::caller::Caller;
 use land_core::kind::Kind::Party;
 use land_core::kind::PartyKind::NaturalPerson;
 use land_core::role::Role::{Citizen, StateAdministrator};
-use land_test_register::cases::asked::RowAct::Enrol;
-use land_test_register::cases::asked::RowAsk::{Do, List, View};
-use land_test_register::cases::asked::{OFFICE, RowAsk};
-use land_test_register::cases::rows::Row;
-use land_test_register::cases::steps::{ANNA, BEN, play_anew};
+use land_test_cases::asked::RowAct::Enrol;
+use land_test_cases::asked::RowAsk::{Do, List, View};
+use land_test_cases::asked::{OFFICE, RowAsk};
+use land_test_cases::rows::Row;
+use land_test_cases::steps::{ANNA, BEN, play_anew};
 use std::test::Fail;
 
 const ENROL: RowAsk = Do(Enrol(NaturalPerson, "Anna"));

@@ -3,13 +3,11 @@ use crate::conclusion::conclude;
 use land_core::caller::Caller;
 use land_core::kind::Kind::Party;
 use land_core::role::Role::{Bank, Citizen, Notary, StateAdministrator};
-use land_test_register::cases::asked::RowAct::{Grant, Group, Regroup, Revoke};
-use land_test_register::cases::asked::RowAsk::{Do, List, View};
-use land_test_register::cases::asked::{OFFICE, RowAsk, Share};
-use land_test_register::cases::rows::Row;
-use land_test_register::cases::steps::{
-    ANNA, BANK_ITSELF, BEN, NORA, play_with_group, play_with_parties,
-};
+use land_test_cases::asked::RowAct::{Grant, Group, Regroup, Revoke};
+use land_test_cases::asked::RowAsk::{Do, List, View};
+use land_test_cases::asked::{OFFICE, RowAsk, Share};
+use land_test_cases::rows::Row;
+use land_test_cases::steps::{ANNA, BANK_ITSELF, BEN, NORA, play_with_group, play_with_parties};
 use std::test::Fail;
 
 const THIRDS: &[Share] = &[(2, 1, 3), (3, 1, 3), (4, 1, 3)];

@@ -9,11 +9,11 @@ use land_core::sequence::Sequence;
 use land_fraction::Fraction;
 use land_keep::reply::Reply;
 use land_keep::view::{NamedRrr, View};
-use land_test_register::cases::asked::RowAct::Enrol;
-use land_test_register::cases::asked::RowAsk::{Do, Sheet};
-use land_test_register::cases::asked::{GARDEN, OFFICE, RowAsk, new_unit};
-use land_test_register::cases::rows::{answered, request};
-use land_test_register::stop::{Stop, expect};
+use land_test_cases::asked::RowAct::Enrol;
+use land_test_cases::asked::RowAsk::{Do, Sheet};
+use land_test_cases::asked::{GARDEN, OFFICE, RowAsk, new_unit};
+use land_test_cases::rows::{answered, request};
+use land_test_cases::stop::{Stop, expect};
 use std::alloc::{AllocError, Global};
 use std::test::Fail;
 

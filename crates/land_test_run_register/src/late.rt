@@ -2,13 +2,11 @@
 use crate::conclusion::conclude;
 use land_core::kind::Kind::{Party, Rrr, Unit};
 use land_core::rrr::RightType::{Ownership, Usufruct};
-use land_test_register::cases::asked::RowAct::{Approve, Group, RegisterAs};
-use land_test_register::cases::asked::RowAsk::{Do, List, Sheet, View};
-use land_test_register::cases::asked::{OFFICE, Right, Share};
-use land_test_register::cases::rows::{Row, play_rows};
-use land_test_register::cases::steps::{
-    ANNA, BANK, BANK_ITSELF, LOAN, SAM, WITH_GARDEN, play_with_group,
-};
+use land_test_cases::asked::RowAct::{Approve, Group, RegisterAs};
+use land_test_cases::asked::RowAsk::{Do, List, Sheet, View};
+use land_test_cases::asked::{OFFICE, Right, Share};
+use land_test_cases::rows::{Row, play_rows};
+use land_test_cases::steps::{ANNA, BANK, BANK_ITSELF, LOAN, SAM, WITH_GARDEN, play_with_group};
 use std::test::Fail;
 
 /// Now is the clock's reading where that is after the last stamp: 1500 is past then, though nothing has changed since.

@@ -16,16 +16,16 @@ use land_keep::machine::{answer, finish, prepare};
 use land_keep::plain_keeper::PlainKeeper;
 use land_keep::reply::Reply;
 use land_keep::store_fault::StoreFault;
-use land_test_register::cases::asked::RowAct::{
+use land_test_cases::asked::RowAct::{
     Approve, Burden, Enrol, Grant, Group, Lodge, Register, Regroup, Revoke,
 };
-use land_test_register::cases::asked::RowAsk::{Do, Sheet, View};
-use land_test_register::cases::asked::{OFFICE, Right, RowAsk, Share};
-use land_test_register::cases::lodged::RowContent::{Merger, Mortgage, Subdivision, Transfer};
-use land_test_register::cases::lodged::{RowParcel, RowPart};
-use land_test_register::cases::rows::request;
-use land_test_register::cases::told::is_told;
-use land_test_register::stop::{Stop, expect};
+use land_test_cases::asked::RowAsk::{Do, Sheet, View};
+use land_test_cases::asked::{OFFICE, Right, RowAsk, Share};
+use land_test_cases::lodged::RowContent::{Merger, Mortgage, Subdivision, Transfer};
+use land_test_cases::lodged::{RowParcel, RowPart};
+use land_test_cases::rows::request;
+use land_test_cases::stop::{Stop, expect};
+use land_test_cases::told::is_told;
 use std::alloc::{AllocError, Global};
 use std::process::Abort;
 use std::test::Fail;

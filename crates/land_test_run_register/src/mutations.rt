@@ -1,10 +1,10 @@
 //! Mutations: lodged and lodged again, approved or refused, and seen by role and moment.
 
-use land_test_register::cases::asked::OFFICE;
-use land_test_register::cases::asked::RowAct::Approve;
-use land_test_register::cases::asked::RowAsk::Do;
-use land_test_register::cases::rows::Row;
-use land_test_register::cases::steps::{NORA, QUARTER};
+use land_test_cases::asked::OFFICE;
+use land_test_cases::asked::RowAct::Approve;
+use land_test_cases::asked::RowAsk::Do;
+use land_test_cases::rows::Row;
+use land_test_cases::steps::{NORA, QUARTER};
 
 mod banks;
 mod conveyancer;

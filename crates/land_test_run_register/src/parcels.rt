@@ -1,12 +1,12 @@
 //! Parcels that are cut into parts, and that become one again, with their units and the entries of these.
 
-use land_test_register::cases::asked::OFFICE;
-use land_test_register::cases::asked::RowAct::{Approve, Lodge};
-use land_test_register::cases::asked::RowAsk::{self, Do};
-use land_test_register::cases::lodged::RowContent::Subdivision;
-use land_test_register::cases::lodged::{RowParcel, RowPart};
-use land_test_register::cases::rows::Row;
-use land_test_register::cases::steps::SURVEYOR;
+use land_test_cases::asked::OFFICE;
+use land_test_cases::asked::RowAct::{Approve, Lodge};
+use land_test_cases::asked::RowAsk::{self, Do};
+use land_test_cases::lodged::RowContent::Subdivision;
+use land_test_cases::lodged::{RowParcel, RowPart};
+use land_test_cases::rows::Row;
+use land_test_cases::steps::SURVEYOR;
 
 mod merged;
 mod refused;

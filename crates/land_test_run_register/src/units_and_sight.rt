@@ -5,11 +5,11 @@ use land_core::caller::Caller;
 use land_core::kind::Kind::{Parcel, Party, Rrr, Source, Unit};
 use land_core::role::Role::{Citizen, Conveyancer};
 use land_core::rrr::RightType::Ownership;
-use land_test_register::cases::asked::RowAct::{Burden, Grant, Lift, Register};
-use land_test_register::cases::asked::RowAsk::{Do, List, Sheet, View};
-use land_test_register::cases::asked::{OFFICE, Right, RowAsk};
-use land_test_register::cases::rows::Row;
-use land_test_register::cases::steps::{
+use land_test_cases::asked::RowAct::{Burden, Grant, Lift, Register};
+use land_test_cases::asked::RowAsk::{Do, List, Sheet, View};
+use land_test_cases::asked::{OFFICE, Right, RowAsk};
+use land_test_cases::rows::Row;
+use land_test_cases::steps::{
     ANNA, BANK, BANK_ITSELF, BEN, NORA, NORA_HERSELF, SAM, SHARED, SURVEYOR, play_with_garden,
 };
 use std::test::Fail;

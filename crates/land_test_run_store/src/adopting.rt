@@ -1,6 +1,6 @@
 //! Stores that are taken for a register's, and damaged ones that are not.
 use crate::conclusion::conclude;
-use land_test_store::adopting;
+use land_test_tables::adopting;
 use std::test::Fail;
 
 #[test]

@@ -1,6 +1,6 @@
 //! Commands over files.
 use crate::conclusion::conclude;
-use land_test_keepers::commands;
+use land_test_commands::commands;
 use std::test::Fail;
 
 #[test]

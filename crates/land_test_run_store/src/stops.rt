@@ -1,6 +1,6 @@
 //! Stores whose disk stops.
 use crate::conclusion::conclude;
-use land_test_store::stops;
+use land_test_tables::stops;
 use std::test::Fail;
 
 #[test]

@@ -1,6 +1,6 @@
 //! The register in tables.
 use crate::conclusion::conclude;
-use land_test_store::tables::{again, creating, going_on, replies, rows, stamps};
+use land_test_tables::tables::{again, creating, going_on, replies, rows, stamps};
 use std::test::Fail;
 
 #[test]

@@ -2,12 +2,12 @@
 use crate::facts::facts::Fact;
 use crate::facts::lodged::mutation;
 use crate::facts::making::{members, parcel, party, rrr, source, unit};
-use crate::stop::Stop;
 use land_core::change::{Change, Ended, Put};
 use land_core::kind::Kind;
 use land_core::role::Role;
 use land_core::roles::Grant;
 use land_core::sequence::{NumberList, Sequence};
+use land_test_cases::stop::Stop;
 use std::alloc::Global;
 
 /// Lets a change put a record, where it was made.

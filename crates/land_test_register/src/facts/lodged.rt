@@ -1,10 +1,10 @@
 //! Mutations that are put together by hand.
 use crate::facts::making::text;
-use crate::stop::Stop;
 use land_core::content::{Content, Discharge, Mortgage, Transfer};
 use land_core::mutation::{MutationRecord, MutationState};
 use land_core::text::Text;
 use land_fraction::{Fraction, FractionFault};
+use land_test_cases::stop::Stop;
 use std::alloc::{AllocError, Global};
 
 /// What a mutation asks for.

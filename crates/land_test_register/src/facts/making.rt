@@ -1,6 +1,5 @@
 //! The records that facts are made of.
 use crate::facts::facts::{Held, SQUARE, Share};
-use crate::stop::Stop;
 use land_core::kind::PartyKind;
 use land_core::member::Members;
 use land_core::parcel::ParcelRecord;
@@ -12,6 +11,7 @@ use land_core::text::Text;
 use land_core::unit::UnitRecord;
 use land_fraction::Fraction;
 use land_shape::read_wkt;
+use land_test_cases::stop::Stop;
 use std::alloc::{AllocError, Global};
 
 /// A text as records have it.

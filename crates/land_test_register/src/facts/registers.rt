@@ -2,7 +2,6 @@
 use crate::facts::facts::Fact;
 use crate::facts::lodged::mutation;
 use crate::facts::making::{crowd, members, parcel, party, rrr, source, unit};
-use crate::stop::Stop;
 use land_core::kind::Kind;
 use land_core::records::Records;
 use land_core::register::Register;
@@ -10,6 +9,7 @@ use land_core::role::Role;
 use land_core::roles::{Grant, Roles};
 use land_core::soundness::Unsound;
 use land_core::soundness::check::check;
+use land_test_cases::stop::Stop;
 use std::alloc::Global;
 
 /// Puts a record in, where it was made. It takes the answer of what makes it, so that its callers have no exit.

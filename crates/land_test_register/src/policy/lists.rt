@@ -1,12 +1,12 @@
 //! What each role is shown of the farm and the house.
 use super::{ANNA, BEN, FAMILY, LENA, NORA, NORTH, OFFICE, SAM, SOUTH, caller, farm_and_house};
-use crate::stop::{Stop, expect};
 use land_core::kind::Kind::{self, Parcel, Party, Rrr, Source, Unit};
 use land_core::register::Register;
 use land_core::role::Role::{
     self, Bank, CertifiedSurveyor, Citizen, Conveyancer, Notary, StateAdministrator,
 };
 use land_rules::rules::seen;
+use land_test_cases::stop::{Stop, expect};
 use std::alloc::{AllocError, Global};
 
 /// Who lists the numbers of which kind, and what it is shown.

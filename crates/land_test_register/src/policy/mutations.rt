@@ -8,7 +8,6 @@ use crate::facts::facts::Fact;
 use crate::facts::lodged::{Asked, Lodged, content};
 use crate::facts::making::text;
 use crate::facts::registers::fault;
-use crate::stop::{Stop, expect};
 use land_core::act::{Act, Decision, Lodging};
 use land_core::ask::Ask;
 use land_core::kind::Kind::{Mutation, Party, Rrr, Unit};
@@ -18,6 +17,7 @@ use land_core::role::Role::{
     Bank, CertifiedSurveyor, Citizen, Conveyancer, Notary, StateAdministrator,
 };
 use land_core::soundness::Unsound;
+use land_test_cases::stop::{Stop, expect};
 use std::alloc::Global;
 
 /// Lodged by the bank North on the farm (21); by Lena on the house (22), and on the farm, where it is approved (23) and

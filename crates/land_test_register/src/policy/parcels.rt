@@ -8,7 +8,6 @@ use crate::facts::facts::{Fact, SQUARE};
 use crate::facts::lodged::MOMENT;
 use crate::facts::making::text;
 use crate::facts::registers::fault;
-use crate::stop::{Stop, expect};
 use land_core::act::{Act, Lodging, NewParcel};
 use land_core::ask::Ask;
 use land_core::content::Content;
@@ -22,6 +21,7 @@ use land_core::role::Role::{
 use land_core::sequence::{NumberList, Sequence};
 use land_core::subdivision::{Part, Subdivision};
 use land_shape::read_wkt;
+use land_test_cases::stop::{Stop, expect};
 use std::alloc::{AllocError, Global};
 
 /// What a surveyor asks for.

@@ -3,7 +3,6 @@ use super::{
     ABSENT, ANNA, FARM, LENA, NORA, NORTH, OFFICE, SAM, caller, farm_and_house, told, verdict_on,
 };
 use crate::facts::making::text;
-use crate::stop::{Stop, expect};
 use land_core::act::{Act, Burden, BurdenClass, Lift};
 use land_core::ask::Ask;
 use land_core::kind::Kind;
@@ -12,6 +11,7 @@ use land_core::role::Role::{
     self, Bank, CertifiedSurveyor, Citizen, Conveyancer, Notary, StateAdministrator,
 };
 use land_rules::rules::verdict;
+use land_test_cases::stop::{Stop, expect};
 use std::alloc::{AllocError, Global};
 
 const VIEW: Ask = Ask::View {

@@ -3,13 +3,13 @@ use super::{
     ABSENT, ANNA, BEN, DEED, FAMILY, FARM, HOUSE, LENA, NORA, NORTH, OFFICE, SAM, SOUTH, caller,
     farm_and_house, told, verdict_on,
 };
-use crate::stop::{Stop, expect};
 use land_core::ask::Ask;
 use land_core::kind::Kind::{self, Parcel, Party, Rrr, Source, Unit};
 use land_core::register::Register;
 use land_core::role::Role::{
     self, Bank, CertifiedSurveyor, Citizen, Conveyancer, Notary, StateAdministrator,
 };
+use land_test_cases::stop::{Stop, expect};
 use std::alloc::Global;
 
 /// Who views which object, and the number of the rule that denies it; 0 where none does.

@@ -9,13 +9,13 @@ use super::{OFFICE_ALONE, Part, WITH_GARDEN, WITH_GROUP, WITH_LODGED, register_w
 use crate::facts::changes::change_all;
 use crate::facts::facts::{Fact, SQUARE, Share};
 use crate::facts::registers::fault;
-use crate::stop::{Stop, expect};
 use land_core::change::Change;
 use land_core::kind::Kind;
 use land_core::kind::PartyKind::{Group, NaturalPerson};
 use land_core::records::Records;
 use land_core::register::{Register, apply};
 use land_core::role::Role;
+use land_test_cases::stop::{Stop, expect};
 use std::alloc::{AllocError, Global};
 
 /// How a change was made.

@@ -3,12 +3,12 @@ use super::garden::{ANNA, DEED, GARDEN, HEDGE, LEASE, LOAN, PATH, POND};
 use super::objects::{OFFICE, is_shown};
 use super::{WITH_ALL, register_with};
 use crate::facts::registers::fault;
-use crate::stop::{Stop, expect};
 use land_core::duplicate::Duplicate;
 use land_core::kind::Kind;
 use land_core::object::Object;
 use land_core::register::Register;
 use land_core::role::Role;
+use land_test_cases::stop::{Stop, expect};
 use std::alloc::{AllocError, Global};
 use std::fmt::Debug;
 

@@ -2,9 +2,9 @@
 use super::garden::{DEED, GARDEN, SAM};
 use super::{Part, WITH_GARDEN, fault_of};
 use crate::facts::facts::{Fact, Held};
-use crate::stop::{Stop, expect};
 use land_core::kind::PartyKind::NaturalPerson;
 use land_core::soundness::Unsound;
+use land_test_cases::stop::{Stop, expect};
 use std::alloc::{AllocError, Global};
 
 /// What there is a crowd of.

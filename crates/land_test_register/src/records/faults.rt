@@ -3,10 +3,10 @@ use super::{
     ANNA_A_THIRD, Case, OFFICE_ALONE, Part, REFERENCE, WITH_GROUP, WITH_PERSONS, expect_faults,
 };
 use crate::facts::facts::{Fact, Share};
-use crate::stop::Stop;
 use land_core::kind::PartyKind::NaturalPerson;
 use land_core::role::Role;
 use land_core::soundness::Unsound;
+use land_test_cases::stop::Stop;
 use std::alloc::Global;
 
 const TWO: Fact = Fact::Party(2, NaturalPerson, "Anna");

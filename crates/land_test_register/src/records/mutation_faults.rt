@@ -4,9 +4,9 @@ use super::{Case, Part, REFERENCE, expect_faults};
 use crate::facts::facts::Fact::{self, Mutation};
 use crate::facts::lodged::Asked::{self, Discharge, Mortgage, Transfer};
 use crate::facts::lodged::Lodged;
-use crate::stop::Stop;
 use land_core::mutation::MutationState::{Approved, Lodged as Open, Refused};
 use land_core::soundness::Unsound;
+use land_test_cases::stop::Stop;
 use std::alloc::Global;
 
 /// The garden, and numbers up to 19.

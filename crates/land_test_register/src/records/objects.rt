@@ -6,7 +6,6 @@ use super::garden::{
 use super::{ANNA_A_THIRD, Part, WITH_ALL, WITH_GARDEN, register_with};
 use crate::facts::facts::{Held, SQUARE, Share};
 use crate::facts::lodged::{Lodged, MOMENT, is_asked};
-use crate::stop::{Stop, expect};
 use land_core::kind::Kind;
 use land_core::kind::PartyKind::{self, Group, NaturalPerson, NonNaturalPerson};
 use land_core::member::Member;
@@ -21,6 +20,7 @@ use land_core::rrr::{Class, Rrr};
 use land_core::source::{Source, SourceKind};
 use land_core::unit::Unit;
 use land_fraction::Fraction;
+use land_test_cases::stop::{Stop, expect};
 use std::alloc::{AllocError, Global};
 
 /// What is shown of an object.

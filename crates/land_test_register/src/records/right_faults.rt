@@ -2,9 +2,9 @@
 use super::garden::{ANNA, BEN, DEED, GARDEN, ORCHARD, SAM};
 use super::{Case, Part, WITH_TWO_UNITS, expect_faults, fault_of};
 use crate::facts::facts::{Fact, Held, Right};
-use crate::stop::{Stop, expect};
 use land_core::rrr::RightType::{Lease, Ownership, Usufruct};
 use land_core::soundness::Unsound;
+use land_test_cases::stop::{Stop, expect};
 use std::alloc::{AllocError, Global};
 
 /// Rights of the garden, under the numbers from 16 on, and the next number.

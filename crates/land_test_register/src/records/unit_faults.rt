@@ -4,10 +4,10 @@ use super::garden::{
 };
 use super::{Case, REFERENCE, WITH_GARDEN, WITH_TWO_UNITS, expect_faults};
 use crate::facts::facts::{Fact, Held};
-use crate::stop::Stop;
 use land_core::kind::Kind;
 use land_core::kind::PartyKind::NaturalPerson;
 use land_core::soundness::Unsound;
+use land_test_cases::stop::Stop;
 use std::alloc::Global;
 
 const PARCELS: &[Case] = &[

@@ -4,7 +4,7 @@ use super::{FIRST, STAMP, assert_steps};
 use land_core::act::BurdenClass::{Responsibility, Restriction};
 use land_core::kind::Kind;
 use land_core::rrr::RightType::Ownership;
-use land_test_register::cases::asked::RowAct::{Burden, Lift, Register};
+use land_test_cases::asked::RowAct::{Burden, Lift, Register};
 use std::test::Fail;
 
 pub(super) const UNIT: Step = Row(

@@ -3,8 +3,8 @@ use land_core::parcel::ParcelRecord;
 use land_core::register::Register;
 use land_core::rrr::{Class, RrrRecord};
 use land_shape::read_wkt;
-use land_test_register::cases::asked::text;
-use land_test_register::stop::Stop;
+use land_test_cases::asked::text;
+use land_test_cases::stop::Stop;
 use std::alloc::{AllocError, Global};
 
 /// A restriction of Anna on the unit 6.

@@ -4,8 +4,8 @@ use super::burdens::UNIT;
 use super::{FIRST, STAMP, assert_steps};
 use land_core::role::Role::Bank;
 use land_core::rrr::RightType::Ownership;
-use land_test_register::cases::asked::RowAct::{Approve, Grant, Lift, Lodge, Refuse, Register};
-use land_test_register::cases::lodged::RowContent::{Mortgage, Transfer};
+use land_test_cases::asked::RowAct::{Approve, Grant, Lift, Lodge, Refuse, Register};
+use land_test_cases::lodged::RowContent::{Mortgage, Transfer};
 use std::test::Fail;
 
 /// In a unit with a right and 255 restrictions the right moves as a whole, or grows, and no other comes.

@@ -3,7 +3,7 @@ use super::Step::{self, Holds, Row, Sound};
 use super::{STAMP, assert_steps};
 use land_core::kind::PartyKind::NaturalPerson;
 use land_core::role::Role::Citizen;
-use land_test_register::cases::asked::RowAct::{self, Enrol};
+use land_test_cases::asked::RowAct::{self, Enrol};
 use std::test::Fail;
 
 const ANNA: RowAct = Enrol(NaturalPerson, "Anna");

@@ -1,8 +1,8 @@
 //! Groups: made, given other members, and refused.
 use super::Step::{self, Has, Row, Sound};
 use super::{FIRST, STAMP, assert_steps};
-use land_test_register::cases::asked::RowAct::{Group, Regroup};
-use land_test_register::cases::asked::Share;
+use land_test_cases::asked::RowAct::{Group, Regroup};
+use land_test_cases::asked::Share;
 use std::test::Fail;
 
 const THIRDS: &[Share] = &[(2, 1, 3), (3, 1, 3), (4, 1, 3)];

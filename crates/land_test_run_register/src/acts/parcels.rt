@@ -5,9 +5,9 @@ use super::burdens::UNIT;
 use super::{FIRST, STAMP, assert_steps};
 use land_core::kind::Kind::{Parcel, Rrr, Unit};
 use land_core::rrr::RightType::Ownership;
-use land_test_register::cases::asked::RowAct::{Approve, Lodge, Register};
-use land_test_register::cases::lodged::RowContent::{Merger, Subdivision};
-use land_test_register::cases::lodged::{RowParcel, RowPart};
+use land_test_cases::asked::RowAct::{Approve, Lodge, Register};
+use land_test_cases::lodged::RowContent::{Merger, Subdivision};
+use land_test_cases::lodged::{RowParcel, RowPart};
 use std::test::Fail;
 
 const SQUARE: &str = "POLYGON ((0 0, 10000 0, 10000 10000, 0 10000, 0 0))";

@@ -3,8 +3,8 @@ use super::Step::{self, Next, Row, Sound, Stands};
 use super::{FIRST, STAMP, assert_steps};
 use land_core::kind::Kind;
 use land_core::rrr::RightType::{Lease, Ownership};
-use land_test_register::cases::asked::Right;
-use land_test_register::cases::asked::RowAct::Register;
+use land_test_cases::asked::Right;
+use land_test_cases::asked::RowAct::Register;
 use std::test::Fail;
 
 const SHARED: &[Right] = &[(2, Ownership, 1, 4), (3, Ownership, 3, 4), (4, Lease, 1, 1)];

@@ -2,7 +2,7 @@
 use super::Step::{self, Holds, Row};
 use super::{FIRST, STAMP, assert_steps};
 use land_core::role::Role::{Bank, Citizen, Notary, StateAdministrator};
-use land_test_register::cases::asked::RowAct::{Grant, Group, Revoke};
+use land_test_cases::asked::RowAct::{Grant, Group, Revoke};
 use std::test::Fail;
 
 /// Anna is a bank then and no notary, and Ben is one.

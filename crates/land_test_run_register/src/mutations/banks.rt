@@ -4,12 +4,12 @@ use land_core::caller::Caller;
 use land_core::kind::Kind::{Mutation, Rrr};
 use land_core::kind::PartyKind::NonNaturalPerson;
 use land_core::role::Role::{Bank, Citizen};
-use land_test_register::cases::asked::OFFICE;
-use land_test_register::cases::asked::RowAct::{Approve, Enrol, Grant, Lodge, Refuse, Revoke};
-use land_test_register::cases::asked::RowAsk::{self, Do, List, View};
-use land_test_register::cases::lodged::RowContent::{Discharge, Mortgage};
-use land_test_register::cases::rows::Row;
-use land_test_register::cases::steps::{ANNA, BANK, NORA, SURVEYOR, play_with_mortgage};
+use land_test_cases::asked::OFFICE;
+use land_test_cases::asked::RowAct::{Approve, Enrol, Grant, Lodge, Refuse, Revoke};
+use land_test_cases::asked::RowAsk::{self, Do, List, View};
+use land_test_cases::lodged::RowContent::{Discharge, Mortgage};
+use land_test_cases::rows::Row;
+use land_test_cases::steps::{ANNA, BANK, NORA, SURVEYOR, play_with_mortgage};
 use std::test::Fail;
 
 const SOUTH: Caller = Caller {

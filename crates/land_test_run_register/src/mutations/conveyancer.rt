@@ -4,12 +4,12 @@ use crate::conclusion::conclude;
 use land_core::caller::Caller;
 use land_core::kind::Kind::{Mutation, Party, Rrr, Unit};
 use land_core::role::Role::Conveyancer;
-use land_test_register::cases::asked::OFFICE;
-use land_test_register::cases::asked::RowAct::{Approve, Grant, Lodge, Refuse};
-use land_test_register::cases::asked::RowAsk::{self, Do, List, View};
-use land_test_register::cases::lodged::RowContent::{Discharge, Mortgage, Transfer};
-use land_test_register::cases::rows::Row;
-use land_test_register::cases::steps::{ANNA, BANK, SURVEYOR, play_with_mortgage};
+use land_test_cases::asked::OFFICE;
+use land_test_cases::asked::RowAct::{Approve, Grant, Lodge, Refuse};
+use land_test_cases::asked::RowAsk::{self, Do, List, View};
+use land_test_cases::lodged::RowContent::{Discharge, Mortgage, Transfer};
+use land_test_cases::rows::Row;
+use land_test_cases::steps::{ANNA, BANK, SURVEYOR, play_with_mortgage};
 use std::test::Fail;
 
 const BEN: Caller = Caller {

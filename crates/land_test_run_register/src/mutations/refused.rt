@@ -4,12 +4,12 @@ use crate::conclusion::conclude;
 use land_core::kind::Kind::{Mutation, Rrr};
 use land_core::role::Role::Bank;
 use land_core::rrr::RightType::Ownership;
-use land_test_register::cases::asked::RowAct::{Approve, Grant, Lodge, Refuse, Register};
-use land_test_register::cases::asked::RowAsk::{Do, View};
-use land_test_register::cases::asked::{OFFICE, Right};
-use land_test_register::cases::lodged::RowContent::{Discharge, Mortgage, Transfer};
-use land_test_register::cases::rows::Row;
-use land_test_register::cases::steps::{NORA, QUARTER, play_with_loan, play_with_mortgage};
+use land_test_cases::asked::RowAct::{Approve, Grant, Lodge, Refuse, Register};
+use land_test_cases::asked::RowAsk::{Do, View};
+use land_test_cases::asked::{OFFICE, Right};
+use land_test_cases::lodged::RowContent::{Discharge, Mortgage, Transfer};
+use land_test_cases::rows::Row;
+use land_test_cases::steps::{NORA, QUARTER, play_with_loan, play_with_mortgage};
 use std::test::Fail;
 
 const NOT_LODGED: &[Row] = &[

@@ -3,12 +3,12 @@ use super::{QUARTER_APPROVED, QUARTER_LODGED, UNIT};
 use crate::conclusion::conclude;
 use land_core::kind::Kind::{Mutation, Party, Rrr, Source, Unit};
 use land_core::role::Role::Notary;
-use land_test_register::cases::asked::OFFICE;
-use land_test_register::cases::asked::RowAct::{Approve, Lodge, Revoke};
-use land_test_register::cases::asked::RowAsk::{self, Do, List, Sheet, View};
-use land_test_register::cases::lodged::RowContent::Transfer;
-use land_test_register::cases::rows::Row;
-use land_test_register::cases::steps::{
+use land_test_cases::asked::OFFICE;
+use land_test_cases::asked::RowAct::{Approve, Lodge, Revoke};
+use land_test_cases::asked::RowAsk::{self, Do, List, Sheet, View};
+use land_test_cases::lodged::RowContent::Transfer;
+use land_test_cases::rows::Row;
+use land_test_cases::steps::{
     ANNA, BANK, LOAN, NORA, NORA_HERSELF, QUARTER, SAM, SURVEYOR, WHOLE, play_with_garden,
     play_with_mortgage,
 };

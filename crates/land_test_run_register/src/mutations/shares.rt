@@ -2,12 +2,12 @@
 use crate::conclusion::conclude;
 use land_core::kind::Kind::Rrr;
 use land_core::rrr::RightType::{Lease, Ownership};
-use land_test_register::cases::asked::RowAct::{Approve, Lodge, Register};
-use land_test_register::cases::asked::RowAsk::{Do, List, View};
-use land_test_register::cases::asked::{OFFICE, Right};
-use land_test_register::cases::lodged::RowContent::Transfer;
-use land_test_register::cases::rows::Row;
-use land_test_register::cases::steps::{NORA, play_with_group, play_with_mortgage};
+use land_test_cases::asked::RowAct::{Approve, Lodge, Register};
+use land_test_cases::asked::RowAsk::{Do, List, View};
+use land_test_cases::asked::{OFFICE, Right};
+use land_test_cases::lodged::RowContent::Transfer;
+use land_test_cases::rows::Row;
+use land_test_cases::steps::{NORA, play_with_group, play_with_mortgage};
 use std::test::Fail;
 
 const ANNAS: &[Right] = &[(2, Ownership, 1, 1), (6, Lease, 1, 1)];

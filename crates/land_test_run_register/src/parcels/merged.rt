@@ -3,13 +3,13 @@ use super::{ORCHARD_APPROVED, ORCHARD_LODGED, WHOLE};
 use crate::conclusion::conclude;
 use land_core::act::BurdenClass::Restriction;
 use land_core::kind::Kind::{Mutation, Parcel, Rrr, Source, Unit};
-use land_test_register::cases::asked::OFFICE;
-use land_test_register::cases::asked::RowAct::{Approve, Burden, Lodge};
-use land_test_register::cases::asked::RowAsk::{self, Do, List, Sheet, View};
-use land_test_register::cases::lodged::RowContent::Merger;
-use land_test_register::cases::lodged::RowParcel;
-use land_test_register::cases::rows::Row;
-use land_test_register::cases::steps::{BEN, NORA, SURVEYOR, play_with_sale};
+use land_test_cases::asked::OFFICE;
+use land_test_cases::asked::RowAct::{Approve, Burden, Lodge};
+use land_test_cases::asked::RowAsk::{self, Do, List, Sheet, View};
+use land_test_cases::lodged::RowContent::Merger;
+use land_test_cases::lodged::RowParcel;
+use land_test_cases::rows::Row;
+use land_test_cases::steps::{BEN, NORA, SURVEYOR, play_with_sale};
 use std::test::Fail;
 
 /// The garden's parcel and the orchard's become one.

@@ -2,13 +2,13 @@
 use super::{FIRST, LEFT, ORCHARD, ORCHARD_LODGED, RIGHT, WHOLE};
 use crate::conclusion::conclude;
 use land_core::kind::Kind::Parcel;
-use land_test_register::cases::asked::OFFICE;
-use land_test_register::cases::asked::RowAct::{Approve, Lodge};
-use land_test_register::cases::asked::RowAsk::{Do, View};
-use land_test_register::cases::lodged::RowContent::{Merger, Subdivision};
-use land_test_register::cases::lodged::{RowParcel, RowPart};
-use land_test_register::cases::rows::Row;
-use land_test_register::cases::steps::{NORA, SURVEYOR, play_with_sale};
+use land_test_cases::asked::OFFICE;
+use land_test_cases::asked::RowAct::{Approve, Lodge};
+use land_test_cases::asked::RowAsk::{Do, View};
+use land_test_cases::lodged::RowContent::{Merger, Subdivision};
+use land_test_cases::lodged::{RowParcel, RowPart};
+use land_test_cases::rows::Row;
+use land_test_cases::steps::{NORA, SURVEYOR, play_with_sale};
 use std::test::Fail;
 
 /// The right half with a tip: one square millimetre more.

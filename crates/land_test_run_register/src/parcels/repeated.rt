@@ -1,12 +1,12 @@
 //! Subdivisions and mergers that are lodged again: as they were, and with something else under the reference.
 use super::{FIRST, LEFT, ORCHARD_APPROVED, ORCHARD_LODGED, RIGHT, WHOLE};
 use crate::conclusion::conclude;
-use land_test_register::cases::asked::RowAct::Lodge;
-use land_test_register::cases::asked::RowAsk::{self, Do};
-use land_test_register::cases::lodged::RowContent::{Merger, Subdivision};
-use land_test_register::cases::lodged::{RowParcel, RowPart};
-use land_test_register::cases::rows::Row;
-use land_test_register::cases::steps::{SURVEYOR, play_with_sale};
+use land_test_cases::asked::RowAct::Lodge;
+use land_test_cases::asked::RowAsk::{self, Do};
+use land_test_cases::lodged::RowContent::{Merger, Subdivision};
+use land_test_cases::lodged::{RowParcel, RowPart};
+use land_test_cases::rows::Row;
+use land_test_cases::steps::{SURVEYOR, play_with_sale};
 use std::test::Fail;
 
 /// The right half, from the same point the other way round: the same outline.

@@ -2,13 +2,13 @@
 use super::{FIRST, LEFT, ORCHARD_APPROVED, ORCHARD_LODGED, RIGHT};
 use crate::conclusion::conclude;
 use land_core::kind::Kind::{Mutation, Parcel, Rrr, Source, Unit};
-use land_test_register::cases::asked::OFFICE;
-use land_test_register::cases::asked::RowAct::{Approve, Lodge};
-use land_test_register::cases::asked::RowAsk::{self, Do, List, Sheet, View};
-use land_test_register::cases::lodged::RowContent::Subdivision;
-use land_test_register::cases::lodged::RowPart;
-use land_test_register::cases::rows::Row;
-use land_test_register::cases::steps::{BEN, NORA, SAM, SURVEYOR, play_with_sale};
+use land_test_cases::asked::OFFICE;
+use land_test_cases::asked::RowAct::{Approve, Lodge};
+use land_test_cases::asked::RowAsk::{self, Do, List, Sheet, View};
+use land_test_cases::lodged::RowContent::Subdivision;
+use land_test_cases::lodged::RowPart;
+use land_test_cases::rows::Row;
+use land_test_cases::steps::{BEN, NORA, SAM, SURVEYOR, play_with_sale};
 use std::test::Fail;
 
 /// The orchard's parcel, unit and entries take the next numbers in this order; the first part stays in the garden.

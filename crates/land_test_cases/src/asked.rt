@@ -1,5 +1,5 @@
 //! What rows ask for, and the acts and asks made of it.
-use crate::cases::lodged::{RowContent, lodging};
+use crate::lodged::{RowContent, lodging};
 use crate::stop::Stop;
 use land_core::act::{
     Act, Burden, BurdenClass, Decision, Enrol, Lift, NewGroup, NewParcel, NewRight, NewUnit,

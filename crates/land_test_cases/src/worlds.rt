@@ -1,9 +1,9 @@
 //! Two worlds that differ in one registration, and whether a caller is told the same of both.
-use crate::cases::asked::OFFICE;
-use crate::cases::rows::keeper_after;
-use crate::cases::steps::{ANNA, BANK, BEN, NORA, SAM, WITH_FIELD, WITH_GARDEN};
-use crate::cases::told::are_alike;
+use crate::asked::OFFICE;
+use crate::rows::keeper_after;
+use crate::steps::{ANNA, BANK, BEN, NORA, SAM, WITH_FIELD, WITH_GARDEN};
 use crate::stop::{Stop, expect};
+use crate::told::are_alike;
 use land_core::ask::{Ask, Request};
 use land_core::caller::Caller;
 use land_core::kind::Kind;

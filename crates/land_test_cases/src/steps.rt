@@ -1,9 +1,9 @@
 //! The steps that other rows begin with.
-use crate::cases::asked::RowAct::{Approve, Enrol, Grant, Group, Lodge, Register, RegisterAs};
-use crate::cases::asked::RowAsk::Do;
-use crate::cases::asked::{OFFICE, Right, RowAsk, Share};
-use crate::cases::lodged::RowContent::{Mortgage, Transfer};
-use crate::cases::rows::{Row, play_rows};
+use crate::asked::RowAct::{Approve, Enrol, Grant, Group, Lodge, Register, RegisterAs};
+use crate::asked::RowAsk::Do;
+use crate::asked::{OFFICE, Right, RowAsk, Share};
+use crate::lodged::RowContent::{Mortgage, Transfer};
+use crate::rows::{Row, play_rows};
 use crate::stop::Stop;
 use land_core::caller::Caller;
 use land_core::kind::PartyKind::{NaturalPerson, NonNaturalPerson};

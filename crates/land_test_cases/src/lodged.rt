@@ -1,5 +1,5 @@
 //! Mutations: what rows ask for, the lodgings made of it, and what is shown of them in one line.
-use crate::cases::asked::text;
+use crate::asked::text;
 use crate::stop::Stop;
 use land_core::act::{Lodging, NewParcel};
 use land_core::content::{Content, Discharge, Mortgage, Transfer};

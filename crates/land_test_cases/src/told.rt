@@ -1,5 +1,5 @@
 //! Objects and replies in one line each.
-use crate::cases::lodged::write_mutation;
+use crate::lodged::write_mutation;
 use land_core::change::Done;
 use land_core::member::Member;
 use land_core::object::Object;

@@ -1,7 +1,7 @@
 //! Rows: requests that are run in turn over a new register, each with its full reply.
-use crate::cases::asked::{RowAsk, ask};
-use crate::cases::told::is_told;
+use crate::asked::{RowAsk, ask};
 use crate::stop::Stop;
+use crate::told::is_told;
 use land_core::ask::Request;
 use land_core::caller::Caller;
 use land_keep::clock::Clock;
