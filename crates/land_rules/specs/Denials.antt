@@ -1,4 +1,4 @@
--- Definitions of what is denied, by few records and by what is in sight.
+-- Definitions of what is denied, by the evidence and by what is in sight.
 pub mod Sight
 pub mod Standing
 pub mod Ties

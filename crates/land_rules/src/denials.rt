@@ -1,6 +1,6 @@
-//! Who is denied what, told by few records of the register and by what is in sight.
+//! Who is denied what, told by the evidence and by what is in sight.
 
-pub mod few;
+pub mod evidence;
 pub mod laws;
 pub mod sight;
 pub mod standing;

@@ -1,4 +1,4 @@
--- What few records and what is in sight tell is the verdict on what is asked.
+-- What the evidence and what is in sight tell is the verdict on what is asked.
 use Rattle.std.proofs.Common.{◌≡◌, ◌∙◌, ◌++◌, ◌&&◌, ◌||◌, ℕ, ℤ, Bool, true, false, cond, [], ◌∷◌, None, Some, Option, is_some, Ok, IfSome, IsTrue, refl, sym, ap, ap₂, arith, inl}
 use Rattle.std.specs.FinMap as map
 use Rattle.std.specs.FinMap.{FinMap}
@@ -11,13 +11,13 @@ use Rattle.land_core.specs.declared.kind.Kind.{Kind}
 use Rattle.land_core.specs.declared.kind.Kind.TheVariants as kind
 use Rattle.land_core.specs.declared.register.Register.{Register}
 use Rattle.land_rules.specs.Denials.Sight.{SightTellsVerdicts, is_unit_of_conveyancer, told_by}
-use Rattle.land_rules.specs.Denials.Standing.{FewAreEnough, LookedUpIsEnough, decided, discharged}
+use Rattle.land_rules.specs.Denials.Standing.{EvidenceIsEnough, LookedUpIsEnough, decided, discharged}
 use Rattle.land_rules.specs.Laws.{IsSoundOrNothing, is_itself, rule_of_role}
 use Rattle.land_rules.specs.Relations.{is_lodger_on}
 use Rattle.land_rules.specs.Rules.{Rules, first_denial, is_allowed, sees, sight_rules, standing_rules, verdict_of, view_rules}
 use Rattle.land_rules.specs.declared.verdict.Verdict.{Verdict}
 use Rattle.land_rules.specs.declared.verdict.Verdict.TheVariants.{Allowed, Denied}
-use Rattle.land_select.specs.Verdicts.{few_in, record_at, roles_in}
+use Rattle.land_select.specs.Verdicts.{evidence_in, record_at, roles_in}
 use Rattle.land_select_joins.specs.Lookups.Parts.{IsPart}
 use Rattle.land_tables_schema.specs.Rows.Looks.{IsLook}
 use Rattle.sqlite.specs.State.{HasCleanDisk, State}
@@ -42,15 +42,15 @@ at_number : {V : Type 0} (o : Option ℕ) (m : FinMap nat_cmp V) → IfSome o (�
 at_number None m = tt
 at_number (Some n) m = refl
 
--- by the few records of a register is denied what is denied by all of it
-pub few_deny : FewAreEnough → LookedUpIsEnough → (r : Register) (caller : Caller) (a : Ask) (past : Bool) (few : Register) → few ≡ few_in r caller a
-    → first_denial (standing_rules few caller a past) ≡ first_denial (standing_rules r caller a past)
-few_deny enough looked r caller a past few is =
+-- by the evidence is denied what is denied by all of the register
+pub evidence_denies : EvidenceIsEnough → LookedUpIsEnough → (r : Register) (caller : Caller) (a : Ask) (past : Bool) (evidence : Register) → evidence ≡ evidence_in r caller a
+    → first_denial (standing_rules evidence caller a past) ≡ first_denial (standing_rules r caller a past)
+evidence_denies enough looked r caller a past evidence is =
     let party = map.get r.parties caller.party in
     let entry = record_at r.rrrs (discharged a) in
     let mutation = record_at r.mutations (decided a) in
     ap (λ (m : Register). first_denial (standing_rules m caller a past)) is
-    ∙ enough (few_in r caller a) r caller a past
+    ∙ enough (evidence_in r caller a) r caller a past
     (looked r caller a party (roles_in r caller.party) entry mutation (record { party_is = refl; roles_are = refl; entry_is = at_number (discharged a) r.rrrs; mutation_is = at_number (decided a) r.mutations }))
 
 -- ---- what is in sight

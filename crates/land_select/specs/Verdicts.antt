@@ -9,7 +9,7 @@ use Rattle.land_core.specs.declared.ask.Ask.{Ask}
 use Rattle.land_core.specs.declared.caller.Caller.{Caller}
 use Rattle.land_core.specs.declared.register.Register.{Register}
 use Rattle.land_keep.specs.Moments.{last_moment}
-use Rattle.land_rules.specs.Denials.Standing.{decided, discharged, few_of}
+use Rattle.land_rules.specs.Denials.Standing.{decided, discharged, evidence_of}
 use Rattle.land_rules.specs.Laws.{IsSoundOrNothing}
 use Rattle.land_rules.specs.Rules.{verdict_of}
 use Rattle.land_rules.specs.declared.verdict.Verdict.{Verdict}
@@ -26,9 +26,9 @@ record_at m number = option_and_then (map.get m) number
 abbrev pub roles_in : Register → (party : ℕ) → Grants
 roles_in r party = only (λ grant u. nat_eq grant.party party) r.roles
 
--- the few records of a register by which who asks is judged
-abbrev pub few_in : Register → Caller → Ask → Register
-few_in r caller a = few_of caller a (map.get r.parties caller.party) (roles_in r caller.party) (record_at r.rrrs (discharged a)) (record_at r.mutations (decided a))
+-- the evidence of a register by which who asks is judged
+abbrev pub evidence_in : Register → Caller → Ask → Register
+evidence_in r caller a = evidence_of caller a (map.get r.parties caller.party) (roles_in r caller.party) (record_at r.rrrs (discharged a)) (record_at r.mutations (decided a))
 
 -- Where the tables hold a history, this is the verdict on what is asked, by the register that stands at the last moment and the one that
 -- stands at the asked one, which is sound or has nothing in it.

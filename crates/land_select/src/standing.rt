@@ -3,7 +3,7 @@ ghost use Rattle.std.specs.FinMap as map;
 ghost use Rattle.std.specs.Prelude.{◌≡◌, false, IsTrue};
 ghost use Rattle.land_rules.specs.Denials.Standing.{decided, discharged};
 ghost use Rattle.land_rules.specs.Rules.{first_denial, standing_rules};
-ghost use Rattle.land_select.specs.Verdicts.{few_in, record_at, roles_in};
+ghost use Rattle.land_select.specs.Verdicts.{evidence_in, record_at, roles_in};
 ghost use Rattle.land_select_joins.specs.Lookups.Parts.{IsPart};
 ghost use Rattle.land_tables_schema.specs.Land.{IsLand};
 ghost use Rattle.land_tables_schema.specs.Rows.Looks.{IsLook};
@@ -17,8 +17,8 @@ use land_core::party::PartyRecord;
 use land_core::register::Register;
 use land_core::roles::Roles;
 use land_core::rrr::RrrRecord;
-use land_rules::denials::few::few_of;
-use land_rules::denials::laws::{few_are_enough, looked_up_is_enough};
+use land_rules::denials::evidence::evidence_of;
+use land_rules::denials::laws::{evidence_is_enough, looked_up_is_enough};
 use land_rules::denials::standing::{decided, discharged, standing_verdict};
 use land_rules::verdict::Verdict;
 use land_select_joins::lookups::{by_number, of_party};
@@ -96,8 +96,8 @@ fn named<S: Alter>(
     Ok((entry, mutation))
 }
 
-/// The few records by which who asks is judged, as they stand at a moment.
-fn few<S: Alter>(
+/// The evidence by which who asks is judged, as it stands at a moment.
+fn evidence<S: Alter>(
     alloc: Global,
     conn: &mut Connection<S>,
     caller: Caller,
@@ -106,14 +106,14 @@ fn few<S: Alter>(
 ) -> Result<Register, ReadFault>
     requires open { HasCleanDisk (state S.Store conn.old) → IsTrue (state S.Store conn.old).is_open }
     requires land { HasCleanDisk (state S.Store conn.old) → IsLand (state S.Store conn.old).now.schema }
-    ensures look { IsLook result (λ it. IsPart (λ r. few_in r caller ask.now) at (state S.Store conn.old).now.trees it) (state S.Store conn.old) (state S.Store conn.new) }
+    ensures look { IsLook result (λ it. IsPart (λ r. evidence_in r caller ask.now) at (state S.Store conn.old).now.trees it) (state S.Store conn.old) (state S.Store conn.new) }
     ensures mode { conn.old.in_transaction ≡ false → conn.new.in_transaction ≡ false }
 {
     let asking = person(alloc, conn, caller.party, at)?;
     let asked = named(alloc, conn, ask, at)?;
     let (party, roles) = asking;
     let (entry, mutation) = asked;
-    Ok(few_of(alloc, caller, ask, party, roles, entry, mutation)?)
+    Ok(evidence_of(alloc, caller, ask, party, roles, entry, mutation)?)
 }
 
 /// The least standing rule that denies what is asked, by the register that stands at a moment.
@@ -131,8 +131,8 @@ pub(crate) fn standing<S: Alter>(
         (state S.Store conn.old) (state S.Store conn.new) }
     ensures mode { conn.old.in_transaction ≡ false → conn.new.in_transaction ≡ false }
 {
-    few_are_enough();
+    evidence_is_enough();
     looked_up_is_enough();
-    let few = few(alloc, conn, caller, ask, at)?;
-    Ok(standing_verdict(&few, caller, ask, past))
+    let evidence = evidence(alloc, conn, caller, ask, at)?;
+    Ok(standing_verdict(&evidence, caller, ask, past))
 }

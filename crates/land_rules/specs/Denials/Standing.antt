@@ -68,18 +68,18 @@ decided (ask.List k moment) = None
 decided (ask.Sheet unit moment) = None
 decided (ask.Do it) = mutation_of_act it
 
--- few records are enough to judge who asks: the caller, the role that it names, the entry that it would discharge and the mutation
+-- this evidence is enough to judge who asks: it has the caller, the role that it names, the entry that it would discharge and the mutation
 -- that it would decide, each as the register has it
-pub record IsEnough (few now : Register) (caller : Caller) (a : Ask) : Type 0 where
-  pub party : stands few kind.Party caller.party ≡ stands now kind.Party caller.party
-  pub role : holds few caller.party caller.role ≡ holds now caller.party caller.role
-  pub entry : IfSome (discharged a) (λ n. map.get few.rrrs n ≡ map.get now.rrrs n)
-  pub mutation : IfSome (decided a) (λ n. map.get few.mutations n ≡ map.get now.mutations n)
+pub record IsEnough (evidence now : Register) (caller : Caller) (a : Ask) : Type 0 where
+  pub party : stands evidence kind.Party caller.party ≡ stands now kind.Party caller.party
+  pub role : holds evidence caller.party caller.role ≡ holds now caller.party caller.role
+  pub entry : IfSome (discharged a) (λ n. map.get evidence.rrrs n ≡ map.get now.rrrs n)
+  pub mutation : IfSome (decided a) (λ n. map.get evidence.mutations n ≡ map.get now.mutations n)
 
--- so the standing rules deny by few records what they deny by the whole register, by the same rule
-abbrev pub FewAreEnough : Type 0
-FewAreEnough = (few now : Register) (caller : Caller) (a : Ask) (past : Bool) → IsEnough few now caller a
-    → first_denial (standing_rules few caller a past) ≡ first_denial (standing_rules now caller a past)
+-- so the standing rules deny by such evidence what they deny by the whole register, by the same rule
+abbrev pub EvidenceIsEnough : Type 0
+EvidenceIsEnough = (evidence now : Register) (caller : Caller) (a : Ask) (past : Bool) → IsEnough evidence now caller a
+    → first_denial (standing_rules evidence caller a past) ≡ first_denial (standing_rules now caller a past)
 
 -- at most one record, under a number if there is one
 abbrev pub one_at : {V : Type 0} → Option ℕ → Option V → FinMap nat_cmp V
@@ -87,9 +87,9 @@ one_at None found = map.empty
 one_at (Some n) None = map.empty
 one_at (Some n) (Some value) = map.insert map.empty n value
 
--- the few records, as they are looked up one by one, and no others
-abbrev pub few_of : Caller → Ask → Option PartyRecord → Grants → Option RrrRecord → Option MutationRecord → Register
-few_of caller a party roles entry mutation = record nothing {
+-- the evidence: the records as they are looked up one by one, and no others
+abbrev pub evidence_of : Caller → Ask → Option PartyRecord → Grants → Option RrrRecord → Option MutationRecord → Register
+evidence_of caller a party roles entry mutation = record nothing {
   parties = one_at (Some caller.party) party;
   roles = roles;
   rrrs = one_at (discharged a) entry;
@@ -103,7 +103,7 @@ pub record AreLookedUp (now : Register) (caller : Caller) (a : Ask) (party : Opt
   pub entry_is : IfSome (discharged a) (λ n. entry ≡ map.get now.rrrs n)
   pub mutation_is : IfSome (decided a) (λ n. mutation ≡ map.get now.mutations n)
 
--- so these few are enough
+-- so this evidence is enough
 abbrev pub LookedUpIsEnough : Type 0
 LookedUpIsEnough = (now : Register) (caller : Caller) (a : Ask) (party : Option PartyRecord) (roles : Grants) (entry : Option RrrRecord) (mutation : Option MutationRecord)
-    → AreLookedUp now caller a party roles entry mutation → IsEnough (few_of caller a party roles entry mutation) now caller a
+    → AreLookedUp now caller a party roles entry mutation → IsEnough (evidence_of caller a party roles entry mutation) now caller a

@@ -1,6 +1,6 @@
 //! Laws, each stated over the definitions alone.
 ghost use Rattle.land_rules.specs.Denials.Sight.{AllThatStandsIsSeen, LodgersSeeTheirOwn, SightTellsVerdicts, WhatIsAwaitedIsSeen};
-ghost use Rattle.land_rules.specs.Denials.Standing.{FewAreEnough, LookedUpIsEnough};
+ghost use Rattle.land_rules.specs.Denials.Standing.{EvidenceIsEnough, LookedUpIsEnough};
 ghost use Rattle.land_rules.specs.Denials.Ties.{NamesTellTies, TiesTellSight};
 
 use crate::laws::denials_tell_sight;
@@ -8,8 +8,8 @@ use land_core::laws::soundness_by_look_ups;
 
 /// The standing rules look at the caller, the role that it names, the entry that it would discharge and the mutation that it would
 /// decide, and at nothing else of the register.
-pub fn few_are_enough()
-    ensures { FewAreEnough }
+pub fn evidence_is_enough()
+    ensures { EvidenceIsEnough }
 {}
 
 /// The verdict on a view follows from whether the object is in sight, and for a unit that is not, from the caller's own lodgings.

@@ -1,4 +1,4 @@
-//! The standing rules, judged by few records.
+//! The standing rules, judged by the evidence.
 ghost use Rattle.std.specs.Prelude.{◌≡◌};
 ghost use Rattle.land_rules.specs.Denials.Standing.{decided, discharged, entry_of_act, entry_of_content, mutation_of_act};
 ghost use Rattle.land_rules.specs.Rules.{first_denial, standing_rules};
@@ -47,7 +47,7 @@ pub fn decided(ask: &Ask) -> Option<u64>
     }
 }
 
-/// The least standing rule that denies an ask, by a register or by as few of its records as are enough.
+/// The least standing rule that denies an ask, by a register or by the evidence that is enough.
 pub fn standing_verdict(now: &Register, caller: Caller, ask: &Ask, past: bool) -> Verdict
     ensures { result ≡ first_denial (standing_rules now.now caller ask.now past) }
 {

@@ -1,6 +1,6 @@
 use Rattle.std.proofs.Common.{rules, ◌≡◌, ap₂, subst, to_z, of_z, w64, Ok, ◌∙◌}
 use Rattle.std.specs.FinMap as map
-use Rattle.land_rules.specs.Denials.Standing.{decided, discharged, few_of}
+use Rattle.land_rules.specs.Denials.Standing.{decided, discharged, evidence_of}
 use Rattle.land_select.proofs.Viewed.{look_lost}
 use Rattle.land_select.specs.Verdicts.{record_at, roles_in}
 use Rattle.land_select_joins.specs.Lookups.Parts.{IsPart}
@@ -9,18 +9,18 @@ use Rattle.land_tables_schema.proofs.Looking.{look_fails, look_then, look_told}
 use Rattle.land_tables_schema.specs.Rows.Looks.{IsLook}
 use Rattle.sqlite.specs.Effect.{Database}
 use Rattle.sqlite.specs.Held.{state}
-use Rattle.land_select.proofs.standing.few.Goals as goal
+use Rattle.land_select.proofs.standing.evidence.Goals as goal
 
 pub returns-in_err-asked-clause-look : goal.returns-in_err-asked-clause-look
 returns-in_err-asked-clause-look g c =
     look_fails (state g.S.Store c.args.conn.now) (state g.S.Store c.person.new.conn) (state g.S.Store c.named.new.conn) c.from_residual-in_err-asked.result c.from_residual-in_err-asked.ensures.0 c.in_ok-asking.ensures.look c.in_err-asked.ensures.look
 
-pub returns-in_err-few_of-clause-look : goal.returns-in_err-few_of-clause-look
-returns-in_err-few_of-clause-look g c =
+pub returns-in_err-evidence_of-clause-look : goal.returns-in_err-evidence_of-clause-look
+returns-in_err-evidence_of-clause-look g c =
     let a = state g.S.Store c.args.conn.now in
     let d = state g.S.Store c.named.new.conn in
     let two : IsLook {X = Unit {0}} {E = ReadFault} (Ok tt) (λ _. Unit {0}) a d = look_then a (state g.S.Store c.person.new.conn) d c.in_ok-asking.ensures.look c.in_ok-asked.ensures.look (λ _ _ _ _. tt) in
-    look_lost a d c.from_residual-in_err-few_of.result c.from_residual-in_err-few_of.ensures.0 two
+    look_lost a d c.from_residual-in_err-evidence_of.result c.from_residual-in_err-evidence_of.ensures.0 two
 
 pub returns-clause-look : goal.returns-clause-look
 returns-clause-look g c =
@@ -38,5 +38,5 @@ returns-clause-look g c =
     (λ clean same one two. (one, subst (λ (now : Database). IsPart (λ r. (record_at r.rrrs (discharged ask), record_at r.mutations (decided ask))) t now.trees asked) same two)) in
     look_told a d _ both
     (λ clean both moments h held r have stands.
-    c.in_ok-few_of.ensures
-    ∙ ap₂ (λ one two. few_of caller ask one.0 one.1 two.0 two.1) (both.0 moments h held r have stands) (both.1 moments h held r have stands))
+    c.in_ok-evidence_of.ensures
+    ∙ ap₂ (λ one two. evidence_of caller ask one.0 one.1 two.0 two.1) (both.0 moments h held r have stands) (both.1 moments h held r have stands))

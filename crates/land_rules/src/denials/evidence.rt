@@ -1,6 +1,6 @@
-//! The few records by which who asks is judged.
+//! The evidence: the records by which who asks is judged.
 ghost use Rattle.std.specs.Prelude.{◌≡◌, Some, IfOk};
-ghost use Rattle.land_rules.specs.Denials.Standing.{few_of, one_at};
+ghost use Rattle.land_rules.specs.Denials.Standing.{evidence_of, one_at};
 
 use crate::denials::standing::{decided, discharged};
 use land_core::ask::Ask;
@@ -28,9 +28,9 @@ fn one_at<V: Drop>(
     Ok(records)
 }
 
-/// A register of the records that are looked up to judge who asks: the caller and its roles, the entry that the ask would discharge and the
-/// mutation that it would decide.
-pub fn few_of(
+/// The evidence as a register, of the records that are looked up to judge who asks: the caller and its roles, the entry that the ask would
+/// discharge and the mutation that it would decide.
+pub fn evidence_of(
     alloc: Global,
     caller: Caller,
     ask: &Ask,
@@ -39,7 +39,7 @@ pub fn few_of(
     entry: Option<RrrRecord>,
     mutation: Option<MutationRecord>,
 ) -> Result<Register, AllocError>
-    ensures { IfOk result (λ it. it ≡ few_of caller ask.now party roles entry mutation) }
+    ensures { IfOk result (λ it. it ≡ evidence_of caller ask.now party roles entry mutation) }
 {
     Ok(Register {
         parties: one_at(alloc, Some(caller.party), party)?,
