@@ -12,7 +12,7 @@ use Rattle.land_core.specs.declared.register.Register.{Register}
 use Rattle.land_core.specs.declared.role.Role.{Role}
 use Rattle.land_core.specs.declared.role.Role.TheVariants as roles
 use Rattle.land_core.specs.declared.rrr.RrrRecord.{RrrRecord}
-use Rattle.land_rules.proofs.Tied.{UnitsStand, and_true, passes_both, units_stand}
+use Rattle.land_rules.proofs.SightByInterest.{UnitsStand, and_true, passes_both, units_stand}
 use Rattle.land_rules.specs.Denials.Sight.{WhatIsAwaitedIsSeen, is_awaited, sees_by_awaiting}
 use Rattle.land_rules.specs.Relations.{is_lodger_on, is_rrr_where}
 use Rattle.land_rules.specs.Rules.{is_told_to_conveyancer, sees}

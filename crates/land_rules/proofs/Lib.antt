@@ -4,10 +4,10 @@ pub mod Awaited
 pub mod Booleans
 pub mod Denied
 pub mod Enough
+pub mod Interests
 pub mod LookedUp
 pub mod Seeing
+pub mod SightByInterest
 pub mod SightDenials
 pub mod SightLaws
 pub mod Telling
-pub mod Tied
-pub mod Ties

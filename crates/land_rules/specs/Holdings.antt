@@ -15,42 +15,42 @@ use Rattle.land_core.specs.declared.rrr.RrrRecord.{RrrRecord}
 use Rattle.land_rules.specs.Relations.{holds_as, is_creditor_on, is_holder, is_lodger_on, is_mortgage, is_owner, is_right}
 use Rattle.land_rules.specs.Rules.{is_party_in_sight}
 use Rattle.land_rules.specs.declared.rules.holdings.Holdings.{Holdings}
-use Rattle.land_rules.specs.declared.rules.holdings.Tie.{Tie}
-use Rattle.land_rules.specs.declared.rules.holdings.Tie.TheVariants.{Holder, Owner, Creditor}
+use Rattle.land_rules.specs.declared.rules.holdings.Interest.{Interest}
+use Rattle.land_rules.specs.declared.rules.holdings.Interest.TheVariants.{Holder, Owner, Creditor}
 
 -- whether a number is in a set
 abbrev pub has_number : BTreeSet ℕ → ℕ → Bool
 has_number numbers n = contains nat_cmp numbers n
 
--- the classes of entries that tie: a right makes a holder, an ownership an owner, a mortgage a creditor
-abbrev pub ties_by : Tie → Class → Bool
-ties_by Holder class = is_right class
-ties_by Owner class = is_right_of Ownership class
-ties_by Creditor class = is_mortgage class
+-- the classes of entries that give an interest: a right makes a holder, an ownership an owner, a mortgage a creditor
+abbrev pub gives_interest : Interest → Class → Bool
+gives_interest Holder class = is_right class
+gives_interest Owner class = is_right_of Ownership class
+gives_interest Creditor class = is_mortgage class
 
--- in which names a party is tied: as a holder and an owner in its own and in those of its groups, as a creditor in its own
-abbrev pub is_tied_as : Tie → Register → (party named : ℕ) → Bool
-is_tied_as Holder at party named = holds_as at party named
-is_tied_as Owner at party named = holds_as at party named
-is_tied_as Creditor at party named = nat_eq named party
+-- in which names a party has an interest: as a holder and an owner in its own and in those of its groups, as a creditor in its own
+abbrev pub has_interest_as : Interest → Register → (party named : ℕ) → Bool
+has_interest_as Holder at party named = holds_as at party named
+has_interest_as Owner at party named = holds_as at party named
+has_interest_as Creditor at party named = nat_eq named party
 
 -- a set of these names
-abbrev pub AreNames : Tie → Register → (party : ℕ) → BTreeSet ℕ → Type 0
-AreNames tie at party names = (named : ℕ) → has_number names named ≡ is_tied_as tie at party named
+abbrev pub AreNames : Interest → Register → (party : ℕ) → BTreeSet ℕ → Type 0
+AreNames interest at party names = (named : ℕ) → has_number names named ≡ has_interest_as interest at party named
 
--- whether an entry in one of some names ties to a unit that stands
-abbrev pub is_tied : Tie → Register → (is_name : ℕ → Bool) → (unit : ℕ) → RrrRecord → Bool
-is_tied tie at is_name unit e = stands at kind.Unit unit && (nat_eq e.unit unit && ties_by tie e.class && is_name e.party)
+-- whether an entry in one of some names gives the interest in a unit that stands to whoever has these names
+abbrev pub has_interest_by : Interest → Register → (is_name : ℕ → Bool) → (unit : ℕ) → RrrRecord → Bool
+has_interest_by interest at is_name unit e = stands at kind.Unit unit && (nat_eq e.unit unit && gives_interest interest e.class && is_name e.party)
 
--- whether some entry ties a party to a unit: whether the party is a holder in it, an owner or a creditor
-abbrev pub has_tie : Tie → Register → (party unit : ℕ) → Bool
-has_tie Holder at party unit = is_holder at party unit
-has_tie Owner at party unit = is_owner at party unit
-has_tie Creditor at party unit = is_creditor_on at party unit
+-- whether a party has the interest in a unit, by some entry: whether it is a holder in it, an owner or a creditor
+abbrev pub has_interest : Interest → Register → (party unit : ℕ) → Bool
+has_interest Holder at party unit = is_holder at party unit
+has_interest Owner at party unit = is_owner at party unit
+has_interest Creditor at party unit = is_creditor_on at party unit
 
--- a set of the units to which a party is tied
-abbrev pub AreTied : Tie → Register → (party : ℕ) → BTreeSet ℕ → Type 0
-AreTied tie at party units = (unit : ℕ) → has_number units unit ≡ has_tie tie at party unit
+-- a set of the units in which a party has the interest
+abbrev pub AreOfInterest : Interest → Register → (party : ℕ) → BTreeSet ℕ → Type 0
+AreOfInterest interest at party units = (unit : ℕ) → has_number units unit ≡ has_interest interest at party unit
 
 -- a set of the units that the undecided mutations of a party name
 abbrev pub AreLodgedOn : Register → (party : ℕ) → BTreeSet ℕ → Type 0
@@ -59,9 +59,9 @@ AreLodgedOn at party units = (unit : ℕ) → has_number units unit ≡ is_lodge
 -- a caller's holdings, as far as the sight of its role depends on them: the units in which a citizen is a holder and an owner,
 -- those on which a bank is a creditor, and those on which a conveyancer is a lodger
 pub record AreHoldings (at : Register) (caller : Caller) (it : Holdings) : Type 0 where
-  pub held : caller.role ≡ Citizen → AreTied Holder at caller.party it.held
-  pub owned : caller.role ≡ Citizen → AreTied Owner at caller.party it.owned
-  pub credited : caller.role ≡ Bank → AreTied Creditor at caller.party it.credited
+  pub held : caller.role ≡ Citizen → AreOfInterest Holder at caller.party it.held
+  pub owned : caller.role ≡ Citizen → AreOfInterest Owner at caller.party it.owned
+  pub credited : caller.role ≡ Bank → AreOfInterest Creditor at caller.party it.credited
   pub lodged_on : caller.role ≡ Conveyancer → AreLodgedOn at caller.party it.lodged_on
 
 -- roles that see the parties of the entries in their sight

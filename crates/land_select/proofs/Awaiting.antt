@@ -18,12 +18,12 @@ use Rattle.land_core.specs.declared.kind.Kind.TheVariants.{Rrr}
 use Rattle.land_core.specs.declared.mutation.MutationRecord.{MutationRecord}
 use Rattle.land_core.specs.declared.register.Register.{Register}
 use Rattle.land_core.specs.declared.rrr.RrrRecord.{RrrRecord}
+use Rattle.land_rules.specs.Denials.Interests.{entries_of}
 use Rattle.land_rules.specs.Denials.Sight.{WhatIsAwaitedIsSeen, sees_by_awaiting}
-use Rattle.land_rules.specs.Denials.Ties.{entries_of}
 use Rattle.land_rules.specs.Laws.{IsSoundOrNothing}
 use Rattle.land_rules.specs.Relations.{is_lodger_on, is_mutation_where, is_pending_of, is_pending_on}
 use Rattle.land_rules.specs.Rules.{sees}
-use Rattle.land_select.proofs.Tied.{only_where}
+use Rattle.land_select.proofs.ShownByInterest.{only_where}
 use Rattle.land_select.proofs.Viewed.{agreed}
 use Rattle.land_select.specs.Views.{awaited_of, in_sight}
 use Rattle.land_select_joins.proofs.Containing.{any_decides}

@@ -7,7 +7,7 @@ pub mod Looks
 pub mod NamedObjects
 pub mod Passing
 pub mod Seen
+pub mod ShownByInterest
 pub mod SlicedRegisters
-pub mod Tied
 pub mod Together
 pub mod Viewed

@@ -3,6 +3,7 @@
 
 mod awaited;
 mod denial;
+mod interests;
 pub mod laws;
 mod lodging;
 mod naming;
@@ -14,6 +15,5 @@ pub mod slices;
 mod slicing;
 pub mod sql_keeper;
 mod standing;
-mod ties;
 mod view;
 mod viewing;

@@ -1,15 +1,15 @@
-//! Whether a mutation is shown to a caller at a moment by what ties the caller to a unit that the mutation names, by look-ups.
+//! Whether a mutation is shown to a caller at a moment by the caller's interest in a unit that the mutation names, by look-ups.
 ghost use Rattle.std.specs.List.{list_any};
 ghost use Rattle.std.specs.Prelude.{◌≡◌, ◌||◌, false, IsTrue};
 ghost use Rattle.land_core.specs.declared.kind.Kind.TheVariants as kinds;
-ghost use Rattle.land_rules.specs.Denials.Ties.{is_shown_by_tie, names_shown, shows_unit, tie_at};
+ghost use Rattle.land_rules.specs.Denials.Interests.{interest_at, is_shown_by_interest, names_shown, shows_unit};
 ghost use Rattle.land_select_joins.specs.Lookups.Parts.{IsPart};
 ghost use Rattle.land_tables_schema.specs.Land.{IsLand};
 ghost use Rattle.land_tables_schema.specs.Rows.Looks.{IsLook};
 ghost use Rattle.sqlite.specs.Held.{state};
 ghost use Rattle.sqlite.specs.State.{HasCleanDisk};
 
-use crate::ties::is_unit_shown;
+use crate::interests::is_unit_shown;
 use land_core::caller::Caller;
 use land_core::content::Content;
 use land_core::merger::Merger;
@@ -19,7 +19,7 @@ use land_tables_rows::listing::fault::ReadFault;
 use sqlite::{Alter, Connection};
 use std::alloc::Global;
 
-/// Whether one of some units is shown to a caller at a moment by what ties it to that.
+/// Whether one of some units is shown to a caller at a moment by the caller's interest in it.
 fn is_one_shown<S: Alter>(
     alloc: Global,
     conn: &mut Connection<S>,
@@ -29,7 +29,7 @@ fn is_one_shown<S: Alter>(
 ) -> Result<bool, ReadFault>
     requires open { HasCleanDisk (state S.Store conn.old) → IsTrue (state S.Store conn.old).is_open }
     requires land { HasCleanDisk (state S.Store conn.old) → IsLand (state S.Store conn.old).now.schema }
-    ensures look { IsLook result (λ it. IsPart (λ r. list_any (λ unit. shows_unit (tie_at r caller unit)) units.now) at (state S.Store conn.old).now.trees it) (state S.Store conn.old) (state S.Store conn.new) }
+    ensures look { IsLook result (λ it. IsPart (λ r. list_any (λ unit. shows_unit (interest_at r caller unit)) units.now) at (state S.Store conn.old).now.trees it) (state S.Store conn.old) (state S.Store conn.new) }
     ensures mode { conn.old.in_transaction ≡ false → conn.new.in_transaction ≡ false }
 {
     for unit in units {
@@ -40,7 +40,7 @@ fn is_one_shown<S: Alter>(
     Ok(false)
 }
 
-/// Whether the unit of a merger, or one of the others that it names, is shown to a caller at a moment by what ties it to that.
+/// Whether the unit of a merger, or one of the others that it names, is shown to a caller at a moment by the caller's interest in that unit.
 fn is_merger_shown<S: Alter>(
     alloc: Global,
     conn: &mut Connection<S>,
@@ -50,7 +50,7 @@ fn is_merger_shown<S: Alter>(
 ) -> Result<bool, ReadFault>
     requires open { HasCleanDisk (state S.Store conn.old) → IsTrue (state S.Store conn.old).is_open }
     requires land { HasCleanDisk (state S.Store conn.old) → IsLand (state S.Store conn.old).now.schema }
-    ensures look { IsLook result (λ it. IsPart (λ r. shows_unit (tie_at r caller merger.now.unit) || list_any (λ unit. shows_unit (tie_at r caller unit)) merger.now.others) at (state S.Store conn.old).now.trees it)
+    ensures look { IsLook result (λ it. IsPart (λ r. shows_unit (interest_at r caller merger.now.unit) || list_any (λ unit. shows_unit (interest_at r caller unit)) merger.now.others) at (state S.Store conn.old).now.trees it)
         (state S.Store conn.old) (state S.Store conn.new) }
     ensures mode { conn.old.in_transaction ≡ false → conn.new.in_transaction ≡ false }
 {
@@ -60,7 +60,7 @@ fn is_merger_shown<S: Alter>(
     is_one_shown(alloc, conn, caller, merger.others.as_slice(), at)
 }
 
-/// Whether a mutation names a unit that is shown to a caller at a moment by what ties it to that.
+/// Whether a mutation names a unit that is shown to a caller at a moment by the caller's interest in that unit.
 fn names_shown<S: Alter>(
     alloc: Global,
     conn: &mut Connection<S>,
@@ -82,7 +82,7 @@ fn names_shown<S: Alter>(
     }
 }
 
-/// Whether the mutation of a number stands at a moment and is shown to a caller by what ties it to a unit that the mutation names.
+/// Whether the mutation of a number stands at a moment and is shown to a caller by the caller's interest in a unit that the mutation names.
 pub(crate) fn is_mutation_shown<S: Alter>(
     alloc: Global,
     conn: &mut Connection<S>,
@@ -92,7 +92,7 @@ pub(crate) fn is_mutation_shown<S: Alter>(
 ) -> Result<bool, ReadFault>
     requires open { HasCleanDisk (state S.Store conn.old) → IsTrue (state S.Store conn.old).is_open }
     requires land { HasCleanDisk (state S.Store conn.old) → IsLand (state S.Store conn.old).now.schema }
-    ensures look { IsLook result (λ it. IsPart (λ r. is_shown_by_tie r caller kinds.Mutation number) at (state S.Store conn.old).now.trees it) (state S.Store conn.old) (state S.Store conn.new) }
+    ensures look { IsLook result (λ it. IsPart (λ r. is_shown_by_interest r caller kinds.Mutation number) at (state S.Store conn.old).now.trees it) (state S.Store conn.old) (state S.Store conn.new) }
     ensures mode { conn.old.in_transaction ≡ false → conn.new.in_transaction ≡ false }
 {
     let found = by_number::record(alloc, conn, number, at)?;

@@ -1,23 +1,23 @@
-//! Whether an object is shown to a caller at a moment by what ties it to a unit.
+//! Whether an object is shown to a caller at a moment by the caller's interest in a unit.
 ghost use Rattle.std.specs.Prelude.{◌≡◌, false, IsTrue};
-ghost use Rattle.land_rules.specs.Denials.Ties.{is_shown_by_tie};
+ghost use Rattle.land_rules.specs.Denials.Interests.{is_shown_by_interest};
 ghost use Rattle.land_select_joins.specs.Lookups.Parts.{IsPart};
 ghost use Rattle.land_tables_schema.specs.Land.{IsLand};
 ghost use Rattle.land_tables_schema.specs.Rows.Looks.{IsLook};
 ghost use Rattle.sqlite.specs.Held.{state};
 ghost use Rattle.sqlite.specs.State.{HasCleanDisk};
 
+use crate::interests::{is_number_shown, is_unit_shown};
 use crate::naming::is_mutation_shown;
-use crate::ties::{is_number_shown, is_unit_shown};
 use land_core::caller::Caller;
 use land_core::kind::Kind;
 use land_tables_rows::listing::fault::ReadFault;
 use sqlite::{Alter, Connection};
 use std::alloc::Global;
 
-/// Whether an object is shown to a caller at a moment by what ties it to a unit: the one that is asked for, that of the entry, or one that the
-/// mutation names.
-pub(crate) fn is_shown_by_tie<S: Alter>(
+/// Whether an object is shown to a caller at a moment by the caller's interest in a unit: the one that is asked for, that of the entry, or
+/// one that the mutation names.
+pub(crate) fn is_shown_by_interest<S: Alter>(
     alloc: Global,
     conn: &mut Connection<S>,
     caller: Caller,
@@ -27,7 +27,7 @@ pub(crate) fn is_shown_by_tie<S: Alter>(
 ) -> Result<bool, ReadFault>
     requires open { HasCleanDisk (state S.Store conn.old) → IsTrue (state S.Store conn.old).is_open }
     requires land { HasCleanDisk (state S.Store conn.old) → IsLand (state S.Store conn.old).now.schema }
-    ensures look { IsLook result (λ it. IsPart (λ r. is_shown_by_tie r caller kind number) at (state S.Store conn.old).now.trees it) (state S.Store conn.old) (state S.Store conn.new) }
+    ensures look { IsLook result (λ it. IsPart (λ r. is_shown_by_interest r caller kind number) at (state S.Store conn.old).now.trees it) (state S.Store conn.old) (state S.Store conn.new) }
     ensures mode { conn.old.in_transaction ≡ false → conn.new.in_transaction ≡ false }
 {
     match kind {

@@ -12,7 +12,7 @@ ghost use Rattle.sqlite.specs.Held.{state};
 ghost use Rattle.sqlite.specs.State.{HasCleanDisk};
 
 use crate::awaited::awaited_of;
-use crate::ties::shown_of;
+use crate::interests::shown_of;
 use land_core::caller::Caller;
 use land_core::duplicate::Duplicate;
 use land_core::kind::Kind;
@@ -25,11 +25,11 @@ use land_core::sequence::Sequence;
 use land_core::text::Text;
 use land_core::unit::{Unit, UnitRecord};
 use land_keep::view::{NamedRrr, View};
+use land_rules::denials::interests::sees_by_interest;
 use land_rules::denials::laws::{
-    all_that_stands_is_seen, ties_tell_sight, what_is_awaited_is_seen,
+    all_that_stands_is_seen, interests_tell_sight, what_is_awaited_is_seen,
 };
 use land_rules::denials::sight::{sees_all, sees_by_awaiting};
-use land_rules::denials::ties::sees_by_ties;
 use land_rules::laws::seen_is_exact;
 use land_select_joins::joins::sight::sight;
 use land_select_joins::lookups::{by_number, of_unit};
@@ -174,13 +174,13 @@ fn entries_in_sight<S: Alter>(
     seen_is_exact();
     soundness_by_look_ups();
     all_that_stands_is_seen();
-    ties_tell_sight();
+    interests_tell_sight();
     what_is_awaited_is_seen();
     let entries = of_unit::entries(alloc, conn, unit, at)?;
     if sees_all(caller.role, Kind::Rrr) {
         return Ok(entries);
     }
-    if sees_by_ties(caller.role, Kind::Rrr) {
+    if sees_by_interest(caller.role, Kind::Rrr) {
         return shown_of(alloc, conn, caller, &entries, at);
     }
     if sees_by_awaiting(caller.role, Kind::Rrr) {

@@ -12,19 +12,19 @@ ghost use Rattle.sqlite.specs.State.{HasCleanDisk};
 
 use crate::awaited::{is_awaited, is_lodger_on};
 use crate::lodging::has_lodged;
-use crate::shown::is_shown_by_tie;
+use crate::shown::is_shown_by_interest;
 use crate::view::is_listed;
 use land_core::caller::Caller;
 use land_core::kind::Kind;
 use land_core::laws::soundness_by_look_ups;
+use land_rules::denials::interests::sees_by_interest;
 use land_rules::denials::laws::{
-    all_that_stands_is_seen, lodgers_see_their_own, sight_tells_verdicts, ties_tell_sight,
+    all_that_stands_is_seen, interests_tell_sight, lodgers_see_their_own, sight_tells_verdicts,
     what_is_awaited_is_seen,
 };
 use land_rules::denials::sight::{
     is_unit_of_conveyancer, sees_all, sees_by_awaiting, sees_own_lodgings, view_verdict,
 };
-use land_rules::denials::ties::sees_by_ties;
 use land_rules::laws::seen_is_exact;
 use land_rules::verdict::Verdict;
 use land_select_joins::joins::sight::sight;
@@ -34,8 +34,8 @@ use sqlite::{Alter, Connection};
 use std::alloc::Global;
 
 /// Whether a caller sees an object at a moment: one look by its number where the caller is shown all objects of the kind, or those that it
-/// lodged; the entries of one unit, or of those that a mutation names, and a citizen's groups, where what ties the caller to a unit tells; what
-/// names the unit where a conveyancer awaits it; else the list of those that it sees.
+/// lodged; the entries of one unit, or of those that a mutation names, and a citizen's groups, where the caller's interest in a unit tells;
+/// what names the unit where a conveyancer awaits it; else the list of those that it sees.
 fn is_in_sight<S: Alter>(
     alloc: Global,
     conn: &mut Connection<S>,
@@ -53,7 +53,7 @@ fn is_in_sight<S: Alter>(
     soundness_by_look_ups();
     all_that_stands_is_seen();
     lodgers_see_their_own();
-    ties_tell_sight();
+    interests_tell_sight();
     what_is_awaited_is_seen();
     if sees_all(caller.role, kind) {
         let found = object(alloc, conn, kind, number, at)?;
@@ -62,8 +62,8 @@ fn is_in_sight<S: Alter>(
     if sees_own_lodgings(caller.role, kind) {
         return has_lodged(alloc, conn, caller.party, number, at);
     }
-    if sees_by_ties(caller.role, kind) {
-        return is_shown_by_tie(alloc, conn, caller, kind, number, at);
+    if sees_by_interest(caller.role, kind) {
+        return is_shown_by_interest(alloc, conn, caller, kind, number, at);
     }
     if sees_by_awaiting(caller.role, kind) {
         return is_awaited(alloc, conn, caller, kind, number, at);

@@ -144,10 +144,10 @@ module _ (r : Register) (t : ℤ) (h : History) (is : StandsAt t h r) (refers : 
   bank_told e stands =
       Decides-like (is_told_to_bank r bank e.1)
       (λ it. elim it.0 [
-        | inl by ↦ record { held = by.0; ties = by.1; stands = stands; unit = sym by.2; tells = it.1 }
+        | inl by ↦ record { held = by.0; interest = by.1; stands = stands; unit = sym by.2; tells = it.1 }
         | inr none ↦ absurd none
       ])
-      (λ it. (inl (it.held, it.ties, sym it.unit), it.tells))
+      (λ it. (inl (it.held, it.interest, sym it.unit), it.tells))
       (Decides-and _ _ (both_pass (is_creditor_on r p e.1.unit) (has r.units e.1.unit) 15 (credit_units e.1.unit)) (told_to_creditor_decides r t h is refers p e))
 
   pub entries_of_bank : (n : ℕ) → Decides (is_rrr_in_sight r bank n) (EntryOf ToBank n)
@@ -245,16 +245,16 @@ module _ (r : Register) (t : ℤ) (h : History) (is : StandsAt t h r) (refers : 
       (names_decides r t h is (is_holder r p) (HeldAs t h p is_right) (holder_decides r t h is refers p)) n) (has_decides t h.mutations r.mutations is.mutations n))
     where
       name : (k : Naming) → Stands t h.namings k → (held : Entry) → Holds t h p held → held.1.unit ≡ k.unit → NamedByHolding k
-      name k stands held (inl ties) unit = inl (record { held = held; ties = ties; stands = stands; unit = sym unit })
-      name k stands held (inr ties) unit = inr (record { held = held; ties = ties; stands = stands; unit = sym unit })
+      name k stands held (inl interest) unit = inl (record { held = held; interest = interest; stands = stands; unit = sym unit })
+      name k stands held (inr interest) unit = inr (record { held = held; interest = interest; stands = stands; unit = sym unit })
 
       named_stands : (k : Naming) → NamedByHolding k → Stands t h.namings k
       named_stands k (inl it) = it.stands
       named_stands k (inr it) = it.stands
 
       named_held : (k : Naming) → NamedByHolding k → HeldAs t h p is_right k.unit
-      named_held k (inl it) = (it.held, inl it.ties, it.ties.class, sym it.unit)
-      named_held k (inr it) = (it.held, inr it.ties, it.ties.class, sym it.unit)
+      named_held k (inl it) = (it.held, inl it.interest, it.interest.class, sym it.unit)
+      named_held k (inr it) = (it.held, inr it.interest, it.interest.class, sym it.unit)
 
   -- ---- all roles and kinds
 

@@ -300,7 +300,7 @@ module _ (h : History) (caller : ℕ) (t : ℤ) (number : ℕ) where
   held_told : (e s : Version Entry) → Has h.rrrs e → Has h.rrrs s → HeldSays e s → IsHeldTold s.what
   held_told e s has there say = record {
     held = e.what;
-    ties = record { stands = stood t h.rrrs e has say.1.1.1.1.0 say.1.1.1.1.1.0; party = say.1.0; class = (a_right e.what.1.class).1 say.1.1.0 };
+    interest = record { stands = stood t h.rrrs e has say.1.1.1.1.0 say.1.1.1.1.1.0; party = say.1.0; class = (a_right e.what.1.class).1 say.1.1.0 };
     stands = stood t h.rrrs s there say.1.1.1.1.1.1.0 say.1.1.1.1.1.1.1.0;
     unit = say.0;
     tells = to_holder e.what s.what say.1.1.1.0;
@@ -309,7 +309,7 @@ module _ (h : History) (caller : ℕ) (t : ℤ) (number : ℕ) where
   credit_told : (e s : Version Entry) → Has h.rrrs e → Has h.rrrs s → CreditSays e s → IsCreditTold s.what
   credit_told e s has there say = record {
     held = e.what;
-    ties = record { stands = stood t h.rrrs e has say.1.1.1.1.0 say.1.1.1.1.1.0; party = say.1.0; class = (a_mortgage e.what.1.class).1 say.1.1.0 };
+    interest = record { stands = stood t h.rrrs e has say.1.1.1.1.0 say.1.1.1.1.1.0; party = say.1.0; class = (a_mortgage e.what.1.class).1 say.1.1.0 };
     stands = stood t h.rrrs s there say.1.1.1.1.1.1.0 say.1.1.1.1.1.1.1.0;
     unit = say.0;
     tells = to_creditor caller s.what say.1.1.1.0;
@@ -317,7 +317,7 @@ module _ (h : History) (caller : ℕ) (t : ℤ) (number : ℕ) where
 
   held_back : (Shown : Entry → Type 0) (seen : Entry) → IsHeldTold seen → Shown seen → Two (λ e s. HeldSays e s × Shown s.what)
   held_back Shown seen told shown =
-      let e = version t h.rrrs told.held told.ties.stands in
+      let e = version t h.rrrs told.held told.interest.stands in
       let s = version t h.rrrs seen told.stands in (
         of told.held e.since e.until,
         e.has,
@@ -325,7 +325,7 @@ module _ (h : History) (caller : ℕ) (t : ℤ) (number : ℕ) where
           of seen s.since s.until,
           s.has,
           (
-            (told.unit, (told.ties.party, ((a_right told.held.1.class).0 told.ties.class, (by_holder told.held seen told.tells, (e.begun, (e.going, (s.begun, (s.going, tt)))))))),
+            (told.unit, (told.interest.party, ((a_right told.held.1.class).0 told.interest.class, (by_holder told.held seen told.tells, (e.begun, (e.going, (s.begun, (s.going, tt)))))))),
             shown,
           ),
         ),
@@ -333,7 +333,7 @@ module _ (h : History) (caller : ℕ) (t : ℤ) (number : ℕ) where
 
   credit_back : (Shown : Entry → Type 0) (seen : Entry) → IsCreditTold seen → Shown seen → Two (λ e s. CreditSays e s × Shown s.what)
   credit_back Shown seen told shown =
-      let e = version t h.rrrs told.held told.ties.stands in
+      let e = version t h.rrrs told.held told.interest.stands in
       let s = version t h.rrrs seen told.stands in (
         of told.held e.since e.until,
         e.has,
@@ -341,7 +341,7 @@ module _ (h : History) (caller : ℕ) (t : ℤ) (number : ℕ) where
           of seen s.since s.until,
           s.has,
           (
-            (told.unit, (told.ties.party, ((a_mortgage told.held.1.class).0 told.ties.class, (by_creditor caller seen told.tells, (e.begun, (e.going, (s.begun, (s.going, tt)))))))),
+            (told.unit, (told.interest.party, ((a_mortgage told.held.1.class).0 told.interest.class, (by_creditor caller seen told.tells, (e.begun, (e.going, (s.begun, (s.going, tt)))))))),
             shown,
           ),
         ),
@@ -384,7 +384,7 @@ module _ (h : History) (caller : ℕ) (t : ℤ) (number : ℕ) where
   group_told : (m : Version GroupMember) (e s : Version Entry) → Has h.members m → Has h.rrrs e → Has h.rrrs s → GroupSays m e s → IsGroupTold s.what
   group_told m e s joined has there say = record {
     held = e.what;
-    ties = record {
+    interest = record {
       joined = m.what;
       joined_stands = stood t h.members m joined say.1.1.1.1.1.0 say.1.1.1.1.1.1.0;
       stands = stood t h.rrrs e has say.1.1.1.1.1.1.1.0 say.1.1.1.1.1.1.1.1.0;
@@ -399,10 +399,10 @@ module _ (h : History) (caller : ℕ) (t : ℤ) (number : ℕ) where
 
   group_back : (Shown : Entry → Type 0) (seen : Entry) → IsGroupTold seen → Shown seen → Three (λ m e s. GroupSays m e s × Shown s.what)
   group_back Shown seen told shown =
-      let m = version t h.members told.ties.joined told.ties.joined_stands in
-      let e = version t h.rrrs told.held told.ties.stands in
+      let m = version t h.members told.interest.joined told.interest.joined_stands in
+      let e = version t h.rrrs told.held told.interest.stands in
       let s = version t h.rrrs seen told.stands in (
-        of told.ties.joined m.since m.until,
+        of told.interest.joined m.since m.until,
         m.has,
         (
           of told.held e.since e.until,
@@ -412,13 +412,13 @@ module _ (h : History) (caller : ℕ) (t : ℤ) (number : ℕ) where
             s.has,
             (
               (
-                told.ties.group,
+                told.interest.group,
                 (
                   told.unit,
                   (
-                    told.ties.member,
+                    told.interest.member,
                     (
-                      (a_right told.held.1.class).0 told.ties.class,
+                      (a_right told.held.1.class).0 told.interest.class,
                       (
                         by_holder told.held seen told.tells,
                         (m.begun, (m.going, (e.begun, (e.going, (s.begun, (s.going, tt)))))),
@@ -453,19 +453,19 @@ module _ (h : History) (caller : ℕ) (t : ℤ) (number : ℕ) where
       n.what,
       record {
         held = e.what;
-        ties = record { stands = stood t h.rrrs e g.1 say.1.1.1.0 say.1.1.1.1.0; party = say.1.0; class = (a_right e.what.1.class).1 say.1.1.0 };
+        interest = record { stands = stood t h.rrrs e g.1 say.1.1.1.0 say.1.1.1.1.0; party = say.1.0; class = (a_right e.what.1.class).1 say.1.1.0 };
         stands = stood t h.namings n g.2.1 say.1.1.1.1.1.0 say.1.1.1.1.1.1.0;
         unit = say.0;
       },
       g.2.2.1,
     )),
-    (λ s. let told = s.1 in let e = version t h.rrrs told.held told.ties.stands in let n = version t h.namings s.0 told.stands in (
+    (λ s. let told = s.1 in let e = version t h.rrrs told.held told.interest.stands in let n = version t h.namings s.0 told.stands in (
       of told.held e.since e.until,
       e.has,
       (
         of s.0 n.since n.until,
         n.has,
-        ((told.unit, (told.ties.party, ((a_right told.held.1.class).0 told.ties.class, (e.begun, (e.going, (n.begun, (n.going, tt))))))), s.2),
+        ((told.unit, (told.interest.party, ((a_right told.held.1.class).0 told.interest.class, (e.begun, (e.going, (n.begun, (n.going, tt))))))), s.2),
       ),
     )),
   )
@@ -476,7 +476,7 @@ module _ (h : History) (caller : ℕ) (t : ℤ) (number : ℕ) where
       n.what,
       record {
         held = e.what;
-        ties = record {
+        interest = record {
           joined = m.what;
           joined_stands = stood t h.members m g.1 say.1.1.1.1.0 say.1.1.1.1.1.0;
           stands = stood t h.rrrs e g.2.1 say.1.1.1.1.1.1.0 say.1.1.1.1.1.1.1.0;
@@ -489,8 +489,8 @@ module _ (h : History) (caller : ℕ) (t : ℤ) (number : ℕ) where
       },
       g.2.2.2.1,
     )),
-    (λ s. let told = s.1 in let m = version t h.members told.ties.joined told.ties.joined_stands in let e = version t h.rrrs told.held told.ties.stands in let n = version t h.namings s.0 told.stands in (
-      of told.ties.joined m.since m.until,
+    (λ s. let told = s.1 in let m = version t h.members told.interest.joined told.interest.joined_stands in let e = version t h.rrrs told.held told.interest.stands in let n = version t h.namings s.0 told.stands in (
+      of told.interest.joined m.since m.until,
       m.has,
       (
         of told.held e.since e.until,
@@ -498,7 +498,7 @@ module _ (h : History) (caller : ℕ) (t : ℤ) (number : ℕ) where
         (
           of s.0 n.since n.until,
           n.has,
-          ((told.ties.group, (told.unit, (told.ties.member, ((a_right told.held.1.class).0 told.ties.class, (m.begun, (m.going, (e.begun, (e.going, (n.begun, (n.going, tt)))))))))), s.2),
+          ((told.interest.group, (told.unit, (told.interest.member, ((a_right told.held.1.class).0 told.interest.class, (m.begun, (m.going, (e.begun, (e.going, (n.begun, (n.going, tt)))))))))), s.2),
         ),
       ),
     )),

@@ -115,8 +115,8 @@ module _ (r : Register) (t : ℤ) (h : History) (is : StandsAt t h r) (refers : 
   owner_decides unit = held_decides (is_right_of Ownership) owned_is_right unit
 
   telling : (seen held : Entry) → Stands t h.rrrs seen → Holds t h p held → held.1.unit ≡ seen.1.unit → IsToldToHolder held seen → ToldToHolder t h p seen
-  telling seen held stands (inl ties) unit tells = inl (record { held = held; ties = ties; stands = stands; unit = sym unit; tells = tells })
-  telling seen held stands (inr ties) unit tells = inr (record { held = held; ties = ties; stands = stands; unit = sym unit; tells = tells })
+  telling seen held stands (inl interest) unit tells = inl (record { held = held; interest = interest; stands = stands; unit = sym unit; tells = tells })
+  telling seen held stands (inr interest) unit tells = inr (record { held = held; interest = interest; stands = stands; unit = sym unit; tells = tells })
 
   abbrev MayBeTold : Entry → Type 0
   MayBeTold seen = HeldAs t h p is_right seen.1.unit × ((is_mortgage seen.1.class ≡ false) ⊎ HeldAs t h p (is_right_of Ownership) seen.1.unit)
@@ -130,8 +130,8 @@ module _ (r : Register) (t : ℤ) (h : History) (is : StandsAt t h r) (refers : 
   told_by seen held holds unit (inr own) = ((held, holds, held_right held holds, sym unit), inr (held, holds, own, sym unit))
 
   told : (seen : Entry) → ToldToHolder t h p seen → MayBeTold seen
-  told seen (inl it) = told_by seen it.held (inl it.ties) it.unit it.tells
-  told seen (inr it) = told_by seen it.held (inr it.ties) it.unit it.tells
+  told seen (inl it) = told_by seen it.held (inl it.interest) it.unit it.tells
+  told seen (inr it) = told_by seen it.held (inr it.interest) it.unit it.tells
 
   pub told_to_holder_decides : (seen : Entry) → Stands t h.rrrs seen → Decides (is_told_to_holder r p seen.1) (ToldToHolder t h p seen)
   told_to_holder_decides seen stands =

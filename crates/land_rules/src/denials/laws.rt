@@ -1,7 +1,7 @@
 //! Laws, each stated over the definitions alone.
+ghost use Rattle.land_rules.specs.Denials.Interests.{InterestsTellSight, NamesTellInterests};
 ghost use Rattle.land_rules.specs.Denials.Sight.{AllThatStandsIsSeen, LodgersSeeTheirOwn, SightTellsVerdicts, WhatIsAwaitedIsSeen};
 ghost use Rattle.land_rules.specs.Denials.Standing.{EvidenceIsEnough, LookedUpIsEnough};
-ghost use Rattle.land_rules.specs.Denials.Ties.{NamesTellTies, TiesTellSight};
 
 use crate::laws::denials_tell_sight;
 use land_core::laws::soundness_by_look_ups;
@@ -41,15 +41,15 @@ pub fn looked_up_is_enough()
     ensures { LookedUpIsEnough }
 {}
 
-/// What a citizen or a bank sees of units and of their entries, and a citizen of mutations, is what is shown by what ties it to these units, or
-/// to the units that a mutation names.
-pub fn ties_tell_sight()
-    ensures { TiesTellSight }
+/// What a citizen or a bank sees of units and of their entries, and a citizen of mutations, is what is shown by its interest in these
+/// units, or in the units that a mutation names.
+pub fn interests_tell_sight()
+    ensures { InterestsTellSight }
 {
     soundness_by_look_ups();
 }
 
-/// The names in which a citizen holds and the entries of a unit tell what ties the citizen to it.
-pub fn names_tell_ties()
-    ensures { NamesTellTies }
+/// The names in which a citizen holds and the entries of a unit tell the citizen's interest in it.
+pub fn names_tell_interests()
+    ensures { NamesTellInterests }
 {}

@@ -3,8 +3,8 @@
 ghost use Rattle.std.specs.Prelude.{◌≡◌, ℕ, ◌||◌, nat_eq, IfOk, OnOk};
 ghost use Rattle.land_core.specs.Contents.{names_unit};
 ghost use Rattle.land_core.specs.Mergers.{lists_number};
-ghost use Rattle.land_rules.specs.Holdings.{AreHoldings, AreLodgedOn, AreNames, AreTied, has_number, is_tied, ties_by};
-ghost use Rattle.land_rules.specs.declared.rules.holdings.Tie.TheVariants as ties;
+ghost use Rattle.land_rules.specs.Holdings.{AreHoldings, AreLodgedOn, AreNames, AreOfInterest, gives_interest, has_interest_by, has_number};
+ghost use Rattle.land_rules.specs.declared.rules.holdings.Interest.TheVariants as interests;
 
 use crate::relations::{is_mortgage, is_pending_of, is_right};
 use land_core::caller::Caller;
@@ -16,9 +16,9 @@ use land_core::rrr::{Class, RightType, RrrRecord};
 use std::alloc::{AllocError, Global};
 use std::collections::BTreeSet;
 
-/// What ties a party to a unit.
+/// An interest of a party in a unit.
 #[derive(Clone, Copy)]
-enum Tie {
+enum Interest {
     /// A right that it holds.
     Holder,
     /// An ownership that it holds.
@@ -27,7 +27,7 @@ enum Tie {
     Creditor,
 }
 
-/// The units to which a caller is tied, as far as the sight of its role depends on them.
+/// The units in which a caller has an interest or on which it lodged, as far as the sight of its role depends on them.
 #[derive(Drop)]
 pub(crate) struct Holdings {
     /// A citizen's: the units in which it is a holder.
@@ -53,12 +53,12 @@ impl Holdings {
         };
         if caller.role == Role::Citizen {
             let names = names_of_citizen(alloc, at, caller.party)?;
-            holdings.held = tied_units(alloc, at, &names, Tie::Holder)?;
-            holdings.owned = tied_units(alloc, at, &names, Tie::Owner)?;
+            holdings.held = units_of_interest(alloc, at, &names, Interest::Holder)?;
+            holdings.owned = units_of_interest(alloc, at, &names, Interest::Owner)?;
         }
         if caller.role == Role::Bank {
             let names = names_of_bank(alloc, caller.party)?;
-            holdings.credited = tied_units(alloc, at, &names, Tie::Creditor)?;
+            holdings.credited = units_of_interest(alloc, at, &names, Interest::Creditor)?;
         }
         if caller.role == Role::Conveyancer {
             holdings.lodged_on = lodged_units(alloc, at, caller.party)?;
@@ -69,7 +69,7 @@ impl Holdings {
 
 /// The names in which a citizen has rights: its own, and those of the groups of which it is a member.
 fn names_of_citizen(alloc: Global, at: &Register, party: u64) -> Result<BTreeSet<u64>, AllocError>
-    ensures { IfOk result (λ it. AreNames ties.Holder at.now party it) }
+    ensures { IfOk result (λ it. AreNames interests.Holder at.now party it) }
 {
     let mut names = BTreeSet::new(alloc);
     names.insert(party)?;
@@ -90,39 +90,46 @@ fn names_of_bank(alloc: Global, party: u64) -> Result<BTreeSet<u64>, AllocError>
     Ok(names)
 }
 
-/// The units that stand and to which entries in some names tie whoever has these names.
-fn tied_units(
+/// The units that stand and in which entries in some names give the interest to whoever has these names.
+fn units_of_interest(
     alloc: Global,
     at: &Register,
     names: &BTreeSet<u64>,
-    tie: Tie,
+    interest: Interest,
 ) -> Result<BTreeSet<u64>, AllocError>
-    ensures { IfOk result (λ it. (party : ℕ) → AreNames tie at.now party names.now → AreTied tie at.now party it) }
+    ensures { IfOk result (λ it. (party : ℕ) → AreNames interest at.now party names.now → AreOfInterest interest at.now party it) }
 {
     let mut units = BTreeSet::new(alloc);
     for (_, entry) in at.rrrs.iter() {
-        if is_tied(at, names, tie, entry) {
+        if has_interest_by(at, names, interest, entry) {
             units.insert(entry.unit)?;
         }
     }
     Ok(units)
 }
 
-/// Whether an entry in one of some names ties to its unit, which stands.
-fn is_tied(at: &Register, names: &BTreeSet<u64>, tie: Tie, entry: &RrrRecord) -> bool
-    ensures { result ≡ is_tied tie at.now (has_number names.now) entry.now.unit entry.now }
+/// Whether an entry in one of some names gives the interest in its unit, which stands, to whoever has these names.
+fn has_interest_by(
+    at: &Register,
+    names: &BTreeSet<u64>,
+    interest: Interest,
+    entry: &RrrRecord,
+) -> bool
+    ensures { result ≡ has_interest_by interest at.now (has_number names.now) entry.now.unit entry.now }
 {
-    at.stands(Kind::Unit, entry.unit) && ties_by(tie, &entry.class) && names.contains(&entry.party)
+    at.stands(Kind::Unit, entry.unit)
+        && gives_interest(interest, &entry.class)
+        && names.contains(&entry.party)
 }
 
-/// Whether entries of a class tie so.
-fn ties_by(tie: Tie, class: &Class) -> bool
-    ensures { result ≡ ties_by tie class.now }
+/// Whether entries of a class give the interest.
+fn gives_interest(interest: Interest, class: &Class) -> bool
+    ensures { result ≡ gives_interest interest class.now }
 {
-    match tie {
-        Tie::Holder => is_right(class),
-        Tie::Owner => class.is_right_of(RightType::Ownership),
-        Tie::Creditor => is_mortgage(class),
+    match interest {
+        Interest::Holder => is_right(class),
+        Interest::Owner => class.is_right_of(RightType::Ownership),
+        Interest::Creditor => is_mortgage(class),
     }
 }
 

@@ -4,10 +4,10 @@ ghost use Rattle.std.specs.Prelude.{◌≡◌, IfOk, true};
 ghost use Rattle.std.specs.List.{list_any};
 ghost use Rattle.land_core.specs.Contents.{names_where};
 ghost use Rattle.land_core.specs.declared.kind.Kind.TheVariants as kind;
-ghost use Rattle.land_rules.specs.Holdings.{AreHoldings, AreMet, AreTied, meets_parties};
+ghost use Rattle.land_rules.specs.Holdings.{AreHoldings, AreMet, AreOfInterest, meets_parties};
 ghost use Rattle.land_rules.specs.Relations.{is_holder};
 ghost use Rattle.land_rules.specs.Rules.{sees, seen_of};
-ghost use Rattle.land_rules.specs.declared.rules.holdings.Tie.TheVariants.{Holder};
+ghost use Rattle.land_rules.specs.declared.rules.holdings.Interest.TheVariants.{Holder};
 
 use crate::relations::{is_member_of, is_mortgage, is_told_to_creditor};
 use crate::rules::holdings::Holdings;
@@ -219,7 +219,7 @@ fn citizen_sees_mutation(at: &Register, caller: Caller, holdings: &Holdings, num
 
 /// Whether a party is a holder in one of some units.
 fn holds_some(at: &Register, party: u64, held: &BTreeSet<u64>, units: &[u64]) -> bool
-    requires { AreTied Holder at.now party held.now }
+    requires { AreOfInterest Holder at.now party held.now }
     ensures { result ≡ list_any (is_holder at.now party) units.now }
 {
     units.iter().any(|unit| held.contains(unit))
@@ -227,7 +227,7 @@ fn holds_some(at: &Register, party: u64, held: &BTreeSet<u64>, units: &[u64]) ->
 
 /// Whether a content names one of the units in which a party is a holder.
 fn names_held(at: &Register, party: u64, held: &BTreeSet<u64>, content: &Content) -> bool
-    requires { AreTied Holder at.now party held.now }
+    requires { AreOfInterest Holder at.now party held.now }
     ensures { result ≡ names_where (is_holder at.now party) content.now }
 {
     match content {

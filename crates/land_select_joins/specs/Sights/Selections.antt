@@ -33,7 +33,7 @@ StandsUnder {V = V} t versions number = (it : ℕ × V) × Stands t versions it 
 abbrev pub Entry : Type 0
 Entry = ℕ × RrrRecord
 
--- ---- what ties a caller to an entry, and to a unit
+-- ---- how a caller is related to an entry, and to a unit
 
 -- holding itself: the entry is a right, and the caller is its party
 pub record HoldsItself (t : ℤ) (h : History) (caller : ℕ) (held : Entry) : Type 0 where
@@ -77,10 +77,10 @@ IsToldToHolder held seen = (is_mortgage seen.1.class ≡ false) ⊎ (is_right_of
 abbrev pub IsToldToCreditor : (caller : ℕ) → (seen : Entry) → Type 0
 IsToldToCreditor caller seen = (is_mortgage seen.1.class ≡ false) ⊎ (seen.1.party ≡ caller)
 
--- by an entry that ties the caller to its unit, an entry of that unit is told
-pub record IsTold (t : ℤ) (h : History) (Ties : Entry → Type 0) (Tells : (held seen : Entry) → Type 0) (seen : Entry) : Type 0 where
+-- by an entry that gives the caller an interest in its unit, an entry of that unit is told
+pub record IsTold (t : ℤ) (h : History) (Interest : Entry → Type 0) (Tells : (held seen : Entry) → Type 0) (seen : Entry) : Type 0 where
   pub held : Entry
-  pub ties : Ties held
+  pub interest : Interest held
   pub stands : Stands t h.rrrs seen
   pub unit : seen.1.unit ≡ held.1.unit
   pub tells : Tells held seen
@@ -90,10 +90,10 @@ pub record IsAwaited (t : ℤ) (h : History) (caller : ℕ) (seen : Entry) : Typ
   pub awaits : Awaits t h caller seen.1.unit
   pub stands : Stands t h.rrrs seen
 
--- by an entry that ties the caller to its unit, a mutation that names that unit is told
-pub record IsNamed (t : ℤ) (h : History) (Ties : Entry → Type 0) (naming : Naming) : Type 0 where
+-- by an entry that gives the caller an interest in its unit, a mutation that names that unit is told
+pub record IsNamed (t : ℤ) (h : History) (Interest : Entry → Type 0) (naming : Naming) : Type 0 where
   pub held : Entry
-  pub ties : Ties held
+  pub interest : Interest held
   pub stands : Stands t h.namings naming
   pub unit : naming.unit ≡ held.1.unit
 

@@ -1,6 +1,6 @@
 use Rattle.std.proofs.Common.{rules, ◌≡◌, ap, false, subst, sym, to_z, of_z, w64, ◌∙◌}
 use Rattle.std.specs.Option.{option_map_or}
-use Rattle.land_rules.specs.Denials.Ties.{names_shown}
+use Rattle.land_rules.specs.Denials.Interests.{names_shown}
 use Rattle.land_select_joins.proofs.Chains.{look_after}
 use Rattle.land_select_joins.specs.Lookups.Parts.{IsPart}
 use Rattle.land_tables_schema.proofs.Looking.{look_told}

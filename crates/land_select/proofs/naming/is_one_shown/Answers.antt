@@ -1,7 +1,7 @@
 use Rattle.std.proofs.Common.{rules, ◌≡◌, ◌<◌, ◌+◌, ◌++◌, ◌∷◌, [], arith, Bool, ℕ, length, slice_index_or, take, to_z, of_z, w64, subst, sym}
 use Rattle.std.proofs.lemmas.Grind.{common_steps}
 use Rattle.land_core.specs.declared.register.Register.{Register}
-use Rattle.land_rules.specs.Denials.Ties.{shows_unit, tie_at}
+use Rattle.land_rules.specs.Denials.Interests.{interest_at, shows_unit}
 use Rattle.land_select.proofs.Passing.{NonePasses, nor_the_next, one_passes}
 use Rattle.land_select_joins.specs.Lookups.Parts.{IsPart}
 use Rattle.land_tables_schema.proofs.Looking.{look_then, look_told}
@@ -16,7 +16,7 @@ returns-then-branch-clause-look g c =
     let s = slice_index_or c.args.units.now k 0 in
     let t = c.args.at in
     let it = c.in_ok-is_unit_shown.field-0 in
-    let passes : Register → ℕ → Bool = λ r unit. shows_unit (tie_at r c.args.caller unit) in
+    let passes : Register → ℕ → Bool = λ r unit. shows_unit (interest_at r c.args.caller unit) in
     let when : to_z w64 (of_z w64 t) ≡ t = search rules in
     let before = rw when at c.loop-unit.invariant.0 in
     let look = rw when at c.in_ok-is_unit_shown.ensures.look in
@@ -34,7 +34,7 @@ loop-unit-preserved g c =
     let s = slice_index_or c.args.units.now k 0 in
     let t = c.args.at in
     let it = c.in_ok-is_unit_shown.field-0 in
-    let passes : Register → ℕ → Bool = λ r unit. shows_unit (tie_at r c.args.caller unit) in
+    let passes : Register → ℕ → Bool = λ r unit. shows_unit (interest_at r c.args.caller unit) in
     let when : to_z w64 (of_z w64 t) ≡ t = search rules in
     let before = rw when at c.loop-unit.invariant.0 in
     let look = rw when at c.in_ok-is_unit_shown.ensures.look in
@@ -52,7 +52,7 @@ pub returns-clause-look : goal.returns-clause-look
 returns-clause-look g c =
     let a = state g.S.Store c.args.conn.now in
     let t = c.args.at in
-    let passes : Register → ℕ → Bool = λ r unit. shows_unit (tie_at r c.args.caller unit) in
+    let passes : Register → ℕ → Bool = λ r unit. shows_unit (interest_at r c.args.caller unit) in
     let when : to_z w64 (of_z w64 t) ≡ t = search rules in
     let before = rw when at c.loop-unit.invariant.0 in
     let all : take c.loop-unit.unit-index c.args.units.now ≡ c.args.units.now = grind (arith, common_steps) in

@@ -2,7 +2,7 @@ use Rattle.std.proofs.Common.{rules, ◌≡◌, ℤ, Bool, Result, subst, sym, t
 use Rattle.land_core.specs.Contents.{names_where}
 use Rattle.land_core.specs.declared.caller.Caller.{Caller}
 use Rattle.land_core.specs.declared.content.Content.{Content}
-use Rattle.land_rules.specs.Denials.Ties.{shows_unit, tie_at}
+use Rattle.land_rules.specs.Denials.Interests.{interest_at, shows_unit}
 use Rattle.land_select_joins.specs.Lookups.Parts.{IsPart}
 use Rattle.land_tables_rows.specs.declared.listing.fault.ReadFault.{ReadFault}
 use Rattle.land_tables_schema.specs.Rows.Looks.{IsLook}
@@ -12,10 +12,10 @@ use Rattle.land_select.proofs.naming.names_shown.Goals as goal
 
 -- what is told of a content is told of the same content
 names : {result : Result Bool ReadFault} (a b : State) (caller : Caller) (t : ℤ) (one other : Content) → one ≡ other
-    → IsLook result (IsPart (λ r. names_where (λ unit. shows_unit (tie_at r caller unit)) one) t a.now.trees) a b
-    → IsLook result (IsPart (λ r. names_where (λ unit. shows_unit (tie_at r caller unit)) other) t a.now.trees) a b
+    → IsLook result (IsPart (λ r. names_where (λ unit. shows_unit (interest_at r caller unit)) one) t a.now.trees) a b
+    → IsLook result (IsPart (λ r. names_where (λ unit. shows_unit (interest_at r caller unit)) other) t a.now.trees) a b
 names {result} a b caller t one other same look =
-    subst (λ content. IsLook result (IsPart (λ r. names_where (λ unit. shows_unit (tie_at r caller unit)) content) t a.now.trees) a b) same look
+    subst (λ content. IsLook result (IsPart (λ r. names_where (λ unit. shows_unit (interest_at r caller unit)) content) t a.now.trees) a b) same look
 
 pub returns-in-Transfer-clause-look : goal.returns-in-Transfer-clause-look
 returns-in-Transfer-clause-look g c =

@@ -3,7 +3,7 @@ use Rattle.std.specs.List.{list_any}
 use Rattle.land_core.specs.Entries.{only}
 use Rattle.land_core.specs.declared.kind.Kind.TheVariants.{Rrr}
 use Rattle.land_select.proofs.Awaiting.{awaited_in_sight}
-use Rattle.land_select.proofs.Tied.{tied_in_sight}
+use Rattle.land_select.proofs.ShownByInterest.{shown_in_sight}
 use Rattle.land_select.proofs.Viewed.{AreListed, all_in_sight, have_members, listed_in_sight, look_lost}
 use Rattle.land_select.specs.Views.{awaited_of, shown_of}
 use Rattle.land_select_joins.proofs.Chains.{look_after}
@@ -25,17 +25,17 @@ returns-then-sees_all-clause-look g c =
     (λ clean is moments h held r premise stands.
     is moments h held r (have_members c.soundness_by_look_ups.ensures r premise) stands ∙ all_in_sight c.all_that_stands_is_seen.ensures r c.args.caller c.args.unit all)
 
-pub returns-then-sees_by_ties-clause-look : goal.returns-then-sees_by_ties-clause-look
-returns-then-sees_by_ties-clause-look g c =
+pub returns-then-sees_by_interest-clause-look : goal.returns-then-sees_by_interest-clause-look
+returns-then-sees_by_interest-clause-look g c =
     let t = c.args.at in
     let when : to_z w64 (of_z w64 t) ≡ t = search rules in
     let entries = c.in_ok-entries.entries in
-    let by = sym c.sees_by_ties.ensures ∙ c.if-sees_by_ties.true in
+    let by = sym c.sees_by_interest.ensures ∙ c.if-sees_by_interest.true in
     look_after (state g.S.Store c.args.conn.now) (state g.S.Store c.entries.new.conn) (state g.S.Store c.shown_of.new.conn) c.shown_of.result (rw when at c.in_ok-entries.ensures.look) (rw when at c.shown_of.ensures.look)
     (λ it clean same is shown moments h held r premise stands.
     let have = have_members c.soundness_by_look_ups.ensures r premise in
     subst (λ (now : Database). IsPart (λ r. shown_of r c.args.caller entries) t now.trees it) same shown moments h held r have stands
-    ∙ ap (shown_of r c.args.caller) (is moments h held r have stands) ∙ tied_in_sight c.ties_tell_sight.ensures r c.args.caller c.args.unit premise by)
+    ∙ ap (shown_of r c.args.caller) (is moments h held r have stands) ∙ shown_in_sight c.interests_tell_sight.ensures r c.args.caller c.args.unit premise by)
 
 pub returns-then-sees_by_awaiting-clause-look : goal.returns-then-sees_by_awaiting-clause-look
 returns-then-sees_by_awaiting-clause-look g c =

@@ -26,14 +26,14 @@ returns-then-sees_own_lodgings-clause-look g c =
     (λ it is moments h held r premise stands.
     is moments h held r (have_members c.soundness_by_look_ups.ensures r premise) stands ∙ sym (c.lodgers_see_their_own.ensures r c.args.caller c.args.kind c.args.number own))
 
-pub returns-then-sees_by_ties-clause-look : goal.returns-then-sees_by_ties-clause-look
-returns-then-sees_by_ties-clause-look g c =
+pub returns-then-sees_by_interest-clause-look : goal.returns-then-sees_by_interest-clause-look
+returns-then-sees_by_interest-clause-look g c =
     let when : to_z w64 (of_z w64 c.args.at) ≡ c.args.at = search rules in
-    let look = rw when at c.is_shown_by_tie.ensures.look in
-    let by = sym c.sees_by_ties.ensures ∙ c.if-sees_by_ties.true in
-    look_means (state g.S.Store c.args.conn.now) (state g.S.Store c.is_shown_by_tie.new.conn) c.is_shown_by_tie.result look
+    let look = rw when at c.is_shown_by_interest.ensures.look in
+    let by = sym c.sees_by_interest.ensures ∙ c.if-sees_by_interest.true in
+    look_means (state g.S.Store c.args.conn.now) (state g.S.Store c.is_shown_by_interest.new.conn) c.is_shown_by_interest.result look
     (λ it is moments h held r premise stands.
-    is moments h held r (have_members c.soundness_by_look_ups.ensures r premise) stands ∙ sym (c.ties_tell_sight.ensures r premise c.args.caller c.args.kind c.args.number by))
+    is moments h held r (have_members c.soundness_by_look_ups.ensures r premise) stands ∙ sym (c.interests_tell_sight.ensures r premise c.args.caller c.args.kind c.args.number by))
 
 pub returns-then-sees_by_awaiting-clause-look : goal.returns-then-sees_by_awaiting-clause-look
 returns-then-sees_by_awaiting-clause-look g c =

@@ -1,7 +1,7 @@
 use Rattle.std.proofs.Common.{◌≡◌, ℕ, ◌||◌, nat_eq}
 use Rattle.std.specs.FinMap as map
 use Rattle.std.specs.List.{list_any}
-use Rattle.land_rules.proofs.Ties.{is_group_named}
+use Rattle.land_rules.proofs.Interests.{is_group_named}
 use Rattle.land_rules.specs.Holdings.{has_number}
 use Rattle.land_rules.proofs.rules.holdings.names_of_citizen.Given as goal
 

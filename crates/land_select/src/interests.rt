@@ -1,0 +1,195 @@
+//! The interest of a citizen or a bank in a unit at a moment, and what it is shown by that, by look-ups.
+ghost use Rattle.std.specs.Prelude.{◌≡◌, false, IfOk, IsTrue};
+ghost use Rattle.land_core.specs.Entries.{only};
+ghost use Rattle.land_core.specs.Role.{is_role};
+ghost use Rattle.land_core.specs.declared.kind.Kind.TheVariants as kinds;
+ghost use Rattle.land_core.specs.declared.role.Role.TheVariants as roles;
+ghost use Rattle.land_rules.specs.Denials.Interests.{interest_at, interest_of, is_shown_by_interest, shows_entry, shows_unit};
+ghost use Rattle.land_rules.specs.Relations.{holds_as};
+ghost use Rattle.land_select.specs.Views.{AreGroupsAt, AreNamesAt, shown_of};
+ghost use Rattle.land_select_joins.specs.Lookups.Parts.{IsPart};
+ghost use Rattle.land_tables_schema.specs.Land.{IsLand};
+ghost use Rattle.land_tables_schema.specs.Rows.Looks.{IsLook};
+ghost use Rattle.sqlite.specs.Held.{state};
+ghost use Rattle.sqlite.specs.State.{HasCleanDisk};
+
+use land_core::caller::Caller;
+use land_core::duplicate::Duplicate;
+use land_core::records::Records;
+use land_core::role::Role;
+use land_core::rrr::RrrRecord;
+use land_core::sequence::{NumberList, Sequence};
+use land_rules::denials::interests::{Interest, interest_of};
+use land_rules::denials::laws::names_tell_interests;
+use land_select_joins::joins::running::numbers;
+use land_select_joins::lookups::{by_number, of_unit};
+use land_select_joins::sights::selection::Selection;
+use land_tables_rows::listing::fault::ReadFault;
+use sqlite::{Alter, Connection};
+use std::alloc::{AllocError, Global};
+
+fn is_citizen(role: Role) -> bool
+    ensures { result ≡ is_role role roles.Citizen }
+{
+    role == Role::Citizen
+}
+
+/// The groups of which a party is a member at a moment, in whatever order.
+fn groups_of<S: Alter>(
+    alloc: Global,
+    conn: &mut Connection<S>,
+    party: u64,
+    at: i64,
+) -> Result<NumberList, ReadFault>
+    requires open { HasCleanDisk (state S.Store conn.old) → IsTrue (state S.Store conn.old).is_open }
+    requires land { HasCleanDisk (state S.Store conn.old) → IsLand (state S.Store conn.old).now.schema }
+    ensures look { IsLook result (λ it. AreGroupsAt party at (state S.Store conn.old).now.trees it) (state S.Store conn.old) (state S.Store conn.new) }
+    ensures mode { conn.old.in_transaction ≡ false → conn.new.in_transaction ≡ false }
+{
+    numbers(alloc, conn, Selection::ItsGroups, party, at)
+}
+
+/// The names in which a citizen holds at a moment, in whatever order: its own and those of its groups. For another role none is looked for.
+fn names_of<S: Alter>(
+    alloc: Global,
+    conn: &mut Connection<S>,
+    caller: Caller,
+    at: i64,
+) -> Result<NumberList, ReadFault>
+    requires open { HasCleanDisk (state S.Store conn.old) → IsTrue (state S.Store conn.old).is_open }
+    requires land { HasCleanDisk (state S.Store conn.old) → IsLand (state S.Store conn.old).now.schema }
+    ensures look { IsLook result (λ it. AreNamesAt caller at (state S.Store conn.old).now.trees it) (state S.Store conn.old) (state S.Store conn.new) }
+    ensures mode { conn.old.in_transaction ≡ false → conn.new.in_transaction ≡ false }
+{
+    if !is_citizen(caller.role) {
+        return Ok(Sequence::new(alloc));
+    }
+    let mut names = groups_of(alloc, conn, caller.party, at)?;
+    names.push(caller.party)?;
+    Ok(names)
+}
+
+/// The interest of a caller at a moment in the unit of which these are the entries.
+fn interest_by<S: Alter>(
+    alloc: Global,
+    conn: &mut Connection<S>,
+    caller: Caller,
+    entries: &Records<RrrRecord>,
+    at: i64,
+) -> Result<Interest, ReadFault>
+    requires open { HasCleanDisk (state S.Store conn.old) → IsTrue (state S.Store conn.old).is_open }
+    requires land { HasCleanDisk (state S.Store conn.old) → IsLand (state S.Store conn.old).now.schema }
+    ensures look { IsLook result (λ it. IsPart (λ r. interest_of (holds_as r caller.party) caller entries.now) at (state S.Store conn.old).now.trees it) (state S.Store conn.old) (state S.Store conn.new) }
+    ensures mode { conn.old.in_transaction ≡ false → conn.new.in_transaction ≡ false }
+{
+    names_tell_interests();
+    let names = names_of(alloc, conn, caller, at)?;
+    Ok(interest_of(caller, names.as_slice(), entries))
+}
+
+/// The interest of a caller in a unit at a moment.
+fn interest_in<S: Alter>(
+    alloc: Global,
+    conn: &mut Connection<S>,
+    caller: Caller,
+    unit: u64,
+    at: i64,
+) -> Result<Interest, ReadFault>
+    requires open { HasCleanDisk (state S.Store conn.old) → IsTrue (state S.Store conn.old).is_open }
+    requires land { HasCleanDisk (state S.Store conn.old) → IsLand (state S.Store conn.old).now.schema }
+    ensures look { IsLook result (λ it. IsPart (λ r. interest_at r caller unit) at (state S.Store conn.old).now.trees it) (state S.Store conn.old) (state S.Store conn.new) }
+    ensures mode { conn.old.in_transaction ≡ false → conn.new.in_transaction ≡ false }
+{
+    let entries = of_unit::entries(alloc, conn, unit, at)?;
+    interest_by(alloc, conn, caller, &entries, at)
+}
+
+/// Whether a unit is shown to a caller at a moment by the caller's interest in it.
+pub(crate) fn is_unit_shown<S: Alter>(
+    alloc: Global,
+    conn: &mut Connection<S>,
+    caller: Caller,
+    unit: u64,
+    at: i64,
+) -> Result<bool, ReadFault>
+    requires open { HasCleanDisk (state S.Store conn.old) → IsTrue (state S.Store conn.old).is_open }
+    requires land { HasCleanDisk (state S.Store conn.old) → IsLand (state S.Store conn.old).now.schema }
+    ensures look { IsLook result (λ it. IsPart (λ r. shows_unit (interest_at r caller unit)) at (state S.Store conn.old).now.trees it) (state S.Store conn.old) (state S.Store conn.new) }
+    ensures mode { conn.old.in_transaction ≡ false → conn.new.in_transaction ≡ false }
+{
+    let interest = interest_in(alloc, conn, caller, unit, at)?;
+    Ok(interest.shows_unit())
+}
+
+/// Whether an entry is shown to a caller at a moment by the caller's interest in the unit of the entry.
+fn is_entry_shown<S: Alter>(
+    alloc: Global,
+    conn: &mut Connection<S>,
+    caller: Caller,
+    entry: &RrrRecord,
+    at: i64,
+) -> Result<bool, ReadFault>
+    requires open { HasCleanDisk (state S.Store conn.old) → IsTrue (state S.Store conn.old).is_open }
+    requires land { HasCleanDisk (state S.Store conn.old) → IsLand (state S.Store conn.old).now.schema }
+    ensures look { IsLook result (λ it. IsPart (λ r. shows_entry (interest_at r caller entry.now.unit) caller.party entry.now) at (state S.Store conn.old).now.trees it)
+        (state S.Store conn.old) (state S.Store conn.new) }
+    ensures mode { conn.old.in_transaction ≡ false → conn.new.in_transaction ≡ false }
+{
+    let interest = interest_in(alloc, conn, caller, entry.unit, at)?;
+    Ok(interest.shows_entry(caller.party, entry))
+}
+
+/// Whether the entry of a number stands at a moment and is shown to a caller by the caller's interest in the unit of the entry.
+pub(crate) fn is_number_shown<S: Alter>(
+    alloc: Global,
+    conn: &mut Connection<S>,
+    caller: Caller,
+    number: u64,
+    at: i64,
+) -> Result<bool, ReadFault>
+    requires open { HasCleanDisk (state S.Store conn.old) → IsTrue (state S.Store conn.old).is_open }
+    requires land { HasCleanDisk (state S.Store conn.old) → IsLand (state S.Store conn.old).now.schema }
+    ensures look { IsLook result (λ it. IsPart (λ r. is_shown_by_interest r caller kinds.Rrr number) at (state S.Store conn.old).now.trees it) (state S.Store conn.old) (state S.Store conn.new) }
+    ensures mode { conn.old.in_transaction ≡ false → conn.new.in_transaction ≡ false }
+{
+    let found = by_number::record(alloc, conn, number, at)?;
+    match found {
+        Some(entry) => is_entry_shown(alloc, conn, caller, &entry, at),
+        None => Ok(false),
+    }
+}
+
+/// Of the entries of a unit those that are shown to a party by the party's interest in the unit.
+fn shown_by(
+    alloc: Global,
+    interest: Interest,
+    party: u64,
+    entries: &Records<RrrRecord>,
+) -> Result<Records<RrrRecord>, AllocError>
+    ensures { IfOk result (λ it. it ≡ only (λ n e. shows_entry interest party e) entries.now) }
+{
+    let mut kept = Records::new(alloc);
+    for (number, entry) in entries.iter() {
+        if interest.shows_entry(party, entry) {
+            kept.insert(*number, entry.copy(alloc)?)?;
+        }
+    }
+    Ok(kept)
+}
+
+/// Of the entries of a unit those that are shown to a caller at a moment by the caller's interest in the unit.
+pub(crate) fn shown_of<S: Alter>(
+    alloc: Global,
+    conn: &mut Connection<S>,
+    caller: Caller,
+    entries: &Records<RrrRecord>,
+    at: i64,
+) -> Result<Records<RrrRecord>, ReadFault>
+    requires open { HasCleanDisk (state S.Store conn.old) → IsTrue (state S.Store conn.old).is_open }
+    requires land { HasCleanDisk (state S.Store conn.old) → IsLand (state S.Store conn.old).now.schema }
+    ensures look { IsLook result (λ it. IsPart (λ r. shown_of r caller entries.now) at (state S.Store conn.old).now.trees it) (state S.Store conn.old) (state S.Store conn.new) }
+    ensures mode { conn.old.in_transaction ≡ false → conn.new.in_transaction ≡ false }
+{
+    let interest = interest_by(alloc, conn, caller, entries, at)?;
+    Ok(shown_by(alloc, interest, caller.party, entries)?)
+}
