@@ -16,7 +16,7 @@ use Rattle.land_acts.proofs.TransferSlices.{transfer_agrees}
 use Rattle.land_acts.specs.Deciding.{with_state}
 use Rattle.land_acts.specs.Mutations.Asking.{content_change, content_made, content_refusals}
 use Rattle.land_acts.specs.Mutations.Merging.{is_named}
-use Rattle.land_acts.specs.Mutations.Planning.{first_that_holds, told_of}
+use Rattle.land_acts.specs.Mutations.Planning.{done_on, first_that_holds}
 use Rattle.land_acts.specs.Outcome.{outcome_of, refused_else, stamped}
 use Rattle.land_acts.specs.Slices.{content_names_party, looks_at_mutation, looks_at_rrr, names_party, names_rrr, names_unit, slice_of}
 use Rattle.land_acts.specs.declared.mutations.refusal.Planned.{Planned}
@@ -158,7 +158,7 @@ approve_same r caller it stamp =
 abbrev refused_by : Register → ℕ → Option ℤ → Option MutationRecord → Result Planned Refusal
 refused_by r n stamp o =
     refused_else (first_that_holds ((NotLodged, not (option_map_or is_undecided o false)) ∷ (ClockOut, is_none stamp) ∷ []))
-    (stamped (λ at. option_map_or (λ m. with_state Refused n m (no_change r.next)) o (no_change r.next)) (λ at. told_of n at) stamp)
+    (stamped (λ at. option_map_or (λ m. with_state Refused n m (no_change r.next)) o (no_change r.next)) (λ at. done_on n at) stamp)
 
 pub refuse_same : (r : Register) (caller : Caller) (it : Decision) (stamp : Option ℤ) → outcome_of (slice_of r caller (act.Refuse it)) caller (act.Refuse it) stamp ≡ outcome_of r caller (act.Refuse it) stamp
 refuse_same r caller it stamp =

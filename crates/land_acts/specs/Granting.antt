@@ -1,6 +1,6 @@
 -- Granting: a single party gets a role that it does not hold.
 use Rattle.std.specs.Prelude.{ℤ, Bool, not, List, [], ◌∷◌, Option, is_none}
-use Rattle.land_acts.specs.Mutations.Planning.{told_of}
+use Rattle.land_acts.specs.Mutations.Planning.{done_on}
 use Rattle.land_acts.specs.declared.mutations.refusal.Refusal.{Refusal}
 use Rattle.land_acts.specs.declared.mutations.refusal.Refusal.TheVariants.{NoSuchParty, RoleHeld, ClockOut}
 use Rattle.land_core.specs.Changes.{no_put, no_ended}
@@ -25,4 +25,4 @@ grant_change r it = record {
 
 -- the act is about the party
 abbrev pub grant_done : Grant → ℤ → Done
-grant_done it stamp = told_of it.party stamp
+grant_done it stamp = done_on it.party stamp

@@ -2,7 +2,7 @@
 use Rattle.std.specs.Prelude.{ℕ, ℤ, Bool, true, false, not, List, [], ◌∷◌, Option, is_none}
 use Rattle.std.specs.Option.{option_map_or}
 use Rattle.std.specs.FinMap as map
-use Rattle.land_acts.specs.Mutations.Planning.{told_of}
+use Rattle.land_acts.specs.Mutations.Planning.{done_on}
 use Rattle.land_acts.specs.declared.mutations.refusal.Refusal.{Refusal}
 use Rattle.land_acts.specs.declared.mutations.refusal.Refusal.TheVariants.{NoSuchRight, ClockOut}
 use Rattle.land_core.specs.Changes.{no_put, no_ended}
@@ -38,4 +38,4 @@ lift_change r it = record {
 
 -- the act is about the entry
 abbrev pub lift_done : Lift → ℤ → Done
-lift_done it stamp = told_of it.rrr stamp
+lift_done it stamp = done_on it.rrr stamp

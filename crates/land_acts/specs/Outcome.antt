@@ -7,7 +7,7 @@ use Rattle.land_acts.specs.Granting.{grant_refusals, grant_change, grant_done}
 use Rattle.land_acts.specs.Grouping.{group_refusals, group_change, group_done}
 use Rattle.land_acts.specs.Lifting.{lift_refusals, lift_change, lift_done}
 use Rattle.land_acts.specs.Lodging.{lodge_repeat, lodge_refusals, lodge_change, lodge_done}
-use Rattle.land_acts.specs.Mutations.Planning.{first_that_holds, told_of}
+use Rattle.land_acts.specs.Mutations.Planning.{done_on, first_that_holds}
 use Rattle.land_acts.specs.Registering.{register_refusals, register_change, register_done}
 use Rattle.land_acts.specs.Regrouping.{regroup_refusals, regroup_change, regroup_done}
 use Rattle.land_acts.specs.Revoking.{revoke_refusals, revoke_change, revoke_done}
@@ -62,7 +62,7 @@ done_of r caller (Burden it) stamp = burden_done r stamp
 done_of r caller (Lift it) stamp = lift_done it stamp
 done_of r caller (Lodge it) stamp = lodge_done r stamp
 done_of r caller (Approve it) stamp = approve_done r it stamp
-done_of r caller (Refuse it) stamp = told_of it.mutation stamp
+done_of r caller (Refuse it) stamp = done_on it.mutation stamp
 
 abbrev pub refused_else : Option Refusal → Result Planned Refusal → Result Planned Refusal
 refused_else None else_planned = else_planned

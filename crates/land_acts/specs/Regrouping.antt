@@ -1,6 +1,6 @@
 -- Regrouping: the listed members take the place of those that a group has.
 use Rattle.std.specs.Prelude.{ℤ, Bool, not, ◌||◌, List, [], ◌∷◌, Option, is_none}
-use Rattle.land_acts.specs.Mutations.Planning.{told_of}
+use Rattle.land_acts.specs.Mutations.Planning.{done_on}
 use Rattle.land_acts.specs.Sharing.{lists_stranger, are_too_fine, are_whole, lists_twice, members_of_list}
 use Rattle.land_acts.specs.declared.mutations.refusal.Refusal.{Refusal}
 use Rattle.land_acts.specs.declared.mutations.refusal.Refusal.TheVariants.{NoSuchParty, SharesTooFine, SharesNotWhole, ClockOut, SameParty}
@@ -31,4 +31,4 @@ regroup_change r it = record {
 
 -- the act is about the group
 abbrev pub regroup_done : Regroup → ℤ → Done
-regroup_done it stamp = told_of it.group stamp
+regroup_done it stamp = done_on it.group stamp

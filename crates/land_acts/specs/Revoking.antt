@@ -1,7 +1,7 @@
 -- Revoking: a role of a single party ends. The last state administrator stays one.
 use Rattle.std.specs.Prelude.{ℕ, ℤ, Bool, not, ◌&&◌, nat_eq, List, [], ◌∷◌, Option, is_none}
 use Rattle.std.specs.List.{list_any}
-use Rattle.land_acts.specs.Mutations.Planning.{told_of}
+use Rattle.land_acts.specs.Mutations.Planning.{done_on}
 use Rattle.land_acts.specs.declared.mutations.refusal.Refusal.{Refusal}
 use Rattle.land_acts.specs.declared.mutations.refusal.Refusal.TheVariants.{NoSuchParty, RoleNotHeld, ClockOut, LastAdministrator}
 use Rattle.land_core.specs.Changes.{no_put, no_ended}
@@ -37,4 +37,4 @@ revoke_change r it = record {
 
 -- the act is about the party
 abbrev pub revoke_done : Grant → ℤ → Done
-revoke_done it stamp = told_of it.party stamp
+revoke_done it stamp = done_on it.party stamp

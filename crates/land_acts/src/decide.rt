@@ -3,10 +3,10 @@ ghost use Rattle.std.specs.Prelude.{◌≡◌, ◌∷◌, [], Some, IfOk};
 ghost use Rattle.std.specs.FinMap as map;
 ghost use Rattle.land_acts.specs.Deciding.{approve_change, approve_done, approve_has_room, approve_refusals, decided, is_lodged, refuse_change, refuse_refusals};
 ghost use Rattle.land_acts.specs.Mutations.Asking.{Fits};
-ghost use Rattle.land_acts.specs.Mutations.Planning.{first_that_holds, told_of};
+ghost use Rattle.land_acts.specs.Mutations.Planning.{done_on, first_that_holds};
 
 use crate::mutations::asking;
-use crate::mutations::planning::told_of;
+use crate::mutations::planning::done_on;
 use crate::mutations::refusal::Refusal;
 use crate::slice::Slice;
 use land_core::act::Decision;
@@ -79,7 +79,7 @@ pub(crate) fn approved(
     let Some(mutation) = slice.mutations.get(it.mutation) else {
         return Ok((
             Change::nothing(alloc, slice.next),
-            told_of(alloc, it.mutation, stamp),
+            done_on(alloc, it.mutation, stamp),
         ));
     };
     let made = asking::made(alloc, slice, &mutation.content)?;
@@ -103,18 +103,18 @@ pub(crate) fn refused(
     it: Decision,
     stamp: i64,
 ) -> Result<(Change, Done), AllocError>
-    ensures { IfOk result (λ planned. (planned.0 ≡ refuse_change slice.now it) × (planned.1 ≡ told_of it.mutation stamp)) }
+    ensures { IfOk result (λ planned. (planned.0 ≡ refuse_change slice.now it) × (planned.1 ≡ done_on it.mutation stamp)) }
 {
     let Some(mutation) = slice.mutations.get(it.mutation) else {
         return Ok((
             Change::nothing(alloc, slice.next),
-            told_of(alloc, it.mutation, stamp),
+            done_on(alloc, it.mutation, stamp),
         ));
     };
     let mutations = decided(alloc, it.mutation, mutation, MutationState::Refused)?;
     let mut change = Change::nothing(alloc, slice.next);
     change.put.mutations = mutations;
-    Ok((change, told_of(alloc, it.mutation, stamp)))
+    Ok((change, done_on(alloc, it.mutation, stamp)))
 }
 
 /// A mutation once it is decided, under its number.

@@ -3,7 +3,7 @@ ghost use Rattle.std.specs.Prelude.{◌≡◌, IfOk};
 ghost use Rattle.land_acts.specs.Granting.{grant_refusals, grant_change, grant_done};
 ghost use Rattle.land_acts.specs.Mutations.Planning.{first_that_holds};
 
-use crate::mutations::planning::told_of;
+use crate::mutations::planning::done_on;
 use crate::mutations::refusal::Refusal;
 use crate::slice::Slice;
 use land_core::change::{Change, Done};
@@ -38,5 +38,5 @@ pub(crate) fn planned(
     let roles = Sequence::of_one(alloc, *it)?;
     let mut change = Change::nothing(alloc, slice.next);
     change.put.roles = roles;
-    Ok((change, told_of(alloc, it.party, stamp)))
+    Ok((change, done_on(alloc, it.party, stamp)))
 }

@@ -3,7 +3,7 @@ ghost use Rattle.std.specs.Prelude.{◌≡◌, IfOk};
 ghost use Rattle.land_acts.specs.Lifting.{has_burden, is_burden, lift_refusals, lift_change, lift_done};
 ghost use Rattle.land_acts.specs.Mutations.Planning.{first_that_holds};
 
-use crate::mutations::planning::told_of;
+use crate::mutations::planning::done_on;
 use crate::mutations::refusal::Refusal;
 use crate::slice::Slice;
 use land_core::act::Lift;
@@ -57,5 +57,5 @@ pub(crate) fn planned(
     let rrrs = Sequence::of_one(alloc, it.rrr)?;
     let mut change = Change::nothing(alloc, slice.next);
     change.ended.rrrs = rrrs;
-    Ok((change, told_of(alloc, it.rrr, stamp)))
+    Ok((change, done_on(alloc, it.rrr, stamp)))
 }

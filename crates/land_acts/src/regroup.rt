@@ -3,7 +3,7 @@ ghost use Rattle.std.specs.Prelude.{◌≡◌, IfOk};
 ghost use Rattle.land_acts.specs.Mutations.Planning.{first_that_holds};
 ghost use Rattle.land_acts.specs.Regrouping.{regroup_refusals, regroup_change, regroup_done};
 
-use crate::mutations::planning::told_of;
+use crate::mutations::planning::done_on;
 use crate::mutations::refusal::Refusal;
 use crate::sharing::{lists_stranger, lists_twice, members_of_list, wholeness};
 use crate::slice::Slice;
@@ -53,5 +53,5 @@ pub(crate) fn planned(
     let members = Sequence::of_one(alloc, (it.group, members))?;
     let mut change = Change::nothing(alloc, slice.next);
     change.put.members = members;
-    Ok((change, told_of(alloc, it.group, stamp)))
+    Ok((change, done_on(alloc, it.group, stamp)))
 }

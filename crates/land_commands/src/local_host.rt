@@ -46,7 +46,7 @@ enum Standing {
 }
 
 /// What stands under a name. It is not opened for writing.
-fn look_at(rt: &HostRuntime, file: &str) -> Standing {
+fn standing_of(rt: &HostRuntime, file: &str) -> Standing {
     let Ok(stands) = fs::metadata(rt, file) else {
         return Standing::Nothing;
     };
@@ -112,7 +112,7 @@ impl Host for LocalHost {
         &mut self,
         file: &str,
     ) -> Result<Connection<FileStore<FileFrom<Unknown>>>, ProgramFault> {
-        match look_at(&self.rt, file) {
+        match standing_of(&self.rt, file) {
             Standing::Other => Err(ProgramFault::Open),
             _ => open_store(&self.rt, file, Unknown),
         }
@@ -122,7 +122,7 @@ impl Host for LocalHost {
         &mut self,
         file: &str,
     ) -> Result<Connection<FileStore<FileFrom<Unknown>>>, ProgramFault> {
-        match look_at(&self.rt, file) {
+        match standing_of(&self.rt, file) {
             Standing::Nothing | Standing::Other => Err(ProgramFault::Open),
             Standing::Empty => Err(ProgramFault::NotOurs),
             Standing::Store => open_store(&self.rt, file, Unknown),

@@ -104,7 +104,7 @@ shows_no_sheet t (Err refusal) = tt
 shows_no_sheet t (Ok (Repeat done)) = tt
 shows_no_sheet t (Ok (New change done)) = tt
 
--- ---- what is told and changes nothing
+-- ---- what is answered without a change
 
 -- a moment that is still to come is a fault
 pub step_late : (clock : ℤ) (request : Request) (tl : Timeline)
@@ -137,9 +137,9 @@ role_is_held tl caller (ask.List k at) now free = second_passes (first_fails tl 
 role_is_held tl caller (ask.Sheet unit at) now free = second_passes (first_fails tl caller) (holds (last_register tl) caller.party caller.role) (later_rules tl caller (ask.Sheet unit at) now) free
 role_is_held tl caller (ask.Do it) now free = second_passes (first_fails tl caller) (holds (last_register tl) caller.party caller.role) (later_rules tl caller (ask.Do it) now) free
 
--- what is told leads to a reply, and to the timeline as it is
-pub told_leads : (p : Prepared) (r : Reply) (next : Next) (tl : Timeline) → p.reply ≡ r → p.writing ≡ None → next ≡ (r, tl) → Leads p next tl
-told_leads p r next tl is none e =
+-- what is without a change leads to a reply, and to the timeline as it is
+pub without_change_leads : (p : Prepared) (r : Reply) (next : Next) (tl : Timeline) → p.reply ≡ r → p.writing ≡ None → next ≡ (r, tl) → Leads p next tl
+without_change_leads p r next tl is none e =
     subst (λ (n : Next). Leads p n tl) (sym e)
     (record {
       reply = is;

@@ -42,10 +42,10 @@ pub fn prepare<K: Keeper>(
     let now = now_at(clock, keeper.last());
     let at = named_moment(&request.ask).unwrap_or(now);
     if now < at {
-        return Ok(told(Reply::Fault(135)));
+        return Ok(without_change(Reply::Fault(135)));
     }
     match keeper.first_denial(alloc, request.caller, &request.ask, now)? {
-        Verdict::Denied(rule) => Ok(told(Reply::Denied(rule))),
+        Verdict::Denied(rule) => Ok(without_change(Reply::Denied(rule))),
         Verdict::Allowed => prepare_allowed(alloc, keeper, clock, request, at),
     }
 }
@@ -69,21 +69,23 @@ fn prepare_allowed<K: Keeper>(
 {
     match &request.ask {
         Ask::View { kind, number, .. } => {
-            Ok(told(match keeper.object(alloc, *kind, *number, at)? {
+            Ok(without_change(match keeper.object(alloc, *kind, *number, at)? {
                 Some(object) => Reply::Object(object),
                 None => Reply::Denied(27),
             }))
         }
-        Ask::List { kind, .. } => Ok(told(Reply::Numbers(keeper.sight(
+        Ask::List { kind, .. } => Ok(without_change(Reply::Numbers(keeper.sight(
             alloc,
             request.caller,
             *kind,
             at,
         )?))),
-        Ask::Sheet { unit, .. } => Ok(told(match keeper.view(alloc, request.caller, *unit, at)? {
-            Some(view) => Reply::Sheet(view),
-            None => Reply::Denied(27),
-        })),
+        Ask::Sheet { unit, .. } => Ok(without_change(
+            match keeper.view(alloc, request.caller, *unit, at)? {
+                Some(view) => Reply::Sheet(view),
+                None => Reply::Denied(27),
+            },
+        )),
         Ask::Do(act) => prepare_act(alloc, keeper, clock, request.caller, act),
     }
 }
@@ -126,14 +128,14 @@ fn prepared_by(outcome: Result<Planned, Refusal>) -> Result<Prepared, StoreFault
                 writing: Some(Writing { change, stamp }),
             })
         }
-        Ok(Planned::Repeat(done)) => Ok(told(Reply::Done(done))),
+        Ok(Planned::Repeat(done)) => Ok(without_change(Reply::Done(done))),
         Err(Refusal::NoMemory) => Err(StoreFault::NoMemory),
-        Err(refusal) => Ok(told(Reply::Refused(refusal.number()))),
+        Err(refusal) => Ok(without_change(Reply::Refused(refusal.number()))),
     }
 }
 
 /// A reply that changes nothing.
-fn told(reply: Reply) -> Prepared
+fn without_change(reply: Reply) -> Prepared
     ensures reply { result.reply ≡ reply }
     ensures writing { result.writing ≡ None }
 {

@@ -27,7 +27,7 @@ use sqlite::{Alter, Connection};
 use std::alloc::Global;
 
 /// The register that stands at a moment, with the next number then.
-fn look_at<S: Alter>(
+fn read_tables<S: Alter>(
     alloc: Global,
     conn: &mut Connection<S>,
     at: i64,
@@ -85,7 +85,7 @@ fn read_at<S: Alter>(
     ensures safe { IsSafeRead result (ReadsAt (state S.Store conn.old).now.trees at) (state S.Store conn.old) (state S.Store conn.new) }
     ensures mode { conn.old.in_transaction ≡ false → conn.new.in_transaction ≡ false }
 {
-    match look_at(alloc, conn, at) {
+    match read_tables(alloc, conn, at) {
         Ok(register) => Ok(register),
         Err(fault) => Err(failed(conn, fault)),
     }

@@ -80,7 +80,7 @@ fn ask_of(look: Look, at: Option<i64>) -> Ask {
     }
 }
 
-fn told(
+fn reply_to(
     alloc: Global,
     keeper: &mut PlainKeeper,
     caller: Caller,
@@ -112,8 +112,8 @@ impl Worlds {
         look: Look,
         at: Option<i64>,
     ) -> Result<bool, Stop> {
-        let one = told(alloc, &mut self.one, caller, look, at)?;
-        let other = told(alloc, &mut self.other, caller, look, at)?;
+        let one = reply_to(alloc, &mut self.one, caller, look, at)?;
+        let other = reply_to(alloc, &mut self.other, caller, look, at)?;
         Ok(!are_alike(alloc, &one, &other)?)
     }
 

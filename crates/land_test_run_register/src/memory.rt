@@ -121,7 +121,7 @@ enum Outcome {
 }
 
 /// Whether a reply is this line; nothing where memory was refused.
-fn told(alloc: Global, reply: &Reply, line: &str) -> Result<Option<bool>, AllocError> {
+fn answered_so(alloc: Global, reply: &Reply, line: &str) -> Result<Option<bool>, AllocError> {
     match reply {
         Reply::Store(501) => Ok(None),
         _ => Ok(Some(is_told(alloc, reply, line)?)),
@@ -138,7 +138,7 @@ fn asked_once(
     requires { is_well_formed_request request.now ≡ true }
 {
     let reply = answer(alloc, keeper, 1000, request);
-    told(alloc, &reply, line)
+    answered_so(alloc, &reply, line)
 }
 
 /// Asks a second time: nothing has changed before.

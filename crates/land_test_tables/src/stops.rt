@@ -36,8 +36,12 @@ enum Ending {
     Other,
 }
 
-/// What the caller of the first step is told over some tables, and the tables then.
-fn told<S: Alter>(alloc: Global, tables: Tables<S>, request: &Request) -> (u16, Tables<S>) {
+/// The store fault that the caller of the first step is told over some tables, as `first_fault` tells it, and the tables then.
+fn fault_of_step<S: Alter>(
+    alloc: Global,
+    tables: Tables<S>,
+    request: &Request,
+) -> (u16, Tables<S>) {
     let mut keeper = TableKeeper::new(tables);
     let fault = first_fault(alloc, &mut keeper, request);
     (fault, keeper.into_tables())
@@ -52,11 +56,11 @@ struct Twice {
     is_closed: bool,
 }
 
-/// What the caller of the first step is told twice.
-fn told_twice<S: Alter + Drop>(alloc: Global, tables: Tables<S>, request: &Request) -> Twice {
-    let (first, tables) = told(alloc, tables, request);
+/// Asks the first step twice.
+fn asked_twice<S: Alter + Drop>(alloc: Global, tables: Tables<S>, request: &Request) -> Twice {
+    let (first, tables) = fault_of_step(alloc, tables, request);
     let was_closed = tables.is_closed();
-    let (again, tables) = told(alloc, tables, request);
+    let (again, tables) = fault_of_step(alloc, tables, request);
     let is_closed = tables.is_closed();
     Twice {
         first,
@@ -91,7 +95,7 @@ fn ending_of<S: Alter + Drop>(
     tables: Tables<S>,
     request: &Request,
 ) -> Result<Ending, Stop> {
-    became(told_twice(alloc, tables, request))
+    became(asked_twice(alloc, tables, request))
 }
 
 /// There is no register yet, unless there was no memory for it.

@@ -43,9 +43,9 @@ would_crowd r unit more = nat_lt 256 (rrr_count r unit + more)
 abbrev pub document_source : (number : ℕ) → SourceKind → (document : List ℕ) → List (ℕ × SourceRecord)
 document_source number kind document = (number, record { kind = kind; title = document }) ∷ []
 
--- what is told of an act on an object that makes nothing
-abbrev pub told_of : (number : ℕ) → ℤ → Done
-told_of number stamp = record { number = number; made = []; stamp = stamp }
+-- the reply to an act that was done on an object and made nothing
+abbrev pub done_on : (number : ℕ) → ℤ → Done
+done_on number stamp = record { number = number; made = []; stamp = stamp }
 
 -- of refusals, each with whether its condition holds, the first whose condition holds
 abbrev pub first_that_holds : List (Refusal × Bool) → Option Refusal

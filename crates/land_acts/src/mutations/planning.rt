@@ -1,7 +1,7 @@
 //! What all plans have in common.
 ghost use Rattle.std.specs.Prelude.{◌≡◌, ◌≤◌, ◌+◌, IfOk};
 ghost use Rattle.land_acts.specs.Mutations.Numbering.{numbers_from};
-ghost use Rattle.land_acts.specs.Mutations.Planning.{document_source, lacks_numbers, told_of, would_crowd};
+ghost use Rattle.land_acts.specs.Mutations.Planning.{document_source, done_on, lacks_numbers, would_crowd};
 
 use land_core::change::Done;
 use land_core::contents::rrr_count;
@@ -54,9 +54,9 @@ pub fn document_source(
     Sequence::of_one(alloc, (number, record))
 }
 
-/// What is told of an act on an object that makes nothing. It takes no memory.
-pub fn told_of(alloc: Global, number: u64, stamp: i64) -> Done
-    ensures { result ≡ told_of number stamp }
+/// The reply to an act that was done on an object and made nothing. It takes no memory.
+pub fn done_on(alloc: Global, number: u64, stamp: i64) -> Done
+    ensures { result ≡ done_on number stamp }
 {
     Done {
         number,

@@ -255,7 +255,7 @@ fn are_too_fine_after(
 fn after_move(alloc: Global, slice: &Slice, it: &Transfer, from: &Held) -> Result<Slice, AllocError>
     ensures { IfOk result (λ changed. changed ≡ after (record (move_change slice.now 0 it.now from.now) { next = slice.now.next }) slice.now) }
 {
-    let change = moved(alloc, slice, 0, it, from)?;
+    let change = change_of_entries(alloc, slice, 0, it, from)?;
     slice.changed(alloc, &change)
 }
 
@@ -316,7 +316,7 @@ pub(crate) fn change(
     requires { number_after slice.now (grows_at slice.now it.now from.now) ≤ 1_000_000_001 }
     ensures { IfOk result (λ change. change ≡ move_change slice.now source it.now from.now) }
 {
-    let mut change = moved(alloc, slice, source, it, from)?;
+    let mut change = change_of_entries(alloc, slice, source, it, from)?;
     if grows_at(slice, it, from).is_none() {
         change.next = slice.next + 1;
     }
@@ -324,7 +324,7 @@ pub(crate) fn change(
 }
 
 /// What a transfer from a right changes, but for the next number.
-fn moved(
+fn change_of_entries(
     alloc: Global,
     slice: &Slice,
     source: u64,

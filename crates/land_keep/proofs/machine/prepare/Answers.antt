@@ -3,7 +3,7 @@ use Rattle.std.specs.Prelude.{int_lt, unwrap_or, FitsSigned}
 use Rattle.std.specs.Int.{w64}
 use Rattle.std.proofs.lemmas.Int.{to_z-of_z}
 use Rattle.std.proofs.lemmas.Result.{IfOk-weaker}
-use Rattle.land_keep.proofs.Steps.{now_is_moment, opens, role_is_held, shows_asked, step_allowed, step_denied, step_late, told_leads}
+use Rattle.land_keep.proofs.Steps.{now_is_moment, opens, role_is_held, shows_asked, step_allowed, step_denied, step_late, without_change_leads}
 use Rattle.land_keep.specs.Keeping.{ShowsAsked, ShowsAt}
 use Rattle.land_keep.specs.Machine.{at_of, now_of, moment_of, verdict_at}
 use Rattle.land_keep.specs.Moments.{IsMoment, now_after}
@@ -44,7 +44,7 @@ returns-in-Denied-clause-prepared g c honest =
     let at_is : c.unwrap_or-at.result ≡ moment_of c.args.request.now.ask (now_of c.args.clock tl) = rw (← now_is, ← c.named_moment.ensures) (simp to_z-of_z at c.unwrap_or-at.ensures) in
     let late : int_lt (now_of c.args.clock tl) (moment_of c.args.request.now.ask (now_of c.args.clock tl)) ≡ false = rw (← at_is, ← now_is) (simp to_z-of_z at c.if-now-at.false) in
     let denied : verdict_at tl c.args.request.now.caller c.args.request.now.ask (now_of c.args.clock tl) ≡ Denied c.in-Denied.rule = rw (← now_is) (sym (simp to_z-of_z at (c.in_ok-rule.ensures.value honest)) ∙ c.in-Denied.is) in
-    told_leads c.told-in-Denied.result (reply.Denied c.in-Denied.rule) _ tl c.told-in-Denied.ensures.reply c.told-in-Denied.ensures.writing
+    without_change_leads c.without_change-in-Denied.result (reply.Denied c.in-Denied.rule) _ tl c.without_change-in-Denied.ensures.reply c.without_change-in-Denied.ensures.writing
     (step_denied c.args.clock c.args.request.now tl c.in-Denied.rule late denied)
 
 pub returns-then-now-at-clause-prepared : goal.returns-then-now-at-clause-prepared
@@ -58,7 +58,7 @@ returns-then-now-at-clause-prepared g c honest =
     let now_is : c.now_at-now.result ≡ now_of c.args.clock tl = rw (← last_is) (simp to_z-of_z at c.now_at-now.ensures) in
     let at_is : c.unwrap_or-at.result ≡ moment_of c.args.request.now.ask (now_of c.args.clock tl) = rw (← now_is, ← c.named_moment.ensures) (simp to_z-of_z at c.unwrap_or-at.ensures) in
     let late : int_lt (now_of c.args.clock tl) (moment_of c.args.request.now.ask (now_of c.args.clock tl)) ≡ true = rw (← at_is, ← now_is) (simp to_z-of_z at c.if-now-at.true) in
-    told_leads c.told.result (reply.Fault 135) _ tl c.told.ensures.reply c.told.ensures.writing (step_late c.args.clock c.args.request.now tl late)
+    without_change_leads c.without_change.result (reply.Fault 135) _ tl c.without_change.ensures.reply c.without_change.ensures.writing (step_late c.args.clock c.args.request.now tl late)
 
 pub prepare_allowed-requires-clause-role_held : goal.prepare_allowed-requires-clause-role_held
 prepare_allowed-requires-clause-role_held g c honest =
@@ -69,7 +69,7 @@ prepare_allowed-requires-clause-role_held g c honest =
     rw (c.in_ok-rule.ensures.same (honest, opened.1)) (role_is_held tl c.args.request.now.caller c.args.request.now.ask c.now_at-now.result free)
 
 pub returns-in-Denied-clause-moment : goal.returns-in-Denied-clause-moment
-returns-in-Denied-clause-moment g c = subst (λ (r : Reply). ShowsAsked c.args.request.now.ask r) (sym c.told-in-Denied.ensures.reply) tt
+returns-in-Denied-clause-moment g c = subst (λ (r : Reply). ShowsAsked c.args.request.now.ask r) (sym c.without_change-in-Denied.ensures.reply) tt
 
 pub returns-in-Allowed-clause-moment : goal.returns-in-Allowed-clause-moment
 returns-in-Allowed-clause-moment g c =

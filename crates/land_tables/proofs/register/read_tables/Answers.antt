@@ -4,7 +4,7 @@ use Rattle.land_tables_history.specs.Moments.{next_at}
 use Rattle.land_tables_rows.specs.Listing.Reading.{SaysHistory}
 use Rattle.land_tables_schema.proofs.Looking.{look_then}
 use Rattle.sqlite.specs.Held.{state}
-use Rattle.land_tables.proofs.register.look_at.Goals as goal
+use Rattle.land_tables.proofs.register.read_tables.Goals as goal
 
 pub returns-clause-look : goal.returns-clause-look
 returns-clause-look g c =
