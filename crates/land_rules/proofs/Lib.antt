@@ -1,5 +1,6 @@
 pub mod ActLaws
 pub mod Alike
+pub mod Asked
 pub mod Awaited
 pub mod Booleans
 pub mod Denied
@@ -10,4 +11,7 @@ pub mod Seeing
 pub mod SightByInterest
 pub mod SightDenials
 pub mod SightLaws
+pub mod StandingLaws
+pub mod StandingRules
+pub mod StandingTests
 pub mod Telling

@@ -8,3 +8,4 @@ pub mod Laws
 pub mod Relations
 pub mod Rules
 pub mod SightLaws
+pub mod StandingLaws

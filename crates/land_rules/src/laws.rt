@@ -3,6 +3,9 @@ ghost use Rattle.land_rules.specs.ActLaws.{LodgersDoNotDecide, AdministratorsDec
 ghost use Rattle.land_rules.specs.Alike.{VerdictsTellNothingUnseen};
 ghost use Rattle.land_rules.specs.Laws.{RulesRise, VerdictsAreLeast, SeenIsExactly, MembersSeeGroups, DenialsTellSight};
 ghost use Rattle.land_rules.specs.SightLaws.{MembersHold, EndedEntriesGiveNoSight, OwnersAloneSeeMortgages, BanksSeeByTheirMortgages, LodgersSeeTheirMutations, ConveyancersSeeByTheirLodgings};
+ghost use Rattle.land_rules.specs.StandingLaws.{StrangersAreDeniedEverything, RolesAreHeld, ThePastIsClosedToThreeRoles, ActsOfTheOfficeAreReserved};
+ghost use Rattle.land_rules.specs.StandingLaws.{ConveyancersAndNotariesLodgeTransfers, SurveyorsLodgeSubdivisionsAndMergers, BanksAndNotariesLodgeMortgages};
+ghost use Rattle.land_rules.specs.StandingLaws.{BanksLodgeTheirOwnMortgages, BanksDischargeTheirOwnMortgages};
 
 /// The rules on every ask stand in rising order.
 pub fn rules_rise()
@@ -76,4 +79,57 @@ pub fn lodgers_do_not_decide()
 /// A state administrator may approve and refuse the mutations that it did not lodge; those that it lodged, rule 10 denies it.
 pub fn administrators_decide_for_others()
     ensures { AdministratorsDecideForOthers }
+{}
+
+/// A stranger, at whose number no party of the register stands now, is denied everything by rule 1, whatever it asks and in
+/// whatever role, and nobody else is denied anything by it.
+pub fn strangers_are_denied_everything()
+    ensures { StrangersAreDeniedEverything }
+{}
+
+/// A party is denied everything by rule 2 in a role that it does not hold now, and nothing in one that it holds: so whatever
+/// is allowed is allowed to a party of the register in a role that it holds now.
+pub fn roles_are_held()
+    ensures { RolesAreHeld }
+{}
+
+/// Citizens, notaries and state administrators are judged of a past moment as of the present. Banks, conveyancers and
+/// certified surveyors are allowed nothing of the past: rule 3 denies it to those that hold their role, and nothing else.
+pub fn the_past_is_closed_to_three_roles()
+    ensures { ThePastIsClosedToThreeRoles }
+{}
+
+/// Acts of the office, which are all but lodgings, are for state administrators alone, and for them all but the decisions on
+/// what they lodged. In other roles rule 4 denies them to whoever may ask, and nothing else.
+pub fn acts_of_the_office_are_reserved()
+    ensures { ActsOfTheOfficeAreReserved }
+{}
+
+/// Transfers are lodged by conveyancers and notaries alone, and by both whichever they ask for. In other roles rule 5 denies
+/// them to whoever may ask, and nothing else.
+pub fn conveyancers_and_notaries_lodge_transfers()
+    ensures { ConveyancersAndNotariesLodgeTransfers }
+{}
+
+/// Subdivisions and mergers are lodged by certified surveyors alone, whichever they ask for. In other roles rule 6 denies
+/// them to whoever may ask, and nothing else.
+pub fn surveyors_lodge_subdivisions_and_mergers()
+    ensures { SurveyorsLodgeSubdivisionsAndMergers }
+{}
+
+/// Mortgages and discharges are lodged by banks and notaries alone, and by notaries whoever the creditor is. In other roles
+/// rule 7 denies them to whoever may ask, and nothing else.
+pub fn banks_and_notaries_lodge_mortgages()
+    ensures { BanksAndNotariesLodgeMortgages }
+{}
+
+/// A bank lodges the mortgages of which it is the creditor itself. Those of others rule 8 denies it, and nothing else.
+pub fn banks_lodge_their_own_mortgages()
+    ensures { BanksLodgeTheirOwnMortgages }
+{}
+
+/// A bank lodges the discharges of the mortgages of which it is the creditor now, whichever unit they name. Those of what is
+/// absent, no mortgage or the mortgage of another rule 9 denies it, and nothing else.
+pub fn banks_discharge_their_own_mortgages()
+    ensures { BanksDischargeTheirOwnMortgages }
 {}

@@ -1,0 +1,181 @@
+-- What is asked for: acts of the office, and what is lodged.
+use Rattle.std.proofs.Common.{◌≡◌, inl, inr, ℕ, Bool, true, false, not, Option, Some, None, refl, sym, ap, ◌∙◌, subst}
+use Rattle.std.specs.Prelude.{◌≢◌}
+use Rattle.std.specs.Option.{option_map_or}
+use Rattle.std.specs.FinMap as map
+use Rattle.std.proofs.lemmas.Bool.{false≢true}
+use Rattle.land_core.proofs.Booleans.{both_of, not_true}
+use Rattle.land_core.specs.declared.act.Act.{Act}
+use Rattle.land_core.specs.declared.act.Act.TheVariants as act
+use Rattle.land_core.specs.declared.ask.Ask.{Ask}
+use Rattle.land_core.specs.declared.ask.Ask.TheVariants as ask
+use Rattle.land_core.specs.declared.content.Content.{Content}
+use Rattle.land_core.specs.declared.content.Content.TheVariants as content
+use Rattle.land_core.specs.declared.content.Discharge.{Discharge}
+use Rattle.land_core.specs.declared.content.Mortgage.{Mortgage}
+use Rattle.land_core.specs.declared.register.Register.{Register}
+use Rattle.land_core.specs.declared.rrr.RrrRecord.{RrrRecord}
+use Rattle.land_rules.specs.ActLaws.{to_approve, to_refuse}
+use Rattle.land_rules.specs.Acts.{decides, is_discharge_of_another, is_mortgage_of, is_mortgage_of_another, is_of_a_mortgage, is_of_outlines, is_office_act, is_transfer, lodges}
+use Rattle.land_rules.specs.Relations.{has_lodged, is_rrr_where}
+use Rattle.land_rules.specs.StandingLaws.{HasMortgage, IsOfTheOffice, Lodges, LodgesMortgageOrDischarge, LodgesSubdivisionOrMerger, LodgesTransfer, is_lodging}
+use Rattle.land_rules.proofs.StandingTests.{both, never, not_both, number_at, number_is}
+
+-- whether what is asked for is an act that passes a test
+abbrev pub asks_for : (Act → Bool) → Ask → Bool
+asks_for passes (ask.View k number at) = false
+asks_for passes (ask.List k at) = false
+asks_for passes (ask.Sheet unit at) = false
+asks_for passes (ask.Do it) = passes it
+
+-- an act that lodges what passes a test
+pub record IsLodging (passes : Content → Bool) (a : Ask) : Type 0 where
+  pub content : Content
+  pub lodged : Lodges content a
+  pub meets : passes content ≡ true
+
+lodging_of : (passes : Content → Bool) (a : Ask) → asks_for (lodges passes) a ≡ true → IsLodging passes a
+lodging_of passes (ask.Do (act.Lodge it)) h = record {
+  content = it.content;
+  lodged = record { lodging = it; asked = refl; content = refl };
+  meets = h;
+}
+lodging_of passes other h = absurd (false≢true h)
+
+-- a content that is lodged passes a test or not
+pub lodges_it : (passes : Content → Bool) (a : Ask) (c : Content) → Lodges c a → (b : Bool) → passes c ≡ b → asks_for (lodges passes) a ≡ b
+lodges_it passes a c it b h = subst (λ (x : Ask). asks_for (lodges passes) x ≡ b) (sym it.asked) (ap passes it.content ∙ h)
+
+-- what is lodged passes no test that no such content passes
+pub lodges_no_other : (passes other : Content → Bool) → ((c : Content) → passes c ≡ true → other c ≡ false) → (a : Ask)
+    → asks_for (lodges passes) a ≡ true → asks_for (lodges other) a ≡ false
+lodges_no_other passes other apart a h =
+    let it = lodging_of passes a h in
+    lodges_it other a it.content it.lodged false (apart it.content it.meets)
+
+-- to lodge is no act of the office
+pub lodges_as_no_office : (passes : Content → Bool) (a : Ask) → asks_for (lodges passes) a ≡ true → asks_for is_office_act a ≡ false
+lodges_as_no_office passes a h =
+    let it = lodging_of passes a h in
+    subst (λ (x : Ask). asks_for is_office_act x ≡ false) (sym it.lodged.asked) refl
+
+-- what is no lodging is an act of the office, and lodges nothing
+lodging_or_office : (it : Act) → is_office_act it ≡ not (is_lodging it)
+lodging_or_office (act.Lodge it) = refl
+lodging_or_office other = refl
+
+pub office_lodges_nothing : (passes : Content → Bool) (it : Act) → is_lodging it ≡ false → lodges passes it ≡ false
+office_lodges_nothing passes (act.Lodge it) h = absurd (false≢true (sym h))
+office_lodges_nothing passes other h = refl
+
+pub of_the_office : (a : Ask) → asks_for is_office_act a ≡ true → IsOfTheOffice a
+of_the_office (ask.Do it) h = record { act = it; asked = refl; no_lodging = not_true _ (sym (lodging_or_office it) ∙ h) }
+of_the_office other h = absurd (false≢true h)
+
+pub asks_the_office : (a : Ask) → IsOfTheOffice a → asks_for is_office_act a ≡ true
+asks_the_office a it = subst (λ (x : Ask). asks_for is_office_act x ≡ true) (sym it.asked) (lodging_or_office it.act ∙ ap not it.no_lodging)
+
+-- a decision on nothing that a party lodged
+pub decides_for_others : (now : Register) (party : ℕ) (it : Act)
+    → ((number : ℕ) → has_lodged now party number ≡ true → (ask.Do it ≢ to_approve number) × (ask.Do it ≢ to_refuse number))
+    → decides (has_lodged now party) it ≡ false
+decides_for_others now party (act.Approve it) others = never _ (λ h. (others it.mutation h).0 refl)
+decides_for_others now party (act.Refuse it) others = never _ (λ h. (others it.mutation h).1 refl)
+decides_for_others now party other others = refl
+
+pub outlines_are_no_transfer : (c : Content) → is_of_outlines c ≡ true → is_transfer c ≡ false
+outlines_are_no_transfer (content.Transfer it) h = absurd (false≢true h)
+outlines_are_no_transfer other h = refl
+
+pub mortgages_are_no_transfer : (c : Content) → is_of_a_mortgage c ≡ true → is_transfer c ≡ false
+mortgages_are_no_transfer (content.Transfer it) h = absurd (false≢true h)
+mortgages_are_no_transfer other h = refl
+
+pub mortgages_are_no_outlines : (c : Content) → is_of_a_mortgage c ≡ true → is_of_outlines c ≡ false
+mortgages_are_no_outlines (content.Subdivision it) h = absurd (false≢true h)
+mortgages_are_no_outlines (content.Merger it) h = absurd (false≢true h)
+mortgages_are_no_outlines other h = refl
+
+pub transfer_of : (a : Ask) → asks_for (lodges is_transfer) a ≡ true → LodgesTransfer a
+transfer_of a h = let it = lodging_of is_transfer a h in by_content it.content it.lodged it.meets
+  where
+    by_content : (c : Content) → Lodges c a → is_transfer c ≡ true → LodgesTransfer a
+    by_content (content.Transfer it) lodged h = (it, lodged)
+    by_content other lodged h = absurd (false≢true h)
+
+pub lodges_transfer : (a : Ask) → LodgesTransfer a → asks_for (lodges is_transfer) a ≡ true
+lodges_transfer a (it, lodged) = lodges_it is_transfer a (content.Transfer it) lodged true refl
+
+pub outlines_of : (a : Ask) → asks_for (lodges is_of_outlines) a ≡ true → LodgesSubdivisionOrMerger a
+outlines_of a h = let it = lodging_of is_of_outlines a h in by_content it.content it.lodged it.meets
+  where
+    by_content : (c : Content) → Lodges c a → is_of_outlines c ≡ true → LodgesSubdivisionOrMerger a
+    by_content (content.Subdivision it) lodged h = inl (it, lodged)
+    by_content (content.Merger it) lodged h = inr (it, lodged)
+    by_content other lodged h = absurd (false≢true h)
+
+pub lodges_outlines : (a : Ask) → LodgesSubdivisionOrMerger a → asks_for (lodges is_of_outlines) a ≡ true
+lodges_outlines a (inl (it, lodged)) = lodges_it is_of_outlines a (content.Subdivision it) lodged true refl
+lodges_outlines a (inr (it, lodged)) = lodges_it is_of_outlines a (content.Merger it) lodged true refl
+
+pub mortgage_or_discharge_of : (a : Ask) → asks_for (lodges is_of_a_mortgage) a ≡ true → LodgesMortgageOrDischarge a
+mortgage_or_discharge_of a h = let it = lodging_of is_of_a_mortgage a h in by_content it.content it.lodged it.meets
+  where
+    by_content : (c : Content) → Lodges c a → is_of_a_mortgage c ≡ true → LodgesMortgageOrDischarge a
+    by_content (content.Mortgage it) lodged h = inl (it, lodged)
+    by_content (content.Discharge it) lodged h = inr (it, lodged)
+    by_content other lodged h = absurd (false≢true h)
+
+pub lodges_mortgage_or_discharge : (a : Ask) → LodgesMortgageOrDischarge a → asks_for (lodges is_of_a_mortgage) a ≡ true
+lodges_mortgage_or_discharge a (inl (it, lodged)) = lodges_it is_of_a_mortgage a (content.Mortgage it) lodged true refl
+lodges_mortgage_or_discharge a (inr (it, lodged)) = lodges_it is_of_a_mortgage a (content.Discharge it) lodged true refl
+
+-- a mortgage of another creditor, and a discharge of what is no mortgage of a party
+pub record LodgesForAnother (party : ℕ) (a : Ask) : Type 0 where
+  pub mortgage : Mortgage
+  pub lodged : Lodges (content.Mortgage mortgage) a
+  pub other : mortgage.creditor ≢ party
+
+pub mortgage_of_another : (party : ℕ) (a : Ask) → asks_for (lodges (is_mortgage_of_another party)) a ≡ true → LodgesForAnother party a
+mortgage_of_another party a h = let it = lodging_of (is_mortgage_of_another party) a h in by_content it.content it.lodged it.meets
+  where
+    by_content : (c : Content) → Lodges c a → is_mortgage_of_another party c ≡ true → LodgesForAnother party a
+    by_content (content.Mortgage it) lodged h = record {
+      mortgage = it;
+      lodged = lodged;
+      other = λ same. not_both _ (number_at it.creditor party same) (not_true _ h);
+    }
+    by_content other lodged h = absurd (false≢true h)
+
+pub record EndsForAnother (now : Register) (party : ℕ) (a : Ask) : Type 0 where
+  pub discharge : Discharge
+  pub lodged : Lodges (content.Discharge discharge) a
+  pub other : is_rrr_where (is_mortgage_of party) now discharge.mortgage ≡ false
+
+pub discharge_of_another : (now : Register) (party : ℕ) (a : Ask)
+    → asks_for (lodges (is_discharge_of_another now party)) a ≡ true → EndsForAnother now party a
+discharge_of_another now party a h = let it = lodging_of (is_discharge_of_another now party) a h in by_content it.content it.lodged it.meets
+  where
+    by_content : (c : Content) → Lodges c a → is_discharge_of_another now party c ≡ true → EndsForAnother now party a
+    by_content (content.Discharge it) lodged h = record { discharge = it; lodged = lodged; other = not_true _ h }
+    by_content other lodged h = absurd (false≢true h)
+
+-- what a discharge asks for is a mortgage of the party, or it is none
+mortgage_found : (now : Register) (party number : ℕ) → is_rrr_where (is_mortgage_of party) now number ≡ true → HasMortgage now party number
+mortgage_found now party number h = found (map.get now.rrrs number) refl h
+  where
+    found : (o : Option RrrRecord) → map.get now.rrrs number ≡ o → option_map_or (is_mortgage_of party) o false ≡ true
+        → HasMortgage now party number
+    found None e h = absurd (false≢true h)
+    found (Some entry) e h =
+        let parts = both_of _ _ h in
+        record { entry = entry; there = e; class = parts.0; creditor = number_is entry.party party parts.1 }
+
+pub mortgage_is_found : (now : Register) (party number : ℕ) → HasMortgage now party number
+    → is_rrr_where (is_mortgage_of party) now number ≡ true
+mortgage_is_found now party number h =
+    ap (λ o. option_map_or (is_mortgage_of party) o false) h.there ∙ both _ _ h.class (number_at h.entry.party party h.creditor)
+
+pub no_mortgage_found : (now : Register) (party number : ℕ) → (HasMortgage now party number → ⊥)
+    → is_rrr_where (is_mortgage_of party) now number ≡ false
+no_mortgage_found now party number none = never _ (λ h. none (mortgage_found now party number h))
