@@ -30,21 +30,26 @@ use Rattle.land_core.specs.declared.register.Register.{Register}
 use Rattle.land_shape.specs.Matching.{Match}
 use Rattle.land_shape.specs.Place.{Place}
 
--- what is approved puts the parcels of its content, which is not refused
-record IsApproved (r : Register) (m : MutationRecord) (c : Content) (stamp : ℤ) (change : Change) : Type 0 where
-  unrefused : first_that_holds (content_refusals r c (Some stamp)) ≡ None
-  puts : outlines_put change ≡ outlines_put (content_change r m.source c)
+-- what is approved makes the change of its content, which is not refused, and so puts its parcels
+pub record IsApproved (r : Register) (decision : Decision) (m : MutationRecord) (c : Content) (stamp : ℤ) (change : Change) : Type 0 where
+  pub unrefused : first_that_holds (content_refusals r c (Some stamp)) ≡ None
+  pub same : with_state Approved decision.mutation m (content_change r m.source c) ≡ change
+  pub puts : outlines_put change ≡ outlines_put (content_change r m.source c)
 
-approved : (r : Register) (caller : Caller) (decision : Decision) (m : MutationRecord) (c : Content) (stamp : ℤ) (change : Change) (done : Done)
-    → map.get r.mutations decision.mutation ≡ Some m → m.content ≡ c → outcome_of r caller (Approve decision) (Some stamp) ≡ Ok (New change done) → IsApproved r m c stamp change
+pub approved : (r : Register) (caller : Caller) (decision : Decision) (m : MutationRecord) (c : Content) (stamp : ℤ) (change : Change) (done : Done)
+    → map.get r.mutations decision.mutation ≡ Some m → m.content ≡ c → outcome_of r caller (Approve decision) (Some stamp) ≡ Ok (New change done)
+    → IsApproved r decision m c stamp change
 approved r caller decision m c stamp change done there is outcome =
     let plan = planned r caller (Approve decision) stamp change done outcome in
     let lines = (first_none NotLodged (not (is_lodged r decision.mutation)) (option_map_or (λ m. content_refusals r m.content (Some stamp)) (map.get r.mutations decision.mutation) []) plan.none_holds).rest in
+    let made : with_state Approved decision.mutation m (content_change r m.source c) ≡ change =
+    ap (λ c. with_state Approved decision.mutation m (content_change r m.source c)) (sym is)
+    ∙ ap (λ o. option_map_or (λ m. with_state Approved decision.mutation m (content_change r m.source m.content)) o (no_change r.next)) (sym there)
+    ∙ plan.same in
     record {
       unrefused = sym (ap (λ o. first_that_holds (option_map_or (λ m. content_refusals r m.content (Some stamp)) o [])) there ∙ ap (λ c. first_that_holds (content_refusals r c (Some stamp))) is) ∙ lines;
-      puts = sym (ap outlines_put plan.same)
-          ∙ ap (λ o. outlines_put (option_map_or (λ m. with_state Approved decision.mutation m (content_change r m.source m.content)) o (no_change r.next))) there
-          ∙ ap (λ c. outlines_put (content_change r m.source c)) is;
+      same = made;
+      puts = sym (ap outlines_put made);
     }
 
 pub subdivisions_keep_areas : SubdivisionsKeepAreas

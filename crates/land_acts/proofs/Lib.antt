@@ -32,7 +32,9 @@ pub mod Numbers
 pub mod Outcomes
 pub mod PartyActs
 pub mod Refusals
+pub mod RegisterAreas
 pub mod RegisteredUnits
+pub mod ReplacedParcels
 pub mod RoleActs
 pub mod SameGround
 pub mod SlicedDecisions

@@ -48,7 +48,7 @@ unrefused_subdivision r it stamp none =
     record { unit = not_false _ unit.first; parcel = not_false _ parcel.first; room = room.0; few = room.1; ground = not_false _ ground.first }
 
 -- the parcels that are put have the outlines of the parts
-outlines_made : (origin : Origin) (first : ℕ) (parts : List Part) → map_list (λ e. e.1.outline) (parcels_made origin first parts) ≡ outlines_of parts
+pub outlines_made : (origin : Origin) (first : ℕ) (parts : List Part) → map_list (λ e. e.1.outline) (parcels_made origin first parts) ≡ outlines_of parts
 outlines_made origin first [] = refl
 outlines_made origin first (part ∷ parts) = by_unit (λ n. outlines_made origin n parts) part.unit
   where

@@ -108,6 +108,17 @@ module _ (origin : Origin) where
           subst (Rise first) (sym (map-append (λ e. e.0) (numbered (first + 2) copies) others))
           (rise_from first (first + 2) (omega arith) (keys (numbered (first + 2) copies) ++ keys others) risen)
 
+-- numbers that rise from one on are none below it
+above_least : {V : Type 0} (least : ℕ) (es : List (ℕ × V)) → Rise least (keys es) → AllByRecursion (λ e. least ≤ e.0) es
+above_least least [] rise = tt
+above_least least (e ∷ es) rise = (rise.0, above_least least es (rise_from least (e.0 + 1) (let above = rise.0 in omega (arith, above)) (keys es) rise.1))
+
+-- the new parcels have numbers from the next one on
+pub parcels_above : (r : Register) (source : ℕ) (it : Subdivision) → AllByRecursion (λ e. r.next ≤ e.0) (subdivision_change r source it).put.parcels
+parcels_above r source it =
+    let origin = origin_of r source it in
+    above_least r.next (parcels_made origin r.next (all_parts it)) (parcels_rise origin r.next (all_parts it))
+
 -- a subdivision of a parcel that stands puts and ends no key twice
 pub subdivision_names_once : (r : Register) (source : ℕ) (it : Subdivision) → IsSound r → has_parcel_in r it.unit it.parcel ≡ true → NamesKeysOnce (subdivision_change r source it)
 subdivision_names_once r source it sound parcel = record {

@@ -13,6 +13,7 @@ pub mod Lodging
 pub mod MutationLaws
 pub mod Mutations
 pub mod Outcome
+pub mod RegisterAreas
 pub mod Registering
 pub mod Regrouping
 pub mod Revoking

@@ -3,6 +3,7 @@ ghost use Rattle.land_acts.specs.AreaLaws.{MergersKeepAreas, SubdivisionsKeepAre
 ghost use Rattle.land_acts.specs.GroundLaws.{MergersKeepGround, SubdivisionsKeepGround};
 ghost use Rattle.land_acts.specs.Laws.{SlicesSuffice, AcceptedKeepsSound, AcceptedNamesKeysOnce, AcceptedTellsStamp, NothingWithoutStamp};
 ghost use Rattle.land_acts.specs.MutationLaws.{DecisionsStay, LodgingsStand, LodgingsStay, RepeatsAreToldTheFirst};
+ghost use Rattle.land_acts.specs.RegisterAreas.{ApprovedRegistersKeepTheirArea, RegistrationsAloneAddArea};
 
 /// An act has the same outcome over a register and over its slice.
 pub fn slices_suffice()
@@ -67,4 +68,16 @@ pub fn subdivisions_keep_ground()
 /// The parcel of an approved merger is the ground of the parcels that ended together.
 pub fn mergers_keep_ground()
     ensures { MergersKeepGround }
+{}
+
+/// After an approval the new parcels stand in the place of those that were cut or merged, and are their ground; every other parcel
+/// is as it was, and all parcels of the register have together the area that they had.
+pub fn approved_registers_keep_their_area()
+    ensures { ApprovedRegistersKeepTheirArea }
+{}
+
+/// After an accepted act all parcels of the register have together the area that they had, and that of the parcels that the act
+/// registers: no act but a registration changes it.
+pub fn registrations_alone_add_area()
+    ensures { RegistrationsAloneAddArea }
 {}
