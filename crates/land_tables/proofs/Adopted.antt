@@ -10,7 +10,8 @@ use Rattle.land_core.proofs.Booleans.{both_of}
 use Rattle.land_keep.specs.Moments.{IsMoment, last_moment}
 use Rattle.land_keep.specs.Timeline.{last_register, last_stamp}
 use Rattle.land_tables.proofs.Tellings.{read_stands, tells, told_reordered}
-use Rattle.land_tables.specs.Adopting.{AreFirst, AreIntervals, AreOurs, HoldsNone, IsRefused, IsRegisterTo}
+use Rattle.land_tables.specs.Adopting.{HoldsNone, IsRefused, IsRegisterTo}
+use Rattle.land_tables.specs.Registers.{AreFirst, AreIntervals, AreOurs}
 use Rattle.land_tables.specs.Findings.{Finds, IsJudged, IsPassed, Misses, SaysAll, is_first_version, is_one_edition}
 use Rattle.land_tables.specs.Standing.{HoldsTimeline, timeline_in}
 use Rattle.land_tables.specs.Timelines.{timeline_of}
@@ -42,7 +43,7 @@ use Rattle.sqlite_value.specs.declared.value.Value.{Value}
 -- ---- one edition
 
 -- a list of one has one order
-alone : {X : Type 0} (x : X) (ys : List X) → IsPermutation (x ∷ []) ys → ys ≡ x ∷ []
+pub alone : {X : Type 0} (x : X) (ys : List X) → IsPermutation (x ∷ []) ys → ys ≡ x ∷ []
 alone x [] p = absurd (let e = length_permutation (x ∷ []) [] p in omega (arith, e))
 alone x (y ∷ []) p = let all = recursion_from_All (λ z. z ≡ x) (y ∷ []) (All-permutation (λ z. z ≡ x) (x ∷ []) (y ∷ []) p (All-cons (λ z. z ≡ x) x [] refl (All-nil (λ z. z ≡ x)))) in ap (λ z. z ∷ []) all.0
 alone x (y ∷ (z ∷ zs)) p = absurd (let e = length_permutation (x ∷ []) (y ∷ (z ∷ zs)) p in omega (arith, e))

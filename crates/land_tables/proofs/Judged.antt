@@ -23,12 +23,17 @@ no_last : (ms : List Moment) (h : History) → last ms ≡ None → ¬ IsLawful 
 no_last [] h none lawful = (let e = lawful.moments in cc)
 no_last (m ∷ ms) h none lawful = some_last m ms none
 
-pub judged : (found : Findings) (r : Result Moment AdoptFault) → is_one_edition found.editions ≡ true → is_first_version found.editions ≡ true → has_intervals found.moments found.history ≡ true
-    → IsLawful found.moments found.history → IsLatest found.moments r → IsJudged found r
-judged found (Ok latest) one first intervals lawful is = record { passes = record { one = one; first = first; intervals = intervals; lawful = lawful }; last = is }
-judged found (Err Unsound) one first intervals lawful is = (one, first, intervals, no_last found.moments found.history is)
-judged found (Err Store) one first intervals lawful is = is
-judged found (Err NotOurs) one first intervals lawful is = absurd is
-judged found (Err Version) one first intervals lawful is = absurd is
-judged found (Err Interval) one first intervals lawful is = absurd is
-judged found (Err NoMemory) one first intervals lawful is = absurd is
+-- what has passed the tests before the latest moment, and has none that is one
+pub missed : (found : Findings) (fault : AdoptFault) → is_one_edition found.editions ≡ true → is_first_version found.editions ≡ true → has_intervals found.moments found.history ≡ true
+    → IsLatest found.moments (Err fault) → IsJudged found (Err fault)
+missed found Unsound one first intervals is = (one, first, intervals, no_last found.moments found.history is)
+missed found Store one first intervals is = is
+missed found NotOurs one first intervals is = absurd is
+missed found Version one first intervals is = absurd is
+missed found Interval one first intervals is = absurd is
+missed found NoMemory one first intervals is = absurd is
+
+-- what passes all tests
+pub passed : (found : Findings) (latest : Moment) → is_one_edition found.editions ≡ true → is_first_version found.editions ≡ true → has_intervals found.moments found.history ≡ true
+    → IsLawful found.moments found.history → last found.moments ≡ Some latest → IsJudged found (Ok latest)
+passed found latest one first intervals lawful is = record { passes = record { one = one; first = first; intervals = intervals; lawful = lawful }; last = is }

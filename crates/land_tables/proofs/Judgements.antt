@@ -1,5 +1,6 @@
 -- A store that was looked at, and is open, is as it was.
 use Rattle.std.proofs.Common.{◌≡◌, ◌≢◌, ◌⊎◌, inl, inr, Ok, Err, Result, IsTrue, sym, ap, ◌∙◌, subst}
+use Rattle.land_tables.proofs.Editions.{keeps_first}
 use Rattle.land_tables.specs.Adopting.{IsJudgement, IsRefused, IsRegisterTo}
 use Rattle.land_tables.specs.Calls.{IsSame}
 use Rattle.land_tables.specs.Office.{IsOffice}
@@ -50,6 +51,8 @@ same_office old new latest same to =
         is_open = same.is_open;
         committed = same.committed;
         land = it.register.intervals.first.ours.land;
+        edition = keeps_first new.now it.register.intervals.first;
+        intervals = it.register.intervals.intervals;
         holds = it.register.holds;
         sound = it.register.sound;
       };

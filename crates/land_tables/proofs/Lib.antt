@@ -1,12 +1,16 @@
 -- Lemmas of the register's timeline in tables.
 pub mod Adopted
 pub mod AdoptedTimelines
+pub mod Begun
 pub mod Between
+pub mod Editions
 pub mod Findings
+pub mod InTime
 pub mod IntervalOrders
 pub mod Judged
 pub mod Judgements
 pub mod Keeping
+pub mod KeptIntervals
 pub mod Latest
 pub mod Lawfulness
 pub mod Members
@@ -18,6 +22,7 @@ pub mod Reordered
 pub mod Rising
 pub mod Sorting
 pub mod Tellings
+pub mod ToldIntervals
 pub mod Written
 pub mod WrittenTimelines
 pub mod WrittenVersions

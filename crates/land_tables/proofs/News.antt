@@ -9,6 +9,7 @@ use Rattle.land_core.specs.declared.mutation.MutationRecord.{MutationRecord}
 use Rattle.land_keep.specs.Moments.{IsMoment}
 use Rattle.land_keep.specs.Timeline.{IsSoundTimeline, new_timeline}
 use Rattle.land_tables.proofs.Tellings.{tells}
+use Rattle.land_tables.proofs.ToldIntervals.{told_intervals}
 use Rattle.land_tables.specs.Office.{IsNewOffice}
 use Rattle.land_tables.specs.Standing.{HoldsTimeline, timeline_in}
 use Rattle.land_tables.specs.Timelines.{StandsFor}
@@ -16,9 +17,12 @@ use Rattle.land_tables.specs.Timelines.Laws.{LawfulVersionsStand, OrderDoesNotMa
 use Rattle.land_tables_history.proofs.Orders.{no_more}
 use Rattle.land_tables_history.specs.History.{named_units, namings_of}
 use Rattle.land_tables_history.specs.History.{register_at}
+use Rattle.land_tables_history.specs.Intervals.{has_intervals}
 use Rattle.land_tables_history.specs.Lawful.{IsLawful, IsLawfulAt, are_same_namings}
 use Rattle.land_tables_history.specs.Standing.{standing}
 use Rattle.land_tables_history.specs.declared.moment.Moment.{Moment}
+use Rattle.land_tables_rows.specs.Listing.Reading.{moments}
+use Rattle.land_tables_rows.specs.Listing.Told.{history_in, told_by}
 use Rattle.land_tables_rows.specs.Writing.Laws.{NewRegistersAreHeld}
 use Rattle.land_tables_rows.specs.Writing.NewHistory.{new_history, new_moments}
 use Rattle.land_tables_schema.specs.Rows.Held.{HoldsRows, IsNew, new_rows}
@@ -53,6 +57,9 @@ new_is_sound_too law = (stands law).1
 pub new_holds : LawfulVersionsStand → NewRegistersAreHeld → (db : Trees) → HoldsRows db new_rows → HoldsTimeline db new_timeline
 new_holds law held db rows = record { listed = new_moments; history = new_history; holds = (held db rows).history; stands = (stands law).0 }
 
+new_intervals : LawfulVersionsStand → NewRegistersAreHeld → (db : Trees) → HoldsRows db new_rows → has_intervals (told_by moments db) (history_in db) ≡ true
+new_intervals law held db rows = told_intervals db new_timeline (record { listed = new_moments; history = new_history; holds = (held db rows).history; stands = (stands law).0 })
+
 -- tables that were just made hold the new timeline
 module _ (law : LawfulVersionsStand) (held : NewRegistersAreHeld) (one : VersionsStandForOne) (order : OrderDoesNotMatter) (s : State) (new : IsNew s.now) where
   tells_new : timeline_in s.now.trees ≡ new_timeline
@@ -65,6 +72,8 @@ module _ (law : LawfulVersionsStand) (held : NewRegistersAreHeld) (one : Version
         is_open = is_open;
         committed = committed;
         land = record { tables = ap (λ (t : Schema). t.tables) new.schema; views = ap (λ (t : Schema). t.views) new.schema };
+        edition = (held s.now.trees new.rows).editions;
+        intervals = new_intervals law held s.now.trees new.rows;
         holds = rw tells_new (new_holds law held s.now.trees new.rows);
         sound = rw tells_new (new_is_sound_too law);
       };

@@ -34,6 +34,9 @@ none_found t less (v ∷ vs) all =
 pub before_all : (tl : Timeline) (t : ℤ) → IsSoundTimeline tl → t <ℤ pos 0 → register_at tl t ≡ nothing
 before_all tl t sound less = ap (λ (o : Option Version). unwrap_or (option_map (λ (v : Version). v.register) o) nothing) (none_found t less tl sound.moments)
 
+pub not_before : (t : ℤ) → int_lt t (pos 0) ≡ false → pos 0 ≤ℤ t
+not_before t h = grind (arith, ints)
+
 later : (a b c : ℤ) → a ≤ℤ b → b ≤ℤ c → a ≤ℤ c
 later a b c le more = omega (arith, ints)
 

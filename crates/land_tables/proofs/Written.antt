@@ -1,5 +1,5 @@
 -- Tables in which a change was written stand for the timeline with it.
-use Rattle.std.proofs.Common.{◌≡◌, ◌≢◌, ◌⊎◌, inl, inr, ◌∷◌, Bool, false, Result, Ok, Err, ℕ, refl, sym, ap, subst, ◌∙◌, IsTrue, arith}
+use Rattle.std.proofs.Common.{◌≡◌, ◌≢◌, ◌⊎◌, inl, inr, [], ◌∷◌, Bool, true, false, Result, Ok, Err, ℕ, refl, sym, ap, subst, ◌∙◌, IsTrue, arith}
 use Rattle.std.specs.Prelude.{ℤ, ◌≤ℤ◌}
 use Rattle.std.proofs.lemmas.Int.{ints}
 use Rattle.land_core.specs.declared.change.Change.{Change}
@@ -12,14 +12,20 @@ use Rattle.land_keep.specs.Moments.{last_moment}
 use Rattle.land_keep.specs.Timeline.{IsSoundTimeline, Timeline, last_register, last_stamp}
 use Rattle.land_keep.specs.declared.store_fault.StoreFault.{StoreFault}
 use Rattle.land_keep.specs.declared.store_fault.StoreFault.TheVariants.{Store}
+use Rattle.land_tables.proofs.KeptIntervals.{writes_keep_intervals}
 use Rattle.land_tables.proofs.Tellings.{tells}
+use Rattle.land_tables.proofs.ToldIntervals.{told_intervals}
 use Rattle.land_tables.proofs.WrittenTimelines.{stays_last, written_last}
-use Rattle.land_tables.specs.Calls.{IsSafeWrite, IsSame, MayRecord}
+use Rattle.land_tables.specs.Calls.{IsSafeRead, IsSafeWrite, IsSame, MayRecord}
 use Rattle.land_tables.specs.Office.{HoldsRegister, IsHonest, IsOffice, IsWhole, LeavesEither, Office, Rests, held}
 use Rattle.land_tables.specs.Standing.{HoldsTimeline, timeline_in}
 use Rattle.land_tables.specs.Timelines.Laws.{OrderDoesNotMatter, VersionsStandForOne}
 use Rattle.land_tables.specs.Timelines.Writing.{WritesStand}
 use Rattle.land_tables_history.specs.Changed.{changed}
+use Rattle.land_tables_history.specs.Intervals.{has_intervals}
+use Rattle.land_tables_rows.specs.Edition.Writing.{first_edition}
+use Rattle.land_tables_rows.specs.Listing.Reading.{moments}
+use Rattle.land_tables_rows.specs.Listing.Told.{history_in, told_by}
 use Rattle.land_tables_rows.specs.Recording.Whole.{Records}
 use Rattle.land_tables_rows.specs.Writing.History.{HoldsHistory}
 use Rattle.land_tables_schema.specs.Land.{IsLand}
@@ -54,6 +60,13 @@ module _ (one : VersionsStandForOne) (order : OrderDoesNotMatter) (writes : Writ
   tells_written old new next tl sound holds is can done =
       tells one order new.trees (written tl change stamp) (holds_written old new next tl sound holds is can done) (keeps tl change stamp sound can)
 
+  intervals_written : (old new : Database) (next : ℕ) (tl : Timeline) (sound : IsSoundTimeline tl) (holds : HoldsTimeline old.trees tl) (is : next ≡ (last_register tl).next) (can : CanWrite tl change stamp)
+      (done : Records change next stamp old new) → has_intervals (told_by moments old.trees) (history_in old.trees) ≡ true → has_intervals (told_by moments new.trees) (history_in new.trees) ≡ true
+  unfolding holds_written
+  intervals_written old new next tl sound holds is can done were =
+      told_intervals new.trees (written tl change stamp) (holds_written old new next tl sound holds is can done)
+      ∙ writes_keep_intervals holds.listed holds.history tl change stamp sound holds.stands can (keeps tl change stamp sound can) (sym (told_intervals old.trees tl holds) ∙ were)
+
   pub office_written : (old new : State) (last : ℤ) (next : ℕ) → IsOffice old last next → CanWrite (timeline_in old.now.trees) change stamp → Records change next stamp old.now new.now
       → IsTrue new.is_open → new.committed ≡ new.now → IsOffice new stamp change.next
   office_written old new last next office can done is_open committed =
@@ -65,6 +78,8 @@ module _ (one : VersionsStandForOne) (order : OrderDoesNotMatter) (writes : Writ
           is_open = is_open;
           committed = committed;
           land = subst IsLand (sym done.schema) it.land;
+          edition = done.editions (first_edition ∷ []) it.edition;
+          intervals = intervals_written old.now new.now next tl it.sound it.holds office.next can done it.intervals;
           holds = rw tells_new (holds_written old.now new.now next tl it.sound it.holds office.next can done);
           sound = rw tells_new (keeps tl change stamp it.sound can);
         };
@@ -92,12 +107,14 @@ not_recorded {Commits = Commits} a b c fault register neither first told next = 
 }
 
 -- a store that is as it was is the office that it was
-same_office : (a b : State) (last : ℤ) (next : ℕ) → IsOffice a last next → IsSame a b → IsOffice b last next
+pub same_office : (a b : State) (last : ℤ) (next : ℕ) → IsOffice a last next → IsSame a b → IsOffice b last next
 same_office a b last next office same = record {
   register = record {
     is_open = same.is_open;
     committed = same.committed;
     land = rw same.now office.register.land;
+    edition = rw same.now office.register.edition;
+    intervals = rw same.now office.register.intervals;
     holds = rw same.now office.register.holds;
     sound = rw same.now office.register.sound;
   };
@@ -167,3 +184,17 @@ module _ {S : Type 0} (g : Ghosts S) (one : VersionsStandForOne) (order : OrderD
     moment = whole.moment;
     office = λ still. same_office a b now.last now.next (whole.office (clean_before a b safe.survives still.0, open_still)) (safe.same still.0 (other still.1));
   }
+
+-- tables after a read that failed
+pub whole_read : {S X : Type 0} (g : Ghosts S) (now : Office S) → IsWhole g now → now.is_closed ≡ false → (conn : Held S) (closed : Bool) → conn.in_transaction ≡ false
+    → (fault : StoreFault) (Given : X → Type 0) → (closed ≡ false → fault ≢ Store) → IsSafeRead (Err fault) Given (state g now.conn) (state g conn)
+    → IsWhole g (record { conn = conn; last = now.last; next = now.next; is_closed = closed })
+whole_read {X = X} g now whole open_still conn closed alone fault Given other safe = record {
+  alone = alone;
+  moment = whole.moment;
+  office = λ live. same_office (state g now.conn) (state g conn) now.last now.next (whole.office (clean_before (state g now.conn) (state g conn) safe.survives live.0, open_still))
+      (safe.same live.0 (λ e. other live.1 (faults e)));
+}
+  where
+    faults : ◌≡◌ {A = Result X StoreFault} (Err fault) (Err Store) → fault ≡ Store
+    faults e = cc

@@ -16,7 +16,7 @@ is_reached t stamp le = grind (arith, ints)
 earlier : (a b c : ℤ) → a <ℤ b → b ≤ℤ c → a ≤ℤ c
 earlier a b c less le = omega (arith, ints)
 
-first_before_last : (v : Version) (vs : Timeline) (t : ℤ) → Rises v vs → (last_from v vs).stamp ≤ℤ t → v.stamp ≤ℤ t
+pub first_before_last : (v : Version) (vs : Timeline) (t : ℤ) → Rises v vs → (last_from v vs).stamp ≤ℤ t → v.stamp ≤ℤ t
 first_before_last v [] t rises le = le
 first_before_last v (w ∷ ws) t rises le = earlier v.stamp w.stamp t rises.0 (first_before_last w ws t rises.2 le)
 
@@ -46,3 +46,7 @@ last_after (v ∷ vs) w = from v vs
 -- the last stamp is that of the change
 pub written_last : (tl : Timeline) (change : Change) (stamp : ℤ) → last_stamp (written tl change stamp) ≡ stamp
 written_last tl change stamp = ap (λ o. unwrap_or (option_map (λ (v : Version). v.stamp) o) (pos 0)) (last_after tl (record { stamp = stamp; register = after change (last_register tl) }))
+
+-- and the last register has the change
+pub written_register : (tl : Timeline) (change : Change) (stamp : ℤ) → last_register (written tl change stamp) ≡ after change (last_register tl)
+written_register tl change stamp = ap (λ o. unwrap_or (option_map (λ (v : Version). v.register) o) nothing) (last_after tl (record { stamp = stamp; register = after change (last_register tl) }))

@@ -4,5 +4,6 @@ pub mod Calls
 pub mod Faults
 pub mod Findings
 pub mod Office
+pub mod Registers
 pub mod Standing
 pub mod Timelines

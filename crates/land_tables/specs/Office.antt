@@ -1,10 +1,14 @@
 -- Tables with a register's timeline, and what calls leave of them.
-use Rattle.std.specs.Prelude.{◌≡◌, ◌⊎◌, ◌≤ℤ◌, ℕ, ℤ, pos, Bool, false, IsTrue, refl}
+use Rattle.std.specs.Prelude.{◌≡◌, ◌⊎◌, ◌≤ℤ◌, ℕ, ℤ, pos, Bool, true, false, [], ◌∷◌, IsTrue, refl}
 use Rattle.std.specs.Coded.{Coded, code_by, coded×, coded_ℕ, coded_ℤ, coded_bool}
 use Rattle.land_keep.specs.Keeping.{IsLive}
 use Rattle.land_keep.specs.Moments.{last_moment}
 use Rattle.land_keep.specs.Timeline.{IsSoundTimeline, Timeline, last_register, last_stamp, new_timeline}
 use Rattle.land_tables.specs.Standing.{HoldsTimeline, timeline_in}
+use Rattle.land_tables_history.specs.Intervals.{has_intervals}
+use Rattle.land_tables_rows.specs.Edition.Writing.{KeepsEditions, first_edition}
+use Rattle.land_tables_rows.specs.Listing.Reading.{moments}
+use Rattle.land_tables_rows.specs.Listing.Told.{history_in, told_by}
 use Rattle.land_tables_schema.specs.Land.{IsLand}
 use Rattle.sqlite.specs.Held.{Held, held_code, state}
 use Rattle.sqlite.specs.State.{HasCleanDisk, State}
@@ -23,11 +27,14 @@ office_code {S} store =
     code_by (Held S × (ℤ × (ℕ × Bool))) (coded× (held_code store) (coded× coded_ℤ (coded× coded_ℕ coded_bool)))
     (λ o. (o.conn, (o.last, (o.next, o.is_closed)))) (λ p. record { conn = p.0; last = p.1.0; next = p.1.1.0; is_closed = p.1.1.1 }) (λ _. refl)
 
--- an open store has the tables of a register and holds a sound timeline, all of it committed
+-- an open store has the tables of a register, made by the first version of their shapes, in which lifespans are as they may be, and holds a
+-- sound timeline, all of it committed
 pub record HoldsRegister (s : State) : Type 0 where
   pub is_open : IsTrue s.is_open
   pub committed : s.committed ≡ s.now
   pub land : IsLand s.now.schema
+  pub edition : KeepsEditions s.now.trees (first_edition ∷ [])
+  pub intervals : has_intervals (told_by moments s.now.trees) (history_in s.now.trees) ≡ true
   pub holds : HoldsTimeline s.now.trees (timeline_in s.now.trees)
   pub sound : IsSoundTimeline (timeline_in s.now.trees)
 
@@ -72,6 +79,21 @@ pub record IsNewOffice (s : State) : Type 0 where
 pub record IsCreated {S : Type 0} (g : Ghosts S) (o : Office S) : Type 0 where
   pub timeline : IsHonest g o → held g o ≡ new_timeline
   pub is_open : o.is_closed ≡ false
+
+-- a store in which nothing was made is open, and shows what was committed before
+pub record AreUntouched (old new : State) : Type 0 where
+  pub is_open : IsTrue new.is_open
+  pub now : new.now ≡ old.committed
+  pub committed : new.committed ≡ old.committed
+
+-- and a crash leaves that, and nothing else
+pub record StaysUntouched (old new : State) : Type 0 where
+  pub untouched : AreUntouched old new
+  pub crash : (db : Trees) → new.may_leave db → db ≡ old.committed.trees
+
+-- of a store that was open a crash leaves what was committed before, or the new register
+abbrev pub LeavesOrBegins : (old new : State) → Type 0
+LeavesOrBegins old new = HasCleanDisk new → IsTrue old.is_open → (db : Trees) → new.may_leave db → (db ≡ old.committed.trees) ⊎ HoldsTimeline db new_timeline
 
 -- a store that is open after a fault has what it had, or what was committed last
 abbrev pub IsKept : (old new : State) → Type 0

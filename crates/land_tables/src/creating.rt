@@ -1,18 +1,19 @@
 //! A new register is made.
-ghost use Rattle.std.specs.Prelude.{◌≡◌, ◌≢◌, false, IsTrue, OnErr, OnOk};
+ghost use Rattle.std.specs.Prelude.{◌≡◌, ◌≢◌, false, IsTrue, Err, IfErr, OnErr, OnOk};
 ghost use Rattle.land_keep.specs.Timeline.{new_timeline};
 ghost use Rattle.land_keep.specs.declared.store_fault.StoreFault.TheVariants as store;
-ghost use Rattle.land_tables.specs.Office.{IsNewOffice};
+ghost use Rattle.land_tables.specs.Office.{AreUntouched, IsNewOffice};
 ghost use Rattle.land_tables.specs.Standing.{HoldsTimeline};
 ghost use Rattle.land_tables_schema.specs.Land.{no_schema};
 ghost use Rattle.sqlite.specs.Held.{state};
 ghost use Rattle.sqlite.specs.State.{HasCleanDisk, Survives};
 
-use crate::fault::store_fault;
+use crate::register::failed;
 use crate::timelines::laws::{
     lawful_versions_stand, order_does_not_matter, versions_stand_for_one,
 };
 use land_keep::store_fault::StoreFault;
+use land_tables_rows::listing::fault::ReadFault;
 use land_tables_rows::writing::laws::new_registers_are_held;
 use land_tables_schema::rows::creation::make_register;
 use sqlite::{Alter, Connection};
@@ -24,6 +25,9 @@ pub(crate) fn begin_register<S: Alter>(conn: &mut Connection<S>) -> Result<(), S
     ensures made { HasCleanDisk (state S.Store conn.new) → OnOk result (IsNewOffice (state S.Store conn.new)) }
     ensures neither { HasCleanDisk (state S.Store conn.new) → IsTrue (state S.Store conn.new).is_open
         → OnErr result ((state S.Store conn.new).now ≡ (state S.Store conn.old).committed) }
+    ensures untouched { HasCleanDisk (state S.Store conn.new)
+        → IfErr result (λ fault. fault ≢ store.Store → AreUntouched (state S.Store conn.old) (state S.Store conn.new)) }
+    ensures open { result ≢ Err store.Closed }
     ensures crash { Survives (state S.Store conn.old) (state S.Store conn.new) (λ db. HoldsTimeline db new_timeline) }
     ensures ended { conn.new.in_transaction ≡ false }
 {
@@ -33,6 +37,6 @@ pub(crate) fn begin_register<S: Alter>(conn: &mut Connection<S>) -> Result<(), S
     new_registers_are_held();
     match make_register(conn) {
         Ok(()) => Ok(()),
-        Err(error) => Err(store_fault(error)),
+        Err(error) => Err(failed(conn, ReadFault::from(error))),
     }
 }

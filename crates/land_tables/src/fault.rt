@@ -1,10 +1,7 @@
 //! Faults of stores that are taken for a register's.
-ghost use Rattle.std.specs.Prelude.{◌≡◌, ◌≢◌};
-ghost use Rattle.land_keep.specs.declared.store_fault.StoreFault.TheVariants as store;
+ghost use Rattle.std.specs.Prelude.{◌≡◌};
 
-use land_keep::store_fault::StoreFault;
 use land_tables_rows::listing::fault::ReadFault;
-use sqlite::{Error, ErrorCode};
 use std::alloc::AllocError;
 
 /// Why a store is not taken for a register's. It is as it was.
@@ -64,15 +61,5 @@ impl From<ReadFault> for AdoptFault {
             ReadFault::NoMemory => AdoptFault::NoMemory,
             ReadFault::Store => AdoptFault::Store,
         }
-    }
-}
-
-/// What a failed call is told as that leaves all as it was: 501 where memory was wanting, else 502.
-pub(crate) fn store_fault(error: Error) -> StoreFault
-    ensures { result ≢ store.Closed }
-{
-    match error {
-        Error::SqliteFailure(ErrorCode::OutOfMemory) => StoreFault::NoMemory,
-        _ => StoreFault::Store,
     }
 }

@@ -1,15 +1,17 @@
 //! Whether what is found in tables is a register's.
-ghost use Rattle.std.specs.Prelude.{◌≡◌, ◌≤ℤ◌, IfOk};
+ghost use Rattle.std.specs.Prelude.{◌≡◌, ◌≤ℤ◌, true, Some, IfOk};
 ghost use Rattle.land_keep.specs.Moments.{last_moment};
 ghost use Rattle.land_tables.specs.Findings.{IsJudged, IsLatest, is_first_version, is_one_edition};
+ghost use Rattle.land_tables_history.specs.Intervals.{has_intervals};
+ghost use Rattle.land_tables_history.specs.Moments.{last};
 
 use crate::fault::AdoptFault;
 use crate::finding::Findings;
 use land_core::limits::LAST_MOMENT;
 use land_tables_history::intervals::has_intervals;
-use land_tables_history::lawful::is_lawful;
 use land_tables_history::moment::Moment;
 use land_tables_history::moments::last;
+use land_tables_lawful::lawful::is_lawful;
 use land_tables_rows::edition::reading::Edition;
 use std::alloc::Global;
 
@@ -28,13 +30,32 @@ pub(crate) fn judge(alloc: Global, found: &Findings) -> Result<Moment, AdoptFaul
     if !has_intervals(alloc, &found.history, found.moments.as_slice())? {
         return Err(AdoptFault::Interval);
     }
-    if !is_lawful(alloc, &found.history, found.moments.as_slice())? {
-        return Err(AdoptFault::Unsound);
+    match latest(found.moments.as_slice()) {
+        Ok(latest) => judge_history(alloc, found, latest),
+        Err(fault) => Err(fault),
     }
-    latest(found.moments.as_slice())
 }
 
-/// The latest moment. A lawful history has one. Where it is none, the store has given back what was not written to it: 502.
+/// Judges a history whose lifespans are as they may be, by the last test, and answers its latest moment. 522: it is not lawful. 501: there
+/// was no memory.
+fn judge_history(alloc: Global, found: &Findings, latest: Moment) -> Result<Moment, AdoptFault>
+    requires one { is_one_edition found.now.editions ≡ true }
+    requires first { is_first_version found.now.editions ≡ true }
+    requires intervals { has_intervals found.now.moments found.now.history ≡ true }
+    requires last { last found.now.moments ≡ Some latest }
+    requires moment { latest.stamp ≤ℤ last_moment }
+    ensures judged { IsJudged found.now result }
+    ensures moment { IfOk result (λ latest. latest.stamp ≤ℤ last_moment) }
+{
+    if is_lawful(alloc, &found.history, found.moments.as_slice())? {
+        Ok(latest)
+    } else {
+        Err(AdoptFault::Unsound)
+    }
+}
+
+/// The latest moment. A lawful history has one: else 522. Where it is past the last one, the store has given back what was not written to it:
+/// 502.
 fn latest(moments: &[Moment]) -> Result<Moment, AdoptFault>
     ensures latest { IsLatest moments.now result }
     ensures moment { IfOk result (λ latest. latest.stamp ≤ℤ last_moment) }

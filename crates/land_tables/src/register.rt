@@ -1,12 +1,12 @@
 //! The register at a moment, read from whole tables.
-ghost use Rattle.std.specs.Prelude.{◌≡◌, ◌≢◌, false, Err};
+ghost use Rattle.std.specs.Prelude.{◌≡◌, ◌≢◌, false, Err, IsTrue};
 ghost use Rattle.land_keep.specs.Timeline.{register_at};
 ghost use Rattle.land_keep.specs.declared.store_fault.StoreFault.TheVariants as store;
 ghost use Rattle.land_tables.specs.Calls.{IsSafeRead};
 ghost use Rattle.land_tables.specs.Office.{HoldsRegister};
 ghost use Rattle.land_tables.specs.Standing.{ReadsAt, timeline_in};
 ghost use Rattle.land_tables_schema.specs.Land.{IsLand};
-ghost use Rattle.land_tables_schema.specs.Rows.Looks.{IsLook};
+ghost use Rattle.land_tables_schema.specs.Rows.Looks.{IsLeft, IsLook};
 ghost use Rattle.sqlite.specs.Held.{state};
 ghost use Rattle.sqlite.specs.State.{HasCleanDisk, IsUnchanged, Survives};
 
@@ -46,6 +46,7 @@ fn read_tables<S: Alter>(
 pub(crate) fn failed<S: Alter>(conn: &mut Connection<S>, fault: ReadFault) -> StoreFault
     ensures open { result ≢ store.Closed }
     ensures same { HasCleanDisk (state S.Store conn.new) → result ≢ store.Store → IsUnchanged (state S.Store conn.old) (state S.Store conn.new) }
+    ensures left { HasCleanDisk (state S.Store conn.new) → IsTrue (state S.Store conn.new).is_open → IsLeft (state S.Store conn.old) (state S.Store conn.new) }
     ensures survives { Survives (state S.Store conn.old) (state S.Store conn.new) (λ _. ⊥) }
     ensures mode { conn.old.in_transaction ≡ false → conn.new.in_transaction ≡ false }
 {

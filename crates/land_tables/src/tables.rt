@@ -7,6 +7,7 @@ ghost use Rattle.land_keep.specs.Timeline.{IsSoundTimeline, last_register, last_
 ghost use Rattle.land_keep.specs.declared.store_fault.StoreFault.TheVariants as store;
 ghost use Rattle.land_tables.specs.Adopting.{HoldsNone, IsAdopted, IsRefused};
 ghost use Rattle.land_tables.specs.Calls.{IsSame};
+ghost use Rattle.land_tables.specs.Registers.{IsRegister};
 ghost use Rattle.land_tables.specs.Standing.{HoldsTimeline};
 ghost use Rattle.land_tables.specs.declared.fault.AdoptFault.TheVariants as why;
 ghost use Rattle.land_tables_schema.specs.Land.{no_schema};
@@ -63,7 +64,7 @@ impl<S: Alter + Drop> Drop for Tables<S> {
 }
 
 impl<S: Alter> Tables<S> {
-    ghost use Rattle.land_tables.specs.Office.{IsAnswer, IsCreated, IsHonest, IsKept, LeavesEither, Rests, held};
+    ghost use Rattle.land_tables.specs.Office.{IsAnswer, IsCreated, IsHonest, IsKept, LeavesEither, LeavesOrBegins, Rests, StaysUntouched, held};
 
     /// Makes the tables of a new register in a store that has none, in one transaction. 502: the store has tables, or a transaction is
     /// begun, and then nothing is done; or a call failed. 501: there was no memory. A store that is open after a fault is as it was.
@@ -74,6 +75,9 @@ impl<S: Alter> Tables<S> {
         ensures kept { IfErr result (λ e. IsKept (state S.Store conn) (state S.Store e.0)) }
         ensures crash_after { IfOk result (λ t. Survives (state S.Store conn) (state S.Store t.conn) (λ db. HoldsTimeline db new_timeline)) }
         ensures crash { IfErr result (λ e. Survives (state S.Store conn) (state S.Store e.0) (λ db. HoldsTimeline db new_timeline)) }
+        ensures rests { IfOk result (Rests S.Store) }
+        ensures either { IfErr result (λ e. LeavesOrBegins (state S.Store conn) (state S.Store e.0)) }
+        ensures untouched { IfErr result (λ e. HasCleanDisk (state S.Store e.0) → e.1 ≢ store.Store → StaysUntouched (state S.Store conn) (state S.Store e.0)) }
     {
         let mut conn = conn;
         if !conn.is_autocommit() || !is_empty(conn.schema()) {
@@ -150,6 +154,14 @@ impl<S: Alter> Tables<S> {
     /// What a crash leaves between calls, while none has failed: the timeline that the tables hold, and nothing else. It does nothing.
     pub fn rests(&self)
         ensures { Rests S.Store self.now }
+    {
+        let _conn = &self.conn;
+    }
+
+    /// What the tables hold between calls, while none has failed: a register that `adopt` takes, whose tables were made by the first version
+    /// of their shapes, and whose lifespans are as they may be. It does nothing.
+    pub fn holds_register(&self)
+        ensures { IsLive (IsHonest S.Store self.now) self.now.is_closed → IsRegister (state S.Store self.now.conn).now }
     {
         let _conn = &self.conn;
     }

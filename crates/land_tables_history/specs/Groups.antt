@@ -42,20 +42,3 @@ with_members groups (e ∷ es) = with_members (joined groups e) es
 -- the groups whose members stand
 abbrev pub groups_at : ℤ → List (Version GroupMember) → FinMap nat_cmp Members
 groups_at t versions = with_members map.empty (standing t versions)
-
--- the members of a group that one leaves
-abbrev pub members_left : FinMap nat_cmp Members → GroupMember → Members
-members_left groups e = map.remove (members_of groups e.group) e.member.party
-
--- a group has nobody
-abbrev pub is_nobody : Members → Bool
-is_nobody members = nat_eq (map.len members) 0
-
--- a member leaves a group, which ends with its last member
-abbrev pub left : FinMap nat_cmp Members → GroupMember → FinMap nat_cmp Members
-left groups e = if is_nobody (members_left groups e) then map.remove groups e.group else map.insert groups e.group (members_left groups e)
-
--- some leave, one after another
-abbrev pub without_members : FinMap nat_cmp Members → List GroupMember → FinMap nat_cmp Members
-without_members groups [] = groups
-without_members groups (e ∷ es) = without_members (left groups e) es

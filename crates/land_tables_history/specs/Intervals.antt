@@ -54,12 +54,23 @@ AreApart same_key versions = are_distinct (overlap same_key) versions ≡ true
 abbrev pub are_intervals : {X : Type 0} → (X → X → Bool) → List Moment → List (Version X) → Bool
 are_intervals same_key moments versions = list_all (is_interval moments) versions && are_distinct (overlap same_key) versions
 
+-- the same by stamps alone
+abbrev pub are_intervals_of : {X : Type 0} → (X → X → Bool) → List ℤ → List (Version X) → Bool
+are_intervals_of same_key stamps versions = list_all (is_interval_of stamps) versions && are_distinct (overlap same_key) versions
+
 -- the same of all versions
 abbrev pub has_intervals : List Moment → History → Bool
 has_intervals moments h =
     are_intervals is_same_number moments h.parties && are_intervals is_same_grant moments h.roles && are_intervals is_same_member moments h.members
     && are_intervals is_same_number moments h.units && are_intervals is_same_number moments h.parcels && are_intervals is_same_number moments h.rrrs
     && are_intervals is_same_number moments h.sources && are_intervals is_same_number moments h.mutations && are_intervals is_same_naming moments h.namings
+
+-- the same by stamps alone
+abbrev pub has_intervals_of : List ℤ → History → Bool
+has_intervals_of stamps h =
+    are_intervals_of is_same_number stamps h.parties && are_intervals_of is_same_grant stamps h.roles && are_intervals_of is_same_member stamps h.members
+    && are_intervals_of is_same_number stamps h.units && are_intervals_of is_same_number stamps h.parcels && are_intervals_of is_same_number stamps h.rrrs
+    && are_intervals_of is_same_number stamps h.sources && are_intervals_of is_same_number stamps h.mutations && are_intervals_of is_same_naming stamps h.namings
 
 -- in no list of versions two lifespans of one key have a moment in common
 pub record AreAllApart (h : History) : Type 0 where

@@ -1,15 +1,18 @@
 -- Laws over the definitions alone: what a change leaves of what stands, and what stands from then on.
-use Rattle.std.specs.Prelude.{◌≡◌, ℕ, true, [], Some, ℤ, ◌<◌, ◌≤◌, ◌<ℤ◌, ◌≤ℤ◌, ◌⊎◌}
+use Rattle.std.specs.Prelude.{◌≡◌, ℕ, true, List, [], ◌∷◌, Some, ℤ, ◌<◌, ◌≤◌, ◌<ℤ◌, ◌≤ℤ◌, ◌⊎◌}
 use Rattle.std.specs.FinMap as map
 use Rattle.std.specs.List.{AllByRecursion}
 use Rattle.land_core.specs.Changes.{NamesKeysOnce, after}
+use Rattle.land_core.specs.Soundness.{IsSound}
 use Rattle.land_core.specs.declared.change.Change.{Change}
 use Rattle.land_core.specs.declared.mutation.MutationRecord.{MutationRecord}
 use Rattle.land_core.specs.declared.register.Register.{Register}
 use Rattle.land_tables_history.specs.Changed.{changed}
 use Rattle.land_tables_history.specs.History.{StandsAt, named_units}
+use Rattle.land_tables_history.specs.Intervals.{has_intervals}
 use Rattle.land_tables_history.specs.Open.{have_ended, never}
 use Rattle.land_tables_history.specs.declared.history.History.{History}
+use Rattle.land_tables_history.specs.declared.moment.Moment.{Moment}
 
 -- a mutation that is put stands already, and names the same units
 pub record IsAsItWas (r : Register) (number : ℕ) (m : MutationRecord) : Type 0 where
@@ -38,3 +41,11 @@ ChangeStands = (change : Change) (last stamp t : ℤ) (history : History) (r : R
 abbrev pub ChangedHaveEnded : Type 0
 ChangedHaveEnded = (next : ℕ) (change : Change) (last stamp : ℤ) (history : History)
     → have_ended last history ≡ true → last <ℤ stamp → have_ended stamp (changed next change stamp history) ≡ true
+
+-- where lifespans were as they may be, they are so with the change and its moment, if no moment was later than the last and the register
+-- with the change is sound
+abbrev pub ChangesKeepIntervals : Type 0
+ChangesKeepIntervals = (moments : List Moment) (change : Change) (last stamp : ℤ) (history : History) (r : Register)
+    → has_intervals moments history ≡ true → AllByRecursion (λ (m : Moment). m.stamp ≤ℤ last) moments → last <ℤ stamp → stamp <ℤ never
+    → NamesKeysOnce change → PutsMutations r change → StandsAt last history r → IsSound (after change r)
+    → has_intervals (record { stamp = stamp; next = change.next } ∷ moments) (changed r.next change stamp history) ≡ true

@@ -39,3 +39,7 @@ members_by_pairs a b = refl
 
 pub namings_by_pairs : (a b : Naming) → is_same_naming a b ≡ is_same_pair (a.mutation, a.unit) (b.mutation, b.unit)
 namings_by_pairs a b = refl
+
+-- and where no order tells them apart
+pub pairs_by_order : (a b : ℕ × ℕ) → eq_by_cmp (λ x y. ordering_then (nat_cmp x.0 y.0) (nat_cmp x.1 y.1)) a b ≡ is_same_pair a b
+pairs_by_order a b = eq_then (nat_cmp a.0 b.0) (nat_cmp a.1 b.1) ∙ ap₂ (λ x y. x && y) (same_test a.0 b.0) (same_test a.1 b.1)

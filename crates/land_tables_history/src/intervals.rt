@@ -3,7 +3,7 @@ ghost use Rattle.std.specs.List.{list_all};
 ghost use Rattle.std.specs.List.Sorted.{IsSorted};
 ghost use Rattle.std.specs.Ordering.{int_cmp};
 ghost use Rattle.std.specs.Prelude.{◌≡◌, IfOk};
-ghost use Rattle.land_tables_history.specs.Intervals.{are_intervals, has_intervals, is_interval, is_interval_of};
+ghost use Rattle.land_tables_history.specs.Intervals.{are_intervals_of, has_intervals, has_intervals_of, is_interval_of};
 
 use crate::history::History;
 use crate::keyed::Keyed;
@@ -21,39 +21,38 @@ pub fn has_intervals(
 ) -> Result<bool, AllocError>
     ensures { IfOk result (λ it. it ≡ has_intervals moments.now history.now) }
 {
+    let stamps = stamps_of(alloc, moments)?;
+    has_intervals_of(alloc, history, stamps.as_slice())
+}
+
+/// The same by the stamps in order.
+fn has_intervals_of(alloc: Global, history: &History, stamps: &[i64]) -> Result<bool, AllocError>
+    requires { IsSorted int_cmp stamps.now }
+    ensures { IfOk result (λ it. it ≡ has_intervals_of stamps.now history.now) }
+{
     Ok(
-        are_intervals(alloc, history.parties.as_slice(), moments)?
-            && are_intervals(alloc, history.roles.as_slice(), moments)?
-            && are_intervals(alloc, history.members.as_slice(), moments)?
-            && are_intervals(alloc, history.units.as_slice(), moments)?
-            && are_intervals(alloc, history.parcels.as_slice(), moments)?
-            && are_intervals(alloc, history.rrrs.as_slice(), moments)?
-            && are_intervals(alloc, history.sources.as_slice(), moments)?
-            && are_intervals(alloc, history.mutations.as_slice(), moments)?
-            && are_intervals(alloc, history.namings.as_slice(), moments)?,
+        are_intervals(alloc, history.parties.as_slice(), stamps)?
+            && are_intervals(alloc, history.roles.as_slice(), stamps)?
+            && are_intervals(alloc, history.members.as_slice(), stamps)?
+            && are_intervals(alloc, history.units.as_slice(), stamps)?
+            && are_intervals(alloc, history.parcels.as_slice(), stamps)?
+            && are_intervals(alloc, history.rrrs.as_slice(), stamps)?
+            && are_intervals(alloc, history.sources.as_slice(), stamps)?
+            && are_intervals(alloc, history.mutations.as_slice(), stamps)?
+            && are_intervals(alloc, history.namings.as_slice(), stamps)?,
     )
 }
 
 /// The same of the versions of one kind.
-pub fn are_intervals<X: Keyed>(
+fn are_intervals<X: Keyed>(
     alloc: Global,
     versions: &[Version<X>],
-    moments: &[Moment],
+    stamps: &[i64],
 ) -> Result<bool, AllocError>
-    ensures { IfOk result (λ it. it ≡ are_intervals X.Keyed.same_key moments.now versions.now) }
+    requires { IsSorted int_cmp stamps.now }
+    ensures { IfOk result (λ it. it ≡ are_intervals_of X.Keyed.same_key stamps.now versions.now) }
 {
-    Ok(all_intervals(alloc, versions, moments)? && are_apart(alloc, versions)?)
-}
-
-fn all_intervals<X>(
-    alloc: Global,
-    versions: &[Version<X>],
-    moments: &[Moment],
-) -> Result<bool, AllocError>
-    ensures { IfOk result (λ it. it ≡ list_all (is_interval moments.now) versions.now) }
-{
-    let stamps = stamps_of(alloc, moments)?;
-    Ok(all_intervals_of(versions, stamps.as_slice()))
+    Ok(all_intervals_of(versions, stamps) && are_apart(alloc, versions)?)
 }
 
 fn all_intervals_of<X>(versions: &[Version<X>], stamps: &[i64]) -> bool

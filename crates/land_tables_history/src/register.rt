@@ -1,15 +1,13 @@
-//! The register at a moment, and moved from one moment to another.
-ghost use Rattle.std.specs.Prelude.{◌≡◌, IfOk, OnOk};
+//! The register at a moment.
+ghost use Rattle.std.specs.Prelude.{◌≡◌, IfOk};
 ghost use Rattle.land_core.specs.declared.register.Register.{Register as Registered};
 ghost use Rattle.land_tables_history.specs.Groups.{HaveMembers};
 ghost use Rattle.land_tables_history.specs.History.{StandsAt, register_at};
-ghost use Rattle.land_tables_history.specs.Intervals.{AreAllApart};
 
-use crate::groups::{groups_at, move_groups};
+use crate::groups::groups_at;
 use crate::history::History;
-use crate::moment::Moment;
-use crate::part::{move_part, part_at};
-use crate::roles::{move_roles, roles_at};
+use crate::part::part_at;
+use crate::roles::roles_at;
 use land_core::register::Register;
 use std::alloc::{AllocError, Global};
 
@@ -36,40 +34,4 @@ pub fn register_at(
         next,
         ..Register::nothing(alloc)
     })
-}
-
-/// Moves the register that stands at one moment to another: what goes is let go, what comes is put in, and all else stays as it is.
-pub fn move_register(
-    alloc: Global,
-    register: &mut Register,
-    history: &History,
-    from: i64,
-    to: &Moment,
-) -> Result<(), AllocError>
-    requires apart { AreAllApart history.now }
-    requires there { register.old ≡ register_at from history.now register.old.next }
-    ensures { OnOk result (register.new ≡ register_at to.now.stamp history.now to.now.next) }
-{
-    let Register {
-        parties,
-        roles,
-        members,
-        units,
-        parcels,
-        rrrs,
-        sources,
-        mutations,
-        next: number,
-    } = register;
-    let at = to.stamp;
-    move_part(alloc, parties, history.parties.as_slice(), from, at)?;
-    move_roles(roles, history.roles.as_slice(), from, at)?;
-    move_groups(alloc, members, history.members.as_slice(), from, at)?;
-    move_part(alloc, units, history.units.as_slice(), from, at)?;
-    move_part(alloc, parcels, history.parcels.as_slice(), from, at)?;
-    move_part(alloc, rrrs, history.rrrs.as_slice(), from, at)?;
-    move_part(alloc, sources, history.sources.as_slice(), from, at)?;
-    move_part(alloc, mutations, history.mutations.as_slice(), from, at)?;
-    *number = to.next;
-    Ok(())
 }

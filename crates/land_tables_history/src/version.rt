@@ -1,6 +1,5 @@
 //! Versions of records (LADM: VersionedObject).
 ghost use Rattle.std.specs.Prelude.{◌≡◌};
-ghost use Rattle.land_tables_history.specs.Moved.{goes};
 ghost use Rattle.land_tables_history.specs.Standing.{stands};
 
 /// Something that stands from one moment on and before another.
@@ -20,12 +19,5 @@ impl<X> Version<X> {
         ensures { result ≡ stands at self.now }
     {
         self.since <= at && at < self.until
-    }
-
-    /// Whether it stands at one moment and not at another.
-    pub fn goes(&self, from: i64, to: i64) -> bool
-        ensures { result ≡ goes from to self.now }
-    {
-        self.stands(from) && !self.stands(to)
     }
 }

@@ -1,5 +1,7 @@
 -- Texts that a store refuses to read.
-use Rattle.std.proofs.Common.{◌≡◌, ◌∙◌, inl, inr, sym, ℕ, List, []}
+use Rattle.std.proofs.Common.{◌≡◌, ◌∙◌, inl, inr, sym, ℕ, List, [], IsTrue}
+use Rattle.land_tables_schema.proofs.Looking.{unchanged_left}
+use Rattle.land_tables_schema.specs.Rows.Looks.{IsLeft}
 use Rattle.sqlite.specs.State.{IsNotRun, IsUnchanged, State, store_error}
 use Rattle.sqlite.specs.declared.error.Error.{Error}
 use Rattle.sqlite.specs.declared.error.Error.TheVariants.{SqlInputError}
@@ -24,4 +26,12 @@ unfolding IsNotRun
 refused_unchanged old new sql e fault is h = elim (h []) [
   | inl refused ↦ refused.1
   | inr failed ↦ absurd (not_the_text failed.0 fault (sym is ∙ failed.1))
+]
+
+-- a store that did not run a text, and is open, has what it had, or what was committed last
+pub not_run_left : (old new : State) (sql : List ℕ) (e : Error) → ((params : Row) → IsNotRun old new sql params e) → IsTrue new.is_open → IsLeft old new
+unfolding IsNotRun
+not_run_left old new sql e h is_open = elim (h []) [
+  | inl refused ↦ unchanged_left old new refused.1
+  | inr failed ↦ record { was_open = failed.3.was_open is_open; now = inr (failed.3.undone is_open).0; committed = (failed.3.undone is_open).1 }
 ]

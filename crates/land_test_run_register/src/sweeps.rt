@@ -4,9 +4,9 @@ ghost use Rattle.std.proofs.lemmas.List.Sorted.{length_permutation};
 ghost use Rattle.std.specs.List.{list_all};
 ghost use Rattle.std.specs.Prelude.{◌≡◌, true, false, refl, int_lt, nat_le, length};
 
-use land_tables_sweeps::apart::{Span, are_apart};
-use land_tables_sweeps::cover::{Piece, is_covered};
-use land_tables_sweeps::sweep::{Judged, Lived, are_sound};
+use land_tables_history::sweeps::apart::{Span, are_apart};
+use land_tables_history::sweeps::cover::{Piece, is_covered};
+use land_tables_history::sweeps::sweep::{Judged, Lived, are_sound};
 use std::alloc::{AllocError, Global};
 use std::test::Fail;
 

@@ -1,11 +1,12 @@
--- The law of writing: a change of versions is the change of their timeline.
-use Rattle.std.specs.Prelude.{ℤ, List, ◌∷◌}
+-- The laws of writing: a change of versions is the change of their timeline, and their lifespans stay as they may be.
+use Rattle.std.specs.Prelude.{◌≡◌, true, ℤ, List, ◌∷◌}
 use Rattle.land_core.specs.declared.change.Change.{Change}
 use Rattle.land_keep.specs.Keeping.{CanWrite}
 use Rattle.land_keep.specs.Machine.{written}
 use Rattle.land_keep.specs.Timeline.{IsSoundTimeline, Timeline, last_register}
 use Rattle.land_tables.specs.Timelines.{StandsFor}
 use Rattle.land_tables_history.specs.Changed.{changed}
+use Rattle.land_tables_history.specs.Intervals.{has_intervals}
 use Rattle.land_tables_history.specs.declared.history.History.{History}
 use Rattle.land_tables_history.specs.declared.moment.Moment.{Moment}
 
@@ -15,3 +16,10 @@ WritesStand =
     (moments : List Moment) (versions : History) (tl : Timeline) (change : Change) (stamp : ℤ)
     → IsSoundTimeline tl → StandsFor moments versions tl → CanWrite tl change stamp
     → StandsFor (record { stamp = stamp; next = change.next } ∷ moments) (changed (last_register tl).next change stamp versions) (written tl change stamp)
+
+-- where their lifespans were as they may be, they are so with the change and its moment
+abbrev pub WritesKeepIntervals : Type 0
+WritesKeepIntervals =
+    (moments : List Moment) (versions : History) (tl : Timeline) (change : Change) (stamp : ℤ)
+    → IsSoundTimeline tl → StandsFor moments versions tl → CanWrite tl change stamp → IsSoundTimeline (written tl change stamp) → has_intervals moments versions ≡ true
+    → has_intervals (record { stamp = stamp; next = change.next } ∷ moments) (changed (last_register tl).next change stamp versions) ≡ true

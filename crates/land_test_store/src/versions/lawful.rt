@@ -1,11 +1,14 @@
 //! Which histories are lawful.
+ghost use Rattle.std.specs.Prelude.{◌≡◌};
+ghost use Rattle.land_tables_lawful.specs.Pieces.{are_in_time};
+
 use crate::versions::cell::Cell;
 use crate::versions::histories::{OPEN, Span, history_of};
 use crate::versions::table::Table;
 use land_tables_history::intervals::has_intervals;
-use land_tables_history::lawful::is_lawful;
 use land_tables_history::moment::Moment;
 use land_tables_history::moments::{last, next_at};
+use land_tables_lawful::lawful::is_lawful;
 use land_test_scenario::stop::{Stop, expect};
 use sqlite::{Alter, Connection, Error};
 use std::alloc::Global;
@@ -266,6 +269,15 @@ const CASES: &[Case] = &[
     ),
 ];
 
+/// Whether all moments are before the end of what stands.
+fn are_in_time(moments: &[Moment]) -> bool
+    ensures { result ≡ are_in_time moments.now }
+{
+    moments
+        .iter()
+        .all(|moment| moment.stamp < 4_102_444_800_000)
+}
+
 /// Whether the lifespans of a history are as they may be, and it is as lawful as its case says.
 fn is_as_said<S: Alter>(
     alloc: Global,
@@ -273,7 +285,10 @@ fn is_as_said<S: Alter>(
     case: &Case,
 ) -> Result<bool, Error> {
     let history = history_of(alloc, conn, case.1)?;
-    Ok(has_intervals(alloc, &history, case.0)? && is_lawful(alloc, &history, case.0)? == case.2)
+    if !has_intervals(alloc, &history, case.0)? || !are_in_time(case.0) {
+        return Ok(false);
+    }
+    Ok(is_lawful(alloc, &history, case.0)? == case.2)
 }
 
 /// Histories are lawful, or have what makes them not so.

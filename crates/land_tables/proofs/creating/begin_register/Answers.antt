@@ -1,8 +1,9 @@
 use Rattle.land_keep.specs.Timeline.{new_timeline}
+use Rattle.land_tables.proofs.Begun.{undone, untouched}
 use Rattle.land_tables.proofs.News.{new_holds, new_office}
 use Rattle.land_tables.specs.Standing.{HoldsTimeline}
 use Rattle.land_tables_schema.specs.Rows.Held.{HoldsRows, new_rows}
-use Rattle.sqlite.proofs.StateLemmas.{survives_weaker}
+use Rattle.sqlite.proofs.StateLemmas.{survives_then, survives_weaker}
 use Rattle.sqlite.specs.Held.{state}
 use Rattle.land_tables.proofs.creating.begin_register.Goals as goal
 
@@ -16,7 +17,16 @@ returns-in-Ok-clause-crash g c =
     survives_weaker (state g.S.Store c.args.conn.now) (state g.S.Store c.make_register.new.conn) (λ db. HoldsRows db new_rows) (λ db. HoldsTimeline db new_timeline)
     (λ _ db rows. new_holds c.lawful_versions_stand.ensures c.new_registers_are_held.ensures db rows) c.in-Ok.ensures.crash
 
+pub returns-in-Err-clause-neither : goal.returns-in-Err-clause-neither
+returns-in-Err-clause-neither g c clean is_open =
+    (undone (state g.S.Store c.args.conn.now) (state g.S.Store c.make_register.new.conn) (state g.S.Store c.failed.new.conn) c.failed.ensures.survives c.failed.ensures.left c.in-Err.ensures.neither clean is_open).0
+
+pub returns-in-Err-clause-untouched : goal.returns-in-Err-clause-untouched
+returns-in-Err-clause-untouched g c clean other =
+    untouched (state g.S.Store c.args.conn.now) (state g.S.Store c.make_register.new.conn) (state g.S.Store c.failed.new.conn) c.failed.ensures.survives c.failed.result c.failed.ensures.same c.in-Err.ensures.neither clean other
+
 pub returns-in-Err-clause-crash : goal.returns-in-Err-clause-crash
 returns-in-Err-clause-crash g c =
-    survives_weaker (state g.S.Store c.args.conn.now) (state g.S.Store c.make_register.new.conn) (λ db. HoldsRows db new_rows) (λ db. HoldsTimeline db new_timeline)
-    (λ _ db rows. new_holds c.lawful_versions_stand.ensures c.new_registers_are_held.ensures db rows) c.in-Err.ensures.crash
+    survives_then (state g.S.Store c.args.conn.now) (state g.S.Store c.make_register.new.conn) (state g.S.Store c.failed.new.conn)
+    (λ db. HoldsRows db new_rows) (λ _. ⊥) (λ db. HoldsTimeline db new_timeline)
+    (λ _ db rows. new_holds c.lawful_versions_stand.ensures c.new_registers_are_held.ensures db rows) (λ _ _ n. absurd n) c.in-Err.ensures.crash c.failed.ensures.survives

@@ -3,7 +3,7 @@ use Rattle.std.proofs.lemmas.Int.{ints}
 use Rattle.std.specs.Prelude.{ℤ}
 use Rattle.std.specs.Int.{int_min}
 use Rattle.land_keep.specs.Moments.{last_moment}
-use Rattle.land_tables.proofs.ReadBack.{read_moment, read_nothing, read_register}
+use Rattle.land_tables.proofs.ReadBack.{not_before, read_moment, read_nothing, read_register}
 use Rattle.land_tables.specs.Calls.{IsSafeRead}
 use Rattle.land_tables.specs.Standing.{ReadsAt}
 use Rattle.sqlite.specs.Held.{state}
@@ -18,7 +18,7 @@ returns-then-at-lt0-clause-safe g c =
 pub returns-clause-safe : goal.returns-clause-safe
 returns-clause-safe g c =
     let t : to_z w64 (of_z w64 c.args.at) ≡ c.args.at = search rules in
-    let le : pos 0 ≤ℤ c.args.at = grind (arith, ints) in
+    let le : pos 0 ≤ℤ c.args.at = not_before c.args.at (search rules) in
     let least : c.min.result ≡ int_min c.args.at last_moment = search rules in
     let u : to_z w64 (of_z w64 c.min.result) ≡ c.min.result = search rules in
     let a = state g.S.Store c.args.conn.now in

@@ -1,4 +1,6 @@
-use Rattle.std.proofs.Common.{◌≡◌, of_z, to_z, w64, refl, rules, subst, sym}
+use Rattle.std.proofs.Common.{◌≡◌, false, of_z, to_z, w64, refl, rules, subst, sym}
+use Rattle.std.specs.Prelude.{ℤ, ◌≤ℤ◌}
+use Rattle.land_keep.specs.Moments.{last_moment}
 use Rattle.land_tables.proofs.Adopted.{refused_holds_none}
 use Rattle.land_tables.proofs.Judgements.{same_office}
 use Rattle.land_tables.specs.Calls.{IsSame}
@@ -24,3 +26,18 @@ returns-in-Ok-clause-adopted g c =
 
 pub returns-in-Err-clause-none : goal.returns-in-Err-clause-none
 returns-in-Err-clause-none g c clean = refused_holds_none c.in-Err.fault (state g.S.Store c.args.conn).now (c.in-Err.ensures.judgement.refused clean)
+
+pub invariant_of-result : goal.invariant_of-result
+invariant_of-result g c =
+    let a = state g.S.Store c.args.conn in
+    let b = state g.S.Store c.adopt_store.new.conn in
+    let latest = c.in-Ok.latest in
+    let judged = c.in-Ok.ensures.judgement in
+    let stamp : to_z w64 (of_z w64 latest.stamp) ≡ latest.stamp = search rules in
+    let begun : c.args.conn.in_transaction ≡ false = search rules in
+    let same : HasCleanDisk b → IsSame a b = λ clean. judged.same clean (λ e. let it = e in cc) in
+    record {
+      alone = c.in-Ok.ensures.mode begun;
+      moment = subst (λ (z : ℤ). z ≤ℤ last_moment) (sym stamp) c.in-Ok.ensures.moment;
+      office = λ live. subst (λ z. IsOffice b z latest.next) (sym stamp) (same_office a b latest (same live.0) (judged.register live.0));
+    }

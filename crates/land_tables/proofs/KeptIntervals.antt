@@ -1,0 +1,56 @@
+-- Lifespans of versions with a change are as they may be.
+use Rattle.std.proofs.Common.{◌≡◌, List, [], ◌∷◌, map as map_list, refl, subst, arith}
+use Rattle.std.specs.Prelude.{ℤ, ◌<ℤ◌, ◌≤ℤ◌}
+use Rattle.std.proofs.lemmas.Int.{ints}
+use Rattle.std.proofs.lemmas.List.Elements.{All-from_recursion, recursion_from_All}
+use Rattle.std.proofs.lemmas.List.Sorted.{All-permutation}
+use Rattle.std.specs.List.{AllByRecursion}
+use Rattle.land_acts.proofs.Accepted.{accepted_once}
+use Rattle.land_core.specs.Soundness.{IsSound}
+use Rattle.land_keep.proofs.Timelines.{last_is_sound}
+use Rattle.land_keep.specs.Machine.{written}
+use Rattle.land_keep.specs.Moments.{IsMoment, last_moment}
+use Rattle.land_keep.specs.Timeline.{IsRising, IsSoundTimeline, Rises, Timeline, last_from, last_register, last_stamp}
+use Rattle.land_keep.specs.declared.timeline.Version.{Version}
+use Rattle.land_tables.proofs.PutMutations.{accepted_puts}
+use Rattle.land_tables.proofs.WrittenTimelines.{first_before_last, stays_last, written_register}
+use Rattle.land_tables.specs.Timelines.{moment_of}
+use Rattle.land_tables.specs.Timelines.Writing.{WritesKeepIntervals}
+use Rattle.land_tables_history.proofs.Kept.{changes_keep_intervals}
+use Rattle.land_tables_history.specs.History.{StandsAt}
+use Rattle.land_tables_history.specs.Open.{never}
+use Rattle.land_tables_history.specs.declared.moment.Moment.{Moment}
+
+itself : (a : ℤ) → a ≤ℤ a
+itself a = omega (arith, ints)
+
+before_never : (t : ℤ) → t ≤ℤ last_moment → t <ℤ never
+before_never t le = omega (arith, ints)
+
+all_upto : (v : Version) (vs : Timeline) (t : ℤ) → Rises v vs → (last_from v vs).stamp ≤ℤ t → AllByRecursion (λ m. m.stamp ≤ℤ t) (map_list moment_of (v ∷ vs))
+all_upto v [] t rises le = (le, tt)
+all_upto v (w ∷ ws) t rises le = (first_before_last v (w ∷ ws) t rises le, all_upto w ws t rises.2 le)
+
+-- no moment is after the last stamp
+none_after_last : (tl : Timeline) → IsRising tl → AllByRecursion (λ m. m.stamp ≤ℤ last_stamp tl) (map_list moment_of tl)
+none_after_last [] rising = absurd rising
+none_after_last (v ∷ vs) rising = all_upto v vs (last_from v vs).stamp rising (itself (last_from v vs).stamp)
+
+last_is_moment : (tl : Timeline) → IsSoundTimeline tl → IsMoment (last_stamp tl)
+last_is_moment [] sound = absurd sound.rising
+last_is_moment (v ∷ vs) sound = from v vs sound.moments
+  where
+    from : (v : Version) (vs : Timeline) → AllByRecursion (λ it. IsMoment it.stamp) (v ∷ vs) → IsMoment (last_from v vs).stamp
+    from v [] h = h.0
+    from v (w ∷ ws) h = from w ws h.1
+
+pub writes_keep_intervals : WritesKeepIntervals
+writes_keep_intervals moments h tl change stamp sound for can written_sound intervals =
+    let last = last_stamp tl in
+    let r = last_register tl in
+    let upto = λ (m : Moment). m.stamp ≤ℤ last in
+    let listed = recursion_from_All upto moments (All-permutation upto (map_list moment_of tl) moments for.moments (All-from_recursion upto (map_list moment_of tl) (none_after_last tl sound.rising))) in
+    changes_keep_intervals moments change last stamp h r intervals listed can.later (before_never stamp can.moment)
+    (accepted_once r change stamp (last_is_sound tl sound) can.made) (accepted_puts r change stamp (last_is_sound tl sound) can.made)
+    (subst (StandsAt last h) (stays_last tl last sound.rising (itself last)) (for.stands last (last_is_moment tl sound)))
+    (subst IsSound (written_register tl change stamp) (last_is_sound (written tl change stamp) written_sound))

@@ -1,0 +1,16 @@
+-- Lifespans that tables tell are as they may be exactly where those of the versions are that they hold.
+use Rattle.std.proofs.Common.{◌≡◌}
+use Rattle.land_keep.specs.Timeline.{Timeline}
+use Rattle.land_tables.proofs.IntervalOrders.{intervals_anyhow}
+use Rattle.land_tables.proofs.Tellings.{held_is_said, told_reordered}
+use Rattle.land_tables.specs.Standing.{HoldsTimeline}
+use Rattle.land_tables_history.specs.Intervals.{has_intervals}
+use Rattle.land_tables_rows.proofs.ToldTables.{told_is}
+use Rattle.land_tables_rows.specs.Listing.Reading.{moments}
+use Rattle.land_tables_rows.specs.Listing.Told.{history_in, told_by}
+use Rattle.sqlite_trees.specs.Tree.{Trees}
+
+pub told_intervals : (db : Trees) (tl : Timeline) (holds : HoldsTimeline db tl) → has_intervals (told_by moments db) (history_in db) ≡ has_intervals holds.listed holds.history
+told_intervals db tl holds =
+    intervals_anyhow holds.listed (told_by moments db) holds.history (history_in db) (told_is moments db holds.listed holds.holds.the_moments)
+    (told_reordered db holds.history (held_is_said db holds.listed holds.history holds.holds))

@@ -1,9 +1,0 @@
-use Rattle.std.proofs.Common.{◌≡◌, drop}
-use Rattle.land_core.specs.Entries.{with_entries}
-use Rattle.land_core.specs.Grants.{marks}
-use Rattle.land_tables_history.specs.Moved.{gone}
-use Rattle.land_tables_history.proofs.roles.give_come.Given as goal
-
--- what is left to give leads to the same
-abbrev pub invariant-loop-version : goal.invariant-loop-version
-invariant-loop-version l = with_entries l.roles (marks (gone l.fn.to l.fn.from (drop l.version-index l.versions))) ≡ with_entries l.fn.roles (marks (gone l.fn.to l.fn.from l.versions))

@@ -1,0 +1,157 @@
+-- What is offered whenever it is asked for, at each moment and at each stamp.
+use Rattle.std.proofs.Common.{◌≡◌, ◌↔◌, ◌⊎◌, inl, inr, ◌==◌, ℕ, Bool, true, false, ◌&&◌, ◌||◌, List, [], ◌∷◌, Option, Some, None, is_some, map as map_list, refl, sym, ap₂, subst, ◌∙◌, arith}
+use Rattle.std.specs.Prelude.{ℤ, int_le, int_lt}
+use Rattle.std.proofs.lemmas.List.Folds.{list_any-append}
+use Rattle.std.proofs.lemmas.List.Sorted.{list_any-IsPermutation}
+use Rattle.std.specs.Cmp.{nat_cmp_total}
+use Rattle.std.specs.FinMap as map
+use Rattle.std.specs.FinMap.{FinMap, nat_cmp-IsAntisymmetric}
+use Rattle.std.specs.List.{AllByRecursion, list_all, list_any}
+use Rattle.std.specs.Ordering.{nat_cmp}
+use Rattle.land_core.proofs.Booleans.{both_of}
+use Rattle.land_core.proofs.Reflection.{some_at, some_passes}
+use Rattle.land_core.specs.Entries.{has}
+use Rattle.land_tables_history.proofs.Distinct.{distinct_standing}
+use Rattle.land_tables_history.proofs.Entered.{made_part}
+use Rattle.land_tables_history.proofs.NamingTests.{any_standing}
+use Rattle.land_tables_history.specs.Intervals.{AreApart, is_interval, is_same_number}
+use Rattle.land_tables_history.specs.Standing.{part_at, standing, stands}
+use Rattle.land_tables_history.specs.declared.moment.Moment.{Moment}
+use Rattle.land_tables_history.specs.declared.version.Version.{Version}
+use Rattle.land_tables_lawful.specs.Pieces.{are_in_time, asked_piece, offered_piece, pieces}
+use Rattle.land_tables_lawful.proofs.Latest.{Empty, Matched, matched}
+use Rattle.land_tables_history.specs.Sweeps.Cover.{IsCovered, is_asked, is_offered}
+use Rattle.land_tables_lawful.proofs.Booleans.{both, conflict, itself, same_number, untrue}
+
+-- ---- what stands under a key
+
+abbrev pub stood_by : {X : Type 0} → (key : X → ℕ) → List (Version X) → ℕ → ℤ → Bool
+stood_by key vs a t = list_any (λ v. stands t v && (key v.what == a)) vs
+
+and_nothing : (q : Bool) → false ≡ (q && false)
+and_nothing true = refl
+and_nothing false = refl
+
+or_nothing : (q : Bool) → (q || false) ≡ q
+or_nothing true = refl
+or_nothing false = refl
+
+shuffled : (p q l u : Bool) → (p && q && l && u) ≡ (q && ((l && u) && p))
+shuffled p q l u = grind arith
+
+gathered : (q y z : Bool) → ((q && y) || (q && z)) ≡ (q && (y || z))
+gathered q y z = grind arith
+
+module _ {X : Type 0} (key : X → ℕ) (a b : ℕ) (t : ℤ) where
+  offered_by : (vs : List (Version X)) → is_offered (map_list (offered_piece key) vs) a b t ≡ ((0 == b) && stood_by key vs a t)
+  offered_by [] = and_nothing (0 == b)
+  offered_by (v ∷ vs) =
+      ap₂ (λ c d. c || d) (shuffled (key v.what == a) (0 == b) (int_le v.since t) (int_lt t v.until)) (offered_by vs)
+      ∙ gathered (0 == b) (stands t v && (key v.what == a)) (stood_by key vs a t)
+
+  asked_by : (vs : List (Version X)) → is_asked (map_list (asked_piece key) vs) a b t ≡ ((0 == b) && stood_by key vs a t)
+  asked_by [] = and_nothing (0 == b)
+  asked_by (v ∷ vs) =
+      ap₂ (λ c d. c || d) (shuffled (key v.what == a) (0 == b) (int_le v.since t) (int_lt t v.until)) (asked_by vs)
+      ∙ gathered (0 == b) (stands t v && (key v.what == a)) (stood_by key vs a t)
+
+  none_offered : (vs : List (Version X)) → is_offered (map_list (asked_piece key) vs) a b t ≡ false
+  none_offered [] = refl
+  none_offered (v ∷ vs) = none_offered vs
+
+  none_asked : (vs : List (Version X)) → is_asked (map_list (offered_piece key) vs) a b t ≡ false
+  none_asked [] = refl
+  none_asked (v ∷ vs) = none_asked vs
+
+module _ {X Y : Type 0} (offered : X → ℕ) (xs : List (Version X)) (asked : Y → ℕ) (ys : List (Version Y)) where
+  offers_are : (a b : ℕ) (t : ℤ) → is_offered (pieces offered xs asked ys) a b t ≡ ((0 == b) && stood_by offered xs a t)
+  offers_are a b t =
+      list_any-append _ (map_list (offered_piece offered) xs) (map_list (asked_piece asked) ys)
+      ∙ ap₂ (λ c d. c || d) (offered_by offered a b t xs) (none_offered asked a b t ys) ∙ or_nothing ((0 == b) && stood_by offered xs a t)
+
+  asks_are : (a b : ℕ) (t : ℤ) → is_asked (pieces offered xs asked ys) a b t ≡ ((0 == b) && stood_by asked ys a t)
+  asks_are a b t =
+      list_any-append _ (map_list (offered_piece offered) xs) (map_list (asked_piece asked) ys)
+      ∙ ap₂ (λ c d. c || d) (none_asked offered a b t xs) (asked_by asked a b t ys)
+
+  pub covered_iff : IsCovered (pieces offered xs asked ys) ↔ ((a : ℕ) (t : ℤ) → stood_by asked ys a t ≡ true → stood_by offered xs a t ≡ true)
+  covered_iff = (
+    λ h a t s. sym (offers_are a 0 t) ∙ h a 0 t (asks_are a 0 t ∙ s),
+    λ h a b t asks.
+        let parts = both_of (0 == b) (stood_by asked ys a t) (sym (asks_are a b t) ∙ asks) in
+        offers_are a b t ∙ both (0 == b) (stood_by offered xs a t) parts.0 (h a t parts.1),
+  )
+
+-- ---- what stands in the register
+
+none_is_not_some : {V : Type 0} {w : V} → None ≡ Some w → ⊥
+none_is_not_some e = cc
+
+has_by : {V : Type 0} (m : FinMap nat_cmp V) (n : ℕ) → has m n ≡ list_any (λ e. e.0 == n) (map.entries m)
+has_by {V} m n = go (map.get m n) refl
+  where
+    go : (x : Option V) → map.get m n ≡ x → is_some x ≡ list_any (λ e. e.0 == n) (map.entries m)
+    go (Some v) is = sym (some_at nat_cmp_total nat_cmp-IsAntisymmetric (λ k w. k == n) m n v is (itself n))
+    go None is = sym (untrue (list_any (λ e. e.0 == n) (map.entries m)) (λ h.
+        let it = some_passes nat_cmp_total nat_cmp-IsAntisymmetric (λ k w. k == n) m h in
+        none_is_not_some (sym is ∙ subst (λ (k : ℕ). map.get m k ≡ Some it.value) (same_number it.key n it.passes) it.there)))
+
+pub some_by : {V : Type 0} (p : ℕ × V → Bool) (t : ℤ) (vs : List (Version (ℕ × V))) → AreApart is_same_number vs
+    → list_any p (map.entries (part_at t vs)) ≡ list_any (λ v. stands t v && p v.what) vs
+some_by p t vs apart =
+    sym (list_any-IsPermutation p (standing t vs) (map.entries (part_at t vs)) (made_part (standing t vs) (distinct_standing is_same_number t vs apart)))
+    ∙ sym (any_standing t p vs)
+
+pub has_at : {V : Type 0} (t : ℤ) (vs : List (Version (ℕ × V))) → AreApart is_same_number vs → (n : ℕ) → has (part_at t vs) n ≡ stood_by (λ e. e.0) vs n t
+has_at t vs apart n = has_by (part_at t vs) n ∙ some_by (λ e. e.0 == n) t vs apart
+
+pub any_alike : {A : Type 0} (p q : A → Bool) → ((x : A) → p x ≡ q x) → (xs : List A) → list_any p xs ≡ list_any q xs
+any_alike p q same [] = refl
+any_alike p q same (x ∷ xs) = ap₂ (λ b c. b || c) (same x) (any_alike p q same xs)
+
+-- ---- between stamps
+
+stood_same : {X : Type 0} (moments : List Moment) (key : X → ℕ) (a : ℕ) (t s : ℤ) → ((v : Version X) → is_interval moments v ≡ true → stands t v ≡ stands s v)
+    → (vs : List (Version X)) → list_all (is_interval moments) vs ≡ true → stood_by key vs a t ≡ stood_by key vs a s
+stood_same moments key a t s same [] h = refl
+stood_same moments key a t s same (v ∷ vs) h =
+    let parts = both_of (is_interval moments v) (list_all (is_interval moments) vs) h in
+    ap₂ (λ b c. b && (key v.what == a) || c) (same v parts.0) (stood_same moments key a t s same vs parts.1)
+
+stood_never : {X : Type 0} (moments : List Moment) (key : X → ℕ) (a : ℕ) (t : ℤ) → ((v : Version X) → is_interval moments v ≡ true → stands t v ≡ false)
+    → (vs : List (Version X)) → list_all (is_interval moments) vs ≡ true → stood_by key vs a t ≡ false
+stood_never moments key a t none [] h = refl
+stood_never moments key a t none (v ∷ vs) h =
+    let parts = both_of (is_interval moments v) (list_all (is_interval moments) vs) h in
+    ap₂ (λ b c. b && (key v.what == a) || c) (none v parts.0) (stood_never moments key a t none vs parts.1)
+
+-- what is offered at each stamp whenever it is asked for there is offered always
+pub at_all_moments : {X Y : Type 0} (moments : List Moment) → are_in_time moments ≡ true → (offered : X → ℕ) (xs : List (Version X)) (asked : Y → ℕ) (ys : List (Version Y))
+    → list_all (is_interval moments) xs ≡ true → list_all (is_interval moments) ys ≡ true
+    → AllByRecursion (λ m. (a : ℕ) → stood_by asked ys a m.stamp ≡ true → stood_by offered xs a m.stamp ≡ true) moments
+    → (a : ℕ) (t : ℤ) → stood_by asked ys a t ≡ true → stood_by offered xs a t ≡ true
+at_all_moments {X} {Y} moments in_time offered xs asked ys p q all a t s = go (matched moments t in_time)
+  where
+    go : Matched moments t ⊎ Empty moments t → stood_by offered xs a t ≡ true
+    go (inr e) = absurd (conflict s (stood_never moments asked a t (λ v. e.none v) ys q))
+    go (inl m) =
+        stood_same moments offered a t m.moment.stamp (λ v. m.same v) xs p
+        ∙ m.among (λ m. (a : ℕ) → stood_by asked ys a m.stamp ≡ true → stood_by offered xs a m.stamp ≡ true) all a
+        (sym (stood_same moments asked a t m.moment.stamp (λ v. m.same v) ys q) ∙ s)
+
+-- lifespans that are intervals give pieces that begin before they end
+pub begun : {X : Type 0} (moments : List Moment) (v : Version X) → is_interval moments v ≡ true → int_lt v.since v.until ≡ true
+begun moments v h = (both_of (int_lt v.since v.until) _ (both_of (int_lt v.since v.until && _) _ h).0).0
+
+all_asked : {Y : Type 0} (moments : List Moment) (asked : Y → ℕ) (ys : List (Version Y)) → list_all (is_interval moments) ys ≡ true → list_all (λ x. int_lt x.since x.until) (map_list (asked_piece asked) ys) ≡ true
+all_asked moments asked [] q = refl
+all_asked moments asked (w ∷ ws) q =
+    let parts = both_of (is_interval moments w) (list_all (is_interval moments) ws) q in
+    both (int_lt w.since w.until) (list_all (λ x. int_lt x.since x.until) (map_list (asked_piece asked) ws)) (begun moments w parts.0) (all_asked moments asked ws parts.1)
+
+pub pieces_begin : {X Y : Type 0} (moments : List Moment) (offered : X → ℕ) (xs : List (Version X)) (asked : Y → ℕ) (ys : List (Version Y))
+    → list_all (is_interval moments) xs ≡ true → list_all (is_interval moments) ys ≡ true → list_all (λ x. int_lt x.since x.until) (pieces offered xs asked ys) ≡ true
+pieces_begin moments offered [] asked ys p q = all_asked moments asked ys q
+pieces_begin moments offered (v ∷ vs) asked ys p q =
+    let parts = both_of (is_interval moments v) (list_all (is_interval moments) vs) p in
+    both (int_lt v.since v.until) (list_all (λ x. int_lt x.since x.until) (pieces offered vs asked ys)) (begun moments v parts.0) (pieces_begin moments offered vs asked ys parts.1 q)

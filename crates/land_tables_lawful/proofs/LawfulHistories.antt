@@ -1,0 +1,303 @@
+-- A history is lawful exactly where each part of what is asked of it holds at all moments.
+use Rattle.std.proofs.Common.{◌≡◌, ◌↔◌, Bool, true, false, not, ◌&&◌, ◌||◌, List, [], ◌∷◌, refl, sym, ap₂, ◌∙◌}
+use Rattle.std.proofs.lemmas.Bool.{false≢true}
+use Rattle.std.proofs.lemmas.List.Elements.{All-from_recursion, recursion_from_All}
+use Rattle.std.specs.List.{All, AllByRecursion}
+use Rattle.land_core.proofs.Booleans.{both_of, or_false}
+use Rattle.land_core.specs.Soundness.{IsSound, has_bare_unit, has_broken_group, has_clash, has_crowded_unit, has_loose_grant, has_loose_members, has_loose_mutation, has_loose_parcel, has_loose_rank, has_loose_rrr, has_reused_reference, has_unit_in_parts, has_unused_number, is_past_the_numbers}
+use Rattle.land_core.specs.declared.register.Register.{Register}
+use Rattle.land_core.specs.declared.soundness.Unsound.{Unsound}
+use Rattle.land_core.specs.declared.soundness.Unsound.TheVariants.{Reference, Shares, Group, Bare, Crowded, Twice, Rank, Administrator, Reused, Memory}
+use Rattle.land_tables_history.specs.History.{namings_of, register_at}
+use Rattle.land_tables_history.specs.Lawful.{IsLawful, IsLawfulAt, are_moments, are_same_namings}
+use Rattle.land_tables_history.specs.Standing.{standing}
+use Rattle.land_tables_history.specs.declared.history.History.{History}
+use Rattle.land_tables_history.specs.declared.moment.Moment.{Moment}
+use Rattle.land_tables_lawful.proofs.Booleans.{both}
+use Rattle.land_tables_lawful.specs.Conditions.{AreNumbersUsed, AreOnce, AreWhole, DoRefer, has_no_administrator}
+use Rattle.land_tables_lawful.specs.NamedUnits.{NamingsAgree}
+use Rattle.land_tables_lawful.specs.Never.{Never}
+
+-- ---- answers joined
+
+pub two : {A B : Type 0} (a b : Bool) → (a ≡ true) ↔ A → (b ≡ true) ↔ B → ((a && b) ≡ true) ↔ (A × B)
+two a b p q = (
+  λ e. let parts = both_of a b e in (p.0 parts.0, q.0 parts.1),
+  λ it. both a b (p.1 it.0) (q.1 it.1),
+)
+
+pub five : {A B C D E : Type 0} (a b c d e : Bool) → (a ≡ true) ↔ A → (b ≡ true) ↔ B → (c ≡ true) ↔ C → (d ≡ true) ↔ D → (e ≡ true) ↔ E
+    → ((a && b && c && d && e) ≡ true) ↔ ((((A × B) × C) × D) × E)
+five a b c d e p q r s t = two (a && b && c && d) e (two (a && b && c) d (two (a && b) c (two a b p q) r) s) t
+
+-- ---- one register
+
+seven : {a b c d e f g : Bool} → a ≡ false → b ≡ false → c ≡ false → d ≡ false → e ≡ false → f ≡ false → g ≡ false → (a || b || c || d || e || f || g) ≡ false
+seven p q r s t u v = ap₂ (λ x y. x || y) (ap₂ (λ x y. x || y) (ap₂ (λ x y. x || y) (ap₂ (λ x y. x || y) (ap₂ (λ x y. x || y) (ap₂ (λ x y. x || y) p q) r) s) t) u) v
+
+-- a register without any of the faults
+record IsFree (r : Register) : Type 0 where
+  past : is_past_the_numbers r ≡ false
+  unused : has_unused_number r ≡ false
+  grants : has_loose_grant r ≡ false
+  members : has_loose_members r ≡ false
+  parcels : has_loose_parcel r ≡ false
+  entries : has_loose_rrr r ≡ false
+  mutations : has_loose_mutation r ≡ false
+  shares : has_unit_in_parts r ≡ false
+  groups : has_broken_group r ≡ false
+  bare : has_bare_unit r ≡ false
+  crowds : has_crowded_unit r ≡ false
+  clashes : has_clash r ≡ false
+  ranks : has_loose_rank r ≡ false
+  administrator : has_no_administrator r ≡ false
+  references : has_reused_reference r ≡ false
+
+sound : (r : Register) → IsFree r → IsSound r
+sound r f Reference = seven f.past f.unused f.grants f.members f.parcels f.entries f.mutations
+sound r f Shares = f.shares
+sound r f Group = f.groups
+sound r f Bare = f.bare
+sound r f Crowded = f.crowds
+sound r f Twice = f.clashes
+sound r f Rank = f.ranks
+sound r f Administrator = f.administrator
+sound r f Reused = f.references
+sound r f Memory = refl
+
+free : (r : Register) → IsSound r → IsFree r
+free r s =
+    let g = or_false (is_past_the_numbers r || has_unused_number r || has_loose_grant r || has_loose_members r || has_loose_parcel r || has_loose_rrr r) (has_loose_mutation r) (s Reference) in
+    let f = or_false (is_past_the_numbers r || has_unused_number r || has_loose_grant r || has_loose_members r || has_loose_parcel r) (has_loose_rrr r) g.0 in
+    let e = or_false (is_past_the_numbers r || has_unused_number r || has_loose_grant r || has_loose_members r) (has_loose_parcel r) f.0 in
+    let d = or_false (is_past_the_numbers r || has_unused_number r || has_loose_grant r) (has_loose_members r) e.0 in
+    let c = or_false (is_past_the_numbers r || has_unused_number r) (has_loose_grant r) d.0 in
+    let b = or_false (is_past_the_numbers r) (has_unused_number r) c.0 in
+    record {
+      past = b.0;
+      unused = b.1;
+      grants = c.1;
+      members = d.1;
+      parcels = e.1;
+      entries = f.1;
+      mutations = g.1;
+      shares = s Shares;
+      groups = s Group;
+      bare = s Bare;
+      crowds = s Crowded;
+      clashes = s Twice;
+      ranks = s Rank;
+      administrator = s Administrator;
+      references = s Reused;
+    }
+
+-- ---- all moments
+
+module _ (h : History) where
+  -- one fault at no moment
+  abbrev Free : (Register → Bool) → List Moment → Type 0
+  Free fault ms = AllByRecursion (λ m. fault (register_at m.stamp h m.next) ≡ false) ms
+
+  never : (fault : Register → Bool) (ms : List Moment) → Free fault ms → Never fault ms h
+  never fault ms all = All-from_recursion (λ m. fault (register_at m.stamp h m.next) ≡ false) ms all
+
+  from_never : (fault : Register → Bool) (ms : List Moment) → Never fault ms h → Free fault ms
+  from_never fault ms all = recursion_from_All (λ m. fault (register_at m.stamp h m.next) ≡ false) ms all
+
+  record AllFree (ms : List Moment) : Type 0 where
+    past : Free is_past_the_numbers ms
+    unused : Free has_unused_number ms
+    grants : Free has_loose_grant ms
+    members : Free has_loose_members ms
+    parcels : Free has_loose_parcel ms
+    entries : Free has_loose_rrr ms
+    mutations : Free has_loose_mutation ms
+    shares : Free has_unit_in_parts ms
+    groups : Free has_broken_group ms
+    bare : Free has_bare_unit ms
+    crowds : Free has_crowded_unit ms
+    clashes : Free has_clash ms
+    ranks : Free has_loose_rank ms
+    administrator : Free has_no_administrator ms
+    references : Free has_reused_reference ms
+
+  abbrev Named : Moment → Type 0
+  Named m = are_same_namings (standing m.stamp h.namings) (namings_of (register_at m.stamp h m.next).mutations) ≡ true
+
+  first_free : (m : Moment) (ms : List Moment) → AllFree (m ∷ ms) → IsFree (register_at m.stamp h m.next)
+  first_free m ms f = record {
+    past = f.past.0;
+    unused = f.unused.0;
+    grants = f.grants.0;
+    members = f.members.0;
+    parcels = f.parcels.0;
+    entries = f.entries.0;
+    mutations = f.mutations.0;
+    shares = f.shares.0;
+    groups = f.groups.0;
+    bare = f.bare.0;
+    crowds = f.crowds.0;
+    clashes = f.clashes.0;
+    ranks = f.ranks.0;
+    administrator = f.administrator.0;
+    references = f.references.0;
+  }
+
+  rest_free : (m : Moment) (ms : List Moment) → AllFree (m ∷ ms) → AllFree ms
+  rest_free m ms f = record {
+    past = f.past.1;
+    unused = f.unused.1;
+    grants = f.grants.1;
+    members = f.members.1;
+    parcels = f.parcels.1;
+    entries = f.entries.1;
+    mutations = f.mutations.1;
+    shares = f.shares.1;
+    groups = f.groups.1;
+    bare = f.bare.1;
+    crowds = f.crowds.1;
+    clashes = f.clashes.1;
+    ranks = f.ranks.1;
+    administrator = f.administrator.1;
+    references = f.references.1;
+  }
+
+  more_free : (m : Moment) (ms : List Moment) → IsFree (register_at m.stamp h m.next) → AllFree ms → AllFree (m ∷ ms)
+  more_free m ms f g = record {
+    past = (f.past, g.past);
+    unused = (f.unused, g.unused);
+    grants = (f.grants, g.grants);
+    members = (f.members, g.members);
+    parcels = (f.parcels, g.parcels);
+    entries = (f.entries, g.entries);
+    mutations = (f.mutations, g.mutations);
+    shares = (f.shares, g.shares);
+    groups = (f.groups, g.groups);
+    bare = (f.bare, g.bare);
+    crowds = (f.crowds, g.crowds);
+    clashes = (f.clashes, g.clashes);
+    ranks = (f.ranks, g.ranks);
+    administrator = (f.administrator, g.administrator);
+    references = (f.references, g.references);
+  }
+
+  each_lawful : (ms : List Moment) → AllFree ms → AllByRecursion Named ms → AllByRecursion (IsLawfulAt h) ms
+  each_lawful [] f n = tt
+  each_lawful (m ∷ ms) f n = (record { sound = sound (register_at m.stamp h m.next) (first_free m ms f); named = n.0 }, each_lawful ms (rest_free m ms f) n.1)
+
+  none_yet : AllFree []
+  none_yet = record {
+    past = tt;
+    unused = tt;
+    grants = tt;
+    members = tt;
+    parcels = tt;
+    entries = tt;
+    mutations = tt;
+    shares = tt;
+    groups = tt;
+    bare = tt;
+    crowds = tt;
+    clashes = tt;
+    ranks = tt;
+    administrator = tt;
+    references = tt;
+  }
+
+  each_free : (ms : List Moment) → AllByRecursion (IsLawfulAt h) ms → AllFree ms × AllByRecursion Named ms
+  each_free [] l = (none_yet, tt)
+  each_free (m ∷ ms) l =
+      let rest = each_free ms l.1 in
+      (more_free m ms (free (register_at m.stamp h m.next) l.0.sound) rest.0, (l.0.named, rest.1))
+
+  module _ (ms : List Moment) where
+    -- the five parts are together that each register is sound and its namings are those that mutations name
+    pub lawful_each : ((((AreNumbersUsed ms h × DoRefer ms h) × AreWhole ms h) × AreOnce ms h) × NamingsAgree ms h) ↔ All (IsLawfulAt h) ms
+    lawful_each = (
+      λ p. All-from_recursion (IsLawfulAt h) ms (each_lawful ms (record {
+        past = from_never is_past_the_numbers ms p.0.0.0.0.past;
+        unused = from_never has_unused_number ms p.0.0.0.0.unused;
+        grants = from_never has_loose_grant ms p.0.0.0.1.roles;
+        members = from_never has_loose_members ms p.0.0.0.1.members;
+        parcels = from_never has_loose_parcel ms p.0.0.0.1.parcels;
+        entries = from_never has_loose_rrr ms p.0.0.0.1.entries;
+        mutations = from_never has_loose_mutation ms p.0.0.0.1.mutations;
+        shares = from_never has_unit_in_parts ms p.0.0.1.shares;
+        groups = from_never has_broken_group ms p.0.0.1.groups;
+        bare = from_never has_bare_unit ms p.0.0.1.bare;
+        crowds = from_never has_crowded_unit ms p.0.0.1.crowds;
+        clashes = from_never has_clash ms p.0.1.entries;
+        ranks = from_never has_loose_rank ms p.0.0.0.0.ranks;
+        administrator = from_never has_no_administrator ms p.0.0.1.administrator;
+        references = from_never has_reused_reference ms p.0.1.references;
+      }) (recursion_from_All Named ms p.1)),
+      λ l.
+          let both = each_free ms (recursion_from_All (IsLawfulAt h) ms l) in
+          let f = both.0 in (
+            (
+              (
+                (
+                  record { past = never is_past_the_numbers ms f.past; unused = never has_unused_number ms f.unused; ranks = never has_loose_rank ms f.ranks },
+                  record { roles = never has_loose_grant ms f.grants; members = never has_loose_members ms f.members; parcels = never has_loose_parcel ms f.parcels; entries = never has_loose_rrr ms f.entries; mutations = never has_loose_mutation ms f.mutations },
+                ),
+                record { shares = never has_unit_in_parts ms f.shares; crowds = never has_crowded_unit ms f.crowds; bare = never has_bare_unit ms f.bare; groups = never has_broken_group ms f.groups; administrator = never has_no_administrator ms f.administrator },
+              ),
+              record { entries = never has_clash ms f.clashes; references = never has_reused_reference ms f.references },
+            ),
+            All-from_recursion Named ms both.1,
+          ),
+    )
+
+-- ---- what is answered
+
+module _ (ms : List Moment) (h : History) where
+  pub all_used : (a : Bool) → (a ≡ true) ↔ (Never is_past_the_numbers ms h × Never has_unused_number ms h × Never has_loose_rank ms h) → (a ≡ true) ↔ AreNumbersUsed ms h
+  all_used a p = (
+    λ yes. let all = p.0 yes in record { past = all.0; unused = all.1; ranks = all.2 },
+    λ them. p.1 (them.past, them.unused, them.ranks),
+  )
+
+  pub all_refer : (a b c d e : Bool) → (a ≡ true) ↔ Never has_loose_grant ms h → (b ≡ true) ↔ Never has_loose_members ms h → (c ≡ true) ↔ Never has_loose_parcel ms h
+      → (d ≡ true) ↔ Never has_loose_rrr ms h → (e ≡ true) ↔ Never has_loose_mutation ms h → ((a && b && c && d && e) ≡ true) ↔ DoRefer ms h
+  all_refer a b c d e p q r s t =
+      let it = five a b c d e p q r s t in (
+        λ yes. let all = it.0 yes in record { roles = all.0.0.0.0; members = all.0.0.0.1; parcels = all.0.0.1; entries = all.0.1; mutations = all.1 },
+        λ them. it.1 ((((them.roles, them.members), them.parcels), them.entries), them.mutations),
+      )
+
+  pub all_whole : (a b c d : Bool) → (a ≡ true) ↔ (Never has_unit_in_parts ms h × Never has_crowded_unit ms h) → (b ≡ true) ↔ Never has_bare_unit ms h
+      → (c ≡ true) ↔ Never has_broken_group ms h → (d ≡ true) ↔ Never has_no_administrator ms h → ((a && b && c && d) ≡ true) ↔ AreWhole ms h
+  all_whole a b c d p q r s =
+      let it = two (a && b && c) d (two (a && b) c (two a b p q) r) s in (
+        λ yes. let all = it.0 yes in record { shares = all.0.0.0.0; crowds = all.0.0.0.1; bare = all.0.0.1; groups = all.0.1; administrator = all.1 },
+        λ them. it.1 ((((them.shares, them.crowds), them.bare), them.groups), them.administrator),
+      )
+
+  pub all_once : (a b : Bool) → (a ≡ true) ↔ Never has_clash ms h → (b ≡ true) ↔ Never has_reused_reference ms h → ((a && b) ≡ true) ↔ AreOnce ms h
+  all_once a b p q =
+      let it = two a b p q in (
+        λ yes. let all = it.0 yes in record { entries = all.0; references = all.1 },
+        λ them. it.1 (them.entries, them.references),
+      )
+
+  pub lawful : are_moments ms ≡ true → DoRefer ms h → (a b c d : Bool) → (a ≡ true) ↔ AreNumbersUsed ms h → (b ≡ true) ↔ AreWhole ms h
+      → (c ≡ true) ↔ AreOnce ms h → (d ≡ true) ↔ NamingsAgree ms h → ((a && b && c && d) ≡ true) ↔ IsLawful ms h
+  lawful moments refer a b c d p q r s =
+      let it = two (a && b && c) d (two (a && b) c (two a b p q) r) s in
+      let law = lawful_each h ms in (
+        λ yes. let all = it.0 yes in record { moments = moments; each = law.0 ((((all.0.0.0, refer), all.0.0.1), all.0.1), all.1) },
+        λ them. let all = law.1 them.each in it.1 (((all.0.0.0.0, all.0.0.1), all.0.1), all.1),
+      )
+
+  -- what misses a part is not lawful
+  pub unreferred : (a : Bool) → a ≡ false → (a ≡ true) ↔ DoRefer ms h → (false ≡ true) ↔ IsLawful ms h
+  unreferred a is p = (
+    λ e. absurd (false≢true e),
+    λ them. let all = (lawful_each h ms).1 them.each in sym is ∙ p.1 all.0.0.0.1,
+  )
+
+  pub unlawful : are_moments ms ≡ false → (false ≡ true) ↔ IsLawful ms h
+  unlawful none = (
+    λ e. absurd (false≢true e),
+    λ them. sym none ∙ them.moments,
+  )

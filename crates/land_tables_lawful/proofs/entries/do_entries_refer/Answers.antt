@@ -1,0 +1,34 @@
+use Rattle.std.proofs.Common.{rules}
+use Rattle.land_tables_history.proofs.Proper.{all_proper}
+use Rattle.land_tables_lawful.proofs.Covers.{pieces_begin}
+use Rattle.land_tables_lawful.proofs.EntryReferences.{entries_refer}
+use Rattle.land_tables_lawful.proofs.entries.do_entries_refer.Goals as goal
+
+pub are_there-requires-whole : goal.are_there-requires-whole
+are_there-requires-whole c =
+    let h = c.args.history.now in
+    let p = all_proper c.args.moments.now h c.requires.intervals in
+    let begun =
+    pieces_begin c.args.moments.now (λ e. e.0) h.units (λ e. e.1.unit) h.rrrs p.units.intervals p.rrrs.intervals in
+    search rules
+
+pub are_there-requires-2-whole : goal.are_there-requires-2-whole
+are_there-requires-2-whole c =
+    let h = c.args.history.now in
+    let p = all_proper c.args.moments.now h c.requires.intervals in
+    let begun =
+    pieces_begin c.args.moments.now (λ e. e.0) h.parties (λ e. e.1.party) h.rrrs p.parties.intervals p.rrrs.intervals in
+    search rules
+
+pub are_there-requires-3-whole : goal.are_there-requires-3-whole
+are_there-requires-3-whole c =
+    let h = c.args.history.now in
+    let p = all_proper c.args.moments.now h c.requires.intervals in
+    let begun =
+    pieces_begin c.args.moments.now (λ e. e.0) h.sources (λ e. e.1.source) h.rrrs p.sources.intervals p.rrrs.intervals in
+    search rules
+
+pub returns : goal.returns
+returns c =
+    entries_refer c.args.moments.now c.args.history.now c.requires.intervals c.requires.in_time
+    c.in_ok-units.units c.in_ok-parties.parties c.in_ok-sources.sources c.in_ok-units.ensures c.in_ok-parties.ensures c.in_ok-sources.ensures

@@ -1,0 +1,19 @@
+use Rattle.std.proofs.Common.{◌≡◌, ◌↔◌, ◌++◌, ◌∙◌, Bool, true, ap₂}
+use Rattle.std.proofs.lemmas.Result.{IfOk-weaker}
+use Rattle.land_core.specs.Soundness.{has_broken_group}
+use Rattle.land_tables_lawful.specs.Memberships.{are_joined_soundly, groups_lived, members_lived, memberships_in}
+use Rattle.land_tables_lawful.specs.Never.{Never}
+use Rattle.land_tables_lawful.proofs.Together.{answered}
+use Rattle.land_tables_lawful.proofs.WholeGroups.{groups_are_whole}
+use Rattle.land_tables_history.specs.Sweeps.Sweep.{AreSound}
+use Rattle.land_tables_lawful.proofs.groups.are_groups_whole.Goals as goal
+
+pub returns : goal.returns
+returns c =
+    let h = c.args.history.now in
+    let moments = c.args.moments.now in
+    let made = c.in_ok-lived.lived.items in
+    let all : made ≡ memberships_in h =
+    c.in_ok-lived.ensures ∙ ap₂ (λ ps ms. groups_lived ps ++ members_lived ms) c.as_slice.ensures c.as_slice-2.ensures in
+    IfOk-weaker c.are_sound.result (λ (b : Bool). (b ≡ true) ↔ AreSound are_joined_soundly made) (λ (b : Bool). (b ≡ true) ↔ Never has_broken_group moments h)
+    (λ b. answered are_joined_soundly made (memberships_in h) all (groups_are_whole moments h c.requires.intervals c.requires.in_time) b) c.are_sound.ensures

@@ -1,0 +1,10 @@
+use Rattle.std.proofs.Common.{◌≡◌, ◌++◌, drop, flat_map}
+use Rattle.land_tables_lawful.specs.KeyPairs.{paired}
+use Rattle.land_tables_lawful.specs.NamedUnits.{naming_pair}
+use Rattle.land_tables_lawful.proofs.namings.add_namings.Given as goal
+
+-- what was added, and then what is to come
+abbrev pub invariant-loop-naming : goal.invariant-loop-naming
+invariant-loop-naming l =
+    l.pieces.items ++ flat_map (paired l.asked naming_pair) (drop l.naming-index l.namings)
+    ≡ l.fn.pieces.items ++ flat_map (paired l.asked naming_pair) l.namings

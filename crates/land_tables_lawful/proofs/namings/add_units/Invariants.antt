@@ -1,0 +1,11 @@
+use Rattle.std.proofs.Common.{◌≡◌, ◌++◌, drop, map as map_list}
+use Rattle.land_tables_lawful.specs.KeyPairs.{pair_at}
+use Rattle.land_tables_lawful.specs.NamedUnits.{with_units}
+use Rattle.land_tables_lawful.proofs.namings.add_units.Given as goal
+
+-- what was added, and then what is to come
+abbrev pub invariant-loop-unit : goal.invariant-loop-unit
+invariant-loop-unit l =
+    l.pieces.items
+    ++ map_list (λ k. pair_at l.asked k.0 k.1 l.mutation.since l.mutation.until) (with_units l.mutation.what.0 (drop l.unit-index l.units))
+    ≡ l.fn.pieces.items ++ map_list (λ k. pair_at l.asked k.0 k.1 l.mutation.since l.mutation.until) (with_units l.mutation.what.0 l.units)

@@ -1,0 +1,10 @@
+use Rattle.std.proofs.Common.{◌≡◌, drop}
+use Rattle.std.specs.List.{list_all}
+use Rattle.land_tables_lawful.specs.NumbersInUse.{has_used_numbers, passes_since}
+use Rattle.land_tables_lawful.proofs.numbers.are_entries_used.Given as goal
+
+-- what is left leads to the same
+abbrev pub invariant-loop-entry : goal.invariant-loop-entry
+invariant-loop-entry l =
+    list_all (passes_since has_used_numbers l.fn.moments) (drop l.entry-index l.entries)
+    ≡ list_all (passes_since has_used_numbers l.fn.moments) l.entries

@@ -1,0 +1,27 @@
+-- State administrators, over time.
+use Rattle.std.specs.Prelude.{pos, ◌+ℤ◌, Bool, List, filter, map as map_list}
+use Rattle.land_core.specs.Role.{is_role}
+use Rattle.land_core.specs.declared.role.Role.TheVariants.{StateAdministrator}
+use Rattle.land_core.specs.declared.roles.Grant.{Grant}
+use Rattle.land_tables_history.specs.declared.moment.Moment.{Moment}
+use Rattle.land_tables_history.specs.declared.version.Version.{Version}
+use Rattle.land_tables_lawful.specs.Pieces.{asked_piece, offered_piece}
+use Rattle.land_tables_history.specs.declared.sweeps.cover.Piece.{Piece}
+
+-- a version of a role is of a state administrator
+abbrev pub is_of_administrator : Version Grant → Bool
+is_of_administrator v = is_role v.what.role StateAdministrator
+
+abbrev pub administrators : List (Version Grant) → List (Version Grant)
+administrators roles = filter is_of_administrator roles
+
+-- a moment as what stands at its stamp alone
+abbrev pub instant : Moment → Version Moment
+instant m = record { what = m; since = m.stamp; until = m.stamp +ℤ pos 1 }
+
+-- all under one key: whoever is state administrator is offered, and each moment asks for one
+abbrev pub offered_administrators : List (Version Grant) → List Piece
+offered_administrators roles = map_list (offered_piece (λ r. 0)) (administrators roles)
+
+abbrev pub asked_instants : List Moment → List Piece
+asked_instants moments = map_list (asked_piece (λ m. 0)) (map_list instant moments)

@@ -1,0 +1,19 @@
+-- Definitions of what is asked of a history at all moments.
+pub mod Administrator
+pub mod AnyOrder
+pub mod ApartSpans
+pub mod BareUnits
+pub mod Chains
+pub mod Conditions
+pub mod Holdings
+pub mod KeyPairs
+pub mod Lived
+pub mod Lodgings
+pub mod Members
+pub mod Memberships
+pub mod NamedUnits
+pub mod Never
+pub mod NumbersInUse
+pub mod Pieces
+pub mod Places
+pub mod Roles

@@ -1,0 +1,31 @@
+-- Members of groups, over time.
+use Rattle.std.specs.Prelude.{ℕ, Bool, not, List, filter}
+use Rattle.land_core.specs.Register.{is_single}
+use Rattle.land_core.specs.declared.party.PartyRecord.{PartyRecord}
+use Rattle.land_tables_history.specs.declared.group_member.GroupMember.{GroupMember}
+use Rattle.land_tables_history.specs.declared.version.Version.{Version}
+use Rattle.land_tables_lawful.specs.Pieces.{pieces}
+use Rattle.land_tables_lawful.specs.Roles.{single_parties}
+use Rattle.land_tables_history.specs.declared.sweeps.cover.Piece.{Piece}
+
+-- a party is a group in each version that says so
+abbrev pub is_of_group : Version (ℕ × PartyRecord) → Bool
+is_of_group v = not (is_single v.what.1.kind)
+
+abbrev pub group_parties : List (Version (ℕ × PartyRecord)) → List (Version (ℕ × PartyRecord))
+group_parties parties = filter is_of_group parties
+
+-- the group of a member, and the party that is the member
+abbrev pub group_of : GroupMember → ℕ
+group_of member = member.group
+
+abbrev pub party_of : GroupMember → ℕ
+party_of member = member.member.party
+
+-- groups are offered, and asked for by their members
+abbrev pub group_pieces : List (Version (ℕ × PartyRecord)) → List (Version GroupMember) → List Piece
+group_pieces parties members = pieces (λ p. p.0) (group_parties parties) group_of members
+
+-- single parties are offered, and asked for where they are members
+abbrev pub member_pieces : List (Version (ℕ × PartyRecord)) → List (Version GroupMember) → List Piece
+member_pieces parties members = pieces (λ p. p.0) (single_parties parties) party_of members

@@ -1,0 +1,27 @@
+-- Mutations with the units that they name.
+use Rattle.std.specs.Prelude.{◌≡◌, ℕ, true, List, [], ◌∷◌, map as map_list}
+use Rattle.std.specs.List.{All}
+use Rattle.land_core.specs.declared.mutation.MutationRecord.{MutationRecord}
+use Rattle.land_tables_history.specs.History.{named_units, namings_of, register_at}
+use Rattle.land_tables_history.specs.Lawful.{are_same_namings}
+use Rattle.land_tables_history.specs.Standing.{standing}
+use Rattle.land_tables_history.specs.declared.history.History.{History}
+use Rattle.land_tables_history.specs.declared.moment.Moment.{Moment}
+use Rattle.land_tables_history.specs.declared.naming.Naming.{Naming}
+
+-- a mutation with some units
+abbrev pub with_units : (mutation : ℕ) → (units : List ℕ) → List (ℕ × ℕ)
+with_units mutation units = map_list (λ unit. (mutation, unit)) units
+
+-- a mutation with each unit that its content names
+abbrev pub named_pairs : ℕ × MutationRecord → List (ℕ × ℕ)
+named_pairs m = with_units m.0 (named_units m.1.content)
+
+-- the mutation of a naming with its unit
+abbrev pub naming_pair : Naming → List (ℕ × ℕ)
+naming_pair n = (n.mutation, n.unit) ∷ []
+
+-- at each moment the namings that stand are those that the register's mutations name
+abbrev pub NamingsAgree : List Moment → History → Type 0
+NamingsAgree moments h =
+    All (λ m. are_same_namings (standing m.stamp h.namings) (namings_of (register_at m.stamp h m.next).mutations) ≡ true) moments

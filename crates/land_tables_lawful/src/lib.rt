@@ -1,0 +1,23 @@
+//! Which histories are lawful: each condition at all moments is judged by one pass over versions in order.
+#![tactic(auto)]
+
+mod administrator;
+mod bare;
+mod clashes;
+mod entries;
+mod groups;
+mod holdings;
+pub mod lawful;
+mod lived;
+mod lodgings;
+mod members;
+mod moments;
+mod mutations;
+mod namings;
+mod numbers;
+mod pairs;
+mod parcels;
+mod pieces;
+mod referred;
+mod roles;
+mod units;

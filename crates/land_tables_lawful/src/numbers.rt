@@ -1,0 +1,117 @@
+//! Whether numbers are in use.
+ghost use Rattle.std.specs.List.{list_all};
+ghost use Rattle.std.specs.List.Sorted.{IsSorted};
+ghost use Rattle.std.specs.Prelude.{◌≡◌, ◌↔◌, true, IfOk};
+ghost use Rattle.land_core.specs.Soundness.{has_loose_rank, has_unused_number, is_past_the_numbers};
+ghost use Rattle.land_tables_history.specs.Intervals.{has_intervals};
+ghost use Rattle.land_tables_history.specs.Lawful.{are_moments};
+ghost use Rattle.land_tables_lawful.specs.Chains.{goes_up, stamp_cmp};
+ghost use Rattle.land_tables_lawful.specs.Never.{Never};
+ghost use Rattle.land_tables_lawful.specs.NumbersInUse.{are_all_used, are_numbers_left, has_used_number, has_used_numbers};
+ghost use Rattle.land_tables_lawful.specs.NumbersInUse.{is_used, is_used_rank, next_since, passes_since};
+
+use crate::moments::in_order;
+use land_core::rrr::RrrRecord;
+use land_tables_history::history::History;
+use land_tables_history::moment::Moment;
+use land_tables_history::version::Version;
+use std::alloc::{AllocError, Global};
+
+/// Whether at each moment numbers are left, and the numbers of all that stands and the ranks of mortgages are in use. As the next number
+/// never falls, it is enough to look at each version when it begins to stand.
+pub(crate) fn are_numbers_used(
+    alloc: Global,
+    history: &History,
+    moments: &[Moment],
+) -> Result<bool, AllocError>
+    requires intervals { has_intervals moments.now history.now ≡ true }
+    requires moments { are_moments moments.now ≡ true }
+    ensures { IfOk result (λ it. (it ≡ true) ↔ (Never is_past_the_numbers moments.now history.now
+        × Never has_unused_number moments.now history.now × Never has_loose_rank moments.now history.now)) }
+{
+    let sorted = in_order(alloc, moments)?;
+    Ok(are_all_used(history, sorted.as_slice()))
+}
+
+fn are_all_used(history: &History, moments: &[Moment]) -> bool
+    requires sorted { IsSorted stamp_cmp moments.now }
+    requires up { goes_up moments.now ≡ true }
+    ensures { result ≡ are_all_used moments.now history.now }
+{
+    are_numbers_left(moments)
+        && are_used(history.parties.as_slice(), moments)
+        && are_used(history.units.as_slice(), moments)
+        && are_used(history.parcels.as_slice(), moments)
+        && are_entries_used(history.rrrs.as_slice(), moments)
+        && are_used(history.sources.as_slice(), moments)
+        && are_used(history.mutations.as_slice(), moments)
+}
+
+fn are_numbers_left(moments: &[Moment]) -> bool
+    ensures { result ≡ are_numbers_left moments.now }
+{
+    for moment in moments {
+        if 1_000_000_001 < moment.next {
+            return false;
+        }
+    }
+    true
+}
+
+/// Whether the numbers of records are in use when they begin to stand.
+fn are_used<V>(versions: &[Version<(u64, V)>], moments: &[Moment]) -> bool
+    requires sorted { IsSorted stamp_cmp moments.now }
+    requires up { goes_up moments.now ≡ true }
+    ensures { result ≡ list_all (passes_since has_used_number moments.now) versions.now }
+{
+    for version in versions {
+        if !is_used(version.what.0, next_since(moments, version.since)) {
+            return false;
+        }
+    }
+    true
+}
+
+/// The same of entries, and of the ranks of mortgages.
+fn are_entries_used(entries: &[Version<(u64, RrrRecord)>], moments: &[Moment]) -> bool
+    requires sorted { IsSorted stamp_cmp moments.now }
+    requires up { goes_up moments.now ≡ true }
+    ensures { result ≡ list_all (passes_since has_used_numbers moments.now) entries.now }
+{
+    for entry in entries {
+        let next = next_since(moments, entry.since);
+        if !(is_used(entry.what.0, next) && is_used_rank(entry.what.1.class.rank(), next)) {
+            return false;
+        }
+    }
+    true
+}
+
+/// Whether a number is at least 1 and below the next one.
+fn is_used(number: u64, next: u64) -> bool
+    ensures { result ≡ is_used number next }
+{
+    0 < number && number < next
+}
+
+/// The same of a rank, where there is one.
+fn is_used_rank(rank: Option<u64>, next: u64) -> bool
+    ensures { result ≡ is_used_rank rank next }
+{
+    match rank {
+        Some(rank) => is_used(rank, next),
+        None => true,
+    }
+}
+
+/// The next number at a stamp, sought among moments in order; 0 where no moment has it.
+fn next_since(moments: &[Moment], since: i64) -> u64
+    requires sorted { IsSorted stamp_cmp moments.now }
+    requires up { goes_up moments.now ≡ true }
+    ensures { result ≡ next_since moments.now since }
+{
+    match moments.binary_search_by_key(&since, |moment| moment.stamp) {
+        Ok(at) => moments[at].next,
+        Err(_) => 0,
+    }
+}

@@ -1,0 +1,36 @@
+//! Whether parcels refer to what stands, at each moment.
+ghost use Rattle.std.specs.Prelude.{◌≡◌, ◌↔◌, true, IfOk};
+ghost use Rattle.land_core.specs.Soundness.{has_loose_parcel};
+ghost use Rattle.land_tables_history.specs.Intervals.{has_intervals};
+ghost use Rattle.land_tables_lawful.specs.Never.{Never};
+ghost use Rattle.land_tables_lawful.specs.Pieces.{are_in_time};
+
+use crate::referred::are_there;
+use land_tables_history::history::History;
+use land_tables_history::moment::Moment;
+use std::alloc::{AllocError, Global};
+
+/// Whether the unit and the source of each parcel stand, at each moment.
+pub(crate) fn do_parcels_refer(
+    alloc: Global,
+    history: &History,
+    moments: &[Moment],
+) -> Result<bool, AllocError>
+    requires intervals { has_intervals moments.now history.now ≡ true }
+    requires in_time { are_in_time moments.now ≡ true }
+    ensures { IfOk result (λ it. (it ≡ true) ↔ Never has_loose_parcel moments.now history.now) }
+{
+    let units = are_there(
+        alloc,
+        &history.units,
+        &history.parcels,
+        |parcel| parcel.1.unit,
+    )?;
+    let sources = are_there(
+        alloc,
+        &history.sources,
+        &history.parcels,
+        |parcel| parcel.1.source,
+    )?;
+    Ok(units & sources)
+}

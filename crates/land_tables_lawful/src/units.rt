@@ -1,0 +1,76 @@
+//! Whether units are whole at each moment: the shares in those that are checked, and the number of what is in each.
+ghost use Rattle.std.specs.Prelude.{◌≡◌, ◌↔◌, true, IfOk, refl, ◌++◌};
+ghost use Rattle.land_core.specs.Soundness.{has_crowded_unit, has_unit_in_parts};
+ghost use Rattle.land_tables_history.specs.Intervals.{has_intervals};
+ghost use Rattle.land_tables_lawful.specs.AnyOrder.{sound_in_any_order};
+ghost use Rattle.land_tables_lawful.specs.Holdings.{are_sound_together, entries_lived, parcels_lived, units_lived};
+ghost use Rattle.land_tables_lawful.specs.Never.{Never};
+ghost use Rattle.land_tables_lawful.specs.Pieces.{are_in_time};
+
+use crate::holdings::{Holding, are_few_in_unit, are_whole_in_checked_unit};
+use crate::lived::lived_by;
+use land_core::parcel::ParcelRecord;
+use land_core::rrr::RrrRecord;
+use land_core::unit::UnitRecord;
+use land_tables_history::history::History;
+use land_tables_history::moment::Moment;
+use land_tables_history::sweeps::sweep::{Judged, Lived, are_sound};
+use land_tables_history::version::Version;
+use std::alloc::{AllocError, Global};
+
+impl Judged for Holding {
+    ghost is_sound = { are_sound_together };
+
+    fn judge(alloc: Global, there: &[Lived<Holding>]) -> Result<bool, AllocError> {
+        Ok(are_few_in_unit(there) && are_whole_in_checked_unit(alloc, there)?)
+    }
+
+    ghost empty_is_sound = { refl };
+
+    ghost in_any_order = { λ xs ys p. sound_in_any_order xs ys p };
+}
+
+/// Whether at each moment the shares of each type of right that occurs in a checked unit make a whole, and each unit has at most
+/// 256 parcels and 256 entries.
+pub(crate) fn are_units_whole(
+    alloc: Global,
+    history: &History,
+    moments: &[Moment],
+) -> Result<bool, AllocError>
+    requires intervals { has_intervals moments.now history.now ≡ true }
+    requires in_time { are_in_time moments.now ≡ true }
+    ensures { IfOk result (λ it. (it ≡ true)
+        ↔ (Never has_unit_in_parts moments.now history.now × Never has_crowded_unit moments.now history.now)) }
+{
+    let mut lived = holdings_in(
+        alloc,
+        history.units.as_slice(),
+        history.parcels.as_slice(),
+        history.rrrs.as_slice(),
+    )?;
+    are_sound(alloc, &mut lived)
+}
+
+/// The units, and what is in them, as long as it stands.
+fn holdings_in(
+    alloc: Global,
+    units: &[Version<(u64, UnitRecord)>],
+    parcels: &[Version<(u64, ParcelRecord)>],
+    entries: &[Version<(u64, RrrRecord)>],
+) -> Result<Vec<Lived<Holding>>, AllocError>
+    ensures { IfOk result (λ it. it.items ≡ (units_lived units.now ++ parcels_lived parcels.now) ++ entries_lived entries.now) }
+{
+    let mut lived = Vec::new(alloc);
+    for unit in units {
+        let checked = unit.what.1.checked;
+        lived.push(lived_by(unit.what.0, Holding::Unit { checked }, unit))?;
+    }
+    for parcel in parcels {
+        lived.push(lived_by(parcel.what.1.unit, Holding::Parcel, parcel))?;
+    }
+    for entry in entries {
+        let held = Holding::of_class(&entry.what.1.class);
+        lived.push(lived_by(entry.what.1.unit, held, entry))?;
+    }
+    Ok(lived)
+}
