@@ -127,3 +127,74 @@ def of_changes(path, changes, parcels=1):
         put(base, table, some)
     base.commit()
     base.close()
+
+
+def of_transfers(path, changes, units=1000, owners=4):
+    """A register of units with so many owners of equal shares, and so many changes: in turns a transfer of a whole right is lodged, and
+    approved. The receiver is the one that has been no owner of the unit for longest."""
+    base = opened(path)
+    people = range(2, 2 + units + owners)
+    number = people[-1] + 1
+    deed, number = number, number + 1
+    rows = {table: [] for table in ("party", "role", "moments", "source", "unit", "parcel", "rrr", "mutation", "names")}
+    rows["party"] = [(party, f"Party {party}", "naturalPerson", 1000, OPEN) for party in people]
+    rows["role"] = [(party, "citizen", 1000, OPEN) for party in people] + [(2, "conveyancer", 1000, OPEN)]
+    rows["source"].append((deed, "administrative", f"Deed {deed}", 1000, OPEN))
+    held, waiting = [], []
+    for place in range(units):
+        unit, number = number, number + 2
+        rows["unit"].append((unit, f"Unit {unit}", 1, 1000, OPEN))
+        rows["parcel"].append((unit + 1, unit, f"P{unit + 1}", square(place), deed, 1000, OPEN))
+        rights = []
+        for step in range(owners):
+            rights.append([number, people[(place + step) % len(people)], 1000, deed])
+            number += 1
+        held.append((unit, rights))
+        waiting.append([people[(place + owners + step) % len(people)] for step in range(min(owners, len(people) - owners))])
+    rows["moments"].append((1000, number))
+    for cycle in range(changes // 2):
+        since, place = 1001 + 2 * cycle, cycle % units
+        unit, rights = held[place]
+        right, giver, began, source = rights.pop(0)
+        receiver = waiting[place].pop(0)
+        paper, mutation, number = number, number + 1, number + 2
+        rows["source"].append((paper, "administrative", f"Deed {paper}", since, OPEN))
+        content = f'{{"receiver":{receiver},"right":{right},"share":"1/{owners}","unit":{unit}}}'
+        common = (mutation, 2, f"R{mutation}", paper, since, "transfer", content)
+        rows["mutation"] += [(*common, "lodged", since, since + 1), (*common, "approved", since + 1, OPEN)]
+        rows["names"].append((mutation, unit, since, OPEN))
+        rows["moments"] += [(since, number), (since + 1, number + 1)]
+        rows["rrr"].append((right, unit, giver, "ownership", 1, owners, None, None, None, None, source, began, since + 1))
+        rights.append([number, receiver, since + 1, paper])
+        waiting[place].append(giver)
+        number += 1
+    for unit, rights in held:
+        rows["rrr"] += [(right, unit, party, "ownership", 1, owners, None, None, None, None, source, began, OPEN)
+                        for right, party, began, source in rights]
+    for table, some in rows.items():
+        put(base, table, some)
+    base.commit()
+    base.close()
+
+
+def of_members(path, changes, size=64):
+    """A register of one group of so many members with equal shares, of which one gives way to another at each change."""
+    base = opened(path)
+    people = range(2, 2 + 2 * size)
+    group = people[-1] + 1
+    put(base, "party", [(party, f"Party {party}", "naturalPerson", 1000, OPEN) for party in people])
+    put(base, "party", [(group, "Group", "group", 1000, OPEN)])
+    put(base, "role", [(party, "citizen", 1000, OPEN) for party in people])
+    members = [(party, 1000) for party in people[:size]]
+    waiting, rows = list(people[size:]), []
+    for change in range(changes):
+        since = 1001 + change
+        gone, began = members.pop(0)
+        rows.append((group, gone, 1, size, began, since))
+        members.append((waiting.pop(0), since))
+        waiting.append(gone)
+    rows += [(group, party, 1, size, began, OPEN) for party, began in members]
+    put(base, "member", rows)
+    put(base, "moments", [(1000 + change, group + 1) for change in range(changes + 1)])
+    base.commit()
+    base.close()
