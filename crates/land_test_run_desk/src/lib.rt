@@ -13,6 +13,6 @@ mod conclusion;
 #[cfg(test)]
 mod connections;
 #[cfg(test)]
-mod desk;
+mod desk_rows;
 #[cfg(test)]
 mod wire;
