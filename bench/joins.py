@@ -10,17 +10,22 @@ mortgage and a notary. What stands beside each other:
     land        `land serve`: HTTP over one kept connection on loopback, one request after another, each awaited
     each new    the same, each request on a connection of its own: it is made, the request sent, the reply awaited, and it is closed
     at once     the same, 32 requests sent before their replies are read, which the client acknowledges at once
-    SQLite      the texts that the request runs, in their order, by C SQLite through Python's sqlite3 with statements that it keeps and
-                the file locked once: no HTTP, no reply, nobody decides. `land` is told as a multiple of it, and so is `land` less the time
-                of a path that names nothing, which is that of HTTP alone
+    C SQLite    the very texts that the program runs for the request, in its order and with its parameters (texts.py), by a peer in C
+                (peer.c): statements prepared once, the file its own, all columns of all rows read, and timed inside. No HTTP, no JSON, no
+                policy: nothing is decided, sorted or written. `land` is told as a multiple of it, and so is `land` less the time of a path
+                that names nothing, which is that of HTTP alone
     PostgreSQL  one statement (of a sheet four) under policies of row-level security, by pgbench: prepared, over a socket of Unix, the
                 caller set once for the connection; no HTTP, no JSON, and nobody asks whether the caller still holds its role
-    Python      http.server with sqlite3 and the same texts (desk.py), as `land`, and each new likewise
+    Python      http.server with sqlite3 (desk.py), as `land`, and each new likewise: it makes the list of what is seen where `land` looks up
+                one object, by the texts of the program
 
 The replies of `land` and of Python are compared before they are timed. Each figure is the least of the medians of five short runs, taken in
-turns; what takes more than 10 milliseconds is not asked at once. Then the acts, in milliseconds each, the median and the mean time that the
-service has a processor, over one kept connection and over one connection a request: what is written is synchronous to the disk on both
-sides, and both files are taken by `land check` afterwards. PostgreSQL is left out where it is not installed.
+turns; what takes more than 10 milliseconds is not asked at once.
+
+Then the acts, in milliseconds each, one by one in turns: the median of the medians of five runs, and the mean time on the processor, over one
+kept connection and over one connection a request. The peer in C runs the reads and writes of the act in one transaction, and plans nothing:
+what is written is given to it. All three wait for the disk at each commit, which strace counts where it is installed, and all files are taken
+by `land check` afterwards. PostgreSQL, or the peer, is left out where it is not installed or cannot be built.
 """
 import glob
 import json
@@ -37,10 +42,10 @@ import tempfile
 import time
 
 import registers
-from desk import Denied, Lost, Register
-from registers import BANK, BUSY, CALM, NOTARY, OFFICE, OPEN, PROGRAM, SMALL_BANK, TOP
+import texts
+from registers import BANK, BUSY, CALM, NOTARY, OFFICE, PROGRAM, SMALL_BANK, TOP
 
-RUNS, SECONDS, AT_ONCE, ACTS = 5, 0.04, 32, 60
+RUNS, SECONDS, AT_ONCE, ACTS = 5, 0.04, 32, 20
 
 
 def head(method, path, party, role, body=None):
@@ -108,9 +113,9 @@ class Service:
 
     running = []
 
-    def __init__(self, words):
+    def __init__(self, words, **ways):
         self.port = free_port()
-        self.process = subprocess.Popen([word.format(port=self.port) for word in words])
+        self.process = subprocess.Popen([word.format(port=self.port) for word in words], **ways)
         self.running.append(self)
         while True:
             try:
@@ -319,33 +324,27 @@ def masked(reply):
     return reply[0], re.sub(rb"(?m)^At .*", b"At T", reply[1])
 
 
-def same_answers(ask, desk, postgres, base, requests):
-    """That both services answer the same, and PostgreSQL as many rows; the texts of each request with what they are asked."""
-    run = []
+def same_answers(ask, desk, postgres, requests):
+    """That both services answer the same, and PostgreSQL as many rows; the status of each request."""
+    told = []
     for party, role, name, path in requests:
         request = head("GET", path, party, role)
         mine, theirs = masked(ask.ask(request)), masked(desk.ask(request))
         if mine != theirs:
             raise SystemExit(f"{role}, {name}: {mine}, and Python: {theirs}")
-        kept = []
-        register = Register(base)
-        register.ask = lambda text, *cells: kept.append((text, cells)) or base.execute(text, cells).fetchall()
-        try:
-            register.read(party, role, path)
-        except (Denied, Lost):
-            pass
-        run.append((mine[0], kept))
-        if postgres and kept:
+        told.append(mine[0])
+        if postgres and mine[0] != 400:
             rows = len(postgres.rows(statements(path)[0], party, role))
             wanted = 0 if mine[0] == 403 else len(json.loads(mine[1])["numbers"]) if path.count("/") == 1 else 1
             if rows != wanted:
                 raise SystemExit(f"{role}, {name}: {rows} rows of PostgreSQL, not {wanted}")
-    return run
+    return told
 
 
-def run_texts(base, texts):
-    for text, cells in texts:
-        base.execute(text, cells).fetchall()
+def values(known, party, path):
+    """What the peer is given for a read: the caller, the number in the path, the unit that the mutation names."""
+    number = re.search(r"\d+", path)
+    return party, int(number[0]) if number else 0, known["units"][0]
 
 
 def micros(seconds):
@@ -359,31 +358,39 @@ def ask_alone(port, request):
     client.close()
 
 
-def reads(file, known, postgres):
+HEADS = ("caller", "request", "told", "`land`: HTTP, policy, JSON", "each new", "at once", "C SQLite: the texts alone, no HTTP, JSON, policy", "texts",
+         "to C SQLite: `land`, and without HTTP", "PostgreSQL: no HTTP, JSON, look at the role", "Python: HTTP, JSON, lists for look-ups", "each new")
+
+
+def heads(words):
+    """The head of a table."""
+    return f"| {' | '.join(words)} |\n{'|---' * len(words)}|"
+
+
+def reads(file, known, postgres, program):
     """The table of reads; of each request its name, and the seconds of the service over a kept connection and over one a request."""
     requests = asked(known)
     mine, theirs = land(file), python(shutil.copy(file, file + ".python"))
-    base = sqlite3.connect(shutil.copy(file, file + ".sqlite"))
-    base.execute("PRAGMA locking_mode = exclusive")
+    peer = texts.Peer([program, shutil.copy(file, file + ".peer")]) if program else None
     ask, desk = Client(mine.port), Client(theirs.port)
-    runs = same_answers(ask, desk, postgres, base, requests)
+    told = same_answers(ask, desk, postgres, requests)
     ask.close()
     desk.close()
-    print("| caller | request | told | `land` | each new | at once | SQLite | to SQLite: `land`, and without HTTP | PostgreSQL | Python | each new |")
-    print("|---|---|---|---|---|---|---|---|---|---|---|")
+    print(heads(HEADS))
     served, alone = [], None
-    for (party, role, name, path), (status, texts) in zip(requests, runs):
+    for (party, role, name, path), status in zip(requests, told):
         request, figures = head("GET", path, party, role), []
-        counts = 20
+        counts, ran = 20, 0
         for _ in range(RUNS):
             # Each service answers one connection at a time.
             ask, desk = Client(mine.port), Client(theirs.port)
             one = median(lambda: ask.ask(request))
             row = median(lambda: ask.ask_at_once(request * AT_ONCE, AT_ONCE)) / AT_ONCE if one < 0.01 else None
-            lite = median(lambda: run_texts(base, texts))
+            lite = rows = None
+            if peer and status != 400:
+                lite, ran = peer.read(f"{role}: {name}", SECONDS, *values(known, party, path))
             other = median(lambda: desk.ask(request))
-            rows = None
-            if postgres and texts:
+            if postgres and status != 400:
                 rows = postgres.seconds(statements(path), party, role, counts)
                 counts = max(20, min(5000, int(2 * SECONDS / rows)))
             ask.close()
@@ -393,63 +400,128 @@ def reads(file, known, postgres):
         one, new, row, lite, rows, other, other_new = (
             min((some for some in figure if some is not None), default=None) for figure in zip(*figures))
         served.append((role, name, one, new))
-        if texts:
-            ratio = f"{one / lite:.1f}, {(one - alone) / lite:.1f}"
-        else:
-            alone, lite, ratio = one, None, "-"
-        cells = (*(micros(it) for it in (one, new, row, lite)), ratio, *(micros(it) for it in (rows, other, other_new)))
-        print(f"| {role} | {name} | {status} | {' | '.join(cells)} |", flush=True)
-    base.close()
+        if status == 400:
+            alone = one
+        ratio = f"{one / lite:.1f}, {(one - alone) / lite:.1f}" if lite else "-"
+        cells = (micros(one), micros(new), micros(row), micros(lite), ran or "-", ratio, micros(rows), micros(other), micros(other_new))
+        print(f"| {role} | {name} | {status} | {' | '.join(map(str, cells))} |", flush=True)
+    if peer:
+        peer.stop()
     mine.stop()
     theirs.stop()
     return served
 
 
-def act(word, party, role, body):
-    return head("POST", f"/acts/{word}", party, role, body)
-
-
 def enrolments(_, count, tag):
-    return [act("enrol", OFFICE, "stateAdministrator", {"kind": "naturalPerson", "name": f"{tag} {n}"}) for n in range(count)]
+    return [("enrol", OFFICE, "stateAdministrator", {"kind": "naturalPerson", "name": f"{tag} {n}"}) for n in range(count)]
 
 
 def registrations(known, count, tag):
     owner = known["owner"]
-    return [act("register", OFFICE, "stateAdministrator", {
+    return [("register", OFFICE, "stateAdministrator", {
         "name": f"{tag} {n}", "checked": True, "document": "Deed", "parcels": [{"label": "1", "outline": registers.square(900000 + n)}],
         "rights": [{"party": owner, "type": "ownership", "share": "1/1"}]}) for n in range(count)]
 
 
-def lodgings(known, count, tag, lodgers):
-    """Transfers to the notary, by these lodgers in turns, each of the right that was named the longest ago."""
-    for n in range(count):
-        unit, right = known["rights"].pop()
-        known["rights"].insert(0, (unit, right))
-        yield act("transfer", lodgers[n % len(lodgers)], "conveyancer", {
-            "reference": f"{tag} {n}", "document": "Deed", "unit": unit, "right": right, "receiver": NOTARY, "share": "1/2"})
+def transfer(lodger, reference, unit, right):
+    """A lodging: the transfer of a right to the notary."""
+    return "transfer", lodger, "conveyancer", {
+        "reference": reference, "document": "Deed", "unit": unit, "right": right, "receiver": NOTARY, "share": "1/2"}
+
+
+def lodgings(known, count, tag):
+    """Transfers by 20 lodgers in turns, each of a right that no other is of."""
+    return [transfer(CALM[n % len(CALM)], f"{tag} {n}", *known["rights"].pop()) for n in range(count)]
+
+
+def busy_lodgings(known, count, tag):
+    """Transfers by the one lodger with all earlier ones, which nobody decides."""
+    rights = known["rights"]
+    return [transfer(BUSY, f"{tag} {n}", *rights[n % len(rights)]) for n in range(count)]
 
 
 def approvals(lodged):
-    return [act("approve", OFFICE, "stateAdministrator", {"mutation": number}) for number in lodged]
+    """Approvals of what some lodgings asked for."""
+    return [("approve", OFFICE, "stateAdministrator", body) for _, _, _, body in lodged]
 
 
-def played(service, requests, is_kept):
-    """The median of the seconds that requests take, the mean of those on the service's processor, and the numbers that are told."""
-    told, times, port, before = [], [], service.port, service.processor()
-    client = Client(port) if is_kept else None
-    for request in requests:
+def given(word, party, body, mutation):
+    """What the peer is given for an act; of an approval the body is that of the lodging."""
+    if word == "enrol":
+        return party, body["name"]
+    if word == "register":
+        return party, body["name"], body["parcels"][0]["outline"], body["rights"][0]["party"]
+    if word == "approve":
+        return party, mutation, body["unit"], body["right"], body["receiver"]
+    content = {key: body[key] for key in ("receiver", "right", "share", "unit")}
+    return party, body["reference"], body["unit"], body["receiver"], json.dumps(content, separators=(",", ":"))
+
+
+class Acting:
+    """Who does acts, one by one: their seconds, those on its processor, and the numbers of what was lodged last."""
+
+    def begin(self, word):
+        self.times, self.busy = [], 0
+        if word == "transfer":
+            self.lodged = []
+
+    def figures(self):
+        """The median of the seconds, and the mean of those on the processor."""
+        return statistics.median(self.times), self.busy / len(self.times)
+
+    def stop(self):
+        pass
+
+
+class Served(Acting):
+    """A service, over one kept connection or one a request."""
+
+    def __init__(self, service, is_kept):
+        self.service, self.client = service, Client(service.port) if is_kept else None
+
+    def act(self, word, party, role, body):
+        body = {"mutation": self.lodged.pop(0)} if word == "approve" else body
+        request, before = head("POST", f"/acts/{word}", party, role, body), self.service.processor()
         begin = time.perf_counter()
-        one = client or Client(port)
-        status, body = one.ask(request)
-        if not client:
-            one.close()
-        times.append(time.perf_counter() - begin)
+        client = self.client or Client(self.service.port)
+        status, told = client.ask(request)
+        if not self.client:
+            client.close()
+        self.times.append(time.perf_counter() - begin)
+        self.busy += self.service.processor() - before
         if status != 200:
-            raise SystemExit(f"{request}: {status}: {body}")
-        told.append(json.loads(body)["number"])
-    if client:
-        client.close()
-    return statistics.median(times), (service.processor() - before) / len(times), told
+            raise SystemExit(f"{request}: {status}: {told}")
+        if word == "transfer":
+            self.lodged.append(json.loads(told)["number"])
+
+    def stop(self):
+        if self.client:
+            self.client.close()
+
+
+class Alone(Acting):
+    """The peer, without connections."""
+
+    def __init__(self, peer):
+        self.peer = peer
+
+    def act(self, word, party, _, body):
+        mutation = self.lodged.pop(0) if word == "approve" else None
+        spent, busy, first = self.peer.act(word, *given(word, party, body, mutation))
+        self.times.append(spent)
+        self.busy += busy
+        if word == "transfer":
+            self.lodged.append(first + 1)
+
+
+def played(sides, requests):
+    """The figures of each side, which do the acts in turns."""
+    for side in sides:
+        side.begin(requests[0][0])
+    for request in requests:
+        for side in sides:
+            side.act(*request)
+    return [side.figures() for side in sides]
 
 
 def settled(file):
@@ -460,35 +532,79 @@ def settled(file):
     return file
 
 
-def acts(file, known):
-    """The table of acts, which changes the files."""
-    files = [file, file + ".python"]
-    services = [land(files[0]), python(files[1])]
-    print("\n| act | connection | `land` | of it on the processor | Python | of it on the processor |\n|---|---|---|---|---|---|")
+KINDS = ("an enrolment", "a registration", "a lodging, of 20 lodgers", "an approval", "a lodging, of one with all earlier ones")
+
+
+def run_of_acts(sides, known, tag):
+    """The figures of one run, of each kind of act and each side."""
+    lodged = lodgings(known, ACTS, f"L {tag}")
+    return [played(sides, requests) for requests in (
+        enrolments(known, ACTS, f"Act {tag}"), registrations(known, ACTS, f"Act {tag}"), lodged, approvals(lodged),
+        busy_lodgings(known, ACTS, f"B {tag}"))]
+
+
+def acts(file, known, program):
+    """The table of acts, which changes the files; of each act its name, its way, and the figures of the service."""
+    services = [land(file), python(file + ".python")]
+    peer = texts.Peer([program, file + ".peer"]) if program else None
+    names = ["`land`: HTTP, policy, JSON", *(["C SQLite: the texts alone"] if peer else []), "Python: HTTP, JSON, few checks"]
+    print("\n" + heads(["act", "connection", *(word for name in names for word in (name, "of it on the processor"))]))
     figures = []
     for is_kept, way in ((True, "kept"), (False, "one a request")):
-        for name, make in (
-                ("an enrolment", lambda: enrolments(known, ACTS, f"Act {way}")),
-                ("a registration", lambda: registrations(known, ACTS, f"Act {way}")),
-                ("a lodging, of 20 lodgers", lambda: list(lodgings(known, ACTS, f"L {way}", CALM))),
-                ("an approval", lambda: approvals),
-                ("a lodging, of one with all earlier ones", lambda: list(lodgings(known, ACTS, f"B {way}", [BUSY])))):
-            requests = make()
-            both = []
-            for place, service in enumerate(services):
-                if requests is approvals:
-                    some = approvals(lodged[place])
-                else:
-                    some = requests
-                both.append(played(service, some, is_kept))
-            lodged = [told for _, _, told in both]
-            print(f"| {name} | {way} | {' | '.join(f'{seconds * 1e3:.2f}' for figure in both for seconds in figure[:2])} |", flush=True)
-            figures.append((name, way, both[0][0], both[0][1]))
+        mine, theirs = (Served(service, is_kept) for service in services)
+        sides = [mine, *([Alone(peer)] if peer else []), theirs]
+        runs = [run_of_acts(sides, known, f"{way} {run}") for run in range(RUNS)]
+        for side in sides:
+            side.stop()
+        for name, *of_runs in zip(KINDS, *runs):
+            row = [statistics.median(some) for of_side in zip(*of_runs) for some in zip(*of_side)]
+            print(f"| {name} | {way} | {' | '.join(f'{seconds * 1e3:.2f}' for seconds in row)} |", flush=True)
+            figures.append((name, way, *row[:2]))
     for service in services:
         service.stop()
-    check(files[0])
-    check(settled(files[1]))
+    if peer:
+        peer.stop()
+    check(file)
+    for other in ([file + ".peer"] if peer else []) + [file + ".python"]:
+        check(settled(other))
     return figures
+
+
+# ---- what waits for the disk
+
+
+def counted(log):
+    """How often a call waits for the disk, by what strace wrote."""
+    with open(log, encoding="ascii") as it:
+        rows = [line.split() for line in it]
+    found = {row[-1]: int(row[3]) for row in rows if row and row[-1] in ("fsync", "fdatasync")}
+    return found.get("fsync", 0), found.get("fdatasync", 0)
+
+
+def traced(file, log, count, words):
+    """The waits of a service that does so many enrolments, or of the peer, where words are its own."""
+    trace = ["strace", "-f", "-c", "-e", "trace=fsync,fdatasync", "-o", log]
+    peer = texts.Peer([*trace, *words, file]) if words else None
+    service = None if peer else Service([*trace, PROGRAM, "serve", "--file", file, "--port", "{port}", "--connections", "2"])
+    side = Alone(peer) if peer else Served(service, True)
+    side.begin("enrol")
+    for request in enrolments(None, count, "Traced"):
+        side.act(*request)
+    side.stop()
+    if peer:
+        peer.stop()
+    else:
+        service.process.wait()
+        service.running.remove(service)
+    return counted(log)
+
+
+def durability(file, program):
+    """Tells how often `land` and the peer wait for the disk: without an act, and with some."""
+    print("\n" + heads(["enrolments", "`land`: fsync, fdatasync", "C SQLite: fsync, fdatasync"]))
+    for count in (0, ACTS):
+        both = [traced(shutil.copy(file, file + ".traced"), file + ".log", count, words) for words in ([], [program])]
+        print(f"| {count} | {' | '.join(f'{synced}, {data}' for synced, data in both)} |", flush=True)
 
 
 def main():
@@ -498,6 +614,10 @@ def main():
     with tempfile.TemporaryDirectory() as folder:
         has_postgres = bool(glob.glob("/usr/lib/postgresql/*/bin/postgres"))
         postgres = Postgres(folder) if has_postgres else None
+        lacks = texts.missing()
+        program = None if lacks else texts.build(folder)
+        if lacks:
+            print(f"C SQLite is left out: {lacks}")
         try:
             for entries in sizes:
                 file = os.path.join(folder, f"{entries}.land")
@@ -505,15 +625,16 @@ def main():
                 print(f"\n## {entries:,} entries, {len(known['units']):,} units; taken by `land check` in {check(file):.2f} s; a read, in µs\n", flush=True)
                 if postgres:
                     postgres.load(file)
-                grown.append(reads(file, known, postgres))
-                acted.append(acts(file, known))
+                if program and shutil.which("strace") and entries == sizes[0]:
+                    durability(file, program)
+                grown.append(reads(file, known, postgres, program))
+                acted.append(acts(file, known, program))
         finally:
             for service in [*Service.running]:
                 service.stop()
             if postgres:
                 postgres.stop()
-    heads = "|".join(f" {size:,} " for size in sizes)
-    print(f"\n## `land` by the number of entries\n\n| request |{heads}|\n|---{'|---' * len(sizes)}|")
+    print("\n## `land` by the number of entries\n\n" + heads(["request", *(f"{size:,}" for size in sizes)]))
     for row in zip(*grown):
         print(f"| {row[0][0]}: {row[0][1]}, µs (each new) | {' | '.join(f'{micros(kept)} ({micros(new)})' for _, _, kept, new in row)} |")
     for row in zip(*acted):
