@@ -27,6 +27,7 @@ kept connection and over one connection a request. The peer in C runs the reads 
 what is written is given to it. All three wait for the disk at each commit, which strace counts where it is installed, and all files are taken
 by `land check` afterwards. PostgreSQL, or the peer, is left out where it is not installed or cannot be built.
 """
+import contextlib
 import glob
 import json
 import os
@@ -115,7 +116,8 @@ class Service:
 
     def __init__(self, words, **ways):
         self.port = free_port()
-        self.process = subprocess.Popen([word.format(port=self.port) for word in words], **ways)
+        # A group of its own, so that what is run by strace or gdb ends with it.
+        self.process = subprocess.Popen([word.format(port=self.port) for word in words], preexec_fn=os.setpgrp, **ways)
         self.running.append(self)
         while True:
             try:
@@ -132,7 +134,8 @@ class Service:
             return int(it.read().split()[0]) / 1e9
 
     def stop(self):
-        self.process.kill()
+        with contextlib.suppress(ProcessLookupError):
+            os.killpg(self.process.pid, signal.SIGKILL)
         self.process.wait()
         self.running.remove(self)
 
@@ -358,8 +361,9 @@ def ask_alone(port, request):
     client.close()
 
 
-HEADS = ("caller", "request", "told", "`land`: HTTP, policy, JSON", "each new", "at once", "C SQLite: the texts alone, no HTTP, JSON, policy", "texts",
-         "to C SQLite: `land`, and without HTTP", "PostgreSQL: no HTTP, JSON, look at the role", "Python: HTTP, JSON, lists for look-ups", "each new")
+HEADS = ("caller", "request", "told", "`land`: HTTP, policy, JSON", "each new", "at once", "C SQLite: the texts alone, no HTTP, JSON, policy",
+         "texts", "to C SQLite: `land`, and without HTTP", "PostgreSQL: no HTTP, JSON, look at the role",
+         "Python: HTTP, JSON, lists for look-ups", "each new")
 
 
 def heads(words):
@@ -371,7 +375,7 @@ def reads(file, known, postgres, program):
     """The table of reads; of each request its name, and the seconds of the service over a kept connection and over one a request."""
     requests = asked(known)
     mine, theirs = land(file), python(shutil.copy(file, file + ".python"))
-    peer = texts.Peer([program, shutil.copy(file, file + ".peer")]) if program else None
+    peer = texts.Peer([program, shutil.copy(file, file + ".peer"), "delete"]) if program else None
     ask, desk = Client(mine.port), Client(theirs.port)
     told = same_answers(ask, desk, postgres, requests)
     ask.close()
@@ -457,70 +461,68 @@ def given(word, party, body, mutation):
     return party, body["reference"], body["unit"], body["receiver"], json.dumps(content, separators=(",", ":"))
 
 
-class Acting:
-    """Who does acts, one by one: their seconds, those on its processor, and the numbers of what was lodged last."""
-
-    def begin(self, word):
-        self.times, self.busy = [], 0
-        if word == "transfer":
-            self.lodged = []
-
-    def figures(self):
-        """The median of the seconds, and the mean of those on the processor."""
-        return statistics.median(self.times), self.busy / len(self.times)
-
-    def stop(self):
-        pass
-
-
-class Served(Acting):
-    """A service, over one kept connection or one a request."""
+class Served:
+    """A service that does acts, over one kept connection or one a request: their seconds, and the numbers of what was lodged last."""
 
     def __init__(self, service, is_kept):
         self.service, self.client = service, Client(service.port) if is_kept else None
 
-    def act(self, word, party, role, body):
-        body = {"mutation": self.lodged.pop(0)} if word == "approve" else body
-        request, before = head("POST", f"/acts/{word}", party, role, body), self.service.processor()
+    def begin(self):
+        self.times, self.lodged, self.before = [], [], self.service.processor()
+
+    def act(self, word, party, role, body, lodged):
+        request = head("POST", f"/acts/{word}", party, role, {"mutation": lodged} if lodged else body)
         begin = time.perf_counter()
         client = self.client or Client(self.service.port)
         status, told = client.ask(request)
         if not self.client:
             client.close()
         self.times.append(time.perf_counter() - begin)
-        self.busy += self.service.processor() - before
         if status != 200:
             raise SystemExit(f"{request}: {status}: {told}")
-        if word == "transfer":
-            self.lodged.append(json.loads(told)["number"])
+        self.lodged.append(json.loads(told)["number"])
+
+    def figures(self):
+        """The median of the seconds, and the mean of those on the processor."""
+        return statistics.median(self.times), (self.service.processor() - self.before) / len(self.times)
 
     def stop(self):
         if self.client:
             self.client.close()
 
 
-class Alone(Acting):
-    """The peer, without connections."""
+class Alone:
+    """The peer, which does acts without connections."""
 
     def __init__(self, peer):
         self.peer = peer
 
-    def act(self, word, party, _, body):
-        mutation = self.lodged.pop(0) if word == "approve" else None
-        spent, busy, first = self.peer.act(word, *given(word, party, body, mutation))
+    def begin(self):
+        self.times, self.lodged, self.busy = [], [], 0
+
+    def act(self, word, party, _, body, lodged):
+        spent, busy, first = self.peer.act(word, *given(word, party, body, lodged))
         self.times.append(spent)
         self.busy += busy
-        if word == "transfer":
-            self.lodged.append(first + 1)
+        # The document of what is lodged comes first.
+        self.lodged.append(first + 1)
+
+    def figures(self):
+        return statistics.median(self.times), self.busy / len(self.times)
+
+    def stop(self):
+        pass
 
 
 def played(sides, requests):
-    """The figures of each side, which do the acts in turns."""
+    """The figures of each side, which do the acts in turns. Approvals are of what each side has lodged just before."""
+    is_approval = requests[0][0] == "approve"
+    lodged = [side.lodged if is_approval else [None] * len(requests) for side in sides]
     for side in sides:
-        side.begin(requests[0][0])
-    for request in requests:
-        for side in sides:
-            side.act(*request)
+        side.begin()
+    for request, *numbers in zip(requests, *lodged):
+        for side, number in zip(sides, numbers):
+            side.act(*request, number)
     return [side.figures() for side in sides]
 
 
@@ -546,7 +548,7 @@ def run_of_acts(sides, known, tag):
 def acts(file, known, program):
     """The table of acts, which changes the files; of each act its name, its way, and the figures of the service."""
     services = [land(file), python(file + ".python")]
-    peer = texts.Peer([program, file + ".peer"]) if program else None
+    peer = texts.Peer([program, file + ".peer", "wal"]) if program else None
     names = ["`land`: HTTP, policy, JSON", *(["C SQLite: the texts alone"] if peer else []), "Python: HTTP, JSON, few checks"]
     print("\n" + heads(["act", "connection", *(word for name in names for word in (name, "of it on the processor"))]))
     figures = []
@@ -584,12 +586,12 @@ def counted(log):
 def traced(file, log, count, words):
     """The waits of a service that does so many enrolments, or of the peer, where words are its own."""
     trace = ["strace", "-f", "-c", "-e", "trace=fsync,fdatasync", "-o", log]
-    peer = texts.Peer([*trace, *words, file]) if words else None
+    peer = texts.Peer([*trace, *words, file, "wal"]) if words else None
     service = None if peer else Service([*trace, PROGRAM, "serve", "--file", file, "--port", "{port}", "--connections", "2"])
     side = Alone(peer) if peer else Served(service, True)
-    side.begin("enrol")
+    side.begin()
     for request in enrolments(None, count, "Traced"):
-        side.act(*request)
+        side.act(*request, None)
     side.stop()
     if peer:
         peer.stop()
@@ -600,9 +602,13 @@ def traced(file, log, count, words):
 
 
 def durability(file, program):
-    """Tells how often `land` and the peer wait for the disk: without an act, and with some."""
-    print("\n" + heads(["enrolments", "`land`: fsync, fdatasync", "C SQLite: fsync, fdatasync"]))
-    for count in (0, ACTS):
+    """Tells how often `land` and the peer wait for the disk: where the file is opened and closed alone, and with some acts."""
+    if not shutil.which("strace"):
+        print("\nWaits for the disk are not counted: there is no strace")
+        return
+    print("\n## Waits for the disk, of the file's opening and end, and of enrolments, by `strace`\n")
+    print(heads(["enrolments", "`land`: fsync, fdatasync", "C SQLite: fsync, fdatasync"]))
+    for count in (0, ACTS, 2 * ACTS):
         both = [traced(shutil.copy(file, file + ".traced"), file + ".log", count, words) for words in ([], [program])]
         print(f"| {count} | {' | '.join(f'{synced}, {data}' for synced, data in both)} |", flush=True)
 
@@ -622,11 +628,11 @@ def main():
             for entries in sizes:
                 file = os.path.join(folder, f"{entries}.land")
                 known = registers.of_entries(file, entries)
+                if program and entries == sizes[0]:
+                    durability(file, program)
                 print(f"\n## {entries:,} entries, {len(known['units']):,} units; taken by `land check` in {check(file):.2f} s; a read, in µs\n", flush=True)
                 if postgres:
                     postgres.load(file)
-                if program and shutil.which("strace") and entries == sizes[0]:
-                    durability(file, program)
                 grown.append(reads(file, known, postgres, program))
                 acted.append(acts(file, known, program))
         finally:

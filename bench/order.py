@@ -9,6 +9,7 @@ parameters. The peer runs over a copy of the file, and tells the same of itself.
 two acts of each kind, and have to run the same texts, in the same order, with the same parameters; moments of now are compared as such. What differs
 is told, and ends this with status 1. A program without symbols shows no text.
 """
+import json
 import os
 import re
 import shutil
@@ -86,6 +87,32 @@ def compare(name, mine, theirs, faults):
     print(f"{name}: they differ\n  land: " + "\n        ".join(map(" | ".join, mine)) + "\n  peer: " + "\n        ".join(map(" | ".join, theirs)))
 
 
+def hold_reads(watched, shown, known, faults):
+    import joins
+
+    for party, role, name, path in joins.asked(known):
+        if path == "/nothing":
+            continue
+        _, mine = watched.ask(joins.head("GET", path, party, role))
+        compare(f"{role}: {name}", mine, shown(f"{role}: {name}", *joins.values(known, party, path)), faults)
+
+
+def hold_acts(watched, shown, known, faults):
+    import joins
+
+    lodged = joins.lodgings(known, 2, "L")
+    numbers = []
+    for word, party, role, body in [*joins.enrolments(known, 2, "E"), *joins.registrations(known, 2, "R"), *lodged, *joins.approvals(lodged),
+                                    *joins.busy_lodgings(known, 2, "B")]:
+        number = numbers.pop(0) if word == "approve" else None
+        (status, told), mine = watched.ask(joins.head("POST", f"/acts/{word}", party, role, {"mutation": number} if number else body))
+        if status != 200:
+            raise SystemExit(f"{word}: {status}: {told}")
+        compare(word, mine, shown(word, *joins.given(word, party, body, number)), faults)
+        if word == "transfer":
+            numbers.append(json.loads(told)["number"])
+
+
 def main():
     import joins
     import registers
@@ -94,29 +121,19 @@ def main():
     lacks = texts.missing() or (None if shutil.which("gdb") else "there is no gdb")
     if lacks:
         raise SystemExit(lacks)
-
-    def shown(plan, *cells):
-        return [masked([texts.TEXTS[name], *words]) for name, *words in peer.shown(plan, *cells)]
-
     faults = []
     with tempfile.TemporaryDirectory() as folder:
         file = os.path.join(folder, "register.land")
         known = registers.of_entries(file, 1000)
-        peer = texts.Peer([texts.build(folder), shutil.copy(file, file + ".peer")])
+        peer = texts.Peer([texts.build(folder), shutil.copy(file, file + ".peer"), "wal"])
+
+        def shown(plan, *cells):
+            return [masked([texts.TEXTS[name], *words]) for name, *words in peer.shown(plan, *cells)]
+
         try:
             watched = Watched(folder, file)
-            for party, role, name, path in joins.asked(known)[1:]:
-                _, mine = watched.ask(joins.head("GET", path, party, role))
-                compare(f"{role}: {name}", mine, shown(f"{role}: {name}", *joins.values(known, party, path)), faults)
-            lodged = joins.lodgings(known, 2, "L")
-            numbers = []
-            for word, party, role, body in [*joins.enrolments(known, 2, "E"), *joins.registrations(known, 2, "R"), *lodged,
-                                            *joins.approvals(lodged), *joins.busy_lodgings(known, 2, "B")]:
-                number = numbers.pop(0) if word == "approve" else None
-                sent = {"mutation": number} if number else body
-                (status, told), mine = watched.ask(joins.head("POST", f"/acts/{word}", party, role, sent))
-                compare(f"{word}: {status}", mine, shown(word, *joins.given(word, party, body, number)), faults)
-                numbers.append(joins.json.loads(told)["number"]) if word == "transfer" else None
+            hold_reads(watched, shown, known, faults)
+            hold_acts(watched, shown, known, faults)
         finally:
             for service in [*joins.Service.running]:
                 service.stop()

@@ -1,7 +1,7 @@
 /* The peer of `land` in C: it runs the texts of requests by libsqlite3 over a register's file, and tells how long they take.
 
        cc -O2 -Wall -Wextra -o peer bench/peer.c -lsqlite3
-       peer FILE
+       peer FILE JOURNAL           (delete, with which it reads the fastest, or wal, with which it writes the fastest)
 
    It reads lines, between whose words stand tabs (texts.py writes them), and answers the last three of these:
 
@@ -55,8 +55,6 @@ struct plan {
     struct step steps[MOST_STEPS];
     int count, made;
 };
-
-static const char PRAGMAS[] = "PRAGMA locking_mode = exclusive; PRAGMA journal_mode = wal; PRAGMA synchronous = full";
 
 static sqlite3 *base;
 static struct text texts[MOST_TEXTS];
@@ -176,7 +174,7 @@ static struct cell named_column(struct plan *plan, char *word, char *dot)
     return (struct cell){.kind = COLUMN, .step = step, .number = column_of(plan->steps[step].text->statement, dot + 1)};
 }
 
-/* What a word says, of which the cell keeps the letters. */
+/* What a word says. The letters of a text are those of the word. */
 static struct cell value_of(char *word)
 {
     if (word[0] == '=')
@@ -199,7 +197,10 @@ static struct cell cell_of(struct plan *plan, char *word)
         return (struct cell){.kind = NEW, .number = atoll(word + 5)};
     if (word[0] != '=' && dot)
         return named_column(plan, word, dot);
-    return value_of(copy(word));
+    struct cell cell = value_of(word);
+    if (cell.kind == WORDS)
+        cell.words = copy(cell.words);
+    return cell;
 }
 
 static void add_step(char *other, char *name, char **words, int count)
@@ -440,11 +441,13 @@ static void obey_line(char *line)
 }
 
 /* Takes the file for this process alone, each commit synchronous to the disk. */
-static void open_base(const char *file)
+static void open_base(const char *file, const char *journal)
 {
-    hold(sqlite3_config(SQLITE_CONFIG_SINGLETHREAD) == SQLITE_OK && sqlite3_config(SQLITE_CONFIG_MEMSTATUS, 0) == SQLITE_OK, "config");
+    char pragmas[128];
+    snprintf(pragmas, sizeof pragmas, "PRAGMA locking_mode = exclusive; PRAGMA journal_mode = %s; PRAGMA synchronous = full", journal);
+    hold(sqlite3_config(SQLITE_CONFIG_SINGLETHREAD) == SQLITE_OK && sqlite3_config(SQLITE_CONFIG_MEMSTATUS, 0) == SQLITE_OK, "no settings");
     done(sqlite3_open_v2(file, &base, SQLITE_OPEN_READWRITE, NULL) == SQLITE_OK, file);
-    done(sqlite3_exec(base, PRAGMAS, NULL, NULL, NULL) == SQLITE_OK, PRAGMAS);
+    done(sqlite3_exec(base, pragmas, NULL, NULL, NULL) == SQLITE_OK, pragmas);
     begin = prepared("BEGIN IMMEDIATE");
     commit = prepared("COMMIT");
 }
@@ -462,9 +465,9 @@ int main(int count, char **words)
 {
     char *line = NULL;
     size_t room = 0;
-    if (count != 2)
-        stop("peer FILE");
-    open_base(words[1]);
+    if (count != 3 || (strcmp(words[2], "delete") != 0 && strcmp(words[2], "wal") != 0))
+        stop("it is called: peer FILE delete, or peer FILE wal");
+    open_base(words[1], words[2]);
     read_last();
     while (getline(&line, &room, stdin) > 0) {
         obey_line(line);
