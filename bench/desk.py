@@ -2,9 +2,10 @@
 
     python3 bench/desk.py FILE PORT
 
-It answers lists, views and title sheets of citizens, banks, notaries and the office, and views of units and mutations by conveyancers, as the program does, by the same texts in the same
-order, and the acts enrol, register, transfer and approve with the checks that the requests of joins.py need, and no others: it
-writes the same rows in one commit each, synchronous to the disk.
+It answers lists, views and title sheets of citizens, banks, notaries and the office, and views of units and mutations by conveyancers, as
+the program does, by texts of the program: it makes the list of what is seen where the program looks up one object. The acts enrol, register,
+transfer and approve it does with the checks that the requests of joins.py need, and no others: it writes the same rows in one commit each,
+synchronous to the disk.
 """
 import datetime
 import http.server

@@ -1,8 +1,8 @@
-"""Which texts the program runs for each request that joins.py sends, in which order and with which parameters; and the peer in C, which runs them.
+"""Which texts the program runs for each request of joins.py, in which order and with which parameters; and the peer in C, which runs them.
 
 The texts are taken from the sources by their names; those of a join or of a table stand under the name of their file too (own/GROUPS,
-party/BEGIN). The steps of a request are written as peer.c reads them: the name of a text and its parameters, after `each OTHER` where it is run
-once for each row of OTHER's last result. order.py holds all of this against what the program runs.
+party/BEGIN). The steps of a request are written as peer.c reads them: the name of a text and its parameters, after `each OTHER` where it is
+run once for each row of OTHER's last result. order.py holds all of this against what the program runs.
 """
 import os
 import shutil
@@ -19,44 +19,46 @@ for folder, names in (("land_select_joins/src/joins", TIES), ("land_tables_schem
     for file in names:
         TEXTS.update({f"{file}/{name}": text for name, text in texts(f"{folder}/{file}.rt").items()})
 
-# Each part with the function that runs it, of land_select where no other crate is named. $1 is the caller, $2 the number in the path, $3
-# the unit that a mutation names, which stands in the JSON of the mutation.
-CALLER = [f"PARTY $1 {LAST}", f"ROLES_OF_PARTY $1 {LAST}"]                                     # standing::person
-GROUPS = ["own/GROUPS $1 now"]                                                                 # ties::names_of, of a citizen
-UNIT = ["ENTRIES_OF_UNIT $2 now"]                                                              # ties::tie_to
-ENTRY = ["ENTRY $2 now", "ENTRIES_OF_UNIT ENTRY.unit now"]                                     # ties::is_number_shown
-NAMING = ["MUTATION $2 now", "ENTRIES_OF_UNIT $3 now"]                                         # naming::is_mutation_shown
+# Parts of requests, each with the function of land_select that runs it. $1 is the caller, $2 the number in the path, $3 the unit that a mutation
+# names, which stands in the JSON of the mutation.
+CALLER = [f"PARTY $1 {LAST}", f"ROLES_OF_PARTY $1 {LAST}"]                                          # standing::person
+GROUPS = ["own/GROUPS $1 now"]                                                                      # ties::names_of, of a citizen
+UNIT = ["ENTRIES_OF_UNIT $2 now"]                                                                   # ties::is_unit_shown
+ENTRY = ["ENTRY $2 now", "ENTRIES_OF_UNIT ENTRY.unit now"]                                          # ties::is_number_shown
+NAMING = ["MUTATION $2 now", "ENTRIES_OF_UNIT $3 now"]                                              # naming::is_mutation_shown
 AWAITED = ["NAMINGS_OF_UNIT $2 now", "each NAMINGS_OF_UNIT MUTATION NAMINGS_OF_UNIT.mutation now"]  # awaited::is_lodger_on
-VIEW = ["UNIT $2 now", "PARCELS_OF_UNIT $2 now", "ENTRIES_OF_UNIT $2 now"]                     # view::view, view::view_with
-NAMES = ["each ENTRIES_OF_UNIT PARTY ENTRIES_OF_UNIT.party now"]                               # view::named_entries: all are in sight here
+VIEW = ["UNIT $2 now", "PARCELS_OF_UNIT $2 now", "ENTRIES_OF_UNIT $2 now"]                          # view::view
+NAMES = ["each ENTRIES_OF_UNIT PARTY ENTRIES_OF_UNIT.party now"]                                    # view::named_entries: all are in sight
 
-# Of each read what follows on CALLER: of a list joins::sight::sight (land_select_joins), of the others viewing::is_in_sight, and where that
-# allows it object::ObjectAt or view::UnitSeen. An object that a role sees all of, or a mutation of its own, is looked up by both.
+# Of each read what follows on CALLER, and the functions that run it: whether it is seen is told first, by viewing::is_in_sight, and a denial
+# ends there; then it is looked up. A list is sight::Sight: each selection of the role and the kind. An object is object::ObjectAt, a sheet
+# view::UnitSeen; ObjectAt's look-up tells of what a role sees all of whether it is there, and has_lodged of a mutation who lodged it.
 READS = {
-    ("citizen", "its units"): ["holder/UNITS $1 now", "group/UNITS $1 now"],
-    ("citizen", "the entries in its sight"): ["holder/ENTRIES $1 now", "group/ENTRIES $1 now"],
-    ("citizen", "the parties in its sight"): ["own/ITSELF $1 now", "own/GROUPS $1 now", "holder/PARTIES $1 now", "group/PARTIES $1 now"],
-    ("citizen", "an entry in its sight"): [*ENTRY, *GROUPS, "ENTRY $2 now"],
-    ("citizen", "an entry that is denied"): [*ENTRY, *GROUPS],
-    ("citizen", "a parcel"): ["PARCEL $2 now", "PARCEL $2 now"],
-    ("citizen", "its title sheet"): [*UNIT, *GROUPS, *VIEW, *GROUPS, *NAMES],
-    ("citizen", "a title sheet that is denied"): [*UNIT, *GROUPS],
-    ("bank", "the units in its sight"): ["creditor/UNITS $1 now"],
-    ("bank", "the entries in its sight"): ["creditor/ENTRIES $1 now"],
-    ("bank", "its mortgage"): [*ENTRY, "ENTRY $2 now"],
-    ("bank", "an entry that is denied"): ENTRY,
-    ("bank", "the title sheet"): [*UNIT, *VIEW, *NAMES],
-    ("bank", "an entry, where it has a mortgage on all other units"): [*ENTRY, "ENTRY $2 now"],
-    ("citizen", "a mutation of its unit"): [*NAMING, *GROUPS, "MUTATION $2 now"],
-    ("citizen", "a mutation that is denied"): [*NAMING, *GROUPS],
-    ("conveyancer", "a mutation, where it lodged all that there are"): ["MUTATION $2 now", "MUTATION $2 now"],  # lodging::has_lodged
-    ("conveyancer", "a mutation that another lodged"): ["MUTATION $2 now"],                                    # lodging::has_lodged
-    ("conveyancer", "a unit that is denied, where all that it lodged is decided"): [*AWAITED, *AWAITED],       # viewing::is_named
-    ("notary", "an entry"): ["ENTRY $2 now", "ENTRY $2 now"],
-    ("notary", "an entry that is not there"): ["ENTRY $2 now"],
-    ("notary", "a title sheet"): ["UNIT $2 now", *VIEW, *NAMES],
-    ("notary", "all units"): ["all/UNITS $1 now"],
-    ("citizen", "all parcels"): ["all/PARCELS $1 now"],
+    ("citizen", "its units"): ["holder/UNITS $1 now", "group/UNITS $1 now"],                   # Sight
+    ("citizen", "the entries in its sight"): ["holder/ENTRIES $1 now", "group/ENTRIES $1 now"],  # Sight
+    ("citizen", "the parties in its sight"): [                                                 # Sight
+        "own/ITSELF $1 now", "own/GROUPS $1 now", "holder/PARTIES $1 now", "group/PARTIES $1 now"],
+    ("citizen", "an entry in its sight"): [*ENTRY, *GROUPS, "ENTRY $2 now"],                   # ties::is_number_shown, ObjectAt
+    ("citizen", "an entry that is denied"): [*ENTRY, *GROUPS],                                 # ties::is_number_shown
+    ("citizen", "a parcel"): ["PARCEL $2 now", "PARCEL $2 now"],                               # ObjectAt's look-up, ObjectAt
+    ("citizen", "its title sheet"): [*UNIT, *GROUPS, *VIEW, *GROUPS, *NAMES],                  # ties::is_unit_shown, UnitSeen
+    ("citizen", "a title sheet that is denied"): [*UNIT, *GROUPS],                             # ties::is_unit_shown
+    ("bank", "the units in its sight"): ["creditor/UNITS $1 now"],                             # Sight
+    ("bank", "the entries in its sight"): ["creditor/ENTRIES $1 now"],                         # Sight
+    ("bank", "its mortgage"): [*ENTRY, "ENTRY $2 now"],                                        # ties::is_number_shown, ObjectAt
+    ("bank", "an entry that is denied"): ENTRY,                                                # ties::is_number_shown
+    ("bank", "the title sheet"): [*UNIT, *VIEW, *NAMES],                                       # ties::is_unit_shown, UnitSeen
+    ("bank", "an entry, where it has a mortgage on all other units"): [*ENTRY, "ENTRY $2 now"],  # ties::is_number_shown, ObjectAt
+    ("citizen", "a mutation of its unit"): [*NAMING, *GROUPS, "MUTATION $2 now"],              # naming::is_mutation_shown, ObjectAt
+    ("citizen", "a mutation that is denied"): [*NAMING, *GROUPS],                              # naming::is_mutation_shown
+    ("conveyancer", "a mutation, where it lodged all that there are"): ["MUTATION $2 now", "MUTATION $2 now"],  # lodging::has_lodged, ObjectAt
+    ("conveyancer", "a mutation that another lodged"): ["MUTATION $2 now"],                    # lodging::has_lodged
+    ("conveyancer", "a unit that is denied, where all that it lodged is decided"): [*AWAITED, *AWAITED],  # awaited::is_awaited, viewing::is_named
+    ("notary", "an entry"): ["ENTRY $2 now", "ENTRY $2 now"],                                  # ObjectAt's look-up, ObjectAt
+    ("notary", "an entry that is not there"): ["ENTRY $2 now"],                                # ObjectAt's look-up
+    ("notary", "a title sheet"): ["UNIT $2 now", *VIEW, *NAMES],                               # ObjectAt's look-up, UnitSeen
+    ("notary", "all units"): ["all/UNITS $1 now"],                                             # Sight
+    ("citizen", "all parcels"): ["all/PARCELS $1 now"],                                        # Sight
 }
 
 
