@@ -576,41 +576,51 @@ def acts(file, known, program):
 
 
 def counted(log):
-    """How often a call waits for the disk, by what strace wrote."""
+    """How often fsync and fdatasync were called, by what strace wrote."""
     with open(log, encoding="ascii") as it:
         rows = [line.split() for line in it]
-    found = {row[-1]: int(row[3]) for row in rows if row and row[-1] in ("fsync", "fdatasync")}
-    return found.get("fsync", 0), found.get("fdatasync", 0)
+    found = {row[-1]: row[3] for row in rows if row}
+    return f"{found.get('fsync', 0)}, {found.get('fdatasync', 0)}"
 
 
-def traced(file, log, count, words):
-    """The waits of a service that does so many enrolments, or of the peer, where words are its own."""
-    trace = ["strace", "-f", "-c", "-e", "trace=fsync,fdatasync", "-o", log]
-    peer = texts.Peer([*trace, *words, file, "wal"]) if words else None
-    service = None if peer else Service([*trace, PROGRAM, "serve", "--file", file, "--port", "{port}", "--connections", "2"])
-    side = Alone(peer) if peer else Served(service, True)
+def traced(log):
+    return ["strace", "-f", "-c", "-e", "trace=fsync,fdatasync", "-o", log]
+
+
+def enrol_all(side, count):
     side.begin()
     for request in enrolments(None, count, "Traced"):
         side.act(*request, None)
     side.stop()
-    if peer:
-        peer.stop()
-    else:
-        service.process.wait()
-        service.running.remove(service)
-    return counted(log)
 
 
-def durability(file, program):
-    """Tells how often `land` and the peer wait for the disk: where the file is opened and closed alone, and with some acts."""
+def waits_of_land(file, count):
+    service = Service([*traced(file + ".log"), PROGRAM, "serve", "--file", file, "--port", "{port}", "--connections", "2"])
+    enrol_all(Served(service, True), count)
+    # Two connections were served, and it ends.
+    service.process.wait()
+    service.running.remove(service)
+    return counted(file + ".log")
+
+
+def waits_of_peer(file, count, program):
+    peer = texts.Peer([*traced(file + ".log"), program, file, "wal"])
+    enrol_all(Alone(peer), count)
+    peer.stop()
+    return counted(file + ".log")
+
+
+def waits(file, program):
+    """The table of how often `land` and the peer wait for the disk: where a file is opened and closed alone, and with enrolments."""
     if not shutil.which("strace"):
         print("\nWaits for the disk are not counted: there is no strace")
         return
-    print("\n## Waits for the disk, of the file's opening and end, and of enrolments, by `strace`\n")
+    print("\n## Waits for the disk, of the opening of a file, of enrolments and of the end, by `strace`\n")
     print(heads(["enrolments", "`land`: fsync, fdatasync", "C SQLite: fsync, fdatasync"]))
     for count in (0, ACTS, 2 * ACTS):
-        both = [traced(shutil.copy(file, file + ".traced"), file + ".log", count, words) for words in ([], [program])]
-        print(f"| {count} | {' | '.join(f'{synced}, {data}' for synced, data in both)} |", flush=True)
+        mine = waits_of_land(shutil.copy(file, f"{file}.{count}"), count)
+        theirs = waits_of_peer(shutil.copy(file, f"{file}.{count}.peer"), count, program)
+        print(f"| {count} | {mine} | {theirs} |", flush=True)
 
 
 def main():
@@ -618,18 +628,18 @@ def main():
     sizes = [int(word) for word in sys.argv[1:]] or [1000, 10000]
     grown, acted = [], []
     with tempfile.TemporaryDirectory() as folder:
-        has_postgres = bool(glob.glob("/usr/lib/postgresql/*/bin/postgres"))
-        postgres = Postgres(folder) if has_postgres else None
         lacks = texts.missing()
         program = None if lacks else texts.build(folder)
         if lacks:
             print(f"C SQLite is left out: {lacks}")
+        has_postgres = bool(glob.glob("/usr/lib/postgresql/*/bin/postgres"))
+        postgres = Postgres(folder) if has_postgres else None
         try:
             for entries in sizes:
                 file = os.path.join(folder, f"{entries}.land")
                 known = registers.of_entries(file, entries)
                 if program and entries == sizes[0]:
-                    durability(file, program)
+                    waits(file, program)
                 print(f"\n## {entries:,} entries, {len(known['units']):,} units; taken by `land check` in {check(file):.2f} s; a read, in µs\n", flush=True)
                 if postgres:
                     postgres.load(file)
