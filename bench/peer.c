@@ -403,29 +403,38 @@ static void tell_shown(struct plan *plan)
     putchar('\n');
 }
 
+/* Takes a line of the description. */
+static void describe(char **words, int count)
+{
+    if (strcmp(words[0], "run") == 0)
+        add_step(NULL, words[1], words + 2, count - 2);
+    else if (count < 3)
+        stop("too short a line");
+    else if (strcmp(words[0], "text") == 0)
+        add_text(words[1], words[2]);
+    else if (strcmp(words[0], "plan") == 0)
+        add_plan(words[1], words[2]);
+    else if (strcmp(words[0], "each") == 0)
+        add_step(words[1], words[2], words + 3, count - 3);
+    else
+        stop("an unknown line: %s", words[0]);
+}
+
 static void obey(char **words, int count)
 {
     hold(count >= 2, "too short a line");
-    if (strcmp(words[0], "run") == 0)
-        return add_step(NULL, words[1], words + 2, count - 2);
-    if (strcmp(words[0], "act") == 0) {
+    if (strcmp(words[0], "read") == 0) {
+        hold(count >= 3, "too short a line");
+        give(words + 3, count - 3);
+        tell_read(plan_of(words[1]), atof(words[2]));
+    } else if (strcmp(words[0], "act") == 0) {
         give(words + 2, count - 2);
-        return tell_act(plan_of(words[1]));
-    }
-    if (strcmp(words[0], "show") == 0) {
+        tell_act(plan_of(words[1]));
+    } else if (strcmp(words[0], "show") == 0) {
         give(words + 2, count - 2);
-        return tell_shown(plan_of(words[1]));
-    }
-    hold(count >= 3, "too short a line");
-    if (strcmp(words[0], "text") == 0)
-        return add_text(words[1], words[2]);
-    if (strcmp(words[0], "plan") == 0)
-        return add_plan(words[1], words[2]);
-    if (strcmp(words[0], "each") == 0)
-        return add_step(words[1], words[2], words + 3, count - 3);
-    hold(strcmp(words[0], "read") == 0, "an unknown line");
-    give(words + 3, count - 3);
-    tell_read(plan_of(words[1]), atof(words[2]));
+        tell_shown(plan_of(words[1]));
+    } else
+        describe(words, count);
 }
 
 static void obey_line(char *line)
