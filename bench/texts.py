@@ -11,20 +11,20 @@ import subprocess
 from registers import OPEN, TOP, texts
 
 LAST = OPEN - 1
-TIES = ("all", "own", "holder", "group", "creditor", "lodger", "named")
+SELECTIONS = ("all", "own", "holder", "group", "creditor", "lodger", "named")
 TABLES = ("member", "moments", "mutation", "names", "parcel", "party", "role", "rrr", "source", "unit")
 
 TEXTS = texts("land_select_joins/src/lookups/texts.rt")
-for folder, names in (("land_select_joins/src/joins", TIES), ("land_tables_schema/src/rows/tables", TABLES)):
+for folder, names in (("land_select_joins/src/joins", SELECTIONS), ("land_tables_schema/src/rows/tables", TABLES)):
     for file in names:
         TEXTS.update({f"{file}/{name}": text for name, text in texts(f"{folder}/{file}.rt").items()})
 
 # Parts of requests, each with the function of land_select that runs it. $1 is the caller, $2 the number in the path, $3 the unit that a mutation
 # names, which stands in the JSON of the mutation.
 CALLER = [f"PARTY $1 {LAST}", f"ROLES_OF_PARTY $1 {LAST}"]                                          # standing::person
-GROUPS = ["own/GROUPS $1 now"]                                                                      # ties::names_of, of a citizen
-UNIT = ["ENTRIES_OF_UNIT $2 now"]                                                                   # ties::is_unit_shown
-ENTRY = ["ENTRY $2 now", "ENTRIES_OF_UNIT ENTRY.unit now"]                                          # ties::is_number_shown
+GROUPS = ["own/GROUPS $1 now"]                                                                      # interests::names_of, of a citizen
+UNIT = ["ENTRIES_OF_UNIT $2 now"]                                                                   # interests::is_unit_shown
+ENTRY = ["ENTRY $2 now", "ENTRIES_OF_UNIT ENTRY.unit now"]                                          # interests::is_number_shown
 NAMING = ["MUTATION $2 now", "ENTRIES_OF_UNIT $3 now"]                                              # naming::is_mutation_shown
 AWAITED = ["NAMINGS_OF_UNIT $2 now", "each NAMINGS_OF_UNIT MUTATION NAMINGS_OF_UNIT.mutation now"]  # awaited::is_lodger_on
 VIEW = ["UNIT $2 now", "PARCELS_OF_UNIT $2 now", "ENTRIES_OF_UNIT $2 now"]                          # view::view
@@ -38,17 +38,17 @@ READS = {
     ("citizen", "the entries in its sight"): ["holder/ENTRIES $1 now", "group/ENTRIES $1 now"],  # Sight
     ("citizen", "the parties in its sight"): [                                                 # Sight
         "own/ITSELF $1 now", "own/GROUPS $1 now", "holder/PARTIES $1 now", "group/PARTIES $1 now"],
-    ("citizen", "an entry in its sight"): [*ENTRY, *GROUPS, "ENTRY $2 now"],                   # ties::is_number_shown, ObjectAt
-    ("citizen", "an entry that is denied"): [*ENTRY, *GROUPS],                                 # ties::is_number_shown
+    ("citizen", "an entry in its sight"): [*ENTRY, *GROUPS, "ENTRY $2 now"],                   # interests::is_number_shown, ObjectAt
+    ("citizen", "an entry that is denied"): [*ENTRY, *GROUPS],                                 # interests::is_number_shown
     ("citizen", "a parcel"): ["PARCEL $2 now", "PARCEL $2 now"],                               # ObjectAt's look-up, ObjectAt
-    ("citizen", "its title sheet"): [*UNIT, *GROUPS, *VIEW, *GROUPS, *NAMES],                  # ties::is_unit_shown, UnitSeen
-    ("citizen", "a title sheet that is denied"): [*UNIT, *GROUPS],                             # ties::is_unit_shown
+    ("citizen", "its title sheet"): [*UNIT, *GROUPS, *VIEW, *GROUPS, *NAMES],                  # interests::is_unit_shown, UnitSeen
+    ("citizen", "a title sheet that is denied"): [*UNIT, *GROUPS],                             # interests::is_unit_shown
     ("bank", "the units in its sight"): ["creditor/UNITS $1 now"],                             # Sight
     ("bank", "the entries in its sight"): ["creditor/ENTRIES $1 now"],                         # Sight
-    ("bank", "its mortgage"): [*ENTRY, "ENTRY $2 now"],                                        # ties::is_number_shown, ObjectAt
-    ("bank", "an entry that is denied"): ENTRY,                                                # ties::is_number_shown
-    ("bank", "the title sheet"): [*UNIT, *VIEW, *NAMES],                                       # ties::is_unit_shown, UnitSeen
-    ("bank", "an entry, where it has a mortgage on all other units"): [*ENTRY, "ENTRY $2 now"],  # ties::is_number_shown, ObjectAt
+    ("bank", "its mortgage"): [*ENTRY, "ENTRY $2 now"],                                        # interests::is_number_shown, ObjectAt
+    ("bank", "an entry that is denied"): ENTRY,                                                # interests::is_number_shown
+    ("bank", "the title sheet"): [*UNIT, *VIEW, *NAMES],                                       # interests::is_unit_shown, UnitSeen
+    ("bank", "an entry, where it has a mortgage on all other units"): [*ENTRY, "ENTRY $2 now"],  # interests::is_number_shown, ObjectAt
     ("citizen", "a mutation of its unit"): [*NAMING, *GROUPS, "MUTATION $2 now"],              # naming::is_mutation_shown, ObjectAt
     ("citizen", "a mutation that is denied"): [*NAMING, *GROUPS],                              # naming::is_mutation_shown
     ("conveyancer", "a mutation, where it lodged all that there are"): ["MUTATION $2 now", "MUTATION $2 now"],  # lodging::has_lodged, ObjectAt
