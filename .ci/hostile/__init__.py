@@ -1,0 +1,1 @@
+"""What .ci/endurance does: hostile use of the service."""

@@ -1,0 +1,168 @@
+"""A store that is full at each of many places of a scenario: the log that cannot grow, or the file itself."""
+import http.client
+import os
+import random
+import sqlite3
+import time
+from collections import Counter
+
+from hostile import program
+from hostile.ledger import COLUMNS, Ledger, judge
+from hostile.office import Client, Office, in_words
+from hostile.program import Wrong
+
+# Acts of the scenario over a small file, and over a large one, whose log is copied into the file twice before they end; and how many acts
+# come after a full store, once there is room again.
+ACTS, MORE = {False: 120, True: 300}, 8
+# Parties of a large file, which has more bytes than its log ever has; of how many places one is of such a file.
+LARGE, FILES = 6000, 5
+FULL = "land: fault 502\n"
+
+
+def fill(file):
+    """Enters many parties with long names in a new file, by sqlite3 and in one change, and gives the ledger of it."""
+    ledger = Ledger()
+    ledger.stamp = 1
+    for number in range(2, LARGE + 2):
+        ledger.begin("party", number=number, name="𝔸" * 200, kind="naturalPerson")
+    ledger.moments.append((1, LARGE + 2))
+    base = sqlite3.connect(file)
+    for table, *row in ledger.rows() - Ledger().rows():
+        names = ("stamp", "next") if table == "moments" else (*COLUMNS[table], "since", "until")
+        base.execute(f"INSERT INTO {table} ({', '.join(names)}) VALUES ({', '.join('?' * len(names))})", row)
+    base.commit()
+    base.close()
+    return ledger
+
+
+def made(folder, name, is_large):
+    """A new file, and its ledger."""
+    file = os.path.join(folder, f"{name}.land")
+    program.make(file)
+    ledger = fill(file) if is_large else Ledger()
+    program.check(file)
+    return file, ledger
+
+
+def play(client, office, acts, look=lambda: None):
+    """Sends acts until one is told that the store has failed, and gives that one, or nothing."""
+    for _ in range(acts):
+        act = office.draw()
+        if client.send(act) == 503:
+            return act
+        look()
+    return None
+
+
+def sizes(folder, is_large, seed):
+    """The bytes of a file as it begins and as the scenario leaves it, and the most that its log has."""
+    file, ledger = made(folder, f"dry{is_large}", is_large)
+    first, most = os.path.getsize(file), []
+    service, port = program.serve(file, 1)
+    try:
+        client = Client(port, ledger, Counter())
+        play(client, office_of(ledger, seed), ACTS[is_large], lambda: most.append(os.path.getsize(file + "-wal")))
+        client.line.close()
+        program.ends(service, 0)
+    finally:
+        service.kill()
+    judge(file, ledger)
+    return first, os.path.getsize(file), max(most)
+
+
+def office_of(ledger, seed):
+    return Office(ledger, random.Random(f"disk {seed}"))
+
+
+def has_ended(client):
+    """Whether nothing more is answered on a connection: it has ended, or tells 503."""
+    try:
+        client.line.auto_open = 0
+        client.line.request("GET", "/parties/1", headers={"Register-Party": "1", "Register-Role": "stateAdministrator"})
+        return client.line.getresponse().status == 503
+    except (http.client.HTTPException, OSError):
+        return True
+
+
+class Place:
+    """A scenario over a file whose store is full from some byte on."""
+
+    def __init__(self, folder, number, is_large, limit, seed):
+        self.file, self.ledger = made(folder, f"full{number}", is_large)
+        self.office, self.done, self.failed = office_of(self.ledger, seed), Counter(), None
+        self.limit, self.acts = limit, ACTS[is_large]
+
+    def until_full(self):
+        """Plays the scenario over the full store; says where it failed."""
+        try:
+            service, port = program.serve(self.file, 1, self.limit)
+        except Wrong as error:
+            if "land: cannot open" in str(error) or FULL.strip() in str(error):
+                return "opening"
+            raise
+        try:
+            client = Client(port, self.ledger, self.done)
+            self.failed = play(client, self.office, self.acts)
+            if self.failed and not has_ended(client):
+                raise Wrong(f"after 503 to {self.failed} the connection goes on")
+            client.line.close()
+            return self.end_of(service)
+        finally:
+            service.kill()
+
+    def end_of(self, service):
+        if self.failed:
+            program.ends(service, 1, FULL)
+            return "an act"
+        program.ends(service, 1, FULL)
+        return "closing"
+
+    def holds(self, pending):
+        """Holds the file against the ledger, which has the pending act from then on where the file has it."""
+        before = self.ledger
+        self.ledger = judge(self.file, before, pending)
+        last, following = self.ledger.moments[-1]
+        if program.check(self.file) != f"sound: last {last}, next {following}":
+            raise Wrong("check says another stamp than the last one")
+        return self.ledger is not before
+
+    def goes_on(self):
+        """A new service over the file, once there is room; the act that failed is done there, if it is not yet."""
+        service, port = program.serve(self.file, 1)
+        try:
+            client = Client(port, self.ledger, self.done)
+            if self.failed and client.send(self.failed) != 200:
+                raise Wrong(f"once there is room, {self.failed} is not done")
+            if play(client, Office(self.ledger, self.office.dice), MORE):
+                raise Wrong("once there is room, the store still fails")
+            client.line.close()
+            program.ends(service, 0)
+        finally:
+            service.kill()
+        self.holds(None)
+
+
+def limits(count, first, last):
+    return [first + (last - first) * number // count for number in range(count)]
+
+
+def run(count, seed):
+    where, done, whole, began = Counter(), Counter(), 0, time.monotonic()
+    with program.folder() as folder:
+        large = count // FILES
+        small_sizes, large_sizes = sizes(folder, False, seed), sizes(folder, True, seed)
+        places = [(False, it) for it in limits(count - large, 1, small_sizes[2])]
+        places += [(True, it) for it in limits(large, large_sizes[0], large_sizes[1])]
+        for number, (is_large, limit) in enumerate(places):
+            try:
+                place = Place(folder, number, is_large, limit, seed)
+                seen = place.until_full()
+                where[f"{'the file' if is_large else 'the log'}, at {seen}"] += 1
+                if place.holds(place.failed):
+                    whole, place.failed = whole + 1, None
+                place.goes_on()
+            except Wrong as error:
+                raise Wrong(f"place {number}, {limit} bytes: {error}") from None
+            done += place.done
+    print(f"disk: full at {count} places in {time.monotonic() - began:.0f} s, seed {seed}: logs from 1 to {small_sizes[2]} bytes, files from "
+          f"{large_sizes[0]} to {large_sizes[1]}; {in_words(where)}; {whole} acts that failed are there, whole; {in_words(done)}", flush=True)
