@@ -1,8 +1,8 @@
 """A store that is full at each of many places of a scenario: the log that cannot grow, or the file itself."""
-import http.client
 import os
 import random
 import sqlite3
+import subprocess
 import time
 from collections import Counter
 
@@ -14,8 +14,8 @@ from hostile.program import Wrong
 # Acts of the scenario over a small file, and over a large one, whose log is copied into the file twice before they end; and how many acts
 # come after a full store, once there is room again.
 ACTS, MORE = {False: 120, True: 300}, 8
-# Parties of a large file, which has more bytes than its log ever has; of how many places one is of such a file.
-LARGE, FILES = 6000, 5
+# Parties of a large file, which has more bytes than its log ever has; of how many places one is of such a file, and one of a small disk.
+LARGE, FILES, DISKS = 6000, 5, 5
 FULL = "land: fault 502\n"
 
 
@@ -27,7 +27,7 @@ def fill(file):
         ledger.begin("party", number=number, name="𝔸" * 200, kind="naturalPerson")
     ledger.moments.append((1, LARGE + 2))
     base = sqlite3.connect(file)
-    for table, *row in ledger.rows() - Ledger().rows():
+    for table, *row in sorted(ledger.rows() - Ledger().rows(), key=repr):
         names = ("stamp", "next") if table == "moments" else (*COLUMNS[table], "since", "until")
         base.execute(f"INSERT INTO {table} ({', '.join(names)}) VALUES ({', '.join('?' * len(names))})", row)
     base.commit()
@@ -74,16 +74,6 @@ def office_of(ledger, seed):
     return Office(ledger, random.Random(f"disk {seed}"))
 
 
-def has_ended(client):
-    """Whether nothing more is answered on a connection: it has ended, or tells 503."""
-    try:
-        client.line.auto_open = 0
-        client.line.request("GET", "/parties/1", headers={"Register-Party": "1", "Register-Role": "stateAdministrator"})
-        return client.line.getresponse().status == 503
-    except (http.client.HTTPException, OSError):
-        return True
-
-
 class Place:
     """A scenario over a file whose store is full from some byte on."""
 
@@ -103,8 +93,8 @@ class Place:
         try:
             client = Client(port, self.ledger, self.done)
             self.failed = play(client, self.office, self.acts)
-            if self.failed and not has_ended(client):
-                raise Wrong(f"after 503 to {self.failed} the connection goes on")
+            if self.failed and not client.has_end:
+                raise Wrong(f"503 to {self.failed} does not say that the connection ends")
             client.line.close()
             return self.end_of(service)
         finally:
@@ -116,6 +106,12 @@ class Place:
             return "an act"
         program.ends(service, 1, FULL)
         return "closing"
+
+    def make_room(self):
+        """The limit was that of the service, and has gone with it."""
+
+    def leave(self):
+        """Nothing is to be given back."""
 
     def holds(self, pending):
         """Holds the file against the ledger, which has the pending act from then on where the file has it."""
@@ -142,27 +138,78 @@ class Place:
         self.holds(None)
 
 
+class SmallDisk(Place):
+    """The same on a file system of its own, which is full from some byte on. Only root can have one."""
+
+    def __init__(self, folder, number, limit, seed):
+        self.mounted = os.path.join(folder, f"disk{number}")
+        os.mkdir(self.mounted)
+        mount("-t", "tmpfs", "-o", "size=64m", "tmpfs", self.mounted)
+        super().__init__(self.mounted, number, False, None, seed)
+        mount("-o", f"remount,size={limit}", self.mounted)
+
+    def make_room(self):
+        mount("-o", "remount,size=64m", self.mounted)
+
+    def leave(self):
+        subprocess.run(["umount", self.mounted], check=True)
+
+
+def mount(*words):
+    subprocess.run(["mount", *words], check=True, capture_output=True)
+
+
+def can_mount(folder):
+    """Whether a file system can be had here."""
+    place = os.path.join(folder, "tried")
+    os.mkdir(place)
+    try:
+        mount("-t", "tmpfs", "-o", "size=64m", "tmpfs", place)
+    except (subprocess.CalledProcessError, FileNotFoundError):
+        return False
+    return subprocess.run(["umount", place]).returncode == 0
+
+
 def limits(count, first, last):
     return [first + (last - first) * number // count for number in range(count)]
+
+
+def places(folder, count, seed, small, large):
+    """What is full, and how each place is made: the log, a large file, and where it can be had a small file system."""
+    disks = count // DISKS if can_mount(folder) else 0
+    files = count // FILES
+    made_by = [("the log", lambda number, it: Place(folder, number, False, it, seed), limits(count - files - disks, 1, small[2])),
+               ("the file", lambda number, it: Place(folder, number, True, it, seed), limits(files, large[0], large[1])),
+               ("the disk", lambda number, it: SmallDisk(folder, number, it, seed), limits(disks, small[0] + (1 << 16), small[0] + small[2]))]
+    return [(what, make, limit) for what, make, many in made_by for limit in many]
+
+
+def tried(place):
+    """Fills a store, holds the file and goes on with it; says where it failed, and whether the act that failed is there."""
+    seen = place.until_full()
+    place.make_room()
+    is_there = place.holds(place.failed)
+    if is_there:
+        place.failed = None
+    place.goes_on()
+    return seen, is_there
 
 
 def run(count, seed):
     where, done, whole, began = Counter(), Counter(), 0, time.monotonic()
     with program.folder() as folder:
-        large = count // FILES
-        small_sizes, large_sizes = sizes(folder, False, seed), sizes(folder, True, seed)
-        places = [(False, it) for it in limits(count - large, 1, small_sizes[2])]
-        places += [(True, it) for it in limits(large, large_sizes[0], large_sizes[1])]
-        for number, (is_large, limit) in enumerate(places):
+        small, large = sizes(folder, False, seed), sizes(folder, True, seed)
+        for number, (what, make, limit) in enumerate(places(folder, count, seed, small, large)):
+            place = make(number, limit)
             try:
-                place = Place(folder, number, is_large, limit, seed)
-                seen = place.until_full()
-                where[f"{'the file' if is_large else 'the log'}, at {seen}"] += 1
-                if place.holds(place.failed):
-                    whole, place.failed = whole + 1, None
-                place.goes_on()
+                seen, is_there = tried(place)
             except Wrong as error:
-                raise Wrong(f"place {number}, {limit} bytes: {error}") from None
+                raise Wrong(f"place {number}, {what} of {limit} bytes: {error}") from None
+            finally:
+                place.leave()
+            where[f"{what}, at {seen}"] += 1
+            whole += is_there
             done += place.done
-    print(f"disk: full at {count} places in {time.monotonic() - began:.0f} s, seed {seed}: logs from 1 to {small_sizes[2]} bytes, files from "
-          f"{large_sizes[0]} to {large_sizes[1]}; {in_words(where)}; {whole} acts that failed are there, whole; {in_words(done)}", flush=True)
+    print(f"disk: full at {count} places in {time.monotonic() - began:.0f} s, seed {seed}: logs from 1 to {small[2]} bytes, files from "
+          f"{large[0]} to {large[1]}, disks from {small[0] + (1 << 16)} to {small[0] + small[2]}; {in_words(where)}; {whole} acts that "
+          f"failed are there, whole; {in_words(done)}", flush=True)

@@ -2,7 +2,7 @@
 
     fake.py MODE PROGRAM WORD..
 
-A service that is served through it forgets (its file is written at each tenth reply alone), sticks (waits for three seconds), stays mute,
+A service that is served through it forgets (its file is written at each tenth reply alone), sticks (waits for three seconds), is mute,
 dies, leaks (keeps 20 kB for each reply), or errs (tells another fault). A program that opens says of each file that it is sound.
 """
 import ctypes
@@ -34,8 +34,8 @@ class Relay:
             it.bind(("127.0.0.1", 0))
             self.behind = it.getsockname()[1]
         file = self.other if mode == "forgets" else self.file
-        self.real = subprocess.Popen([program, "serve", "--file", file, "--port", str(self.behind), "--connections", str(self.connections + 1)],
-                                     preexec_fn=self.hold)
+        words = [program, "serve", "--file", file, "--port", str(self.behind), "--connections", str(self.connections + 1)]
+        self.real = subprocess.Popen(words, preexec_fn=self.hold)
         self.connect().close()
 
     def hold(self):
@@ -107,7 +107,7 @@ class Relay:
             os._exit(3)
         if self.mode == "sticks":
             time.sleep(3)
-        if self.mode == "mute":
+        if self.mode == "is mute":
             return b""
         return data.replace(b'"fault":13', b'"fault":11') if self.mode == "errs" else data
 

@@ -2,6 +2,7 @@
 import http.client
 import os
 import random
+import tempfile
 import threading
 import time
 from collections import Counter
@@ -31,30 +32,53 @@ def kill_opening(town, dice):
     service.wait()
 
 
+class Killer:
+    """Kills a service while it does an act: after a while that is drawn, or as it begins to write, within the write or soon after."""
+
+    def __init__(self, service, file, dice, usual):
+        self.service, self.log, self.is_done = service, f"{file}-wal", threading.Event()
+        self.sees_writes, self.rest = dice.random() < 0.6, dice.choice((0, 0, 0, dice.uniform(0, 0.002)))
+        self.after = dice.uniform(0, 2 * usual)
+        self.thread = threading.Thread(target=self.kill, args=(self.look(),))
+        self.thread.start()
+
+    def look(self):
+        """What changes as the log is written."""
+        seen = os.stat(self.log)
+        return seen.st_size, seen.st_mtime_ns
+
+    def kill(self, before):
+        if self.sees_writes:
+            until = time.monotonic() + 1
+            while self.look() == before and time.monotonic() < until:
+                pass
+            self.after = self.rest
+        if self.after:
+            time.sleep(self.after)
+        self.is_done.set()
+        self.service.kill()
+
+
 def kill_acting(town, dice, done):
     """Kills a service while it does an act; gives that act."""
     service, port = program.serve(town.file, 1)
     client, office = Client(port, town.ledger, done), Office(town.ledger, dice)
-    acts, began, killed = dice.randrange(ACTS), time.monotonic(), threading.Event()
-    timer = None
-
-    def kill():
-        killed.set()
-        service.kill()
+    acts, spent, killer = dice.randrange(1, ACTS), 0.0, None
     try:
         for number in range(100000):
-            if number == acts:
-                timer = threading.Timer(dice.uniform(0, 2 * (time.monotonic() - began) / (acts + 1) + 0.001), kill)
-                timer.start()
             pending, town.again = town.again or office.draw(), None
+            if number == acts:
+                killer = Killer(service, town.file, dice, spent / acts)
+            began = time.monotonic()
             client.send(pending)
+            spent += time.monotonic() - began
     except (http.client.HTTPException, OSError, ValueError) as error:
-        if not killed.is_set():
+        if not killer or not killer.is_done.is_set():
             raise Wrong(f"before the kill: {error!r}, after {pending}") from None
         return pending
     finally:
-        if timer:
-            timer.join()
+        if killer:
+            killer.thread.join()
         service.kill()
         service.wait()
     raise Wrong("the service cannot be killed")
@@ -75,7 +99,8 @@ def judged(town, pending):
 def run(kills, seed):
     dice, done, more, opening, again, town = random.Random(f"kills {seed}"), Counter(), 0, 0, 0, None
     began = time.monotonic()
-    with program.folder() as folder:
+    # On a disk, whose writes take their time.
+    with tempfile.TemporaryDirectory() as folder:
         for number in range(kills):
             if number % SAME == 0:
                 town = Town(os.path.join(folder, f"kill{number}.land"))
@@ -91,8 +116,8 @@ def run(kills, seed):
             except Wrong as error:
                 raise Wrong(f"kill {number}: {error}") from None
     acknowledged = sum(it for key, it in done.items() if not key.isdigit())
-    print(f"kills: {kills} in {time.monotonic() - began:.0f} s, {opening} of them while the file is opened, seed {seed}: {acknowledged} acts "
-          f"were acknowledged, and all are there; {more} pending ones are there too, whole; {again} pending lodgings were sent again; "
+    print(f"kills: {kills} in {time.monotonic() - began:.0f} s, {opening} of them while the file is opened, seed {seed}: {acknowledged} "
+          f"acts were acknowledged, and all are there; {more} pending ones are there too, whole; {again} pending lodgings were sent again; "
           f"{in_words(done)}", flush=True)
     if acknowledged < kills:
         raise Wrong("fewer acts were acknowledged than services killed")

@@ -75,7 +75,7 @@ class Ledger:
 
     def change(self, table, row, **values):
         self.close(table, [row])
-        self.begin(table, **{name: row[name] for name in COLUMNS[table]}, **{})
+        self.begin(table, **{name: row[name] for name in COLUMNS[table]})
         self.standing[table][-1].update(values)
 
     def rows(self):
@@ -164,11 +164,13 @@ class Ledger:
         self.begin("parcel", number=self.take(), unit=unit, label=part["label"], outline=part["outline"], source=source)
 
     def right(self, unit, party, type, share, source):
-        self.begin("rrr", number=self.take(), unit=unit, party=party, **{"class": type}, num=share.numerator, den=share.denominator, source=source)
+        self.begin("rrr", number=self.take(), unit=unit, party=party, **{"class": type}, num=share.numerator, den=share.denominator,
+                   source=source)
 
     def burden(self, act):
         body, source, number = act.body, self.source(act.body["document"]), self.take()
-        self.begin("rrr", number=number, unit=body["unit"], party=body["party"], **{"class": body["class"]}, words=body["words"], source=source)
+        self.begin("rrr", number=number, unit=body["unit"], party=body["party"], **{"class": body["class"]}, words=body["words"],
+                   source=source)
         return number
 
     def lift(self, act):
@@ -178,8 +180,8 @@ class Ledger:
     def lodge(self, act):
         source = self.source(act.body["document"], "spatial" if act.word in SPATIAL else "administrative")
         number = self.take()
-        self.begin("mutation", number=number, lodger=act.party, reference=act.body["reference"], source=source, lodged=self.stamp, act=act.word,
-                   content=text_of(act), state="lodged")
+        self.begin("mutation", number=number, lodger=act.party, reference=act.body["reference"], source=source, lodged=self.stamp,
+                   act=act.word, content=text_of(act), state="lodged")
         for unit in (act.body["unit"], *act.body.get("others", ())):
             self.begin("names", mutation=number, unit=unit)
         return number
@@ -235,8 +237,8 @@ class Ledger:
 
     def mortgage(self, content, source):
         place = 1 + max((it["place"] for it in self.find("rrr", unit=content["unit"], **{"class": "mortgage"})), default=0)
-        self.begin("rrr", number=self.take(), unit=content["unit"], party=content["creditor"], **{"class": "mortgage"}, amount=content["amount"],
-                   currency=content["currency"], place=place, source=source)
+        self.begin("rrr", number=self.take(), unit=content["unit"], party=content["creditor"], **{"class": "mortgage"},
+                   amount=content["amount"], currency=content["currency"], place=place, source=source)
 
     def discharge(self, content, _):
         self.close("rrr", [self.one("rrr", number=content["mortgage"], unit=content["unit"])])

@@ -42,7 +42,8 @@ def junk(dice, most):
 # ---- requests that are as they should be
 
 def reads(dice):
-    return Odd(head("GET", f"/parties/{dice.choice((1, '01', '0000000000001'))}{dice.choice(('', '?', '?at=4102'))}"), ("200", "403 denied 27"))
+    party, query = dice.choice((1, "01", "0000000000001")), dice.choice(("", "?", "?at=4102"))
+    return Odd(head("GET", f"/parties/{party}{query}"), ("200", "403 denied 27"))
 
 
 def lists(dice):
@@ -55,7 +56,8 @@ def denials(dice):
 
 
 def strangers(dice):
-    return Odd(head("GET", f"/{dice.choice(LISTS)}", f"Register-Party: {dice.randrange(10**8, 10**9)}\r\nRegister-Role: notary\r\n"), "403 denied 1")
+    fields = f"Register-Party: {dice.randrange(10**8, 10**9)}\r\nRegister-Role: notary\r\n"
+    return Odd(head("GET", f"/{dice.choice(LISTS)}", fields), "403 denied 1")
 
 
 def refusals(dice):
@@ -101,7 +103,8 @@ def cut_heads(dice):
 
 def long_heads(dice):
     field = "X: " + "y" * dice.randrange(8192, 40000)
-    return framing(dice.choice((head("GET", "/" + "a" * 9000), head("GET", "/parties/1", OFFICE + field + "\r\n"), b"\r\n" * 5000)), 141)
+    heads = head("GET", "/" + "a" * 9000), head("GET", "/parties/1", OFFICE + field + "\r\n"), b"\r\n" * 5000
+    return framing(dice.choice(heads), 141)
 
 
 def many_fields(dice):
@@ -112,8 +115,9 @@ def many_fields(dice):
 
 def lengths(dice):
     """Lengths that are none, two, too long, or so large that no body comes to it."""
-    value, number = dice.choice((("-1", 140), ("+5", 140), ("0x10", 140), ("1 2", 140), ("", 140), ("9" * 19, 140), ("1e3", 140), ("5,5", 140),
-                                 ("0" * 19, 140), ("9" * 18, 142), ("1048577", 142), ("4294967296", 142), ("5\r\nContent-Length: 5", 140)))
+    value, number = dice.choice((
+        ("-1", 140), ("+5", 140), ("0x10", 140), ("1 2", 140), ("", 140), ("9" * 19, 140), ("1e3", 140), ("5,5", 140), ("0" * 19, 140),
+        ("9" * 18, 142), ("1048577", 142), ("4294967296", 142), ("5\r\nContent-Length: 5", 140)))
     return framing(head("POST", "/acts/enrol", f"{OFFICE}Content-Length: {value}\r\n") + b"{}"[:dice.randrange(3)], number)
 
 
@@ -126,7 +130,7 @@ def chunked(dice):
 def broken_heads(dice):
     good = head("GET", "/parties/1")
     return framing(dice.choice((
-        good.replace(b"Register-Party:", b"Register-Party :"), good.replace(b"1\r\n", b"1\r\n folded\r\n", 1).replace(b"HTTP/1.1", b"HTTP/1."),
+        good.replace(b"Register-Party:", b"Register-Party :"), good.replace(b": 1\r\n", b": 1\r\n folded\r\n"),
         good.replace(b"HTTP/1.1", b"HTTP/2.0"), good.replace(b"HTTP/1.1", b"http/1.1"), good.replace(b" HTTP/1.1", b""),
         good.replace(b"GET ", b"GET\t"), good.replace(b"GET /parties/1", b"G(T /parties/1"), good.replace(b"/parties/1", b"/par\x7fties"),
         good.replace(b"/parties/1", b"/par\xff\xfeties"), good.replace(b"/parties/1", b"/\xc3"), good.replace(b": 1", b": \x00"),
@@ -159,8 +163,8 @@ def posted_reads(dice):
 
 
 def no_routes(dice):
-    target = dice.choice(("/", "//parties", "/parties/", "/parties/1/2", "*", "http://x/parties", "/acts/Enrol", "/acts/", "/PARTIES", "/units/1/sheet/",
-                          "/parties%2F1", "/../parties", "/é", "/" + "a/" * 2000, "/units//sheet", "x"))
+    target = dice.choice(("/", "//parties", "/parties/", "/parties/1/2", "*", "http://x/parties", "/acts/Enrol", "/acts/", "/PARTIES",
+                          "/units/1/sheet/", "/parties%2F1", "/../parties", "/é", "/" + "a/" * 2000, "/units//sheet", "x"))
     return Odd(b"GET " + target.encode() + head("", "", OFFICE)[1:], fault(136))
 
 
@@ -181,17 +185,19 @@ def numbers(dice):
 
 
 def queries(dice):
-    query, number = dice.choice((("a", 131), ("AT=5", 131), ("?", 131), ("at", 131), ("at=", 132), ("at=-1", 132), ("at=5&x=1", 132), ("at=1e3", 132),
-                                 ("at=4102444800000", 132), ("at=" + "9" * 3000, 132), ("at=4102444799999", 135)))
+    query, number = dice.choice((
+        ("a", 131), ("AT=5", 131), ("?", 131), ("at", 131), ("at=", 132), ("at=-1", 132), ("at=5&x=1", 132), ("at=1e3", 132),
+        ("at=4102444800000", 132), ("at=" + "9" * 3000, 132), ("at=4102444799999", 135)))
     return Odd(head("GET", f"/parties?{query}"), fault(number))
 
 
 # ---- bodies
 
 def no_json(dice):
-    body = dice.choice((b"", b"\xef\xbb\xbf{}", b"{", b"nul", b"NaN", b"[1,]", b'{"a":1,}', b"{'a':1}", b'{"a":01}', b'{"a":1}x', b'{"a":1e999}', b'{"a":+1}',
-                        b'{"a":"\xff"}', b'{"a":"\xed\xa0\x80"}', b'{"a":"\xc0\x80"}', b'{"a":"\\ud800"}', b'{"a":"\\x"}', b'{"a":"\n"}', b'{"a":1.}', b"\x00",
-                        b'{"a":' + b"9" * 400 + b"}", b'{"a":"' + junk(dice, 60) + b"\x01"))
+    body = dice.choice((
+        b"", b"\xef\xbb\xbf{}", b"{", b"nul", b"NaN", b"[1,]", b'{"a":1,}', b"{'a':1}", b'{"a":01}', b'{"a":1}x', b'{"a":1e999}',
+        b'{"a":+1}', b'{"a":"\xff"}', b'{"a":"\xed\xa0\x80"}', b'{"a":"\xc0\x80"}', b'{"a":"\\ud800"}', b'{"a":"\\x"}', b'{"a":"\n"}',
+        b'{"a":1.}', b"\x00", b'{"a":' + b"9" * 400 + b"}", b'{"a":"' + junk(dice, 60) + b"\x01"))
     return Odd(post(dice.choice(ACTS), body), fault(130))
 
 
@@ -212,12 +218,16 @@ def fields(dice):
         ("enrol", '{"kind":"naturalPerson","name":"A","x":1}', 131), ("enrol", '{"kind":"naturalPerson","name":null}', 131),
         ("enrol", '{"kind":"group","name":"A"}', 133), ("enrol", '{"kind":"naturalPerson","name":""}', 133),
         ("enrol", json.dumps({"kind": "naturalPerson", "name": "\U0001f600" * 201}), 133),
-        ("enrol", json.dumps({"kind": "naturalPerson", "name": "a\x00"}), 133), ("enrol", json.dumps({"kind": "naturalPerson", "name": "a\x7f"}), 133),
-        ("grant", '{"party":1e0,"role":"bank"}', 132), ("grant", '{"party":-0,"role":"bank"}', 132), ("grant", '{"party":1,"role":"Bank"}', 134),
+        ("enrol", json.dumps({"kind": "naturalPerson", "name": "a\x00"}), 133),
+        ("enrol", json.dumps({"kind": "naturalPerson", "name": "a\x7f"}), 133),
+        ("grant", '{"party":1e0,"role":"bank"}', 132), ("grant", '{"party":-0,"role":"bank"}', 132),
+        ("grant", '{"party":1,"role":"Bank"}', 134),
         ("grant", '{"party":"1","role":"bank"}', 131), ("grant", f'{{"party":{"9" * dice.randrange(10, 300)},"role":"bank"}}', 132),
         ("grant", '{"party":18446744073709551616,"role":"bank"}', 132), ("approve", '{"mutation":1000000001}', 132),
-        ("approve", '{"mutation":[]}', 131), ("group", '{"name":"G","members":[]}', 131), ("group", json.dumps({"name": "G", "members": [0] * 65}), 131),
-        ("group", '{"name":"G","members":[{"party":1,"share":"0/1"},1]}', 101), ("group", '{"name":"G","members":[{"party":1,"share":"1/0"},1]}', (101, 102)),
+        ("approve", '{"mutation":[]}', 131), ("group", '{"name":"G","members":[]}', 131),
+        ("group", json.dumps({"name": "G", "members": [0] * 65}), 131),
+        ("group", '{"name":"G","members":[{"party":1,"share":"0/1"},1]}', 101),
+        ("group", '{"name":"G","members":[{"party":1,"share":"1/0"},1]}', (101, 102)),
         ("group", '{"name":"G","members":[{"party":1,"share":"3/2"},1]}', (102, 103)),
         ("group", '{"name":"G","members":[{"party":1,"share":"1/1000000007"},1]}', (102, 103)),
         ("group", json.dumps({"name": "G", "members": [{"party": 1, "share": "1" * 19 + "/1"}, 1]}), 132)))
@@ -225,13 +235,14 @@ def fields(dice):
 
 
 def outlines(dice):
-    square = "0 0, 9 0, 9 9, 0 9, 0 0"
+    square, far = "0 0, 9 0, 9 9, 0 9, 0 0", "9999999999"
     outline, number = dice.choice((
         ("", 110), ("POLYGON", 110), ("POLYGON EMPTY", 111), (f"POLYGON (({square}), ({square}))", 112), (f"POLYGON Z (({square}))", 113),
-        ("POLYGON ((0 0 0, 9 0 0, 9 9 0, 0 0 0))", 113), ("POLYGON ((0 x, 9 0, 9 9, 0 x))", 114), ("POLYGON ((0 1e3, 9 0, 9 9, 0 1e3))", 114),
+        ("POLYGON ((0 0 0, 9 0 0, 9 9 0, 0 0 0))", 113), ("POLYGON ((0 x, 9 0, 9 9, 0 x))", 114),
+        ("POLYGON ((0 1e3, 9 0, 9 9, 0 1e3))", 114),
         (f"POLYGON ((0 {'9' * 3000}, 9 0, 9 9, 0 0))", 115), ("POLYGON ((0 0, 9 9, 0 0))", 116),
         (f"POLYGON (({'0 0, ' * 201}0 0))", 117), ("POLYGON ((0 0, 9 0, 9 9, 1 1))", 118), ("POLYGON ((0 0, 9 9, 9 0, 0 9, 0 0))", 119),
-        ("POLYGON ((-9999999999 -9999999999, 9999999999 -9999999999, 9999999999 9999999999, -9999999999 9999999999, -9999999999 -9999999999))", 120),
+        (f"POLYGON ((-{far} -{far}, {far} -{far}, {far} {far}, -{far} {far}, -{far} -{far}))", 120),
         (f"POLYGON (({'(' * dice.randrange(1, 5000)}", 110)))
     body = {"name": "U", "checked": True, "document": "D", "parcels": [{"label": "1", "outline": outline}], "rights": []}
     return Odd(post("register", json.dumps(body)), fault(number))
@@ -263,9 +274,9 @@ def huge(dice):
 
 
 # Each kind with how often it is drawn. What makes a party is rare, so that the register hardly grows; so are large bodies.
-DRAWN = {reads: 120, lists: 60, denials: 60, strangers: 40, refusals: 80, enrolments: 0.25, spared: 60, lasts: 10, noise: 6, cut_heads: 8, long_heads: 2,
-         many_fields: 8, lengths: 8, chunked: 6, broken_heads: 10, flipped: 8, methods: 60, posted_reads: 20, no_routes: 60, callers: 60,
-         numbers: 60, queries: 60, no_json: 80, deep: 4, fields: 120, outlines: 60, mutated: 60, wrong_lengths: 5, huge: 0.5}
+DRAWN = {reads: 120, lists: 60, denials: 60, strangers: 40, refusals: 80, enrolments: 0.25, spared: 60, lasts: 10, noise: 6, cut_heads: 8,
+         long_heads: 2, many_fields: 8, lengths: 8, chunked: 6, broken_heads: 10, flipped: 8, methods: 60, posted_reads: 20, no_routes: 60,
+         callers: 60, numbers: 60, queries: 60, no_json: 80, deep: 4, fields: 120, outlines: 60, mutated: 60, wrong_lengths: 5, huge: 0.5}
 KINDS, WEIGHTS = list(DRAWN), list(DRAWN.values())
 
 

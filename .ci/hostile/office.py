@@ -7,7 +7,8 @@ from collections import Counter
 from hostile.ledger import CONTENTS, Act, NoEffect
 from hostile.program import Wrong
 
-LODGERS = {"transfer": "conveyancer", "mortgage": "bank", "discharge": "bank", "subdivision": "certifiedSurveyor", "merger": "certifiedSurveyor"}
+LODGERS = {"transfer": "conveyancer", "mortgage": "bank", "discharge": "bank", "subdivision": "certifiedSurveyor",
+           "merger": "certifiedSurveyor"}
 ROLES = ("conveyancer", "notary", "bank", "certifiedSurveyor")
 HIGH = 10000
 
@@ -66,14 +67,16 @@ class Office:
     def register(self):
         rights = [{"party": party, "type": "ownership", "share": share} for party, share in self.holders(3)]
         if self.dice.random() < 0.4:
-            rights += [{"party": party, "type": self.dice.choice(("lease", "usufruct")), "share": share} for party, share in self.holders(1)]
-        west = self.dice.randrange(0, 10**9, 3 * HIGH)
-        parcels = [{"label": f"{west}{'abc'[k]}", "outline": strip(west + HIGH * k, west + HIGH * (k + 1))} for k in range(self.dice.randrange(1, 4))]
-        return Act("register", {"name": self.name(), "checked": self.dice.random() < 0.8, "document": "Deed", "parcels": parcels, "rights": rights})
+            (party, share), = self.holders(1)
+            rights.append({"party": party, "type": self.dice.choice(("lease", "usufruct")), "share": share})
+        west, count = self.dice.randrange(0, 10**9, 3 * HIGH), self.dice.randrange(1, 4)
+        parcels = [{"label": f"{west}{'abc'[k]}", "outline": strip(west + HIGH * k, west + HIGH * (k + 1))} for k in range(count)]
+        return Act("register", {"name": self.name(), "checked": self.dice.random() < 0.8, "document": "Deed", "parcels": parcels,
+                                "rights": rights})
 
     def burden(self):
         body = {"unit": self.dice.choice(self.numbers("unit")), "party": self.dice.choice(self.single()),
-                "class": self.dice.choice(("restriction", "responsibility")), "words": "No well; \"quiet\" \\ at night", "document": "Order"}
+                "class": self.dice.choice(("restriction", "responsibility")), "words": 'No well; "quiet" \\ at night', "document": "Order"}
         return Act("burden", body)
 
     def lift(self):
@@ -112,7 +115,8 @@ class Office:
         part = {"label": f"{parcel['number']}e", "outline": strip(middle, east)}
         if self.dice.random() < 0.6:
             part["unit"] = self.name()
-        return {"unit": parcel["unit"], "parcel": parcel["number"], "first": {"label": f"{parcel['number']}w", "outline": strip(west, middle)}, "rest": [part]}
+        first = {"label": f"{parcel['number']}w", "outline": strip(west, middle)}
+        return {"unit": parcel["unit"], "parcel": parcel["number"], "first": first, "rest": [part]}
 
     def merger(self):
         parcels = self.ledger.standing["parcel"]
@@ -139,8 +143,8 @@ class Office:
                 return Act("grant", {"party": self.dice.choice(self.single()), "role": role})
         if not self.ledger.standing["unit"]:
             return self.register()
-        return self.dice.choice((self.enrol, self.grant, self.revoke, self.group, self.regroup, self.register, self.burden, self.lift, self.lodge,
-                                 self.lodge, self.lodge, self.decide, self.decide, self.decide))()
+        return self.dice.choice((self.enrol, self.grant, self.revoke, self.group, self.regroup, self.register, self.burden, self.lift,
+                                 self.lodge, self.lodge, self.lodge, self.decide, self.decide, self.decide))()
 
 
 class Client:
@@ -148,12 +152,14 @@ class Client:
 
     def __init__(self, port, ledger, done):
         self.line, self.ledger, self.done = http.client.HTTPConnection("127.0.0.1", port, timeout=60), ledger, done
+        self.has_end = False
 
     def ask(self, act):
         """The status of an act's reply, and the reply."""
         text = json.dumps(act.body, ensure_ascii=False).encode()
         self.line.request("POST", f"/acts/{act.word}", text, {"Register-Party": str(act.party), "Register-Role": act.role})
         reply = self.line.getresponse()
+        self.has_end = reply.will_close
         return reply.status, json.loads(reply.read())
 
     def send(self, act):

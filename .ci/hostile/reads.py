@@ -51,8 +51,8 @@ def run(requests, _seed):
             service.kill()
         said = program.check(file)
     written, first, last = looks
-    print(f"reads: {requests} of {PARTIES} parties: {first[0]} kB and {first[1]} files after 100, {last[0]} kB and {last[1]} files at the end; "
-          f"before, {PARTIES - 100} enrolments added {first[0] - written[0]} kB; {said}", flush=True)
+    print(f"reads: {requests} of {PARTIES} parties: {first[0]} kB and {first[1]} files after 100, {last[0]} kB and {last[1]} files "
+          f"at the end; before, {PARTIES - 100} enrolments added {first[0] - written[0]} kB; {said}", flush=True)
     if not written[1] == first[1] == last[1]:
         raise Wrong(f"open files have grown: {written[1]}, {first[1]}, {last[1]}")
     if last[0] > first[0] + SLACK:

@@ -112,10 +112,14 @@ def read_replies(line, requests, counts):
             break
 
 
-def read_rest(line):
-    """Reads to the end of a connection what a cut request was answered, if it was taken for more than one."""
-    while line.reply(False)[0] is not None:
-        pass
+def read_rest(line, last):
+    """Reads to the end of a connection, which comes. Only a cut request, if it was taken for more than one, is answered more."""
+    while True:
+        seen, _ = line.reply(False)
+        if seen is None:
+            return
+        if not last.is_cut:
+            raise Wrong(f"{seen} after the last reply, which was to {last.data[:300]}")
 
 
 def say_end(line):
@@ -139,8 +143,8 @@ def converse(line, requests, dice, counts):
         if requests[-1].is_cut or dice.random() < 0.2:
             say_end(line)
         read_replies(line, requests, counts)
-    if requests[-1].is_cut:
-        read_rest(line)
+    if requests[-1].ends:
+        read_rest(line, requests[-1])
 
 
 def connect(port, service, requests, dice, counts):
@@ -217,5 +221,6 @@ def run(requests, seed):
         said = program.check(file)
     seen = ", ".join(f"{key}: {counts[key]}" for key in sorted(counts))
     print(f"storm: {requests} requests on {connections} connections in {time.monotonic() - began:.0f} s, seed {seed}; the longest wait "
-          f"but for processors {longest:.3f} s; VmRSS {memory[0]} kB warm, {memory[1]} kB at most, {memory[2]} kB at the end; {said}; {seen}", flush=True)
+          f"but for processors {longest:.3f} s; VmRSS {memory[0]} kB warm, {memory[1]} kB at most, {memory[2]} kB at the end; {said}; "
+          f"{seen}", flush=True)
     grown(memory)

@@ -16,7 +16,8 @@ ACTS = 3
 
 def calls(file):
     """A call of each command over a file."""
-    return (("serve", "--file", file, "--port", str(program.free_port()), "--connections", "1"), ("check", "--file", file), ("new", "--file", file),
+    return (("serve", "--file", file, "--port", str(program.free_port()), "--connections", "1"), ("check", "--file", file),
+            ("new", "--file", file),
             ("extract", "--file", file, "--clock", "0", "--party", "1", "--role", "stateAdministrator", "--kind", "party"))
 
 
@@ -121,5 +122,6 @@ def run(count, seed):
         refused, acts = beside(folder, count, dice)
         is_hard_link_refused(folder)
         more = at_once(folder, count, dice)
-    print(f"twice: in {time.monotonic() - began:.0f} s, seed {seed}: {refused} calls beside a service that did {acts} acts were refused; {count} times two "
-          f"services began at once, one was refused, and the other did {ACTS} acts and was killed: {more} acts, and all are there", flush=True)
+    print(f"twice: in {time.monotonic() - began:.0f} s, seed {seed}: {refused} calls beside a service that did {acts} acts were refused; "
+          f"{count} times two services began at once, one was refused, and the other did {ACTS} acts and was killed: {more} acts, and all "
+          "are there", flush=True)
