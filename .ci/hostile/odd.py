@@ -265,12 +265,16 @@ def wrong_lengths(dice):
     return Odd(head("POST", "/acts/enrol", f"{start}{len(body) - by}\r\n") + body, fault(130), ends=True, is_cut=True)
 
 
-def huge(dice):
-    """Bodies of up to a megabyte."""
-    size = dice.choice((100000, 500000, 1048576))
-    body, number = dice.choice(((b" " * size, 130), (b"[" * size, 130), (b'{"kind":"' + b"x" * (size - 11) + b'"}', 133),
-                                (b"[" + b"0," * (size // 2 - 2) + b"0]", 131), (b'"' + b"\\n" * (size // 2 - 1) + b'"', 131)))
+def huge_of(number):
+    """Bodies of up to a megabyte, one after another."""
+    size = (100000, 500000, 1048576)[number % 3]
+    body, number = ((b" " * size, 130), (b"[" * size, 130), (b'{"kind":"' + b"x" * (size - 11) + b'"}', 133),
+                    (b"[" + b"0," * (size // 2 - 2) + b"0]", 131), (b'"' + b"\\n" * (size // 2 - 1) + b'"', 131))[number % 5]
     return Odd(post("enrol", body), fault(number))
+
+
+def huge(dice):
+    return huge_of(dice.randrange(15))
 
 
 # Each kind with how often it is drawn. What makes a party is rare, so that the register hardly grows; so are large bodies.

@@ -13,7 +13,7 @@ from hostile.program import Wrong
 # How long a reply, or the end of the connection, may take, in seconds, without what both sides wait for a processor.
 PATIENCE = 1.0
 # What the memory may grow by after the requests that warm it up, in kB; how many these are at most; how many large bodies come first.
-BOUND, WARM, LARGE = 512, 25000, 40
+BOUND, WARM, LARGE = 512, 25000, 45
 # Requests for each connection, on average.
 EACH = 10
 RESET = struct.pack("ii", 1, 0)
@@ -179,7 +179,7 @@ def storm(service, port, requests, connections, dice):
     left, apart, warming = requests, max(1, min(2000, requests // 100)), min(WARM, requests // 4)
     for rest in range(connections, 0, -1):
         if requests - left < min(LARGE, requests // 20):
-            drawn = [odd.huge(dice)]
+            drawn = [odd.huge_of(requests - left)]
         elif rest > 1:
             drawn = odd.draw(dice, min(dice.randrange(1, max(2, 2 * left // rest)), max(1, left - rest + 1)))
         else:
