@@ -3,6 +3,7 @@
 The files of deploy/gateway are taken as they are, but for their paths, the port of the gateway and, where the register has no network of
 its own, that of the register. Processes are ended by their numbers when the rig is left."""
 import contextlib
+import functools
 import http.client
 import os
 import shutil
@@ -26,12 +27,17 @@ class Missing(Exception):
     """Something that has to be installed is not."""
 
 
+@functools.cache
 def program():
-    """The register's program: $LAND, else the one that ./land has built."""
-    path = os.environ.get("LAND", os.path.join(TOP, "crates", "land", "out", "land"))
-    if not os.access(path, os.X_OK):
-        raise Missing(f"{path}: ./land builds it, or LAND names another")
-    return path
+    """The register's program: $LAND, else the one that ./land runs. Without words ./land unpacks the released one, and proves nothing."""
+    path = os.environ.get("LAND")
+    if not path:
+        subprocess.run([os.path.join(TOP, "land")], stdin=subprocess.DEVNULL, capture_output=True)
+        words = ["bash", "-c", '. "$top/.ci/sources" && fresh_program']
+        path = subprocess.run(words, env={**os.environ, "top": TOP}, stdout=subprocess.PIPE, text=True).stdout.strip()
+    if not path or not os.access(path, os.X_OK):
+        raise Missing(f"{path or 'a program of these sources'}: ./land --prove builds it, or LAND names another")
+    return os.path.abspath(path)
 
 
 def need(*commands):
@@ -196,7 +202,7 @@ class Rig:
             as_user = [] if ROOT else ["--user", "--map-root-user"]
             self.begin("network", ["unshare", *as_user, "--net", "sh", "-c", "ip link set lo up && echo up $$ && exec sleep infinity"])
             up = f"up {self.running['network'].pid}\n"
-            self.wait_for(lambda: up in self.said("network"), "no network of its own is to be had (log/network)", 10)
+            self.wait_for(lambda: up in self.said("network"), "no network of its own is to be had (log/network)")
         as_user = [] if ROOT else ["--user", "--preserve-credentials"]
         return ["nsenter", "--target", str(self.running["network"].pid), *as_user, "--net", "--"]
 
