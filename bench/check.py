@@ -9,7 +9,8 @@ Registers of so many changes are written (registers.py): a party and its unit in
 transferred by mutations; one unit of 200 owners likewise; one group of 64, of which a member changes each time. Python opens the file,
 runs the texts that list all rows and all rowids, has all rows, and judges nothing; `PRAGMA integrity_check` judges that the file is one of
 sqlite, with NOT NULL, UNIQUE and CHECK. The least of three runs each, or one where that takes over ten seconds, the start of the program,
-which is that of `land --help`, among them; memory is the most that a process had.
+which is that of `land --help`, among them; memory is the most that a process had. Python works in processes of its own, so that what they
+had is not told of the program.
 """
 import os
 import re
@@ -28,6 +29,16 @@ HISTORIES = {
     "one unit of 200 owners": lambda path, changes: registers.of_transfers(path, changes, units=1, owners=200),
     "one group of 64": registers.of_members,
 }
+
+
+def apart(work):
+    """Does some work in a process of its own."""
+    child = os.fork()
+    if child == 0:
+        work()
+        os._exit(0)
+    if os.waitpid(child, 0)[1]:
+        raise SystemExit("a process of Python's has failed")
 
 
 def least(work, runs=3):
@@ -91,11 +102,12 @@ def main():
         for name, write in HISTORIES.items():
             for size in sizes:
                 file = os.path.join(folder, f"{size}.{write.__name__}.{len(os.listdir(folder))}.land")
-                write(file, size)
+                apart(lambda: write(file, size))
                 changes, versions = counts(file)
                 memory = check(file) / 1024
                 cells = [name, f"{changes:,}", f"{versions:,}", f"{os.path.getsize(file) / 1e6:.1f}", f"{least(lambda: check(file)):.2f}",
-                         f"{memory:.0f}", f"{least(lambda: read_all(file, texts)):.2f}", f"{least(lambda: own_check(file)):.2f}"]
+                         f"{memory:.0f}", f"{least(lambda: apart(lambda: read_all(file, texts))):.2f}",
+                         f"{least(lambda: apart(lambda: own_check(file))):.2f}"]
                 print("| " + " | ".join(cells) + " |", flush=True)
                 os.remove(file)
 
