@@ -123,7 +123,7 @@ class Rig:
                 raise SystemExit(f"{name} has no {old!r} to be changed")
             text = text.replace(old, new)
         for old, new in (("/etc/land/", self.path("etc") + "/"), ("/run/land/", self.path("run") + "/"),
-                         ("/var/log/nginx/", self.path("log") + "/"), ("/usr/share/land/page", self.path("page")),
+                         ("/var/log/land/", self.path("log") + "/"), ("/usr/share/land/page", self.path("page")),
                          ("listen 443 ", f"listen 127.0.0.1:{self.port} "), (f":{REGISTER} ", f":{self.between or self.register} ")):
             text = text.replace(old, new)
         if not ROOT:

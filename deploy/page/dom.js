@@ -29,17 +29,20 @@ function fill(node, attributes, children) {
 }
 
 // Characters that are not seen, that turn the order of others, or that end a line somewhere. In a name they would make it look like
-// another name, or like a line of a title sheet.
-const ODD = new RegExp("[\\u0080-\\u009f\\u00ad\\u034f\\u061c\\u115f\\u1160\\u17b4\\u17b5\\u180e\\u200b-\\u200f\\u2028-\\u202e" +
-  "\\u2060-\\u206f\\u3164\\ufeff\\uffa0\\ufff9-\\ufffb]|\\udb40[\\udc00-\\udfff]", "g");
+// another name, or like a line of a title sheet. Line feeds are those of the sheet itself, since no name has one.
+const ODD = /(?!\n)[\p{Cc}\p{Cf}\p{Zl}\p{Zp}\p{Default_Ignorable_Code_Point}\u2800]/gu;
 
-// A text of the register, with its odd characters written out.
+const mark = (odd) => "[U+" + odd.codePointAt(0).toString(16).toUpperCase().padStart(4, "0") + "]";
+
+// A text of the register with its odd characters written out, for what holds no elements: titles, names for screen readers, choices.
+export const plain = (text) => text.replace(ODD, mark);
+
+// The same as elements, in which what was written out is seen to be so.
 export function shown(text) {
   const parts = [];
   let place = 0;
   for (const found of text.matchAll(ODD)) {
-    const code = found[0].codePointAt(0).toString(16).toUpperCase().padStart(4, "0");
-    parts.push(text.slice(place, found.index), h("span", { class: "odd" }, "[U+" + code + "]"));
+    parts.push(text.slice(place, found.index), h("span", { class: "odd" }, mark(found[0])));
     place = found.index + found[0].length;
   }
   parts.push(text.slice(place));

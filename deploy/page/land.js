@@ -1,9 +1,9 @@
 // The page over the register: it shows what the register answers, and knows no rule of its own.
 import { get, objectOf, state } from "./ask.js";
-import { h, shown } from "./dom.js";
+import { h, plain, shown } from "./dom.js";
 import { lodge, mayLodge } from "./lodge.js";
 import { plainMoment, readMoment, tellMoment } from "./moments.js";
-import { asked, place } from "./parts.js";
+import { asked, place, told } from "./parts.js";
 import { unit } from "./unit.js";
 import { STARTS, list, object, start } from "./views.js";
 import { KINDS, ROLES } from "./words.js";
@@ -23,6 +23,9 @@ function readPlace() {
   state.at = plainMoment(said.get("at"));
   return { way: path ? path.split("/") : ["start"], from: Number(said.get("from")) || 0 };
 }
+
+// What is shown where a view cannot be made of what came.
+const broken = () => ["Land register", told({ status: 599, body: null })];
 
 // The view of a place: its title and its parts.
 function viewOf([kind, number], from) {
@@ -47,12 +50,12 @@ async function render(moved) {
   wrongMoment("");
   showTabs(way[0]);
   status.textContent = "Loading";
-  const [title, ...parts] = await viewOf(way, from);
+  const [title, ...parts] = await viewOf(way, from).catch(broken);
   if (state.me === null) await get("parties/1", null);    // any reply says for whom it is
   if (turn !== latest) return;
-  document.title = title + " - Land register";
+  document.title = plain(title) + " - Land register";
   main.replaceChildren(h("h1", {}, shown(title)), ...parts.filter((one) => one !== ""));
-  status.textContent = title;
+  status.textContent = plain(title);
   if (moved) main.focus();
   tellWho();
 }

@@ -1,6 +1,6 @@
 // Lodging a transfer.
 import { state, objectOf, send, sheetOf } from "./ask.js";
-import { h, shown } from "./dom.js";
+import { h, plain, shown } from "./dom.js";
 import { tellMoment } from "./moments.js";
 import { link, told } from "./parts.js";
 import { readSheet } from "./unit.js";
@@ -58,7 +58,7 @@ const taken = (body) => h("div", { class: "told good", role: "status" }, h("h2",
 async function offer(form, rights) {
   const reply = await sheetOf(Number(form.elements.unit.value), null);
   const entries = reply.status === 200 ? readSheet(reply.text).entries.filter((e) => RIGHTS.includes(e.class)) : [];
-  rights.replaceChildren(...entries.map((e) => h("option", { value: String(e.number) }, CLASSES[e.class] + " of " + e.rest)));
+  rights.replaceChildren(...entries.map((e) => h("option", { value: String(e.number) }, CLASSES[e.class] + " of " + plain(e.rest))));
 }
 
 async function tellReceiver(form, receiver) {

@@ -1,5 +1,5 @@
 // Outlines as a drawing, north up, to scale. Coordinates are whole millimetres; the drawing has 1000 units in its longer direction.
-import { h, drawnLink } from "./dom.js";
+import { h, drawnLink, plain } from "./dom.js";
 
 const WHOLE = 1000;
 const EDGE = 60;
@@ -46,12 +46,13 @@ function scaleOf(drawn) {
 // One parcel: its shape, named for who does not see it, and its label where there is room.
 function parcelOf(p, at) {
   const spots = p.corners.slice(0, -1).map(at);
-  const words = "Parcel " + p.number + (p.label ? ", label " + p.label : "") + ", " + areaOf(p.outline) + " square metres";
+  const words = "Parcel " + p.number + (p.label ? ", label " + plain(p.label) : "") + ", " + areaOf(p.outline) + " square metres";
   const way = "M" + spots.map((spot) => spot.map((c) => c.toFixed(2)).join(" ")).join("L") + "Z";
   const path = h("path", { d: way, class: p.here ? "here" : "" }, h("title", {}, words));
   const { x, y, room } = middle(spots);
   const size = Math.min(44, room / 2.5).toFixed(1);
-  const label = room > 8 ? h("text", { x, y, "font-size": size, "aria-hidden": "true" }, (p.label || String(p.number)).slice(0, 12)) : "";
+  const short = plain([...(p.label || String(p.number))].slice(0, 12).join(""));
+  const label = room > 8 ? h("text", { x, y, "font-size": size, "aria-hidden": "true" }, short) : "";
   return p.href ? drawnLink({ href: p.href, "aria-label": words }, path, label) : h("g", {}, path, label);
 }
 

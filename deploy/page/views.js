@@ -8,6 +8,7 @@ import { CONTENTS, KINDS, ROLES } from "./words.js";
 
 const PAGE = 20;
 const MOST_SUMMED = 200;
+const NEWEST = 100;
 
 // For each role: the heading, what it says, the list that it begins with.
 export const STARTS = {
@@ -16,7 +17,7 @@ export const STARTS = {
   notary: ["The register", "As a notary you are shown everything. Open an object by its number, or a list.", null],
   conveyancer: ["Your lodgings", "What you lodged, and the units that your undecided mutations name.", "mutations"],
   certifiedSurveyor: ["Your lodgings", "The plans that you lodged. You are shown all parcels.", "mutations"],
-  stateAdministrator: ["The office", "You are shown everything. Mutations that wait for a decision are at the end of their list.", null],
+  stateAdministrator: ["The office", "You are shown everything. What was lodged waits for your decision.", null],
 };
 
 export async function start() {
@@ -24,6 +25,7 @@ export async function start() {
   const parts = [h("p", { class: "lead" }, lead), past(), opener()];
   if (kind) parts.push(...await listing(kind, 0));
   if (state.role === "bank") parts.push(await mortgages());
+  if (state.role === "stateAdministrator") parts.push(await waiting());
   return [title, ...parts];
 }
 
@@ -46,12 +48,23 @@ async function mortgages() {
   const found = await Promise.all(numbers.slice(0, MOST_SUMMED).map((n) => objectOf("rrrs", n)));
   const entries = found.filter((e) => e && e.class === "mortgage");
   const sums = new Map();
-  for (const e of entries) sums.set(e.currency, (sums.get(e.currency) || 0) + e.amount);
+  for (const e of entries) sums.set(e.currency, (sums.get(e.currency) || 0n) + BigInt(e.amount));
   const together = [...sums].map(([currency, sum]) => money(sum, currency)).join(", ") || "nothing";
   const caption = numbers.length > MOST_SUMMED ? `Those among the first ${MOST_SUMMED} entries`
     : `${entries.length} in all, together ${together}`;
   return panel("Mortgages", table(caption, ["#Entry", "Unit", "#Rank", "#Amount"],
     entries.map((e) => [link("rrrs", e.number, e.number), link("units", e.unit), e.rank, money(e.amount, e.currency)])));
+}
+
+// What waits for the office: the undecided among the newest mutations.
+async function waiting() {
+  const { numbers, reply } = await numbersOf("mutations");
+  if (numbers === null) return told(reply);
+  const found = await Promise.all(numbers.slice(-NEWEST).map((n) => objectOf("mutations", n)));
+  const undecided = found.filter((o) => o && o.state === "lodged");
+  const [heads, row] = COLUMNS.mutations;
+  const caption = `${undecided.length} of ` + (numbers.length > NEWEST ? `the newest ${NEWEST} mutations` : "all mutations");
+  return panel("Undecided", table(caption, heads, undecided.map(row)));
 }
 
 const COLUMNS = {

@@ -104,6 +104,9 @@ export const REFUSALS = {
   220: "The new outlines are not exactly the ground of the old ones.",
 };
 
+// Rules 4 to 10 are about acts, the first two about whoever asks.
+const titleOf = (rule) => (rule < 3 ? "Denied" : rule > 3 && rule < 11 ? "Not taken up" : "Not shown");
+
 const AGAIN = "If you sent something, look whether it was taken up before you send it again. A lodging may be sent again as it is.";
 
 // What a reply that is not 200 says: { title, text, mark }.
@@ -111,7 +114,7 @@ export function explain(status, body) {
   const said = body || {};
   const words = (title, text, mark) => ({ title, text, mark });
   const { denied, refused, fault, store } = said;
-  if (denied) return words("Not shown", RULES[denied] || "A rule of the register denies it.", "rule " + denied);
+  if (denied) return words(titleOf(denied), RULES[denied] || "A rule of the register denies it.", "rule " + denied);
   if (refused) return words("Refused", REFUSALS[refused] || "The register refuses it.", "refusal " + refused);
   if (fault) return words("Not understood", FAULTS[fault] || "The request could not be read.", "fault " + fault);
   if (store) return words("Out of order", store === 501 ? "The register lacked memory. Nothing has changed." : AGAIN, "store " + store);

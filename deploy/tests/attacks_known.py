@@ -222,4 +222,6 @@ EDITS = [
     ("a log that is not escaped", [("callers.conf", "escape=json", "escape=none")], ["the log"]),
     ("requests that are sent again", [("queue.cfg", "retry-on conn-failure", "retry-on all-retryable-errors")], ["an act is sent once"]),
     ("answers of nginx's own", [("server.conf", "error_page 401 /gateway/unknown.json;", "")], ["no password"]),
+    ("ciphers of old", [("server.conf", "ssl_ciphers ECDHE+AESGCM:ECDHE+CHACHA20;", "")], ["TLS"]),
+    ("an answer of nginx's own without TLS", [("server.conf", " 497", "")], ["TLS"]),
 ]

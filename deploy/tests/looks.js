@@ -116,12 +116,26 @@ function reflow() {
     !e.closest(".scroll,pre,svg")).slice(0, 3).map(tell).concat("wider than the page");
 }
 
-// The element that has the focus shows it.
+// The element that has the focus shows it, by a line that stands out from what is behind it: a ring of two tones, or a parcel's outline.
 function focused() {
   const e = document.activeElement;
-  const style = getComputedStyle(e);
-  const shown = style.outlineStyle !== "none" && parseFloat(style.outlineWidth) >= 2;
-  return shown || e === document.body ? [] : [tell(e)];
+  if (e === document.body || e.id === "main") return [];
+  const drawn = e.closest("svg") && e.querySelector("path");
+  const style = getComputedStyle(drawn || e);
+  const paper = drawn ? colour(getComputedStyle(e.closest("svg")).backgroundColor) : behind(e.parentElement);
+  if (drawn) return parseFloat(style.strokeWidth) >= 4 && ratio(colour(style.stroke), paper) >= 3 ? [] : ["focus " + tell(e)];
+  const ring = style.outlineStyle !== "none" && parseFloat(style.outlineWidth) >= 2 ? [colour(style.outlineColor)] : [];
+  const shadow = /^(rgba?\([^)]*\)) 0px 0px 0px (\d+)px$/.exec(style.boxShadow);
+  if (ring.length && shadow && Number(shadow[2]) >= parseFloat(style.outlineWidth) + 2) ring.push(colour(shadow[1]));
+  return ring.some((one) => ratio(one, paper) >= 3) ? [] : ["focus " + tell(e)];
+}
+
+// What a document holds somewhere as it is, in a text or in an attribute, of characters that are not seen or turn others.
+function odd() {
+  const all = [document.documentElement, ...document.querySelectorAll("*")];
+  const words = [document.title, document.documentElement.textContent, ...all.flatMap((e) => [...e.attributes].map((a) => a.value))];
+  return words.filter((text) => /[\u0080-\u009f\u00ad\u200b-\u200f\u2028-\u202e\u2060-\u206f\ufe00-\ufe0f\ufeff]/.test(text))
+    .map((text) => "odd: " + encodeURI(text).slice(0, 90));
 }
 
 // More room between letters, words and lines, as readers may set it.
