@@ -4,7 +4,8 @@ use Rattle.std.specs.Io.KnownBytes.{prepend_known}
 use Rattle.land_core.specs.declared.ask.Request.{Request}
 use Rattle.land_desk.proofs.ServingLemmas.{begins, goes_on, nothing_done, serves_out}
 use Rattle.land_desk.specs.Serving.{Answers, Brings, Exchange, Goes, Hears, HearsIf, IsServed, IsServing, One, Serves, ServesTo, SoFar, Told}
-use Rattle.land_desk.specs.Turns.{IfBoth, IsTurn}
+use Rattle.land_desk.specs.Serving.Asking.{IfBoth}
+use Rattle.land_desk.specs.Turns.{IsTurn}
 use Rattle.land_desk.specs.declared.serve.DeskFault.{DeskFault}
 use Rattle.land_desk.specs.declared.serve.DeskFault.TheVariants as desk
 use Rattle.land_desk.specs.declared.serve.Served.{Served}

@@ -1,4 +1,5 @@
 -- Lemmas of streams and of serving them.
+pub mod Asking
 pub mod ExchangeLemmas
 pub mod Honesty
 pub mod Moving

@@ -6,7 +6,8 @@ use Rattle.std.proofs.KnownBytes.{Appends-trans, Appends-nil}
 use Rattle.std.proofs.lemmas.Bool.{false≢true}
 use Rattle.land_core.specs.declared.ask.Request.{Request}
 use Rattle.land_desk.specs.Serving.{Exchange, One, Goes, IsServed, Serves, ServedItems, SoFar, closes, closing, said_all}
-use Rattle.land_desk.specs.Turns.{IfBoth, IsTurn}
+use Rattle.land_desk.specs.Serving.Asking.{IfBoth}
+use Rattle.land_desk.specs.Turns.{IsTurn}
 use Rattle.land_desk.specs.declared.serve.DeskFault.{DeskFault}
 use Rattle.land_desk.specs.declared.serve.DeskFault.TheVariants as desk
 use Rattle.land_desk.specs.declared.turn.Turn.{Turn}

@@ -1,6 +1,7 @@
 -- Connections that are served one after another.
 pub mod Coming
 pub mod Reading
+pub mod Waiting
 use Rattle.std.specs.Prelude.{◌≡◌, ◌<◌, ◌≤◌, ℕ, ℤ, Bool, true, false, List, [], ◌∷◌, ◌++◌, length, map, Option, Some, None, Result, Ok, Err}
 use Rattle.land_desk.specs.Serving.{Hears, IsServing, Moves}
 use Rattle.land_desk.specs.declared.serve.DeskFault.{DeskFault}

@@ -1,9 +1,10 @@
 -- Answers in the making, and one turn of serving.
-use Rattle.std.specs.Prelude.{◌≡◌, ℕ, Bool, true, false, ◌||◌, List, [], take, Option, Some, None, Result, Ok, Err}
+use Rattle.std.specs.Prelude.{◌≡◌, ℕ, ◌+◌, ◌<◌, ◌≤◌, Bool, true, false, ◌||◌, List, [], ◌++◌, length, take, Option, Some, Result, Ok, Err}
 use Rattle.std.specs.Io.KnownBytes.{Appends}
 use Rattle.land_core.specs.declared.ask.Request.{Request}
 use Rattle.land_desk.specs.Responses.{IsResponse}
 use Rattle.land_desk.specs.Serving.{Exchange, One, closes, closing}
+use Rattle.land_desk.specs.Serving.Asking.{AsksForOne}
 use Rattle.land_desk.specs.declared.exchange.Answer.{Answer}
 use Rattle.land_desk.specs.declared.exchange.AnswerBytes.{AnswerBytes}
 use Rattle.land_desk.specs.declared.exchange.AnswerBytes.TheVariants.{Made, Kept}
@@ -53,8 +54,13 @@ IsTurn hears bytes from to left old new (Err desk.Write) =
 IsTurn hears bytes from to left old new (Err desk.Read) = (to ≡ from) × Appends old new []
 IsTurn hears bytes from to left old new (Err desk.NoMemory) = (to ≡ from) × Appends old new []
 
--- of the bytes of a stream and of what is left of them, where they are known
-abbrev pub IfBoth : (bytes rest : Option (List ℕ)) → (List ℕ → List ℕ → Type 0) → Type 0
-IfBoth None rest P = Unit {0}
-IfBoth (Some bytes) None P = ⊥
-IfBoth (Some bytes) (Some rest) P = P bytes rest
+-- what was asked of the reader in a turn over the bytes of a stream, where so much is read ahead and left in the reader
+abbrev pub IsAsked : (bytes buffer left : List ℕ) → Result Turn DeskFault → Type 0
+IsAsked bytes buffer left (Ok turn.End) = (bytes ≡ []) × (left ≡ [])
+IsAsked bytes buffer left (Ok turn.Last) = AsksForOne bytes left
+IsAsked bytes buffer left (Ok turn.More) = length buffer < 1024
+IsAsked bytes buffer left (Err e) = Unit {0}
+
+-- some bytes of a stream are gone, and the rest is left: of so many that could be had before, so many can be had still
+abbrev pub IsSpent : (could can : ℕ) → (bytes rest : List ℕ) → Type 0
+IsSpent could can bytes rest = (gone : List ℕ) × (bytes ≡ gone ++ rest) × (length gone + can ≤ could)

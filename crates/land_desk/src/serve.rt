@@ -1,6 +1,8 @@
 //! Serving a stream: its items one after another, from their bytes to the bytes of their replies.
-ghost use Rattle.std.specs.Prelude.{◌≤◌, length, IfSome};
+ghost use Rattle.std.specs.Prelude.{◌≡◌, ◌≤◌, ◌*◌, length, IfOk, IfSome};
 ghost use Rattle.land_desk.specs.Serving.{HearsIf, MovesTo, ServesTo};
+ghost use Rattle.land_desk.specs.Serving.Asking.{AsksFor, IfBoth, TakesAtMost};
+ghost use Rattle.land_desk.specs.Turns.{IsSpent};
 ghost use Rattle.land_keep.specs.Keeping.{IsAt};
 ghost use Rattle.land_wire.specs.Routes.Table.{FindsRoutes};
 
@@ -34,7 +36,7 @@ pub enum DeskFault {
 }
 
 /// Serves a stream: its items one after another, until it ends or a reply was given after which the connection ends. The
-/// reader is asked 10_000_000 times at most.
+/// reader is asked 10_000_000 times at most, for 1024 bytes each time, and no more once the last item is there.
 pub fn serve<R: Read, W: Write, K: Keeper, C: Clock>(
     alloc: Global,
     reader: &mut R,
@@ -50,6 +52,9 @@ pub fn serve<R: Read, W: Write, K: Keeper, C: Clock>(
         (record { closed = K.closed keeper.old; timeline = K.timeline keeper.old; clock = clock.old })
         (IsAt (K.honest keeper.new) (K.closed keeper.new) (K.timeline keeper.new) clock.new) }
     ensures was { K.honest keeper.new → K.honest keeper.old }
+    ensures asked { IfBoth (R.remaining reader.old) (R.remaining reader.new)
+        (λ bytes left. IfOk result (λ served. AsksFor served.replies bytes left)) }
+    ensures bound { IfBoth (R.remaining reader.old) (R.remaining reader.new) (TakesAtMost (1024 * 10000000)) }
 {
     let Ok(router) = routes(alloc) else {
         return Err(DeskFault::NoMemory);
@@ -73,16 +78,15 @@ pub fn serve<R: Read, W: Write, K: Keeper, C: Clock>(
 fn serve_items<R: Read, W: Write, K: Keeper, C: Clock>(
     alloc: Global,
     router: &Router<Goal>,
-    reader: &mut CountedReader<R>,
+    reader: &mut CountedReader<'_, R>,
     writer: &mut W,
     keeper: &mut K,
     clock: &mut C,
     headers: &mut [HeaderSpan],
 ) -> Result<Served, DeskFault>
     requires routed { FindsRoutes router.now }
-    requires asked { reader.old.left ≤ 10000000 }
     requires room { 2731 ≤ length headers.old }
-    ensures served { IfSome (R.remaining reader.old.reader) (λ bytes. ServesTo (HearsIf (K.honest keeper.new) C.reads) bytes
+    ensures served { IfSome (R.remaining reader.old.reader.now) (λ bytes. ServesTo (HearsIf (K.honest keeper.new) C.reads) bytes
         (record { closed = K.closed keeper.old; timeline = K.timeline keeper.old; clock = clock.old })
         (IsAt (K.honest keeper.new) (K.closed keeper.new) (K.timeline keeper.new) clock.new)
         (W.contents writer.old) (W.contents writer.new) result) }
@@ -90,6 +94,11 @@ fn serve_items<R: Read, W: Write, K: Keeper, C: Clock>(
         (record { closed = K.closed keeper.old; timeline = K.timeline keeper.old; clock = clock.old })
         (IsAt (K.honest keeper.new) (K.closed keeper.new) (K.timeline keeper.new) clock.new) }
     ensures was { K.honest keeper.new → K.honest keeper.old }
+    ensures asked { IfBoth (R.remaining reader.old.reader.now) (R.remaining reader.new.reader.now)
+        (λ bytes left. IfOk result (λ served. AsksFor served.replies bytes left)) }
+    ensures bound { IfBoth (R.remaining reader.old.reader.now) (R.remaining reader.new.reader.now)
+        (IsSpent (1024 * reader.old.left) (1024 * reader.new.left)) }
+    ensures same_reference { reader.new.reader.ghost_name ≡ reader.old.reader.ghost_name }
 {
     let mut buffer = Vec::new(alloc);
     for replies in 0..u64::MAX {

@@ -1,11 +1,12 @@
 //! One turn of serving a stream: the item at its front, from its bytes to the bytes of its reply.
-ghost use Rattle.std.specs.Prelude.{◌≡◌, ◌≤◌, ◌+◌, ◌++◌, ℕ, List, length, take, drop, IfSome, IfOk, true};
+ghost use Rattle.std.specs.Prelude.{◌≡◌, ◌≤◌, ◌+◌, ◌*◌, ◌++◌, ℕ, List, length, take, drop, IfSome, IfOk, true};
 ghost use Rattle.std.specs.Io.KnownBytes.{prepend_known};
 ghost use Rattle.httparse.specs.Grammar.{RequestHead};
 ghost use Rattle.httparse.specs.Spans.{IsRequestAt, span_bytes};
 ghost use Rattle.land_core.specs.Acts.{is_well_formed_request};
 ghost use Rattle.land_desk.specs.Serving.{Brings, HearsIf, MayHear};
-ghost use Rattle.land_desk.specs.Turns.{IsTurn, IsWritten, Spoken, answer_bytes};
+ghost use Rattle.land_desk.specs.Serving.Asking.{IfBoth};
+ghost use Rattle.land_desk.specs.Turns.{IsAsked, IsSpent, IsTurn, IsWritten, Spoken, answer_bytes};
 ghost use Rattle.land_keep.specs.Keeping.{IsAt};
 ghost use Rattle.land_keep.specs.Machine.{at_of};
 ghost use Rattle.land_wire.specs.Fields.{field_map};
@@ -47,12 +48,12 @@ pub enum Turn {
     More,
 }
 
-/// Serves the item at the front of what the buffer holds and the reader has left. The bytes of a request that was
-/// answered are dropped from the buffer.
+/// Serves the item at the front of what the buffer holds and the reader has left, which is not asked once the item is
+/// there. The bytes of a request that was answered are dropped from the buffer.
 pub(crate) fn take_turn<R: Read, W: Write, K: Keeper, C: Clock>(
     alloc: Global,
     router: &Router<Goal>,
-    reader: &mut CountedReader<R>,
+    reader: &mut CountedReader<'_, R>,
     writer: &mut W,
     keeper: &mut K,
     clock: &mut C,
@@ -62,17 +63,23 @@ pub(crate) fn take_turn<R: Read, W: Write, K: Keeper, C: Clock>(
     requires routed { FindsRoutes router.now }
     requires room { 2731 ≤ length headers.old }
     ensures room { length headers.new ≡ length headers.old }
-    ensures turn { IfSome (prepend_known buffer.old.items (R.remaining reader.old.reader)) (λ bytes. Brings
+    ensures turn { IfSome (prepend_known buffer.old.items (R.remaining reader.old.reader.now)) (λ bytes. Brings
         (IsAt (K.honest keeper.old) (K.closed keeper.old) (K.timeline keeper.old) clock.old)
         (IsAt (K.honest keeper.new) (K.closed keeper.new) (K.timeline keeper.new) clock.new)
         (λ from to. IsTurn (HearsIf (K.honest keeper.new) C.reads) bytes from to
-        (prepend_known buffer.new.items (R.remaining reader.new.reader))
+        (prepend_known buffer.new.items (R.remaining reader.new.reader.now))
         (W.contents writer.old) (W.contents writer.new) result)) }
     ensures hears { Brings
         (IsAt (K.honest keeper.old) (K.closed keeper.old) (K.timeline keeper.old) clock.old)
         (IsAt (K.honest keeper.new) (K.closed keeper.new) (K.timeline keeper.new) clock.new)
         (MayHear (HearsIf (K.honest keeper.new) C.reads)) }
     ensures was { K.honest keeper.new → K.honest keeper.old }
+    ensures asked { length buffer.old.items ≤ 1024 → IfBoth (prepend_known buffer.old.items (R.remaining reader.old.reader.now))
+        (R.remaining reader.new.reader.now) (λ bytes left. IsAsked bytes buffer.new.items left result) }
+    ensures bound { IfBoth (prepend_known buffer.old.items (R.remaining reader.old.reader.now))
+        (prepend_known buffer.new.items (R.remaining reader.new.reader.now))
+        (IsSpent (length buffer.old.items + 1024 * reader.old.left) (length buffer.new.items + 1024 * reader.new.left)) }
+    ensures same_reference { reader.new.reader.ghost_name ≡ reader.old.reader.ghost_name }
 {
     match read_item(reader, buffer, headers) {
         Err(StreamFault::Read) => Err(DeskFault::Read),

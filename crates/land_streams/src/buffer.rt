@@ -16,17 +16,18 @@ const ROOM_KEPT: usize = 16_384;
 /// byte of the stream is lost. `Read`: the reader failed, or was asked too often. `NoMemory`: there was no room for the
 /// piece, and the reader was not asked.
 pub fn read_more<R: Read>(
-    reader: &mut CountedReader<R>,
+    reader: &mut CountedReader<'_, R>,
     buffer: &mut Vec<u8>,
 ) -> Result<usize, StreamFault>
     ensures spends { IfOk result (λ n. reader.old.left ≡ reader.new.left + 1) }
     ensures bound { length buffer.new.items + 1024 * reader.new.left ≤ length buffer.old.items + 1024 * reader.old.left }
     ensures grows { IfOk result (λ n. (piece : List ℕ) × (length piece ≡ n)
         × (buffer.new.items ≡ buffer.old.items ++ piece)
-        × Consumes (R.remaining reader.old.reader) (R.remaining reader.new.reader) piece) }
-    ensures stream { Keeps (prepend_known buffer.old.items (R.remaining reader.old.reader))
-        (prepend_known buffer.new.items (R.remaining reader.new.reader)) }
-    ensures end { IfOk result (λ n. n ≡ 0 → IsAtEnd (R.remaining reader.new.reader)) }
+        × Consumes (R.remaining reader.old.reader.now) (R.remaining reader.new.reader.now) piece) }
+    ensures stream { Keeps (prepend_known buffer.old.items (R.remaining reader.old.reader.now))
+        (prepend_known buffer.new.items (R.remaining reader.new.reader.now)) }
+    ensures end { IfOk result (λ n. n ≡ 0 → IsAtEnd (R.remaining reader.new.reader.now)) }
+    ensures same_reference { reader.new.reader.ghost_name ≡ reader.old.reader.ghost_name }
 
     // Want of memory is told where there was no room for a piece, and a reader's failure after it was made.
     ensures memory { IfErr result (λ e. e ≡ StreamFault.NoMemory → vec_capacity buffer.new < vec_len buffer.new + 1024) }
@@ -46,19 +47,22 @@ pub fn read_more<R: Read>(
     Ok(n)
 }
 
-/// Reads on until the buffer has `end` bytes. `false`: the stream ends before. Errors are those of `read_more`.
+/// Reads on until the buffer has `end` bytes, and asks for no piece more. `false`: the stream ends before. Errors are those
+/// of `read_more`.
 pub fn read_to<R: Read>(
-    reader: &mut CountedReader<R>,
+    reader: &mut CountedReader<'_, R>,
     buffer: &mut Vec<u8>,
     end: usize,
 ) -> Result<bool, StreamFault>
     ensures bound { length buffer.new.items + 1024 * reader.new.left ≤ length buffer.old.items + 1024 * reader.old.left }
-    ensures stream { Keeps (prepend_known buffer.old.items (R.remaining reader.old.reader))
-        (prepend_known buffer.new.items (R.remaining reader.new.reader)) }
+    ensures stream { Keeps (prepend_known buffer.old.items (R.remaining reader.old.reader.now))
+        (prepend_known buffer.new.items (R.remaining reader.new.reader.now)) }
     ensures front { IfOk result (λ w. (more : List ℕ) × (buffer.new.items ≡ buffer.old.items ++ more)) }
     ensures unread { end ≤ length buffer.old.items → reader.new ≡ reader.old }
+    ensures ahead { length buffer.old.items < end + 1024 → IfOk result (λ w. length buffer.new.items < end + 1024) }
+    ensures same_reference { reader.new.reader.ghost_name ≡ reader.old.reader.ghost_name }
     ensures whole { IfOk result (λ w. w ≡ true → end ≤ length buffer.new.items) }
-    ensures cut { IfOk result (λ w. w ≡ false → IfSome (prepend_known buffer.new.items (R.remaining reader.new.reader))
+    ensures cut { IfOk result (λ w. w ≡ false → IfSome (prepend_known buffer.new.items (R.remaining reader.new.reader.now))
         (λ stream. length stream < end)) }
 
     // Want of memory is told where there was no room for a piece, and a reader's failure after it was made.

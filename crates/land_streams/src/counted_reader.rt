@@ -9,40 +9,43 @@ use std::io::Read;
 /// How often the reader of a stream is asked before it counts as failed.
 pub const MOST_READS: u64 = 10_000_000;
 
-/// The reader of a stream, with how often it may still be asked.
+/// The reader of a stream, which it borrows, with how often it may still be asked.
 #[derive(Debug, Drop)]
-pub struct CountedReader<R> {
-    reader: R,
+pub struct CountedReader<'a, R> {
+    reader: &'a mut R,
     left: u64,
 }
 
-impl<R> CountedReader<R> {
+impl<'a, R> CountedReader<'a, R> {
     /// A reader that has not been asked yet.
-    pub fn new(reader: R) -> CountedReader<R>
-        ensures reader { result.reader ≡ reader }
+    pub fn new(reader: &'a mut R) -> CountedReader<'a, R>
+        ensures same { result.reader.now ≡ reader.old }
         ensures left { result.left ≡ 10000000 }
+        ensures same_reference { result.reader.ghost_name ≡ reader.entry.ghost_name }
     {
         CountedReader::with_budget(reader, MOST_READS)
     }
 
     /// A reader that may be asked so often.
-    pub fn with_budget(reader: R, left: u64) -> CountedReader<R>
-        ensures reader { result.reader ≡ reader }
+    pub fn with_budget(reader: &'a mut R, left: u64) -> CountedReader<'a, R>
+        ensures same { result.reader.now ≡ reader.old }
         ensures left { result.left ≡ left }
+        ensures same_reference { result.reader.ghost_name ≡ reader.entry.ghost_name }
     {
         CountedReader { reader, left }
     }
 }
 
-impl<R: Read> CountedReader<R> {
+impl<R: Read> CountedReader<'_, R> {
     /// Asks the reader once, and counts it. `Read`: the reader failed, or has been asked as often as it may be, and then
     /// it is not asked.
     pub fn read(&mut self, piece: &mut [u8]) -> Result<usize, StreamFault>
         ensures spends { self.new.left ≡ self.old.left - 1 }
         ensures asked { IfOk result (λ n. 0 < self.old.left) }
-        ensures unasked { self.old.left ≡ 0 → self.new.reader ≡ self.old.reader }
+        ensures unasked { self.old.left ≡ 0 → self.new.reader.now ≡ self.old.reader.now }
         ensures bound { ReadsAtMost result piece.new }
-        ensures bytes { ReadConsumes (R.remaining self.old.reader) (R.remaining self.new.reader) result piece.new }
+        ensures bytes { ReadConsumes (R.remaining self.old.reader.now) (R.remaining self.new.reader.now) result piece.new }
+        ensures same_reference { self.new.reader.ghost_name ≡ self.old.reader.ghost_name }
     {
         if self.left == 0 {
             return Err(StreamFault::Read);

@@ -2,6 +2,7 @@
 use Rattle.std.proofs.Common.{◌≡◌, ◌≢◌, ℕ, ◌+◌, ◌<◌, ◌≤◌, Bool, true, false, List, [], ◌∷◌, ◌++◌, length, take, drop, refl, sym, ap, ◌∙◌, subst, arith, append_assoc, length-append, length-take, length-drop, take-append-drop, inl, inr, Result, Ok, Err, Option, Some, None, IfSome}
 use Rattle.std.specs.Prelude.{◌⊎◌}
 use Rattle.std.specs.Io.KnownBytes.{IsAtEnd, prepend_known}
+use Rattle.std.proofs.lemmas.Bool.{cases_lt}
 use Rattle.std.proofs.lemmas.List.{take-append-le, take-take, take_all, drop-append-le, drop-drop, append_cancel_left}
 use Rattle.httparse.proofs.GrammarLemmas.{request_unique, ReadsRequest-append}
 use Rattle.httparse.specs.Grammar.{RequestHead, IsRequestHead, ReadsRequest, print_request, HasNoRequest, NeverHasRequest}
@@ -9,10 +10,10 @@ use Rattle.httparse.specs.Spans.{IsRequestAt, IsRequestWithin}
 use Rattle.httparse.specs.declared.spans.HeaderSpan.{HeaderSpan}
 use Rattle.httparse.specs.declared.spans.RequestSpans.{RequestSpans}
 use Rattle.land_wire.proofs.StreamLemmas.{at_front, within_front}
-use Rattle.land_wire.proofs.TargetLemmas.{never_some, open_not_never, never_none}
+use Rattle.land_wire.proofs.TargetLemmas.{never_some, open_not_never, never_none, some_request}
 use Rattle.land_wire.specs.Framing.Frame.{frame}
-use Rattle.land_wire.specs.Framing.Items.{Item, request, faulty, IsItem, AreItems, FailsAfter, is_last, IsRequestIn, IsFrontIn, IsFrontOf, fault_front}
-use Rattle.land_wire.specs.Framing.Stream.{HasHead, IsFault, window, IsHeadIn, IsFoundFault}
+use Rattle.land_wire.specs.Framing.Items.{Item, request, faulty, IsItem, AreItems, FailsAfter, is_last, IsRequestIn, IsFrontIn, IsFrontOf, IsReadFor, fault_front}
+use Rattle.land_wire.specs.Framing.Stream.{HasHead, IsFault, window, IsHeadIn, IsFoundFault, IsJustRead, IsOpen}
 use Rattle.land_wire.specs.declared.framing.frame_fault.FrameFault.{FrameFault}
 use Rattle.land_wire.specs.declared.framing.frame_fault.FrameFault.TheVariants as fault
 use Rattle.land_wire.specs.declared.framing.head.Found.{Found}
@@ -283,3 +284,56 @@ item_fits items headers spans f n h body rest is known it good =
     let same = request_unique items h k (body ++ rest) (drop spans.len items) it.0.reads at.reads in
     let long : n ≡ length body = ok_length n (length body) (good k at ∙ ap frame (sym same.0) ∙ it.1) in
     omega (arith, at.len, ap (λ (x : RequestHead). length (print_request x)) same.0, long, simp length-append at (ap length it.0.reads.1))
+
+-- ---- how much was read
+
+read_some : (bytes : List ℕ) (h : RequestHead) (rest : List ℕ) → ReadsRequest bytes h rest → 0 < length bytes
+read_some bytes h rest reads = omega (arith, head_bytes h reads.0, simp length-append at (ap length reads.1))
+
+-- a piece that was read before, or nothing
+pub none_read : (bytes : List ℕ) → length bytes ≤ 1024 → IsJustRead bytes
+none_read bytes small = record {
+  before = [];
+  piece = bytes;
+  is = refl;
+  small = small;
+  begun = ((λ h rest reads. omega (arith, read_some [] h rest reads)), inl some_request);
+  short = omega arith;
+}
+
+-- a piece behind bytes in which no head was found
+pub piece_read : (items new piece : List ℕ) (e : ℕ) → e ≡ length items → length items < 8192 → new ≡ items ++ piece → length piece ≤ 1024
+    → IsOpen (take e items) → IsJustRead new
+piece_read items new piece e all short grown small begun = record {
+  before = items;
+  piece = piece;
+  is = grown;
+  small = small;
+  begun = subst IsOpen (take_all e items (omega (arith, all))) begun;
+  short = short;
+}
+
+-- less than a piece stands behind a head that was not there before the last read
+pub head_ahead : (bytes : List ℕ) (headers : List HeaderSpan) (spans : RequestSpans) (o : Found) → o ≡ found.Whole spans → IsHeadIn bytes headers o
+    → IsJustRead bytes → length bytes < spans.len + 1024
+head_ahead bytes headers spans o e is read =
+    let here = subst (λ (k : Found). IsHeadIn bytes headers k) e is in
+    let h = here.1.0 in
+    let at = here.1.1 in
+    let n = length read.before in
+    let front : take n bytes ≡ read.before =
+    ap (λ (t : List ℕ). take n t) read.is ∙ take-append-le n read.before read.piece (omega arith) ∙ take_all n read.before (omega arith) in
+    let head : HasHead bytes h (drop spans.len bytes) = record { reads = at.reads; fits = here.1.2 } in
+    elim (cases_lt n spans.len) as (λ _. length bytes < spans.len + 1024) [
+      | inl less ↦ omega (arith, less, read.small, ap length read.is, length-append read.before read.piece)
+      | inr all ↦ absurd (read.begun.0 h _ (subst (λ (t : List ℕ). ReadsRequest t h (drop (length (print_request h)) (take n bytes))) front
+          (head_within bytes n h _ head (omega (arith, all, at.len)))))
+    ]
+
+pub fault_read : (bytes : List ℕ) (f : FrameFault) (empty : Bool) → IsJustRead bytes → IsReadFor bytes (fault_front f empty)
+fault_read bytes fault.Head empty read = inr read
+fault_read bytes fault.HeadLong empty read = inr read
+fault_read bytes fault.BodyLong empty read = inr read
+fault_read bytes fault.Encoding empty read = inr read
+fault_read bytes fault.Cut true read = tt
+fault_read bytes fault.Cut false read = inr read

@@ -239,6 +239,12 @@ unfolding is_token_byte
 letter_is_token = refl
 
 -- the empty text may become a head
+pub some_request : (more : List ℕ) × (h : RequestHead) × ReadsRequest more h []
+some_request = (
+  65 ∷ 32 ∷ some_tail,
+  some_head [] (65 ∷ []),
+  some_reads [] (65 ∷ []) (65 ∷ 32 ∷ some_tail) (omega arith, All-cons (λ v. is_token_byte v ≡ true) 65 [] letter_is_token (All-nil _)) refl,
+)
+
 pub never_some : IsNever [] → ⊥
-never_some never = never.0 (65 ∷ 32 ∷ some_tail) (some_head [] (65 ∷ [])) []
-    (some_reads [] (65 ∷ []) (65 ∷ 32 ∷ some_tail) (omega arith, All-cons (λ v. is_token_byte v ≡ true) 65 [] letter_is_token (All-nil _)) refl)
+never_some never = never.0 some_request.0 some_request.1 [] some_request.2

@@ -65,7 +65,8 @@ fn serve_next<L: Connections, K: Keeper, C: Clock>(
         return Err(ServiceFault::Accept);
     };
     match serve(alloc, &mut reader, &mut writer, keeper, clock) {
-        Ok(_) | Err(_) => {}
+        Ok(_) => L::end(&mut reader, &mut writer),
+        Err(_) => {}
     }
     if keeper.is_closed() {
         return Err(ServiceFault::Closed);

@@ -5,7 +5,7 @@ use Rattle.httparse.specs.Spans.{IsRequestAt, IsRequestWithin}
 use Rattle.httparse.specs.declared.spans.HeaderSpan.{HeaderSpan}
 use Rattle.httparse.specs.declared.spans.RequestSpans.{RequestSpans}
 use Rattle.land_wire.specs.Framing.Frame.{frame, ends}
-use Rattle.land_wire.specs.Framing.Stream.{limit, HasHead, IsFault}
+use Rattle.land_wire.specs.Framing.Stream.{limit, HasHead, IsFault, IsJustRead}
 use Rattle.land_wire.specs.declared.framing.frame_fault.FrameFault.{FrameFault}
 use Rattle.land_wire.specs.declared.framing.frame_fault.FrameFault.TheVariants as fault
 use Rattle.land_wire.specs.declared.framing.item.Front.{Front}
@@ -62,6 +62,13 @@ abbrev pub IsFrontIn : List ℕ → List HeaderSpan → Front → Type 0
 IsFrontIn bytes headers front.End = Unit {0}
 IsFrontIn bytes headers (front.Fault f) = Unit {0}
 IsFrontIn bytes headers (front.Request spans n) = IsRequestIn bytes headers spans n
+
+-- how much was read for a front: behind a request less than a piece, and for a fault no piece more than shows it; where the
+-- stream ends too early, all of it may be read
+abbrev pub IsReadFor : List ℕ → Front → Type 0
+IsReadFor bytes front.End = Unit {0}
+IsReadFor bytes (front.Fault f) = (f ≡ fault.Cut) ⊎ IsJustRead bytes
+IsReadFor bytes (front.Request spans n) = length bytes < spans.len + n + 1024
 
 -- what the whole stream shows of a front: no byte, or the item
 abbrev pub IsFrontOf : List ℕ → Front → Type 0

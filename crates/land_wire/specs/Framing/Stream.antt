@@ -1,5 +1,5 @@
 -- The head at the front of a stream (RFC 9112, sections 2 to 5), and what is wrong where there is none.
-use Rattle.std.specs.Prelude.{ℕ, ◌≤◌, ◌<◌, List, length, take}
+use Rattle.std.specs.Prelude.{◌≡◌, ℕ, ◌≤◌, ◌<◌, List, ◌++◌, length, take}
 use Rattle.httparse.specs.Grammar.{RequestHead, ReadsRequest, print_request, HasNoRequest, NeverHasRequest, MayBecomeRequest, EndsInTarget}
 use Rattle.httparse.specs.Spans.{IsRequestAt, IsRequestWithin}
 use Rattle.httparse.specs.declared.spans.HeaderSpan.{HeaderSpan}
@@ -26,6 +26,15 @@ pub record HasHead (bytes : List ℕ) (h : RequestHead) (rest : List ℕ) : Type
 -- no head yet, and more bytes may make one, or end the target whose bytes are still read
 abbrev pub IsOpen : List ℕ → Type 0
 IsOpen bytes = HasNoRequest bytes × MayBecomeRequest bytes
+
+-- the last read was needed: without its piece, which has 1024 bytes at most, no head is there yet, and one may come
+pub record IsJustRead (bytes : List ℕ) : Type 0 where
+  pub before : List ℕ
+  pub piece : List ℕ
+  pub is : bytes ≡ before ++ piece
+  pub small : length piece ≤ 1024
+  pub begun : IsOpen before
+  pub short : length before < limit
 
 -- no bytes can follow that make a head, and the bytes do not end inside a target
 abbrev pub IsNever : List ℕ → Type 0

@@ -2,7 +2,7 @@
 ghost use Rattle.std.specs.Prelude.{◌≡◌, ◌≤◌, ◌<◌, ◌+◌, ◌*◌, ◌⊎◌, ℕ, List, length, vec_len, vec_capacity, IfOk, IfErr, IfSome};
 ghost use Rattle.std.specs.Io.KnownBytes.{IsAtEnd, Keeps, prepend_known};
 ghost use Rattle.httparse.specs.Grammar.{RequestHead};
-ghost use Rattle.land_wire.specs.Framing.Stream.{HasHead, IsLook, IsHeadIn, IsFoundFault};
+ghost use Rattle.land_wire.specs.Framing.Stream.{HasHead, IsLook, IsHeadIn, IsFoundFault, IsJustRead};
 
 use crate::framing::frame_fault::FrameFault;
 use crate::framing::target::ends_in_target;
@@ -40,23 +40,25 @@ pub enum Found {
 }
 
 /// The head at the front of what the buffer holds and the reader has left, where its parts lie in the buffer.
-/// After an error, which is one of `read_more`, no byte of the stream is lost. Where the buffer begins with a head, the
-/// reader is not asked.
+/// After an error, which is one of `read_more`, no byte of the stream is lost. The reader is not asked once a head or its
+/// fault is there.
 pub fn read_head<R: Read>(
-    reader: &mut CountedReader<R>,
+    reader: &mut CountedReader<'_, R>,
     buffer: &mut Vec<u8>,
     headers: &mut [HeaderSpan],
 ) -> Result<Found, StreamFault>
     requires { 2731 ≤ length headers.old }
     ensures room { length headers.new ≡ length headers.old }
     ensures bound { length buffer.new.items + 1024 * reader.new.left ≤ length buffer.old.items + 1024 * reader.old.left }
-    ensures stream { Keeps (prepend_known buffer.old.items (R.remaining reader.old.reader))
-        (prepend_known buffer.new.items (R.remaining reader.new.reader)) }
-    ensures end { IfOk result (λ f. f ≡ Found.Fault FrameFault.Cut → IsAtEnd (R.remaining reader.new.reader)) }
+    ensures stream { Keeps (prepend_known buffer.old.items (R.remaining reader.old.reader.now))
+        (prepend_known buffer.new.items (R.remaining reader.new.reader.now)) }
+    ensures end { IfOk result (λ f. f ≡ Found.Fault FrameFault.Cut → IsAtEnd (R.remaining reader.new.reader.now)) }
     ensures unread { (h : RequestHead) (rest : List ℕ) → HasHead buffer.old.items h rest
         → (reader.new ≡ reader.old) × (buffer.new.items ≡ buffer.old.items) }
+    ensures ahead { length buffer.old.items ≤ 1024 → IfOk result (λ f. IsJustRead buffer.new.items) }
+    ensures same_reference { reader.new.reader.ghost_name ≡ reader.old.reader.ghost_name }
     ensures whole { IfOk result (λ f. IsHeadIn buffer.new.items headers.new f) }
-    ensures fault { IfOk result (λ f. IfSome (prepend_known buffer.new.items (R.remaining reader.new.reader))
+    ensures fault { IfOk result (λ f. IfSome (prepend_known buffer.new.items (R.remaining reader.new.reader.now))
         (λ stream. IsFoundFault stream f)) }
 
     // Want of memory is told where there was no room for a piece, and a reader's failure after it was made.

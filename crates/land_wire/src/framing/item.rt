@@ -2,7 +2,7 @@
 ghost use Rattle.std.specs.Prelude.{◌≡◌, ◌≤◌, ◌<◌, ◌+◌, ◌*◌, ◌⊎◌, ℕ, List, length, vec_len, vec_capacity, IfOk, IfErr, IfSome};
 ghost use Rattle.std.specs.Io.KnownBytes.{Keeps, prepend_known};
 ghost use Rattle.httparse.specs.Grammar.{RequestHead};
-ghost use Rattle.land_wire.specs.Framing.Items.{fault_front, request, IsItem, IsFrontIn, IsFrontOf};
+ghost use Rattle.land_wire.specs.Framing.Items.{fault_front, request, IsItem, IsFrontIn, IsFrontOf, IsReadFor};
 
 use crate::framing::frame_fault::FrameFault;
 use crate::framing::framing::frame;
@@ -25,21 +25,23 @@ pub enum Front {
 }
 
 /// The item at the front of what the buffer holds and the reader has left, where a request's parts lie in the
-/// buffer. The error is the reader's, or of memory; no byte of the stream is lost. Where the buffer begins with a whole
-/// request, the reader is not asked.
+/// buffer. The error is the reader's, or of memory; no byte of the stream is lost. The reader is not asked once a whole
+/// request or a fault is there.
 pub fn read_item<R: Read>(
-    reader: &mut CountedReader<R>,
+    reader: &mut CountedReader<'_, R>,
     buffer: &mut Vec<u8>,
     headers: &mut [HeaderSpan],
 ) -> Result<Front, StreamFault>
     requires { 2731 ≤ length headers.old }
     ensures room { length headers.new ≡ length headers.old }
     ensures bound { length buffer.new.items + 1024 * reader.new.left ≤ length buffer.old.items + 1024 * reader.old.left }
-    ensures stream { Keeps (prepend_known buffer.old.items (R.remaining reader.old.reader))
-        (prepend_known buffer.new.items (R.remaining reader.new.reader)) }
+    ensures stream { Keeps (prepend_known buffer.old.items (R.remaining reader.old.reader.now))
+        (prepend_known buffer.new.items (R.remaining reader.new.reader.now)) }
     ensures unread { (h : RequestHead) (body rest : List ℕ) → IsItem buffer.old.items (request h body) rest → reader.new ≡ reader.old }
+    ensures ahead { length buffer.old.items ≤ 1024 → IfOk result (λ f. IsReadFor buffer.new.items f) }
+    ensures same_reference { reader.new.reader.ghost_name ≡ reader.old.reader.ghost_name }
     ensures front { IfOk result (λ f. IsFrontIn buffer.new.items headers.new f) }
-    ensures item { IfOk result (λ f. IfSome (prepend_known buffer.new.items (R.remaining reader.new.reader))
+    ensures item { IfOk result (λ f. IfSome (prepend_known buffer.new.items (R.remaining reader.new.reader.now))
         (λ stream. IsFrontOf stream f)) }
 
     // Want of memory is told where there was no room for a piece, and a reader's failure after it was made.

@@ -1,10 +1,12 @@
-use Rattle.std.proofs.Common.{◌+◌, Ok, Err, arith, refl}
+use Rattle.std.proofs.Common.{◌+◌, ◌*◌, ◌∙◌, Ok, Err, arith, length, refl}
 use Rattle.std.specs.Io.KnownBytes.{prepend_known}
+use Rattle.land_desk.proofs.Asking.{asked_to_end, asked_to_last, begins_short, broken_off, kept_short, spent_all, spent_on, unspent}
 use Rattle.land_desk.proofs.Honesty.{comes_to, comes_to_end_of_asking, heard_later, keeps_on, starts}
 use Rattle.land_desk.proofs.Moving.{moves_on, unmoved}
 use Rattle.land_desk.proofs.ServingLemmas.{serves_end, serves_last, serves_fault}
 use Rattle.land_desk.specs.Serving.{HearsIf}
 use Rattle.land_desk.specs.Turns.{IsTurn}
+use Rattle.land_desk.specs.declared.serve.DeskFault.TheVariants as desk
 use Rattle.land_keep.specs.Keeping.{IsAt}
 use Rattle.land_keep.specs.Machine.{State}
 use Rattle.land_desk.proofs.serve.serve_items.Goals as goal
@@ -15,9 +17,9 @@ returns-in-Ok-End-clause-served g c =
     let later = HearsIf (g.K.Keeper.honest c.take_turn.new.keeper) g.C.Clock.reads in
     let weaken = heard_later g.C.Clock.reads (g.K.Keeper.honest c.loop-replies.keeper) (g.K.Keeper.honest c.take_turn.new.keeper) c.in-Ok-End.ensures.was in
     let from : State g.row.C.Denot = record { closed = g.K.Keeper.closed c.args.keeper.now; timeline = g.K.Keeper.timeline c.args.keeper.now; clock = c.args.clock.now } in
-    let start = g.R.Read.remaining c.args.reader.now.reader in
-    let before = prepend_known c.loop-replies.buffer.items (g.R.Read.remaining c.loop-replies.reader.reader) in
-    let after = prepend_known c.take_turn.new.buffer.items (g.R.Read.remaining c.take_turn.new.reader.reader) in
+    let start = g.R.Read.remaining c.args.reader.now.reader.now in
+    let before = prepend_known c.loop-replies.buffer.items (g.R.Read.remaining c.loop-replies.reader.reader.now) in
+    let after = prepend_known c.take_turn.new.buffer.items (g.R.Read.remaining c.take_turn.new.reader.reader.now) in
     let w = g.W.Write.contents c.args.writer.now in
     let u = g.W.Write.contents c.loop-replies.writer in
     let v = g.W.Write.contents c.take_turn.new.writer in
@@ -35,9 +37,9 @@ returns-in-Ok-Last-clause-served g c =
     let later = HearsIf (g.K.Keeper.honest c.take_turn.new.keeper) g.C.Clock.reads in
     let weaken = heard_later g.C.Clock.reads (g.K.Keeper.honest c.loop-replies.keeper) (g.K.Keeper.honest c.take_turn.new.keeper) c.in-Ok-Last.ensures.was in
     let from : State g.row.C.Denot = record { closed = g.K.Keeper.closed c.args.keeper.now; timeline = g.K.Keeper.timeline c.args.keeper.now; clock = c.args.clock.now } in
-    let start = g.R.Read.remaining c.args.reader.now.reader in
-    let before = prepend_known c.loop-replies.buffer.items (g.R.Read.remaining c.loop-replies.reader.reader) in
-    let after = prepend_known c.take_turn.new.buffer.items (g.R.Read.remaining c.take_turn.new.reader.reader) in
+    let start = g.R.Read.remaining c.args.reader.now.reader.now in
+    let before = prepend_known c.loop-replies.buffer.items (g.R.Read.remaining c.loop-replies.reader.reader.now) in
+    let after = prepend_known c.take_turn.new.buffer.items (g.R.Read.remaining c.take_turn.new.reader.reader.now) in
     let w = g.W.Write.contents c.args.writer.now in
     let u = g.W.Write.contents c.loop-replies.writer in
     let v = g.W.Write.contents c.take_turn.new.writer in
@@ -55,9 +57,9 @@ returns-in-Err-clause-served g c =
     let later = HearsIf (g.K.Keeper.honest c.take_turn.new.keeper) g.C.Clock.reads in
     let weaken = heard_later g.C.Clock.reads (g.K.Keeper.honest c.loop-replies.keeper) (g.K.Keeper.honest c.take_turn.new.keeper) c.in-Err.ensures.was in
     let from : State g.row.C.Denot = record { closed = g.K.Keeper.closed c.args.keeper.now; timeline = g.K.Keeper.timeline c.args.keeper.now; clock = c.args.clock.now } in
-    let start = g.R.Read.remaining c.args.reader.now.reader in
-    let before = prepend_known c.loop-replies.buffer.items (g.R.Read.remaining c.loop-replies.reader.reader) in
-    let after = prepend_known c.take_turn.new.buffer.items (g.R.Read.remaining c.take_turn.new.reader.reader) in
+    let start = g.R.Read.remaining c.args.reader.now.reader.now in
+    let before = prepend_known c.loop-replies.buffer.items (g.R.Read.remaining c.loop-replies.reader.reader.now) in
+    let after = prepend_known c.take_turn.new.buffer.items (g.R.Read.remaining c.take_turn.new.reader.reader.now) in
     let w = g.W.Write.contents c.args.writer.now in
     let u = g.W.Write.contents c.loop-replies.writer in
     let v = g.W.Write.contents c.take_turn.new.writer in
@@ -75,9 +77,9 @@ loop-replies-preserved g c =
     let later = HearsIf (g.K.Keeper.honest c.take_turn.new.keeper) g.C.Clock.reads in
     let weaken = heard_later g.C.Clock.reads (g.K.Keeper.honest c.loop-replies.keeper) (g.K.Keeper.honest c.take_turn.new.keeper) c.in-Ok-More.ensures.was in
     let from : State g.row.C.Denot = record { closed = g.K.Keeper.closed c.args.keeper.now; timeline = g.K.Keeper.timeline c.args.keeper.now; clock = c.args.clock.now } in
-    let start = g.R.Read.remaining c.args.reader.now.reader in
-    let before = prepend_known c.loop-replies.buffer.items (g.R.Read.remaining c.loop-replies.reader.reader) in
-    let after = prepend_known c.take_turn.new.buffer.items (g.R.Read.remaining c.take_turn.new.reader.reader) in
+    let start = g.R.Read.remaining c.args.reader.now.reader.now in
+    let before = prepend_known c.loop-replies.buffer.items (g.R.Read.remaining c.loop-replies.reader.reader.now) in
+    let after = prepend_known c.take_turn.new.buffer.items (g.R.Read.remaining c.take_turn.new.reader.reader.now) in
     let w = g.W.Write.contents c.args.writer.now in
     let u = g.W.Write.contents c.loop-replies.writer in
     let v = g.W.Write.contents c.take_turn.new.writer in (
@@ -92,6 +94,11 @@ loop-replies-preserved g c =
           (λ s. IsAt (g.K.Keeper.honest c.take_turn.new.keeper) (g.K.Keeper.closed c.take_turn.new.keeper) (g.K.Keeper.timeline c.take_turn.new.keeper) c.take_turn.new.clock s)
           from c.loop-replies.invariant.2 c.in-Ok-More.ensures.hears,
       (λ trust. c.loop-replies.invariant.3 (c.in-Ok-More.ensures.was trust)),
+      kept_short start before (g.R.Read.remaining c.take_turn.new.reader.reader.now) c.loop-replies.buffer.items c.take_turn.new.buffer.items
+          c.in-Ok-More.field-0 c.in-Ok-More.field-0-is c.loop-replies.invariant.4 c.in-Ok-More.ensures.asked,
+      spent_on start before after (1024 * c.args.reader.now.left) (length c.loop-replies.buffer.items + 1024 * c.loop-replies.reader.left)
+          (length c.take_turn.new.buffer.items + 1024 * c.take_turn.new.reader.left) c.loop-replies.invariant.5 c.in-Ok-More.ensures.bound,
+      c.in-Ok-More.ensures.same_reference ∙ c.loop-replies.invariant.6,
     )
 
 pub loop-replies-init : goal.loop-replies-init
@@ -100,17 +107,20 @@ loop-replies-init g c =
       c.requires.room,
       starts (HearsIf (g.K.Keeper.honest c.args.keeper.now) g.C.Clock.reads)
           (λ s. IsAt (g.K.Keeper.honest c.args.keeper.now) (g.K.Keeper.closed c.args.keeper.now) (g.K.Keeper.timeline c.args.keeper.now) c.args.clock.now s) from
-          (g.R.Read.remaining c.args.reader.now.reader) c.new-buffer.result.items (g.W.Write.contents c.args.writer.now) (refl, refl, λ live. refl) c.new-buffer.ensures.items,
+          (g.R.Read.remaining c.args.reader.now.reader.now) c.new-buffer.result.items (g.W.Write.contents c.args.writer.now) (refl, refl, λ live. refl) c.new-buffer.ensures.items,
       (from, unmoved (HearsIf (g.K.Keeper.honest c.args.keeper.now) g.C.Clock.reads) from, (refl, refl, λ live. refl)),
       (λ trust. trust),
+      begins_short (g.R.Read.remaining c.args.reader.now.reader.now) c.new-buffer.result.items c.new-buffer.ensures.items,
+      unspent (g.R.Read.remaining c.args.reader.now.reader.now) c.new-buffer.result.items (1024 * c.args.reader.now.left) c.new-buffer.ensures.items,
+      refl,
     )
 
 pub returns-clause-served : goal.returns-clause-served
 returns-clause-served g c = comes_to_end_of_asking (HearsIf (g.K.Keeper.honest c.loop-replies.keeper) g.C.Clock.reads)
     (λ s. IsAt (g.K.Keeper.honest c.loop-replies.keeper) (g.K.Keeper.closed c.loop-replies.keeper) (g.K.Keeper.timeline c.loop-replies.keeper) c.loop-replies.clock s)
     (record { closed = g.K.Keeper.closed c.args.keeper.now; timeline = g.K.Keeper.timeline c.args.keeper.now; clock = c.args.clock.now })
-    (g.R.Read.remaining c.args.reader.now.reader)
-    (prepend_known c.loop-replies.buffer.items (g.R.Read.remaining c.loop-replies.reader.reader))
+    (g.R.Read.remaining c.args.reader.now.reader.now)
+    (prepend_known c.loop-replies.buffer.items (g.R.Read.remaining c.loop-replies.reader.reader.now))
     (g.W.Write.contents c.args.writer.now) (g.W.Write.contents c.loop-replies.writer) c.loop-replies.replies c.loop-replies.invariant.1
 
 pub returns-in-Ok-End-clause-moves : goal.returns-in-Ok-End-clause-moves
@@ -145,3 +155,71 @@ returns-in-Err-clause-moves g c =
     (λ s. IsAt (g.K.Keeper.honest c.take_turn.new.keeper) (g.K.Keeper.closed c.take_turn.new.keeper) (g.K.Keeper.timeline c.take_turn.new.keeper) c.take_turn.new.clock s)
     (record { closed = g.K.Keeper.closed c.args.keeper.now; timeline = g.K.Keeper.timeline c.args.keeper.now; clock = c.args.clock.now })
     c.loop-replies.invariant.2 c.in-Err.ensures.hears
+
+pub returns-in-Ok-End-clause-asked : goal.returns-in-Ok-End-clause-asked
+returns-in-Ok-End-clause-asked g c =
+    asked_to_end (HearsIf (g.K.Keeper.honest c.loop-replies.keeper) g.C.Clock.reads)
+    (record { closed = g.K.Keeper.closed c.args.keeper.now; timeline = g.K.Keeper.timeline c.args.keeper.now; clock = c.args.clock.now })
+    (λ s. IsAt (g.K.Keeper.honest c.loop-replies.keeper) (g.K.Keeper.closed c.loop-replies.keeper) (g.K.Keeper.timeline c.loop-replies.keeper) c.loop-replies.clock s)
+    (g.R.Read.remaining c.args.reader.now.reader.now)
+    (prepend_known c.loop-replies.buffer.items (g.R.Read.remaining c.loop-replies.reader.reader.now))
+    (g.R.Read.remaining c.take_turn.new.reader.reader.now)
+    (g.W.Write.contents c.args.writer.now) (g.W.Write.contents c.loop-replies.writer) c.loop-replies.buffer.items c.take_turn.new.buffer.items c.loop-replies.replies
+    c.in-Ok-End.field-0 c.in-Ok-End.field-0-is c.loop-replies.invariant.1 c.loop-replies.invariant.4 c.in-Ok-End.ensures.asked
+
+pub returns-in-Ok-Last-clause-asked : goal.returns-in-Ok-Last-clause-asked
+returns-in-Ok-Last-clause-asked g c =
+    asked_to_last (HearsIf (g.K.Keeper.honest c.loop-replies.keeper) g.C.Clock.reads)
+    (record { closed = g.K.Keeper.closed c.args.keeper.now; timeline = g.K.Keeper.timeline c.args.keeper.now; clock = c.args.clock.now })
+    (λ s. IsAt (g.K.Keeper.honest c.loop-replies.keeper) (g.K.Keeper.closed c.loop-replies.keeper) (g.K.Keeper.timeline c.loop-replies.keeper) c.loop-replies.clock s)
+    (g.R.Read.remaining c.args.reader.now.reader.now)
+    (prepend_known c.loop-replies.buffer.items (g.R.Read.remaining c.loop-replies.reader.reader.now))
+    (g.R.Read.remaining c.take_turn.new.reader.reader.now)
+    (g.W.Write.contents c.args.writer.now) (g.W.Write.contents c.loop-replies.writer) c.loop-replies.buffer.items c.take_turn.new.buffer.items c.loop-replies.replies
+    c.in-Ok-Last.field-0 c.in-Ok-Last.field-0-is c.loop-replies.invariant.1 c.loop-replies.invariant.4 c.in-Ok-Last.ensures.asked
+
+pub returns-in-Err-clause-asked : goal.returns-in-Err-clause-asked
+returns-in-Err-clause-asked g c =
+    let start = g.R.Read.remaining c.args.reader.now.reader.now in
+    let left = g.R.Read.remaining c.take_turn.new.reader.reader.now in
+    broken_off start left c.take_turn.new.buffer.items (1024 * c.args.reader.now.left) (length c.take_turn.new.buffer.items + 1024 * c.take_turn.new.reader.left) c.in-Err.fault
+    (spent_on start (prepend_known c.loop-replies.buffer.items (g.R.Read.remaining c.loop-replies.reader.reader.now)) (prepend_known c.take_turn.new.buffer.items left)
+    (1024 * c.args.reader.now.left) (length c.loop-replies.buffer.items + 1024 * c.loop-replies.reader.left)
+    (length c.take_turn.new.buffer.items + 1024 * c.take_turn.new.reader.left) c.loop-replies.invariant.5 c.in-Err.ensures.bound)
+
+pub returns-in-Ok-End-clause-bound : goal.returns-in-Ok-End-clause-bound
+returns-in-Ok-End-clause-bound g c =
+    let start = g.R.Read.remaining c.args.reader.now.reader.now in
+    let left = g.R.Read.remaining c.take_turn.new.reader.reader.now in
+    spent_all start left c.take_turn.new.buffer.items (1024 * c.args.reader.now.left) (1024 * c.take_turn.new.reader.left)
+    (spent_on start (prepend_known c.loop-replies.buffer.items (g.R.Read.remaining c.loop-replies.reader.reader.now)) (prepend_known c.take_turn.new.buffer.items left)
+    (1024 * c.args.reader.now.left) (length c.loop-replies.buffer.items + 1024 * c.loop-replies.reader.left)
+    (length c.take_turn.new.buffer.items + 1024 * c.take_turn.new.reader.left) c.loop-replies.invariant.5 c.in-Ok-End.ensures.bound)
+
+pub returns-in-Ok-Last-clause-bound : goal.returns-in-Ok-Last-clause-bound
+returns-in-Ok-Last-clause-bound g c =
+    let start = g.R.Read.remaining c.args.reader.now.reader.now in
+    let left = g.R.Read.remaining c.take_turn.new.reader.reader.now in
+    spent_all start left c.take_turn.new.buffer.items (1024 * c.args.reader.now.left) (1024 * c.take_turn.new.reader.left)
+    (spent_on start (prepend_known c.loop-replies.buffer.items (g.R.Read.remaining c.loop-replies.reader.reader.now)) (prepend_known c.take_turn.new.buffer.items left)
+    (1024 * c.args.reader.now.left) (length c.loop-replies.buffer.items + 1024 * c.loop-replies.reader.left)
+    (length c.take_turn.new.buffer.items + 1024 * c.take_turn.new.reader.left) c.loop-replies.invariant.5 c.in-Ok-Last.ensures.bound)
+
+pub returns-in-Err-clause-bound : goal.returns-in-Err-clause-bound
+returns-in-Err-clause-bound g c =
+    let start = g.R.Read.remaining c.args.reader.now.reader.now in
+    let left = g.R.Read.remaining c.take_turn.new.reader.reader.now in
+    spent_all start left c.take_turn.new.buffer.items (1024 * c.args.reader.now.left) (1024 * c.take_turn.new.reader.left)
+    (spent_on start (prepend_known c.loop-replies.buffer.items (g.R.Read.remaining c.loop-replies.reader.reader.now)) (prepend_known c.take_turn.new.buffer.items left)
+    (1024 * c.args.reader.now.left) (length c.loop-replies.buffer.items + 1024 * c.loop-replies.reader.left)
+    (length c.take_turn.new.buffer.items + 1024 * c.take_turn.new.reader.left) c.loop-replies.invariant.5 c.in-Err.ensures.bound)
+
+pub returns-clause-bound : goal.returns-clause-bound
+returns-clause-bound g c =
+    spent_all (g.R.Read.remaining c.args.reader.now.reader.now) (g.R.Read.remaining c.loop-replies.reader.reader.now) c.loop-replies.buffer.items
+    (1024 * c.args.reader.now.left) (1024 * c.loop-replies.reader.left) c.loop-replies.invariant.5
+
+pub returns-clause-asked : goal.returns-clause-asked
+returns-clause-asked g c =
+    broken_off (g.R.Read.remaining c.args.reader.now.reader.now) (g.R.Read.remaining c.loop-replies.reader.reader.now) c.loop-replies.buffer.items
+    (1024 * c.args.reader.now.left) (length c.loop-replies.buffer.items + 1024 * c.loop-replies.reader.left) desk.Read c.loop-replies.invariant.5

@@ -1,16 +1,18 @@
-use Rattle.std.proofs.Common.{◌≤◌, length}
+use Rattle.std.proofs.Common.{◌≡◌, ◌≤◌, ◌+◌, ◌*◌, length}
 use Rattle.std.specs.Io.KnownBytes.{prepend_known}
 use Rattle.land_desk.specs.Serving.{HearsIf, MovesTo, SoFar}
-use Rattle.land_desk.specs.Turns.{IfBoth}
+use Rattle.land_desk.specs.Serving.Asking.{IfBoth}
+use Rattle.land_desk.specs.Turns.{IsSpent}
 use Rattle.land_keep.specs.Keeping.{IsAt}
 use Rattle.land_keep.specs.Machine.{State}
 use Rattle.land_desk.proofs.serve.serve_items.Given as goal
 
--- there is room for the fields of a head; so far the items were answered up to a state at which the keeper stands
+-- there is room for the fields of a head; so far the items were answered up to a state at which the keeper stands; at most a
+-- piece is read ahead, and no more was read than the reader was asked for
 abbrev pub invariant-loop-replies : goal.invariant-loop-replies
 invariant-loop-replies g l =
     (2731 ≤ length l.headers)
-    × IfBoth (g.R.Read.remaining l.initial.reader.reader) (prepend_known l.buffer.items (g.R.Read.remaining l.reader.reader)) (λ bytes rest.
+    × IfBoth (g.R.Read.remaining l.initial.reader.reader.now) (prepend_known l.buffer.items (g.R.Read.remaining l.reader.reader.now)) (λ bytes rest.
     (now : State g.row.C.Denot) × SoFar (HearsIf (g.K.Keeper.honest l.keeper) g.C.Clock.reads) bytes rest
     (record { closed = g.K.Keeper.closed l.initial.keeper; timeline = g.K.Keeper.timeline l.initial.keeper; clock = l.initial.clock })
     now (g.W.Write.contents l.initial.writer) (g.W.Write.contents l.writer) l.replies
@@ -19,3 +21,7 @@ invariant-loop-replies g l =
     (record { closed = g.K.Keeper.closed l.initial.keeper; timeline = g.K.Keeper.timeline l.initial.keeper; clock = l.initial.clock })
     (IsAt (g.K.Keeper.honest l.keeper) (g.K.Keeper.closed l.keeper) (g.K.Keeper.timeline l.keeper) l.clock)
     × (g.K.Keeper.honest l.keeper → g.K.Keeper.honest l.initial.keeper)
+    × IfBoth (g.R.Read.remaining l.initial.reader.reader.now) (prepend_known l.buffer.items (g.R.Read.remaining l.reader.reader.now)) (λ bytes rest. length l.buffer.items ≤ 1024)
+    × IfBoth (g.R.Read.remaining l.initial.reader.reader.now) (prepend_known l.buffer.items (g.R.Read.remaining l.reader.reader.now))
+    (IsSpent (1024 * l.initial.reader.left) (length l.buffer.items + 1024 * l.reader.left))
+    × (l.reader.reader.ghost_name ≡ l.initial.reader.reader.ghost_name)

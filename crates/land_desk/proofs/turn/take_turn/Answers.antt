@@ -1,9 +1,10 @@
-use Rattle.std.proofs.Common.{◌+◌, [], inl, refl, Err, Ok, drop}
+use Rattle.std.proofs.Common.{◌+◌, ◌*◌, [], inl, length, refl, Err, Ok, drop}
 use Rattle.std.specs.Io.KnownBytes.{prepend_known}
+use Rattle.land_desk.proofs.Asking.{end_asked, fault_asked, front_gone, none_gone, not_read, request_asked}
 use Rattle.land_desk.proofs.Moving.{one_heard}
 use Rattle.land_desk.proofs.TurnLemmas.{end_told, fault_told, request_told, stays_put, unread}
 use Rattle.land_desk.specs.Serving.{HearsIf}
-use Rattle.land_desk.specs.Turns.{IsTurn}
+use Rattle.land_desk.specs.Turns.{IsTurn, answer_bytes}
 use Rattle.land_desk.specs.declared.serve.DeskFault.TheVariants as desk
 use Rattle.land_desk.specs.declared.turn.Turn.TheVariants as turn
 use Rattle.land_desk.proofs.turn.take_turn.Goals as goal
@@ -11,8 +12,8 @@ use Rattle.land_desk.proofs.turn.take_turn.Goals as goal
 pub returns-in-Ok-Fault-clause-turn : goal.returns-in-Ok-Fault-clause-turn
 returns-in-Ok-Fault-clause-turn g c =
     let hears = HearsIf (g.K.Keeper.honest c.args.keeper.now) g.C.Clock.reads in
-    let start = prepend_known c.args.buffer.now.items (g.R.Read.remaining c.args.reader.now.reader) in
-    let left = prepend_known c.read_item.new.buffer.items (g.R.Read.remaining c.read_item.new.reader.reader) in
+    let start = prepend_known c.args.buffer.now.items (g.R.Read.remaining c.args.reader.now.reader.now) in
+    let left = prepend_known c.read_item.new.buffer.items (g.R.Read.remaining c.read_item.new.reader.reader.now) in
     stays_put hears start _ _ (λ bytes from to. IsTurn hears bytes from to left (g.W.Write.contents c.args.writer.now) (g.W.Write.contents c.say.new.writer) c.say.result)
     (λ s at. at)
     (λ s. fault_told hears start left left (g.W.Write.contents c.args.writer.now) (g.W.Write.contents c.say.new.writer) c.in-Ok-Fault.field-0
@@ -23,8 +24,8 @@ pub returns-in-Ok-Request-clause-turn : goal.returns-in-Ok-Request-clause-turn
 returns-in-Ok-Request-clause-turn g c =
     let it = rw c.deref.ensures.value at c.answer_request-answer.ensures.spoken in
     request_told (HearsIf (g.K.Keeper.honest c.answer_request-answer.new.keeper) g.C.Clock.reads)
-    (prepend_known c.args.buffer.now.items (g.R.Read.remaining c.args.reader.now.reader))
-    (g.R.Read.remaining c.read_item.new.reader.reader) _ _ c.read_item.new.buffer.items
+    (prepend_known c.args.buffer.now.items (g.R.Read.remaining c.args.reader.now.reader.now))
+    (g.R.Read.remaining c.read_item.new.reader.reader.now) _ _ c.read_item.new.buffer.items
     (drop (c.in-Ok-Request.spans.len + c.in-Ok-Request.length) c.read_item.new.buffer.items) c.drop_front.new.buffer.items
     c.answer_request-answer.result _ _
     c.say-turn.result c.in-Ok-Request.ensures.stream it c.drop_front.ensures c.say-turn.ensures
@@ -32,8 +33,8 @@ returns-in-Ok-Request-clause-turn g c =
 pub returns-in-Ok-End-clause-turn : goal.returns-in-Ok-End-clause-turn
 returns-in-Ok-End-clause-turn g c =
     let hears = HearsIf (g.K.Keeper.honest c.args.keeper.now) g.C.Clock.reads in
-    let start = prepend_known c.args.buffer.now.items (g.R.Read.remaining c.args.reader.now.reader) in
-    let left = prepend_known c.read_item.new.buffer.items (g.R.Read.remaining c.read_item.new.reader.reader) in
+    let start = prepend_known c.args.buffer.now.items (g.R.Read.remaining c.args.reader.now.reader.now) in
+    let left = prepend_known c.read_item.new.buffer.items (g.R.Read.remaining c.read_item.new.reader.reader.now) in
     let w = g.W.Write.contents c.args.writer.now in
     stays_put hears start _ _ (λ bytes from to. IsTurn hears bytes from to left w w (Ok turn.End)) (λ s at. at)
     (λ s. end_told hears start left left w c.in-Ok-End.field-0 s c.in-Ok-End.field-0-is c.in-Ok-End.ensures.stream c.in-Ok-End.ensures.item)
@@ -41,8 +42,8 @@ returns-in-Ok-End-clause-turn g c =
 pub returns-in-Err-Read-clause-turn : goal.returns-in-Err-Read-clause-turn
 returns-in-Err-Read-clause-turn g c =
     let hears = HearsIf (g.K.Keeper.honest c.args.keeper.now) g.C.Clock.reads in
-    let start = prepend_known c.args.buffer.now.items (g.R.Read.remaining c.args.reader.now.reader) in
-    let left = prepend_known c.read_item.new.buffer.items (g.R.Read.remaining c.read_item.new.reader.reader) in
+    let start = prepend_known c.args.buffer.now.items (g.R.Read.remaining c.args.reader.now.reader.now) in
+    let left = prepend_known c.read_item.new.buffer.items (g.R.Read.remaining c.read_item.new.reader.reader.now) in
     let w = g.W.Write.contents c.args.writer.now in
     stays_put hears start _ _ (λ bytes from to. IsTurn hears bytes from to left w w (Err desk.Read)) (λ s at. at)
     (λ s. unread hears start left w s desk.Read (λ e. cc))
@@ -50,8 +51,8 @@ returns-in-Err-Read-clause-turn g c =
 pub returns-in-Err-NoMemory-clause-turn : goal.returns-in-Err-NoMemory-clause-turn
 returns-in-Err-NoMemory-clause-turn g c =
     let hears = HearsIf (g.K.Keeper.honest c.args.keeper.now) g.C.Clock.reads in
-    let start = prepend_known c.args.buffer.now.items (g.R.Read.remaining c.args.reader.now.reader) in
-    let left = prepend_known c.read_item.new.buffer.items (g.R.Read.remaining c.read_item.new.reader.reader) in
+    let start = prepend_known c.args.buffer.now.items (g.R.Read.remaining c.args.reader.now.reader.now) in
+    let left = prepend_known c.read_item.new.buffer.items (g.R.Read.remaining c.read_item.new.reader.reader.now) in
     let w = g.W.Write.contents c.args.writer.now in
     stays_put hears start _ _ (λ bytes from to. IsTurn hears bytes from to left w w (Err desk.NoMemory)) (λ s at. at)
     (λ s. unread hears start left w s desk.NoMemory (λ e. cc))
@@ -72,3 +73,64 @@ pub returns-in-Ok-Request-clause-hears : goal.returns-in-Ok-Request-clause-hears
 returns-in-Ok-Request-clause-hears g c from at =
     let it = c.answer_request-answer.ensures.spoken [] from at in
     (it.0, one_heard (HearsIf (g.K.Keeper.honest c.answer_request-answer.new.keeper) g.C.Clock.reads) _ from it.1.0 _ it.0 it.1.1, it.2)
+
+pub returns-in-Err-Read-clause-asked : goal.returns-in-Err-Read-clause-asked
+returns-in-Err-Read-clause-asked g c small =
+    not_read (prepend_known c.args.buffer.now.items (g.R.Read.remaining c.args.reader.now.reader.now)) (g.R.Read.remaining c.read_item.new.reader.reader.now)
+    c.read_item.new.buffer.items desk.Read c.in-Err-Read.ensures.stream
+
+pub returns-in-Err-NoMemory-clause-asked : goal.returns-in-Err-NoMemory-clause-asked
+returns-in-Err-NoMemory-clause-asked g c small =
+    not_read (prepend_known c.args.buffer.now.items (g.R.Read.remaining c.args.reader.now.reader.now)) (g.R.Read.remaining c.read_item.new.reader.reader.now)
+    c.read_item.new.buffer.items desk.NoMemory c.in-Err-NoMemory.ensures.stream
+
+pub returns-in-Ok-End-clause-asked : goal.returns-in-Ok-End-clause-asked
+returns-in-Ok-End-clause-asked g c small =
+    end_asked (prepend_known c.args.buffer.now.items (g.R.Read.remaining c.args.reader.now.reader.now)) (g.R.Read.remaining c.read_item.new.reader.reader.now)
+    c.read_item.new.buffer.items c.in-Ok-End.field-0 c.in-Ok-End.field-0-is c.in-Ok-End.ensures.stream c.in-Ok-End.ensures.item
+
+pub returns-in-Ok-Fault-clause-asked : goal.returns-in-Ok-Fault-clause-asked
+returns-in-Ok-Fault-clause-asked g c small =
+    fault_asked (prepend_known c.args.buffer.now.items (g.R.Read.remaining c.args.reader.now.reader.now)) (g.R.Read.remaining c.read_item.new.reader.reader.now)
+    (g.W.Write.contents c.args.writer.now) (g.W.Write.contents c.say.new.writer) c.read_item.new.buffer.items (answer_bytes c.refuse.result.bytes)
+    c.in-Ok-Fault.field-0 c.in-Ok-Fault.fault c.refuse.result.last c.say.result
+    c.in-Ok-Fault.field-0-is c.in-Ok-Fault.ensures.stream c.in-Ok-Fault.ensures.item (c.in-Ok-Fault.ensures.ahead small) c.refuse.ensures.2.1 c.say.ensures
+
+pub returns-in-Ok-Request-clause-asked : goal.returns-in-Ok-Request-clause-asked
+returns-in-Ok-Request-clause-asked g c small =
+    request_asked (prepend_known c.args.buffer.now.items (g.R.Read.remaining c.args.reader.now.reader.now)) (g.R.Read.remaining c.read_item.new.reader.reader.now)
+    (g.W.Write.contents c.args.writer.now) (g.W.Write.contents c.say-turn.new.writer) c.read_item.new.buffer.items c.drop_front.new.buffer.items
+    (answer_bytes c.answer_request-answer.result.bytes) c.read_item.new.headers c.in-Ok-Request.field-0 c.in-Ok-Request.spans c.in-Ok-Request.length
+    c.answer_request-answer.result.last c.say-turn.result c.in-Ok-Request.field-0-is c.in-Ok-Request.ensures.stream c.in-Ok-Request.ensures.item
+    c.in-Ok-Request.ensures.front (c.in-Ok-Request.ensures.ahead small) c.drop_front.ensures c.say-turn.ensures
+
+pub returns-in-Err-Read-clause-bound : goal.returns-in-Err-Read-clause-bound
+returns-in-Err-Read-clause-bound g c =
+    none_gone (prepend_known c.args.buffer.now.items (g.R.Read.remaining c.args.reader.now.reader.now)) (g.R.Read.remaining c.read_item.new.reader.reader.now)
+    c.read_item.new.buffer.items (length c.args.buffer.now.items + 1024 * c.args.reader.now.left) (1024 * c.read_item.new.reader.left)
+    c.in-Err-Read.ensures.stream c.in-Err-Read.ensures.bound
+
+pub returns-in-Err-NoMemory-clause-bound : goal.returns-in-Err-NoMemory-clause-bound
+returns-in-Err-NoMemory-clause-bound g c =
+    none_gone (prepend_known c.args.buffer.now.items (g.R.Read.remaining c.args.reader.now.reader.now)) (g.R.Read.remaining c.read_item.new.reader.reader.now)
+    c.read_item.new.buffer.items (length c.args.buffer.now.items + 1024 * c.args.reader.now.left) (1024 * c.read_item.new.reader.left)
+    c.in-Err-NoMemory.ensures.stream c.in-Err-NoMemory.ensures.bound
+
+pub returns-in-Ok-End-clause-bound : goal.returns-in-Ok-End-clause-bound
+returns-in-Ok-End-clause-bound g c =
+    none_gone (prepend_known c.args.buffer.now.items (g.R.Read.remaining c.args.reader.now.reader.now)) (g.R.Read.remaining c.read_item.new.reader.reader.now)
+    c.read_item.new.buffer.items (length c.args.buffer.now.items + 1024 * c.args.reader.now.left) (1024 * c.read_item.new.reader.left)
+    c.in-Ok-End.ensures.stream c.in-Ok-End.ensures.bound
+
+pub returns-in-Ok-Fault-clause-bound : goal.returns-in-Ok-Fault-clause-bound
+returns-in-Ok-Fault-clause-bound g c =
+    none_gone (prepend_known c.args.buffer.now.items (g.R.Read.remaining c.args.reader.now.reader.now)) (g.R.Read.remaining c.read_item.new.reader.reader.now)
+    c.read_item.new.buffer.items (length c.args.buffer.now.items + 1024 * c.args.reader.now.left) (1024 * c.read_item.new.reader.left)
+    c.in-Ok-Fault.ensures.stream c.in-Ok-Fault.ensures.bound
+
+pub returns-in-Ok-Request-clause-bound : goal.returns-in-Ok-Request-clause-bound
+returns-in-Ok-Request-clause-bound g c =
+    front_gone (prepend_known c.args.buffer.now.items (g.R.Read.remaining c.args.reader.now.reader.now)) (g.R.Read.remaining c.read_item.new.reader.reader.now)
+    c.read_item.new.buffer.items c.drop_front.new.buffer.items (c.in-Ok-Request.spans.len + c.in-Ok-Request.length)
+    (length c.args.buffer.now.items + 1024 * c.args.reader.now.left) (1024 * c.read_item.new.reader.left)
+    c.in-Ok-Request.ensures.stream c.in-Ok-Request.ensures.bound c.drop_front.ensures

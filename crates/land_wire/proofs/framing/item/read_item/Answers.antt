@@ -1,8 +1,8 @@
-use Rattle.std.proofs.Common.{◌≡◌, ◌<◌, ℕ, List, ◌++◌, true, false, [], length, sym, subst, ◌∙◌, arith, IfSome}
+use Rattle.std.proofs.Common.{◌≡◌, ◌<◌, ℕ, List, ◌++◌, true, false, [], length, inl, inr, refl, sym, subst, ◌∙◌, arith, IfSome}
 use Rattle.std.specs.Io.KnownBytes.{prepend_known}
 use Rattle.std.proofs.lemmas.List.{nil_from_length}
-use Rattle.land_wire.proofs.ItemLemmas.{front_known, failed_known, request_known, request_of_stream, cut_known, item_fits}
-use Rattle.land_wire.specs.Framing.Items.{request, IsItem, IsFrontOf}
+use Rattle.land_wire.proofs.ItemLemmas.{front_known, failed_known, fault_read, head_ahead, request_known, request_of_stream, cut_known, item_fits}
+use Rattle.land_wire.specs.Framing.Items.{request, IsItem, IsFrontOf, IsReadFor}
 use Rattle.land_wire.specs.declared.framing.item.Front.{Front}
 use Rattle.land_wire.proofs.framing.item.read_item.Goals as goal
 
@@ -10,15 +10,15 @@ pub returns-in-Ok-Fault-clause-item : goal.returns-in-Ok-Fault-clause-item
 returns-in-Ok-Fault-clause-item g c =
     let none : c.is_empty.result ≡ true → c.read_head.new.buffer.items ≡ [] = λ e. nil_from_length _ (grind (arith)) in
     let some : c.is_empty.result ≡ false → 0 < length c.read_head.new.buffer.items = λ e. grind (arith) in
-    subst (λ (f : Front). IfSome (prepend_known c.read_head.new.buffer.items (g.R.Read.remaining c.read_head.new.reader.reader)) (λ s. IsFrontOf s f))
+    subst (λ (f : Front). IfSome (prepend_known c.read_head.new.buffer.items (g.R.Read.remaining c.read_head.new.reader.reader.now)) (λ s. IsFrontOf s f))
     (sym c.fault_front.ensures)
-    (front_known c.read_head.new.buffer.items (g.R.Read.remaining c.read_head.new.reader.reader) c.in-Ok-Fault.field-0 c.in-Ok-Fault.fault c.is_empty.result c.in-Ok-Fault.field-0-is
+    (front_known c.read_head.new.buffer.items (g.R.Read.remaining c.read_head.new.reader.reader.now) c.in-Ok-Fault.field-0 c.in-Ok-Fault.fault c.is_empty.result c.in-Ok-Fault.field-0-is
     c.in-Ok-Fault.ensures.fault c.in-Ok-Fault.ensures.end none some)
 
 pub returns-in-Err-frame-clause-item : goal.returns-in-Err-frame-clause-item
 returns-in-Err-frame-clause-item g c =
     let bad = rw c.deref.ensures.value at c.in-Err-frame.ensures.value in
-    failed_known c.read_head.new.buffer.items (g.R.Read.remaining c.read_head.new.reader.reader) c.read_head.new.headers c.in-Ok-Whole.spans c.in-Ok-Whole.field-0
+    failed_known c.read_head.new.buffer.items (g.R.Read.remaining c.read_head.new.reader.reader.now) c.read_head.new.headers c.in-Ok-Whole.spans c.in-Ok-Whole.field-0
     c.in-Err-frame.fault c.in-Ok-Whole.field-0-is c.in-Ok-Whole.ensures.whole bad
 
 pub returns-in-Ok-true-clause-front : goal.returns-in-Ok-true-clause-front
@@ -32,7 +32,7 @@ pub returns-in-Ok-true-clause-item : goal.returns-in-Ok-true-clause-item
 returns-in-Ok-true-clause-item g c =
     let good = rw c.deref.ensures.value at c.in-Ok.ensures.value in
     let grown = c.in-Ok-true.ensures.front in
-    request_of_stream c.read_to.new.buffer.items (g.R.Read.remaining c.read_to.new.reader.reader) c.read_head.new.headers c.in-Ok-Whole.spans c.in-Ok.length
+    request_of_stream c.read_to.new.buffer.items (g.R.Read.remaining c.read_to.new.reader.reader.now) c.read_head.new.headers c.in-Ok-Whole.spans c.in-Ok.length
     (request_known c.read_head.new.buffer.items c.read_to.new.buffer.items grown.0 c.read_head.new.headers c.in-Ok-Whole.spans c.in-Ok-Whole.field-0
     c.in-Ok.length c.in-Ok-Whole.field-0-is c.in-Ok-Whole.ensures.whole good grown.1 (c.in-Ok-true.ensures.whole c.in-Ok-true.field-0-test))
 
@@ -40,7 +40,7 @@ pub returns-in-Ok-false-clause-item : goal.returns-in-Ok-false-clause-item
 returns-in-Ok-false-clause-item g c =
     let good = rw c.deref.ensures.value at c.in-Ok.ensures.value in
     let grown = c.in-Ok-false.ensures.front in
-    cut_known c.read_head.new.buffer.items c.read_to.new.buffer.items grown.0 (g.R.Read.remaining c.read_to.new.reader.reader) c.read_head.new.headers
+    cut_known c.read_head.new.buffer.items c.read_to.new.buffer.items grown.0 (g.R.Read.remaining c.read_to.new.reader.reader.now) c.read_head.new.headers
     c.in-Ok-Whole.spans c.in-Ok-Whole.field-0 c.in-Ok.length c.in-Ok-Whole.field-0-is c.in-Ok-Whole.ensures.whole good grown.1
     (c.in-Ok-false.ensures.cut c.in-Ok-false.field-0-test)
 
@@ -73,3 +73,20 @@ returns-in-Ok-false-clause-unread g c =
     c.in-Ok-false.ensures.unread
     (item_fits c.read_head.new.buffer.items c.read_head.new.headers c.in-Ok-Whole.spans c.in-Ok-Whole.field-0 c.in-Ok.length h body rest
     c.in-Ok-Whole.field-0-is c.in-Ok-Whole.ensures.whole moved good) ∙ kept.0
+
+pub returns-in-Ok-Fault-clause-ahead : goal.returns-in-Ok-Fault-clause-ahead
+returns-in-Ok-Fault-clause-ahead g c small =
+    subst (λ (f : Front). IsReadFor c.read_head.new.buffer.items f) (sym c.fault_front.ensures)
+    (fault_read c.read_head.new.buffer.items c.in-Ok-Fault.fault c.is_empty.result (c.in-Ok-Fault.ensures.ahead small))
+
+pub returns-in-Err-frame-clause-ahead : goal.returns-in-Err-frame-clause-ahead
+returns-in-Err-frame-clause-ahead g c small = inr (c.in-Ok-Whole.ensures.ahead small)
+
+pub returns-in-Ok-false-clause-ahead : goal.returns-in-Ok-false-clause-ahead
+returns-in-Ok-false-clause-ahead g c small = inl refl
+
+pub returns-in-Ok-true-clause-ahead : goal.returns-in-Ok-true-clause-ahead
+returns-in-Ok-true-clause-ahead g c small =
+    let first = head_ahead c.read_head.new.buffer.items c.read_head.new.headers c.in-Ok-Whole.spans c.in-Ok-Whole.field-0 c.in-Ok-Whole.field-0-is
+    c.in-Ok-Whole.ensures.whole (c.in-Ok-Whole.ensures.ahead small) in
+    c.in-Ok-true.ensures.ahead (omega (arith, first))

@@ -1,0 +1,80 @@
+//! How long a connection is waited for.
+ghost use Rattle.std.specs.Prelude.{◌≡◌, ◌≤◌, IfOk};
+ghost use Rattle.std.specs.Duration.{as_nanos};
+ghost use Rattle.land_desk.specs.Service.Waiting.{after, patience, waited};
+
+use std::cell::Cell;
+use std::time::{Duration, Instant};
+use std::{io, time};
+
+/// So many seconds a connection is waited for at most: for its next bytes, and until it takes some of a reply.
+pub(crate) const PATIENCE: u64 = 30;
+
+/// So many seconds a request may take, from its first bytes to its last.
+const WHOLE: u64 = 60;
+
+/// So many seconds a connection is read on after its last reply.
+const AFTER: u64 = 1;
+
+/// How long the next bytes of a request are waited for that has taken so long already.
+pub fn wait_after(taken: Duration) -> Duration
+    ensures { as_nanos result ≡ waited (as_nanos taken) }
+{
+    let most = Duration::from_secs(PATIENCE);
+    let left = Duration::from_secs(WHOLE).saturating_sub(taken);
+    if left < most { left } else { most }
+}
+
+/// Tells by a machine's clock how long a connection is waited for. Its reader and its writer share it: a request begins with the first bytes
+/// that are read after a reply was written.
+#[derive(Drop)]
+pub struct Stopwatch<M> {
+    machine: M,
+    begun: Cell<Option<Instant>>,
+}
+
+impl<M: time::Clock> Stopwatch<M> {
+    /// A stopwatch by which no request has begun.
+    pub fn new(machine: M) -> Stopwatch<M> {
+        Stopwatch {
+            machine,
+            begun: Cell::new(None),
+        }
+    }
+
+    /// What the machine's clock reads.
+    pub fn now(&self) -> io::Result<Instant> {
+        Instant::now(&self.machine)
+    }
+
+    /// Bytes of a request came, perhaps its first ones.
+    pub fn start(&self) -> io::Result<()> {
+        if self.begun.get().is_none() {
+            self.begun.set(Some(self.now()?));
+        }
+        Ok(())
+    }
+
+    /// A connection is new, or a reply was written: the next bytes begin a request.
+    pub fn reset(&self) {
+        self.begun.set(None);
+    }
+
+    /// How long the next bytes are waited for: not at all where the request at hand has taken its time.
+    pub fn wait(&self) -> io::Result<Duration>
+        ensures { IfOk result (λ wait. as_nanos wait ≤ patience) }
+    {
+        match self.begun.get() {
+            Some(begun) => Ok(wait_after(begun.elapsed(&self.machine)?)),
+            None => Ok(Duration::from_secs(PATIENCE)),
+        }
+    }
+
+    /// How long a connection is still read on that was served at this moment.
+    pub fn rest(&self, served: Instant) -> io::Result<Duration>
+        ensures { IfOk result (λ rest. as_nanos rest ≤ after) }
+    {
+        let gone = served.elapsed(&self.machine)?;
+        Ok(Duration::from_secs(AFTER).saturating_sub(gone))
+    }
+}
