@@ -83,7 +83,7 @@ stands_still moments h s t r p least most same there = record {
     on alike vs {records} its there = subst (λ l. IsPermutation l records) (sym (same_standing moments s t vs least most same its.intervals)) there
 
 -- before the first stamp nothing stands
-nothing_stands : (moments : List Moment) (h : History) (t : ℤ) → AllProper moments h → ((u : ℤ) → is_stamp moments u ≡ true → int_le u t ≡ false) → StandsAt t h nothing
+pub nothing_stands : (moments : List Moment) (h : History) (t : ℤ) → AllProper moments h → ((u : ℤ) → is_stamp moments u ≡ true → int_le u t ≡ false) → StandsAt t h nothing
 unfolding grants_in
 nothing_stands moments h t p none = record {
   parties = on is_same_number h.parties p.parties (no_entries nat_cmp _);

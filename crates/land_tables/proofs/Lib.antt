@@ -13,6 +13,7 @@ pub mod Keeping
 pub mod KeptIntervals
 pub mod Latest
 pub mod Lawfulness
+pub mod LookedAt
 pub mod Members
 pub mod News
 pub mod One

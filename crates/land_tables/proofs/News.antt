@@ -25,9 +25,9 @@ use Rattle.land_tables_rows.specs.Listing.Reading.{moments}
 use Rattle.land_tables_rows.specs.Listing.Told.{history_in, told_by}
 use Rattle.land_tables_rows.specs.Writing.Laws.{NewRegistersAreHeld}
 use Rattle.land_tables_rows.specs.Writing.NewHistory.{new_history, new_moments}
+use Rattle.land_tables_schema.proofs.First.{made_is_land}
 use Rattle.land_tables_schema.specs.Rows.Held.{HoldsRows, IsNew, new_rows}
 use Rattle.sqlite.specs.State.{State}
-use Rattle.sqlite_schema.specs.declared.schema.Schema.{Schema}
 use Rattle.sqlite_trees.specs.Tree.{Trees}
 
 abbrev first : Moment
@@ -71,7 +71,7 @@ module _ (law : LawfulVersionsStand) (held : NewRegistersAreHeld) (one : Version
       register = record {
         is_open = is_open;
         committed = committed;
-        land = record { tables = ap (λ (t : Schema). t.tables) new.schema; views = ap (λ (t : Schema). t.views) new.schema };
+        land = made_is_land s.now.schema new.schema;
         edition = (held s.now.trees new.rows).editions;
         intervals = new_intervals law held s.now.trees new.rows;
         holds = rw tells_new (new_holds law held s.now.trees new.rows);

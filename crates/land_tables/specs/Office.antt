@@ -98,8 +98,3 @@ LeavesOrBegins old new = HasCleanDisk new → IsTrue old.is_open → (db : Trees
 -- a store that is open after a fault has what it had, or what was committed last
 abbrev pub IsKept : (old new : State) → Type 0
 IsKept old new = HasCleanDisk new → IsTrue new.is_open → (new.now ≡ old.now) ⊎ (new.now ≡ old.committed)
-
--- what is answered of the rows of tables that hold a register
-pub record IsAnswer {T : Type 0} (answers : Trees → T → Type 0) (s : State) (it : T) : Type 0 where
-  pub register : HoldsRegister s
-  pub answer : answers s.now.trees it

@@ -8,7 +8,7 @@ ghost use Rattle.land_tables_schema.specs.Land.{no_schema};
 ghost use Rattle.sqlite.specs.Held.{state};
 ghost use Rattle.sqlite.specs.State.{HasCleanDisk, Survives};
 
-use crate::register::failed;
+use crate::failing::failed;
 use crate::timelines::laws::{
     lawful_versions_stand, order_does_not_matter, versions_stand_for_one,
 };

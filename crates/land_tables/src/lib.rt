@@ -3,10 +3,10 @@
 
 mod adopting;
 mod creating;
+pub mod failing;
 pub mod fault;
 mod finding;
 mod judging;
-pub mod question;
 mod register;
 pub mod table_keeper;
 pub mod tables;

@@ -1,16 +1,16 @@
 //! The register at a moment, read from whole tables.
-ghost use Rattle.std.specs.Prelude.{◌≡◌, ◌≢◌, false, Err, IsTrue};
+ghost use Rattle.std.specs.Prelude.{◌≡◌, ◌≢◌, false, Err};
 ghost use Rattle.land_keep.specs.Timeline.{register_at};
 ghost use Rattle.land_keep.specs.declared.store_fault.StoreFault.TheVariants as store;
 ghost use Rattle.land_tables.specs.Calls.{IsSafeRead};
 ghost use Rattle.land_tables.specs.Office.{HoldsRegister};
 ghost use Rattle.land_tables.specs.Standing.{ReadsAt, timeline_in};
 ghost use Rattle.land_tables_schema.specs.Land.{IsLand};
-ghost use Rattle.land_tables_schema.specs.Rows.Looks.{IsLeft, IsLook};
+ghost use Rattle.land_tables_schema.specs.Rows.Looks.{IsLook};
 ghost use Rattle.sqlite.specs.Held.{state};
-ghost use Rattle.sqlite.specs.State.{HasCleanDisk, IsUnchanged, Survives};
+ghost use Rattle.sqlite.specs.State.{HasCleanDisk};
 
-use crate::question::Question;
+use crate::failing::failed;
 use crate::timelines::laws::{
     order_does_not_matter, reading_is_the_register, versions_stand_for_one,
 };
@@ -22,7 +22,6 @@ use land_tables_history::register;
 use land_tables_rows::listing::fault::ReadFault;
 use land_tables_rows::listing::history::history;
 use land_tables_rows::listing::reading::moments;
-use land_tables_schema::rows::openness::is_open;
 use sqlite::{Alter, Connection};
 use std::alloc::Global;
 
@@ -40,38 +39,6 @@ fn read_tables<S: Alter>(
     let history = history(alloc, conn)?;
     let next = next_at(moments.as_slice(), at);
     Ok(register::register_at(alloc, &history, at, next)?)
-}
-
-/// The fault of a look that failed: 501 where memory was wanting and the store is still open, else 502.
-pub(crate) fn failed<S: Alter>(conn: &mut Connection<S>, fault: ReadFault) -> StoreFault
-    ensures open { result ≢ store.Closed }
-    ensures same { HasCleanDisk (state S.Store conn.new) → result ≢ store.Store → IsUnchanged (state S.Store conn.old) (state S.Store conn.new) }
-    ensures left { HasCleanDisk (state S.Store conn.new) → IsTrue (state S.Store conn.new).is_open → IsLeft (state S.Store conn.old) (state S.Store conn.new) }
-    ensures survives { Survives (state S.Store conn.old) (state S.Store conn.new) (λ _. ⊥) }
-    ensures mode { conn.old.in_transaction ≡ false → conn.new.in_transaction ≡ false }
-{
-    if is_open(conn) && fault == ReadFault::NoMemory {
-        StoreFault::NoMemory
-    } else {
-        StoreFault::Store
-    }
-}
-
-/// The answer to a question. A store that it leaves without a fault 502 is open, and as it was.
-pub(crate) fn ask_store<S: Alter, T, Q: Question<T>>(
-    alloc: Global,
-    conn: &mut Connection<S>,
-    question: &Q,
-) -> Result<T, StoreFault>
-    requires { HasCleanDisk (state S.Store conn.old) → HoldsRegister (state S.Store conn.old) }
-    ensures open { result ≢ Err store.Closed }
-    ensures safe { IsSafeRead result (λ it. Q.answers question.now (state S.Store conn.old).now.trees it) (state S.Store conn.old) (state S.Store conn.new) }
-    ensures mode { conn.old.in_transaction ≡ false → conn.new.in_transaction ≡ false }
-{
-    match question.ask(alloc, conn) {
-        Ok(answer) => Ok(answer),
-        Err(fault) => Err(failed(conn, fault)),
-    }
 }
 
 /// The rows of all tables that stand at a moment, as a register. A store that it leaves without a fault 502 is open, and as it was.

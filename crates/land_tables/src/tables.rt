@@ -17,8 +17,7 @@ ghost use Rattle.sqlite.specs.State.{HasCleanDisk, Survives};
 use crate::adopting::adopt_store;
 use crate::creating::begin_register;
 use crate::fault::AdoptFault;
-use crate::question::Question;
-use crate::register::{ask_store, register_in};
+use crate::register::register_in;
 use crate::timelines::laws::{order_does_not_matter, versions_stand_for_one};
 use crate::timelines::writing_laws::writes_stand;
 use crate::writing::record;
@@ -34,10 +33,12 @@ use std::marker::Model;
 /// A connection over tables that hold the register's timeline, whatever its store. Contracts see what it shows, the last stamp, the next
 /// number after it, and whether a call of the store has failed.
 pub struct Tables<S: Alter> {
-    conn: Connection<S>,
+    /// The connection.
+    pub conn: Connection<S>,
     last: i64,
     next: u64,
-    is_closed: bool,
+    /// Whether a call of the store has failed.
+    pub is_closed: bool,
 }
 
 impl<S: Alter> Model for Tables<S> {
@@ -64,7 +65,7 @@ impl<S: Alter + Drop> Drop for Tables<S> {
 }
 
 impl<S: Alter> Tables<S> {
-    ghost use Rattle.land_tables.specs.Office.{IsAnswer, IsCreated, IsHonest, IsKept, LeavesEither, LeavesOrBegins, Rests, StaysUntouched, held};
+    ghost use Rattle.land_tables.specs.Office.{IsCreated, IsHonest, IsKept, LeavesEither, LeavesOrBegins, Rests, StaysUntouched, held};
 
     /// Makes the tables of a new register in a store that has none, in one transaction. 502: the store has tables, or a transaction is
     /// begun, and then nothing is done; or a call failed. 501: there was no memory. A store that is open after a fault is as it was.
@@ -182,28 +183,6 @@ impl<S: Alter> Tables<S> {
         }
         match register_in(alloc, &mut self.conn, at) {
             Ok(register) => Ok(register),
-            Err(fault) => {
-                self.is_closed = fault == StoreFault::Store;
-                Err(fault)
-            }
-        }
-    }
-
-    /// The answer to a question. 501: there was no memory. 502: a call of the store failed, and from then on 503. Nothing changes.
-    pub fn ask<T, Q: Question<T>>(&mut self, alloc: Global, question: &Q) -> Result<T, StoreFault>
-        ensures value { IsHonest S.Store self.new → IfOk result (λ it. IsAnswer (Q.answers question.now) (state S.Store self.old.conn) it) }
-        ensures same { IsLive (IsHonest S.Store self.new) self.new.is_closed → held S.Store self.new ≡ held S.Store self.old }
-        ensures was { IsHonest S.Store self.new → IsHonest S.Store self.old }
-        ensures last { self.new.last ≡ self.old.last }
-        ensures next { self.new.next ≡ self.old.next }
-        ensures closes { Closes self.old.is_closed self.new.is_closed result }
-        ensures crash { Survives (state S.Store self.old.conn) (state S.Store self.new.conn) (λ _. ⊥) }
-    {
-        if self.is_closed {
-            return Err(StoreFault::Closed);
-        }
-        match ask_store(alloc, &mut self.conn, question) {
-            Ok(answer) => Ok(answer),
             Err(fault) => {
                 self.is_closed = fault == StoreFault::Store;
                 Err(fault)

@@ -10,7 +10,7 @@ ghost use Rattle.land_tables_schema.specs.Land.{IsLand};
 ghost use Rattle.sqlite.specs.Held.{state};
 ghost use Rattle.sqlite.specs.State.{HasCleanDisk, Survives};
 
-use crate::register::failed;
+use crate::failing::failed;
 use land_core::change::Change;
 use land_core::limits::LAST_MOMENT;
 use land_keep::store_fault::StoreFault;

@@ -15,10 +15,12 @@ pub mod Moments
 pub mod MutationCells
 pub mod Namings
 pub mod NewRegisters
+pub mod Numbered
 pub mod ParcelCells
 pub mod Parties
 pub mod Readings
 pub mod Roles
+pub mod RowidOrders
 pub mod RrrCells
 pub mod Sources
 pub mod Stepping

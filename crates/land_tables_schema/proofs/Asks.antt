@@ -1,7 +1,7 @@
 -- What a text answers that lists a table whole.
 use Rattle.std.proofs.Common.{◌≡◌, ℕ, false, List, [], ◌∷◌, map, filter, IfErr, IfOk, OnErr, OnOk, Ok, Err, IsTrue, Result, inl, inr, refl, sym, ap, ap₂, subst, ◌∙◌, IsPermutation, arith}
 use Rattle.std.proofs.lemmas.Result.{IfOk-weaker}
-use Rattle.land_tables_schema.proofs.Indexes.{whatever_indexes}
+use Rattle.land_tables_schema.proofs.KnownSchemas.{but_for_indexes}
 use Rattle.land_tables_schema.proofs.Updates.{answer_is, passes, plainly}
 use Rattle.land_tables_schema.specs.Land.{IsLand, land_with}
 use Rattle.land_tables_schema.specs.Rows.Looks.{IsLeft, IsLook}
@@ -55,12 +55,12 @@ module _ (tree : ℕ) (text : List ℕ) (project : List Term) (shown : Row → R
     asks_now = is.asks old.now.schema.indexes
 
     plain_now : IsPlain (understood old.now.schema text)
-    plain_now = subst (λ s. IsPlain (understood s text)) (sym ((whatever_indexes old.now.schema).0 land)) asks_now.plain
+    plain_now = subst (λ s. IsPlain (understood s text)) (sym (but_for_indexes old.now.schema land)) asks_now.plain
 
     pub listed : (rows : List Row) → Shown text [] old new rows → IsPermutation (map shown (old.now.trees tree)) rows
     listed rows h =
         let answer : IsAnswer (plainly tree [] project) (overlay old.now.trees []) [] rows =
-        (reads_as text [] old new schema ((whatever_indexes old.now.schema).0 land) _ asks_now.command asks_now.plain asks_now.unlisted rows h).answer Null in
+        (reads_as text [] old new schema (but_for_indexes old.now.schema land) _ asks_now.command asks_now.plain asks_now.unlisted rows h).answer Null in
         subst (λ l. IsPermutation l rows) (ap (map (λ r. eval_all project ([] ∷ r ∷ []))) (all_pass (old.now.trees tree)) ∙ each_shown (old.now.trees tree))
         (subst (λ l. IsPermutation (map (λ r. eval_all project ([] ∷ r ∷ [])) (filter (passes [] []) l)) rows) (is.read old.now.trees) (answer_is tree [] project (overlay old.now.trees []) [] rows answer))
 

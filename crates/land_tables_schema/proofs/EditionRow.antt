@@ -3,7 +3,7 @@ use Rattle.std.proofs.Common.{ℕ, pos, List, [], ◌∷◌, Ok, refl, codes}
 use Rattle.land_tables_schema.proofs.Appends.{appends}
 use Rattle.land_tables_schema.proofs.Asks.{Asks, IsListing}
 use Rattle.land_tables_schema.proofs.Casts.{cast_null, cast_whole}
-use Rattle.land_tables_schema.proofs.Indexes.{whatever_indexes}
+use Rattle.land_tables_schema.proofs.KnownSchemas.{but_for_indexes}
 use Rattle.land_tables_schema.proofs.Statements.{IsInsertion, inserts}
 use Rattle.land_tables_schema.proofs.Updates.{plainly}
 use Rattle.land_tables_schema.specs.Land.{IsLand, land_with}
@@ -29,7 +29,7 @@ inserts_one indexes = record { command = refl; plain = (refl, refl); table = ref
 pub puts_in : (old new : State) (count : ℕ) → IsLand old.now.schema → Executes INSERT.now [] old new (Ok count) → Appends table.edition edition_row first_edition old.now new.now
 puts_in old new count land h =
     let indexes = old.now.schema.indexes in
-    let has = (whatever_indexes old.now.schema).0 land in
+    let has = but_for_indexes old.now.schema land in
     appends table.edition edition_row first_edition (pos 1) (Null ∷ Int (pos 1) ∷ []) refl indexes old.now new.now
     (inserts (land_with indexes) INSERT.now 0 table.edition terms 3 (inserts_one indexes) old new [] count has h) has (simp (cast_null, cast_whole))
 

@@ -31,7 +31,7 @@ use Rattle.sqlite_trees.specs.Tree.{Trees}
 
 -- the schema that was made is that of a register
 pub made_is_land : (s : Schema) → s ≡ made_schema → IsLand s
-made_is_land s is = rw is (record { tables = refl; views = refl })
+made_is_land s is = rw is (record { tables = refl; indexes = refl; views = refl })
 
 none_apart : IsDistinct int_eq []
 unfolding IsDistinct

@@ -6,7 +6,7 @@ pub mod Changes
 pub mod Creates
 pub mod EditionRow
 pub mod First
-pub mod Indexes
+pub mod KnownSchemas
 pub mod Inserts
 pub mod Intervals
 pub mod Kept

@@ -3,7 +3,7 @@ use Rattle.std.proofs.Common.{ℕ, List, [], ◌∷◌, Ok, refl, codes}
 use Rattle.land_tables_schema.proofs.Appends.{appends}
 use Rattle.land_tables_schema.proofs.Asks.{Asks, IsListing}
 use Rattle.land_tables_schema.proofs.Casts.{cast_null, cast_whole}
-use Rattle.land_tables_schema.proofs.Indexes.{whatever_indexes}
+use Rattle.land_tables_schema.proofs.KnownSchemas.{but_for_indexes}
 use Rattle.land_tables_schema.proofs.Statements.{IsInsertion, inserts}
 use Rattle.land_tables_schema.proofs.Updates.{plainly}
 use Rattle.land_tables_schema.specs.Land.{IsLand, land_with}
@@ -30,7 +30,7 @@ inserts_one indexes = record { command = refl; plain = (refl, refl); table = ref
 pub puts_in : (old new : State) (m : Moment) (count : ℕ) → IsLand old.now.schema → Executes INSERT.now (Int m.stamp ∷ whole m.next ∷ []) old new (Ok count) → Appends table.moments moment_row m old.now new.now
 puts_in old new m count land h =
     let indexes = old.now.schema.indexes in
-    let has = (whatever_indexes old.now.schema).0 land in
+    let has = but_for_indexes old.now.schema land in
     appends table.moments moment_row m m.stamp (Null ∷ whole m.next ∷ []) refl indexes old.now new.now
     (inserts (land_with indexes) INSERT.now 1 table.moments terms 3 (inserts_one indexes) old new (Int m.stamp ∷ whole m.next ∷ []) count has h) has (simp (cast_null, cast_whole))
 

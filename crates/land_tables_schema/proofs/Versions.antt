@@ -1,7 +1,7 @@
 -- What the statements do that begin and close a version of something.
 use Rattle.std.proofs.Common.{◌≡◌, ◌&&◌, ℕ, zero, suc, ◌+◌, ℤ, List, [], ◌∷◌, ◌++◌, Bool, Ok, subst}
 use Rattle.std.specs.Ordering.{int_eq}
-use Rattle.land_tables_schema.proofs.Indexes.{whatever_indexes}
+use Rattle.land_tables_schema.proofs.KnownSchemas.{but_for_indexes}
 use Rattle.land_tables_schema.proofs.Inserts.{adds}
 use Rattle.land_tables_schema.proofs.Statements.{IsEdited, IsInsertion, IsUpdate, bare, inserts, updates}
 use Rattle.land_tables_schema.proofs.Updates.{IsTurning, plainly, turns}
@@ -39,7 +39,7 @@ module _ {C : Type 0} (table : Table) (cells : C → Row) (text : List ℕ) (pla
   pub begins : IsLand old.now.schema → Executes text (cells c ++ Int since ∷ []) old new (Ok done) → Adds (versions_in table count cells) (begun c since) old.now new.now
   begins land h =
       let indexes = old.now.schema.indexes in
-      let has = (whatever_indexes old.now.schema).0 land in
+      let has = but_for_indexes old.now.schema land in
       let did = inserts (land_with indexes) text place table (begin_terms count) (count + 3) (is.insertion indexes) old new (cells c ++ Int since ∷ []) done has h in
       adds (versions_in table count cells) (begun c since) is.fills indexes old.now new.now (subst (λ row. IsEdited (land_with indexes) (edit_of old.now.trees (bare table) [] Chosen 0 (row ∷ [])) old.now new.now) (is.shows c since) did) has (is.exact c since)
 
@@ -57,6 +57,6 @@ module _ {C : Type 0} (table : Table) (count : ℕ) (cells : C → Row) (text : 
   pub closes : IsLand old.now.schema → Executes text (key ++ Int stamp ∷ []) old new (Ok done) → Turns (versions_in table count cells) (closed meant stamp) old.now new.now
   closes land h =
       let indexes = old.now.schema.indexes in
-      let has = (whatever_indexes old.now.schema).0 land in
+      let has = but_for_indexes old.now.schema land in
       turns (versions_in table count cells) filter project (key ++ Int stamp ∷ []) (λ v. meant v.what && int_eq v.until never) (λ v. record v { until = stamp }) (is.turning stamp) indexes old.now new.now
       (updates (land_with indexes) text place table (plainly table.tree filter project) (is.update indexes) old new (key ++ Int stamp ∷ []) done has h) has

@@ -1,12 +1,24 @@
 -- The schemas that hold the register, and the one that is made.
-use Rattle.std.specs.Prelude.{◌≡◌, ℕ, List, [], ◌∷◌, ◌++◌, Bool, false, true, codes}
+use Rattle.std.specs.Cmp.Lexicographic.{pointwise}
+use Rattle.std.specs.List.{list_all, list_any}
+use Rattle.std.specs.Prelude.{◌≡◌, ◌&&◌, ◌||◌, not, nat_eq, ℕ, List, [], ◌∷◌, ◌++◌, Bool, false, true, codes}
 use Rattle.land_tables_schema.specs.Tables.{land_tables}
 use Rattle.sqlite_schema.specs.declared.schema.Index.{Index}
 use Rattle.sqlite_schema.specs.declared.schema.Schema.{Schema}
+use Rattle.sqlite_schema.specs.declared.schema.Table.{Table}
 
--- a schema holds the register where its tables are the wanted ones and it has no views; nothing is said of indexes
+-- an index is over the columns of a table's primary key
+abbrev pub is_key_of : Index → Table → Bool
+is_key_of index table = nat_eq index.table table.tree && pointwise nat_eq index.columns table.primary
+
+-- an index refuses no row that the keys of these tables let in: it is plain, or that of such a key
+abbrev pub refuses_no_more : List Table → Index → Bool
+refuses_no_more tables index = not index.is_unique || list_any (is_key_of index) tables
+
+-- a schema holds the register where its tables are the wanted ones, no index refuses more than their keys do, and it has no views
 pub record IsLand (s : Schema) : Type 0 where
   pub tables : s.tables ≡ land_tables
+  pub indexes : list_all (refuses_no_more s.tables) s.indexes ≡ true
   pub views : s.views ≡ []
 
 -- no table, no index and no view

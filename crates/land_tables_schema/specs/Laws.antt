@@ -1,8 +1,10 @@
 -- Laws of the tables and of the texts that make them, each over the definitions alone.
-use Rattle.std.specs.Prelude.{◌≡◌, ◌↔◌, ℕ, List, Ok, map}
+use Rattle.std.specs.List.{list_all}
+use Rattle.std.specs.Prelude.{◌≡◌, ◌↔◌, ℕ, List, Ok, map, true}
 use Rattle.land_tables_schema.specs.Definitions.{AreDefinitions, made}
-use Rattle.land_tables_schema.specs.Land.{IsLand, land_with, made_schema, no_schema}
+use Rattle.land_tables_schema.specs.Land.{IsLand, land_with, made_schema, no_schema, refuses_no_more}
 use Rattle.land_tables_schema.specs.Tables as table
+use Rattle.land_tables_schema.specs.Tables.{land_tables}
 use Rattle.land_tables_schema.specs.declared.tables.TheConstants.{TEXTS}
 use Rattle.land_tables_schema.specs.declared.tables.edition.TheConstants as edition
 use Rattle.land_tables_schema.specs.declared.tables.member.TheConstants as member
@@ -46,6 +48,7 @@ pub record TextsLaw : Type 0 where
   pub creates : AreDefinitions no_schema land_texts
   pub makes : made no_schema land_texts ≡ made_schema
 
--- a schema holds the register exactly where it is that of the register with whatever indexes it has
+-- a schema holds the register exactly where it is that of the register with the indexes that it has, and none of these refuses more than
+-- the keys of its tables do
 abbrev pub IndexLaw : Type 0
-IndexLaw = (s : Schema) → IsLand s ↔ (s ≡ land_with s.indexes)
+IndexLaw = (s : Schema) → IsLand s ↔ ((s ≡ land_with s.indexes) × (list_all (refuses_no_more land_tables) s.indexes ≡ true))

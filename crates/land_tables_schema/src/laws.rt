@@ -11,7 +11,8 @@ pub fn texts_make_the_tables()
     ensures { TextsLaw }
 {}
 
-/// A schema of the register is known but for its indexes, and may have whatever indexes.
-pub fn indexes_do_not_count()
+/// A schema of the register is known but for its indexes, of which it may have whatever plain ones, and unique ones over the columns of a
+/// key alone.
+pub fn plain_indexes_do_not_count()
     ensures { IndexLaw }
 {}

@@ -3,6 +3,7 @@
 #![tactic(auto)]
 
 pub mod columns;
+pub mod indexes;
 pub mod keys;
 pub mod laws;
 pub mod making;

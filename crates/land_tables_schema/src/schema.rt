@@ -4,6 +4,7 @@ ghost use Rattle.land_tables_schema.specs.Land.{IsLand, no_schema};
 ghost use Rattle.land_tables_schema.specs.Shapes.{table_of};
 
 use crate::columns::are_columns;
+use crate::indexes::refuse_no_more;
 use crate::keys::{are_rows, is_plain};
 use crate::shape::TableShape;
 use crate::tables::shapes;
@@ -35,11 +36,14 @@ fn are_tables(tables: &[Table], shapes: &[TableShape<'_>]) -> bool
     true
 }
 
-/// Whether a schema has the tables of the register and no others, and no views. It may have whatever indexes.
+/// Whether a schema has the tables of the register and no others, and no views. Of indexes it may have whatever plain ones, and unique ones
+/// over the columns of a key alone.
 pub fn is_land(schema: &Schema) -> bool
     ensures { IsTrue result ↔ IsLand schema.now }
 {
-    are_tables(schema.tables.as_slice(), shapes()) && schema.views.is_empty()
+    are_tables(schema.tables.as_slice(), shapes())
+        && refuse_no_more(schema.tables.as_slice(), schema.indexes.as_slice())
+        && schema.views.is_empty()
 }
 
 /// Whether a schema has nothing: no table, no index and no view.

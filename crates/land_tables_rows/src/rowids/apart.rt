@@ -1,7 +1,8 @@
 //! Whether rowids are each another.
 ghost use Rattle.std.specs.Prelude.{◌≡◌, ◌≢◌, ◌↔◌, true, IfErr, IfOk, OnOk};
 ghost use Rattle.std.specs.List.{IsDistinct};
-ghost use Rattle.std.specs.Ordering.{int_eq};
+ghost use Rattle.std.specs.List.Sorted.{IsStrictlySortedBy};
+ghost use Rattle.std.specs.Ordering.{int_cmp, int_eq};
 ghost use Rattle.land_tables_schema.specs.Rows.Forms.{AreNumbered};
 ghost use Rattle.sqlite.specs.declared.error.Error.TheVariants.{SqliteFailure};
 ghost use Rattle.sqlite.specs.declared.error.ErrorCode.TheVariants.{DatabaseCorrupt};
@@ -10,7 +11,6 @@ ghost use Rattle.sqlite_rules.specs.Edit.{have_rowids};
 
 use sqlite::{Error, ErrorCode, Row};
 use std::alloc::{AllocError, Global};
-use std::collections::BTreeSet;
 
 /// Refuses rows of which two lie under one rowid, or one under none, as those of a damaged store. Each row begins with its rowid.
 pub(crate) fn are_numbered(alloc: Global, rows: &[Row]) -> Result<(), Error>
@@ -38,10 +38,21 @@ fn rowids(alloc: Global, rows: &[Row]) -> Result<Vec<i64>, Error>
     Ok(ids)
 }
 
-/// Whether no two numbers are the same.
+/// Whether no two numbers are the same. Those that rise, as the rowids of a table mostly come, are neither copied nor put in order.
 fn are_apart(alloc: Global, ids: &[i64]) -> Result<bool, AllocError>
     ensures { IfOk result (λ it. (it ≡ true) ↔ IsDistinct int_eq ids.now) }
 {
-    let distinct: BTreeSet<i64> = ids.iter().copied().collect(alloc)?;
-    Ok(distinct.len() == ids.len())
+    if is_rising(ids) {
+        return Ok(true);
+    }
+    let mut sorted = ids.to_vec(alloc)?;
+    sorted.sort_unstable();
+    Ok(is_rising(sorted.as_slice()))
+}
+
+/// Whether each number is less than the next one.
+fn is_rising(ids: &[i64]) -> bool
+    ensures { (result ≡ true) ↔ IsStrictlySortedBy int_cmp ids.now }
+{
+    ids.is_sorted_by(|id, next| *id < *next)
 }

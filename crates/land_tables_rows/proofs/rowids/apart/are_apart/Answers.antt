@@ -1,17 +1,16 @@
-use Rattle.std.proofs.Common.{◌≡◌, sym, ◌∙◌, length, rules}
-use Rattle.std.proofs.lemmas.Bool.Decides.{Decides-eqb}
-use Rattle.std.proofs.lemmas.Cmp.{int_cmp_total, int_eq_equiv}
-use Rattle.std.proofs.lemmas.Map.Made.{IsDistinct-from_count, distinct_count-from_IsDistinct}
-use Rattle.std.proofs.lemmas.Map.Views.{btree_set_len-from_list}
-use Rattle.std.specs.BTreeSet.{IsFromIterResult}
-use Rattle.std.specs.Ordering.{int_cmp, int_eq}
-use Rattle.std.specs.Set.{distinct_count}
+use Rattle.std.proofs.Common.{◌≡◌, ◌↔◌, true, List, ℤ, refl, subst, IsPermutation}
+use Rattle.std.specs.List.Sorted.{IsStrictlySortedBy}
+use Rattle.std.specs.Ordering.{int_cmp}
+use Rattle.land_tables_rows.proofs.RowidOrders.{apart_in_order, rising_apart}
 use Rattle.land_tables_rows.proofs.rowids.apart.are_apart.Goals as goal
+
+pub returns-then-is_rising : goal.returns-then-is_rising
+returns-then-is_rising c = (λ _. rising_apart c.args.ids.now (c.is_rising.ensures.0 c.if-is_rising.true), λ _. refl)
 
 pub returns : goal.returns
 returns c =
-    let ids = c.args.ids.now in
-    let made : IsFromIterResult int_cmp ids c.in_ok-distinct.distinct = search rules in
-    let count : c.len.result ≡ distinct_count int_eq ids = c.len.ensures.len ∙ btree_set_len-from_list int_cmp_total ids c.in_ok-distinct.distinct made in
-    let is = Decides-eqb c.len.result (length ids) in
-    (λ same. IsDistinct-from_count int_eq_equiv ids (sym count ∙ is.0 same), λ apart. is.1 (count ∙ distinct_count-from_IsDistinct int_eq_equiv ids apart))
+    let sorted = c.sort_unstable.new.self.items in
+    let copy : c.in_ok-sorted.sorted.items ≡ c.args.ids.now = c.in_ok-sorted.ensures.items_if_clones_equal (λ x y same. same) in
+    let it = apart_in_order c.args.ids.now sorted (subst (λ (l : List ℤ). IsPermutation l sorted) copy c.sort_unstable.ensures.permutation) c.sort_unstable.ensures.sorted in
+    let told = subst (λ (l : List ℤ). (c.is_rising-2.result ≡ true) ↔ IsStrictlySortedBy int_cmp l) c.as_slice.ensures.value c.is_rising-2.ensures in
+    (λ e. it.0 (told.0 e), λ apart. told.1 (it.1 apart))

@@ -1,0 +1,26 @@
+//! Looks at a store that fail.
+ghost use Rattle.std.specs.Prelude.{◌≡◌, ◌≢◌, false, IsTrue};
+ghost use Rattle.land_keep.specs.declared.store_fault.StoreFault.TheVariants as store;
+ghost use Rattle.land_tables_schema.specs.Rows.Looks.{IsLeft};
+ghost use Rattle.sqlite.specs.Held.{state};
+ghost use Rattle.sqlite.specs.State.{HasCleanDisk, IsUnchanged, Survives};
+
+use land_keep::store_fault::StoreFault;
+use land_tables_rows::listing::fault::ReadFault;
+use land_tables_schema::rows::openness::is_open;
+use sqlite::{Alter, Connection};
+
+/// The fault of a look that failed: 501 where memory was wanting and the store is still open, else 502.
+pub fn failed<S: Alter>(conn: &mut Connection<S>, fault: ReadFault) -> StoreFault
+    ensures open { result ≢ store.Closed }
+    ensures same { HasCleanDisk (state S.Store conn.new) → result ≢ store.Store → IsUnchanged (state S.Store conn.old) (state S.Store conn.new) }
+    ensures left { HasCleanDisk (state S.Store conn.new) → IsTrue (state S.Store conn.new).is_open → IsLeft (state S.Store conn.old) (state S.Store conn.new) }
+    ensures survives { Survives (state S.Store conn.old) (state S.Store conn.new) (λ _. ⊥) }
+    ensures mode { conn.old.in_transaction ≡ false → conn.new.in_transaction ≡ false }
+{
+    if is_open(conn) && fault == ReadFault::NoMemory {
+        StoreFault::NoMemory
+    } else {
+        StoreFault::Store
+    }
+}
