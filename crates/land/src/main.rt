@@ -7,6 +7,7 @@ use land_commands::obey::obey;
 use land_commands::program_fault::ProgramFault;
 use land_commands::run::complain;
 use land_desk::service::machine_clock::MachineClock;
+use land_desk::service::stopwatch::Stopwatch;
 use land_keep::clock::Clock;
 use std::env;
 use std::io::{Read, Write};
@@ -14,7 +15,8 @@ use std::process::ExitCode;
 use std::rt::Env;
 
 fn main(rt: HostRuntime) -> ExitCode {
-    let mut host = LocalHost::new(&rt);
+    let watch = Stopwatch::new(rt);
+    let mut host = LocalHost::new(&rt, &watch);
     let mut clock = MachineClock { machine: rt };
     let status = start(
         &rt,

@@ -8,6 +8,8 @@ ghost use Rattle.sqlite_wal.specs.Files.{image_at};
 
 use crate::host::Host;
 use crate::program_fault::ProgramFault;
+use land_desk::service::callers::Callers;
+use land_desk::service::stopwatch::Stopwatch;
 use sqlite::{Connection, Error, ErrorCode, FileFrom, FileStore, Start, Unknown};
 use std::alloc::Global;
 use std::fs::File;
@@ -21,14 +23,15 @@ const MAGIC: &[u8] = b"SQLite format 3\0";
 
 /// The machine that the program runs on. Of what its files held before they are opened nothing is said (`Unknown`).
 #[derive(Drop)]
-pub struct LocalHost {
+pub struct LocalHost<'a> {
     rt: HostRuntime,
+    watch: &'a Stopwatch<HostRuntime>,
 }
 
-impl LocalHost {
-    /// The machine, with no file opened yet.
-    pub fn new(rt: &HostRuntime) -> LocalHost {
-        LocalHost { rt: *rt }
+impl<'a> LocalHost<'a> {
+    /// The machine, with no file opened yet, and a stopwatch for those who call.
+    pub fn new(rt: &HostRuntime, watch: &'a Stopwatch<HostRuntime>) -> LocalHost<'a> {
+        LocalHost { rt: *rt, watch }
     }
 }
 
@@ -97,10 +100,10 @@ fn close_store<S: Start>(conn: Connection<FileStore<FileFrom<S>>>) -> Result<(),
     }
 }
 
-impl Host for LocalHost {
+impl<'a> Host for LocalHost<'a> {
     type Store = FileStore<FileFrom<Unknown>>;
 
-    type Listener = TcpListener;
+    type Listener = Callers<'a, HostRuntime>;
 
     ghost holds = { λ _ s. FindsIn (image_at ⟦<Unknown as Start>⟧) s };
 
@@ -140,7 +143,8 @@ impl Host for LocalHost {
         }
     }
 
-    fn listen(&mut self, port: u16) -> io::Result<TcpListener> {
-        TcpListener::bind(&self.rt, (Ipv4Addr::LOCALHOST, port))
+    fn listen(&mut self, port: u16) -> io::Result<Callers<'a, HostRuntime>> {
+        let listener = TcpListener::bind(&self.rt, (Ipv4Addr::LOCALHOST, port))?;
+        Ok(Callers::new(listener, self.watch))
     }
 }

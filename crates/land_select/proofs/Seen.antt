@@ -22,71 +22,63 @@ use Rattle.land_keep.specs.declared.store_fault.StoreFault.{StoreFault}
 use Rattle.land_keep.specs.declared.timeline.Version.{Version}
 use Rattle.land_rules.specs.Rules.{seen_of, verdict_of}
 use Rattle.land_rules.specs.declared.verdict.Verdict.{Verdict}
+use Rattle.land_select.specs.Asking.{IsAnswer}
 use Rattle.land_select.specs.Slices.Gathered.{IsSo}
 use Rattle.land_select.specs.Verdicts.{IsVerdict}
 use Rattle.land_select.specs.Views.{IsShown}
 use Rattle.land_select_joins.specs.Joins.Sight.{IsSight}
 use Rattle.land_select_joins.specs.Lookups.Parts.{IsPart}
+use Rattle.land_tables.proofs.LookedAt.{IsLookedAt}
 use Rattle.land_tables.proofs.One.{have_members}
-use Rattle.land_tables.proofs.ReadBack.{IsReadAt}
 use Rattle.land_tables.proofs.WrittenTimelines.{stays_last}
-use Rattle.land_tables.specs.Office.{IsAnswer}
 use Rattle.land_tables.specs.Standing.{timeline_in}
 use Rattle.sqlite.specs.State.{State}
 
--- a moment that is not before the first
-pub from_first : (t : ℤ) → int_lt t (pos 0) ≡ false → pos 0 ≤ℤ t
-from_first t h = grind (arith, ints)
-
 -- what is answered of tables at a moment is seen in the timeline's register there
-pub sight_seen : (s : State) (caller : Caller) (kind : Kind) (t u : ℤ) → IsReadAt t u → (r : Result (List ℕ) StoreFault) → IfOk r (IsAnswer (IsSight caller kind u) s)
+pub sight_seen : (s : State) (caller : Caller) (kind : Kind) (t u : ℤ) → IsLookedAt t u → (r : Result (List ℕ) StoreFault) → IfOk r (IsAnswer (IsSight caller kind u) s)
     → IfOk r (λ it. it ≡ seen_of (register_at (timeline_in s.now.trees) t) caller kind)
 sight_seen s caller kind t u place (Ok it) answer =
     let tl = timeline_in s.now.trees in
     let holds = answer.register.holds in
-    answer.answer holds.listed holds.history holds.holds (register_at tl u) (sound_or_nothing tl u answer.register.sound) (holds.stands.stands u place.0)
-    ∙ ap (λ (r : Register). seen_of r caller kind) (sym (place.1 tl answer.register.sound))
+    answer.answer holds.listed holds.history holds.holds (register_at tl t) (sound_or_nothing tl t answer.register.sound) (place s answer.register)
 sight_seen s caller kind t u place (Err fault) answer = tt
 
 -- what is answered as a part of the register at a moment is that part of the timeline's register there
-pub part_stands : SoundnessByLookUps → {T : Type 0} (part : Register → T) (s : State) (t u : ℤ) → IsReadAt t u → (r : Result T StoreFault) → IfOk r (IsAnswer (IsPart part u) s)
+pub part_stands : SoundnessByLookUps → {T : Type 0} (part : Register → T) (s : State) (t u : ℤ) → IsLookedAt t u → (r : Result T StoreFault) → IfOk r (IsAnswer (IsPart part u) s)
     → IfOk r (λ it. it ≡ part (register_at (timeline_in s.now.trees) t))
 part_stands look_ups part s t u place (Ok it) answer =
     let tl = timeline_in s.now.trees in
     let holds = answer.register.holds in
-    answer.answer holds.listed holds.history holds.holds (register_at tl u) (have_members look_ups tl u answer.register.sound) (holds.stands.stands u place.0)
-    ∙ ap part (sym (place.1 tl answer.register.sound))
+    answer.answer holds.listed holds.history holds.holds (register_at tl t) (have_members look_ups tl t answer.register.sound) (place s answer.register)
 part_stands look_ups part s t u place (Err fault) answer = tt
 
 -- what is shown of tables at a moment is what is shown of the timeline's register there
-pub shown_stands : {T : Type 0} (shown : Register → T) (s : State) (t u : ℤ) → IsReadAt t u → (r : Result T StoreFault) → IfOk r (IsAnswer (IsShown shown u) s)
+pub shown_stands : {T : Type 0} (shown : Register → T) (s : State) (t u : ℤ) → IsLookedAt t u → (r : Result T StoreFault) → IfOk r (IsAnswer (IsShown shown u) s)
     → IfOk r (λ it. it ≡ shown (register_at (timeline_in s.now.trees) t))
 shown_stands shown s t u place (Ok it) answer =
     let tl = timeline_in s.now.trees in
     let holds = answer.register.holds in
-    answer.answer holds.listed holds.history holds.holds (register_at tl u) (sound_or_nothing tl u answer.register.sound) (holds.stands.stands u place.0)
-    ∙ ap shown (sym (place.1 tl answer.register.sound))
+    answer.answer holds.listed holds.history holds.holds (register_at tl t) (sound_or_nothing tl t answer.register.sound) (place s answer.register)
 shown_stands shown s t u place (Err fault) answer = tt
 
 the_last : IsMoment last_moment
 the_last = (omega (arith, ints), omega (arith, ints))
 
 -- the verdict that is answered of tables is told by the timeline's registers, the last one and the one at the moment
-verdict_stands : SoundnessByLookUps → (s : State) (caller : Caller) (a : Ask) (past : Bool) (t u : ℤ) → IsReadAt t u → (r : Result Verdict StoreFault) → IfOk r (IsAnswer (IsVerdict caller a past u) s)
+verdict_stands : SoundnessByLookUps → (s : State) (caller : Caller) (a : Ask) (past : Bool) (t u : ℤ) → IsLookedAt t u → (r : Result Verdict StoreFault) → IfOk r (IsAnswer (IsVerdict caller a past u) s)
     → IfOk r (λ it. it ≡ verdict_of (last_register (timeline_in s.now.trees)) (register_at (timeline_in s.now.trees) t) caller a past)
 verdict_stands look_ups s caller a past t u place (Ok it) answer =
     let tl = timeline_in s.now.trees in
     let sound = answer.register.sound in
     let holds = answer.register.holds in
     let last : register_at tl last_moment ≡ last_register tl = stays_last tl last_moment sound.rising (last_is_moment tl sound) in
-    answer.answer holds.listed holds.history holds.holds (register_at tl last_moment) (register_at tl u) (have_members look_ups tl last_moment sound) (sound_or_nothing tl u sound)
-    (holds.stands.stands last_moment the_last) (holds.stands.stands u place.0)
-    ∙ ap (λ (now : Register). verdict_of now (register_at tl u) caller a past) last
-    ∙ ap (λ (r : Register). verdict_of (last_register tl) r caller a past) (sym (place.1 tl sound))
+    answer.answer holds.listed holds.history holds.holds (register_at tl last_moment) (register_at tl t) (have_members look_ups tl last_moment sound) (sound_or_nothing tl t sound)
+    (holds.stands.stands last_moment the_last) (place s answer.register)
+    ∙ ap (λ (now : Register). verdict_of now (register_at tl t) caller a past) last
 verdict_stands look_ups s caller a past t u place (Err fault) answer = tt
 
 -- so it is the verdict on what is asked
-pub verdict_told : SoundnessByLookUps → (s : State) (caller : Caller) (a : Ask) (now t u : ℤ) → t ≡ moment_of a now → IsReadAt t u → (r : Result Verdict StoreFault)
+pub verdict_told : SoundnessByLookUps → (s : State) (caller : Caller) (a : Ask) (now t u : ℤ) → t ≡ moment_of a now → IsLookedAt t u → (r : Result Verdict StoreFault)
     → IfOk r (IsAnswer (IsVerdict caller a (int_lt t now) u) s) → IfOk r (λ it. it ≡ verdict_at (timeline_in s.now.trees) caller a now)
 verdict_told look_ups s caller a now t u is_moment place r answer =
     let tl = timeline_in s.now.trees in

@@ -8,6 +8,7 @@ ghost use Rattle.land_tables_schema.specs.Rows.Looks.{IsLook};
 ghost use Rattle.sqlite.specs.Held.{state};
 ghost use Rattle.sqlite.specs.State.{HasCleanDisk};
 
+use crate::asking::Question;
 use crate::standing::standing;
 use crate::viewing::viewing;
 use land_core::ask::Ask;
@@ -15,7 +16,6 @@ use land_core::caller::Caller;
 use land_core::kind::Kind;
 use land_core::limits::LAST_MOMENT;
 use land_rules::verdict::Verdict;
-use land_tables::question::Question;
 use land_tables_rows::listing::fault::ReadFault;
 use sqlite::{Alter, Connection};
 use std::alloc::Global;

@@ -1,6 +1,7 @@
 //! The keeper over joins: what a caller may see is selected by SQL.
 #![tactic(auto)]
 
+mod asking;
 mod awaited;
 mod denial;
 mod interests;

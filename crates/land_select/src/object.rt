@@ -1,10 +1,10 @@
 //! An object as it stands at a moment, by look-ups.
 ghost use Rattle.std.specs.Prelude.{◌≡◌};
 
+use crate::asking::Question;
 use land_core::kind::Kind;
 use land_core::object::Object;
 use land_select_joins::lookups::objects::object;
-use land_tables::question::Question;
 use land_tables_rows::listing::fault::ReadFault;
 use sqlite::{Alter, Connection};
 use std::alloc::Global;

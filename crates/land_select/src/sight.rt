@@ -1,11 +1,11 @@
 //! What a caller sees of a kind, by joins.
 ghost use Rattle.std.specs.Prelude.{◌≡◌};
 
+use crate::asking::Question;
 use land_core::caller::Caller;
 use land_core::kind::Kind;
 use land_core::sequence::NumberList;
 use land_select_joins::joins::sight::sight;
-use land_tables::question::Question;
 use land_tables_rows::listing::fault::ReadFault;
 use sqlite::{Alter, Connection};
 use std::alloc::Global;

@@ -1,11 +1,11 @@
 //! The slice of the last register for an act, by look-ups.
 ghost use Rattle.std.specs.Prelude.{◌≡◌};
 
+use crate::asking::Question;
 use crate::slices::slice::slice_at;
 use land_acts::slice::Slice;
 use land_core::act::Act;
 use land_core::caller::Caller;
-use land_tables::question::Question;
 use land_tables_rows::listing::fault::ReadFault;
 use sqlite::{Alter, Connection};
 use std::alloc::Global;

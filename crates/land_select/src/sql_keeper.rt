@@ -2,6 +2,7 @@
 ghost use Rattle.std.specs.Prelude.{◌≡◌, ◌≤ℤ◌};
 ghost use Rattle.land_keep.specs.Moments.{last_moment};
 
+use crate::asking::answer;
 use crate::denial::Denial;
 use crate::object::ObjectAt;
 use crate::sight::Sight;
@@ -22,7 +23,6 @@ use land_keep::moments::named_moment;
 use land_keep::store_fault::StoreFault;
 use land_keep::view::View;
 use land_rules::verdict::Verdict;
-use land_tables::table_keeper::TableKeeper;
 use land_tables::tables::Tables;
 use sqlite::Alter;
 use std::alloc::Global;
@@ -30,32 +30,30 @@ use std::alloc::Global;
 /// A keeper over tables, whatever their store: what a caller sees of a kind is selected by joins, objects and title sheets are looked up by
 /// their numbers, and so are what is judged and the slices of acts.
 pub struct SqlKeeper<S: Alter> {
-    /// The keeper over whole tables.
-    whole: TableKeeper<S>,
+    /// The tables.
+    tables: Tables<S>,
 }
 
 impl<S: Alter + Drop> Drop for SqlKeeper<S> {
     fn drop(self) {
-        let SqlKeeper { whole: _ } = self;
+        let SqlKeeper { tables: _ } = self;
     }
 }
 
 impl<S: Alter> SqlKeeper<S> {
     /// A keeper over tables, closed if a call of their store has failed.
     pub fn new(tables: Tables<S>) -> SqlKeeper<S>
-        ensures { result.whole.tables ≡ tables }
+        ensures { result.tables ≡ tables }
     {
-        SqlKeeper {
-            whole: TableKeeper::new(tables),
-        }
+        SqlKeeper { tables }
     }
 
     /// Hands the tables back, as they are.
     pub fn into_tables(self) -> Tables<S>
-        ensures { result ≡ self.whole.tables }
+        ensures { result ≡ self.tables }
     {
-        let SqlKeeper { whole } = self;
-        whole.into_tables()
+        let SqlKeeper { tables } = self;
+        tables
     }
 }
 
@@ -66,18 +64,18 @@ impl<S: Alter> Keeper for SqlKeeper<S> {
     ghost use Rattle.land_keep.specs.Timeline.{last_stamp};
     ghost use Rattle.land_tables.specs.Office.{IsHonest, held};
 
-    ghost timeline = { λ keeper. held S.Store keeper.whole.tables };
+    ghost timeline = { λ keeper. held S.Store keeper.tables };
 
-    ghost closed = { λ keeper. keeper.whole.tables.is_closed };
+    ghost closed = { λ keeper. keeper.tables.is_closed };
 
-    ghost honest = { λ keeper. IsHonest S.Store keeper.whole.tables };
+    ghost honest = { λ keeper. IsHonest S.Store keeper.tables };
 
     fn last(&self) -> i64 {
-        self.whole.last()
+        self.tables.last()
     }
 
     fn is_closed(&self) -> bool {
-        self.whole.is_closed()
+        self.tables.is_closed()
     }
 
     fn first_denial(
@@ -88,9 +86,6 @@ impl<S: Alter> Keeper for SqlKeeper<S> {
         now: i64,
     ) -> Result<Verdict, StoreFault> {
         let at = named_moment(ask).unwrap_or(now);
-        if at < 0 {
-            return self.whole.first_denial(alloc, caller, ask, now);
-        }
         soundness_by_look_ups();
         let asked_for = at.min(LAST_MOMENT);
         let denial = Denial {
@@ -99,7 +94,7 @@ impl<S: Alter> Keeper for SqlKeeper<S> {
             past: at < now,
             moment: asked_for,
         };
-        self.whole.tables.ask(alloc, &denial)
+        answer(alloc, &mut self.tables, &denial)
     }
 
     fn sight(
@@ -109,15 +104,12 @@ impl<S: Alter> Keeper for SqlKeeper<S> {
         kind: Kind,
         at: i64,
     ) -> Result<NumberList, StoreFault> {
-        if at < 0 {
-            return self.whole.sight(alloc, caller, kind, at);
-        }
         let sight = Sight {
             caller,
             kind,
             moment: at.min(LAST_MOMENT),
         };
-        self.whole.tables.ask(alloc, &sight)
+        answer(alloc, &mut self.tables, &sight)
     }
 
     fn object(
@@ -127,9 +119,6 @@ impl<S: Alter> Keeper for SqlKeeper<S> {
         number: u64,
         at: i64,
     ) -> Result<Option<Object>, StoreFault> {
-        if at < 0 {
-            return self.whole.object(alloc, kind, number, at);
-        }
         soundness_by_look_ups();
         let looked_at = at.min(LAST_MOMENT);
         let object = ObjectAt {
@@ -137,7 +126,7 @@ impl<S: Alter> Keeper for SqlKeeper<S> {
             number,
             moment: looked_at,
         };
-        self.whole.tables.ask(alloc, &object)
+        answer(alloc, &mut self.tables, &object)
     }
 
     fn view(
@@ -147,16 +136,13 @@ impl<S: Alter> Keeper for SqlKeeper<S> {
         unit: u64,
         at: i64,
     ) -> Result<Option<View>, StoreFault> {
-        if at < 0 {
-            return self.whole.view(alloc, caller, unit, at);
-        }
         let moment = at.min(LAST_MOMENT);
         let seen = UnitSeen {
             caller,
             unit,
             moment,
         };
-        let found = self.whole.tables.ask(alloc, &seen)?;
+        let found = answer(alloc, &mut self.tables, &seen)?;
         Ok(naming(found, at))
     }
 
@@ -165,13 +151,13 @@ impl<S: Alter> Keeper for SqlKeeper<S> {
         let sliced = Sliced {
             caller,
             act,
-            next: self.whole.tables.next(),
+            next: self.tables.next(),
             moment: LAST_MOMENT,
         };
-        self.whole.tables.ask(alloc, &sliced)
+        answer(alloc, &mut self.tables, &sliced)
     }
 
     fn write(&mut self, alloc: Global, change: &Change, stamp: i64) -> Result<(), StoreFault> {
-        self.whole.write(alloc, change, stamp)
+        self.tables.write(alloc, change, stamp)
     }
 }

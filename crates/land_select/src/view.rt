@@ -11,6 +11,7 @@ ghost use Rattle.land_tables_schema.specs.Rows.Looks.{IsLook};
 ghost use Rattle.sqlite.specs.Held.{state};
 ghost use Rattle.sqlite.specs.State.{HasCleanDisk};
 
+use crate::asking::Question;
 use crate::awaited::awaited_of;
 use crate::interests::shown_of;
 use land_core::caller::Caller;
@@ -34,7 +35,6 @@ use land_rules::laws::seen_is_exact;
 use land_select_joins::joins::sight::sight;
 use land_select_joins::lookups::{by_number, of_unit};
 use land_shape::Ring;
-use land_tables::question::Question;
 use land_tables_rows::listing::fault::ReadFault;
 use sqlite::{Alter, Connection};
 use std::alloc::{AllocError, Global};

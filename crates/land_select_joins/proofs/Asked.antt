@@ -3,7 +3,7 @@ use Rattle.std.proofs.Common.{ℕ, List, [], IfErr, IfOk, OnErr, OnOk, Ok, Err, 
 use Rattle.std.proofs.lemmas.Result.{IfOk-weaker}
 use Rattle.land_select_joins.proofs.Joined.{Asks}
 use Rattle.land_tables_schema.proofs.Asks.{clean_before}
-use Rattle.land_tables_schema.proofs.Indexes.{whatever_indexes}
+use Rattle.land_tables_schema.proofs.KnownSchemas.{but_for_indexes}
 use Rattle.land_tables_schema.specs.Land.{IsLand, land_with}
 use Rattle.land_tables_schema.specs.Rows.Looks.{IsLeft, IsLook}
 use Rattle.sqlite.proofs.Callers.{IsPlain, never_commits, reads_as}
@@ -24,11 +24,11 @@ module _ (text : List ℕ) (q : Query) (asks : (indexes : List Index) → Asks (
     asks_now = asks old.now.schema.indexes
 
     plain_now : IsPlain (understood old.now.schema text)
-    plain_now = subst (λ s. IsPlain (understood s text)) (sym ((whatever_indexes old.now.schema).0 land)) asks_now.plain
+    plain_now = subst (λ s. IsPlain (understood s text)) (sym (but_for_indexes old.now.schema land)) asks_now.plain
 
     answer : (rows : List Row) → Shown text params old new rows → IsAnswer q (overlay old.now.trees []) params rows
     answer rows h =
-        (reads_as text params old new (land_with old.now.schema.indexes) ((whatever_indexes old.now.schema).0 land) _ asks_now.command asks_now.plain asks_now.unlisted rows h).answer Null
+        (reads_as text params old new (land_with old.now.schema.indexes) (but_for_indexes old.now.schema land) _ asks_now.command asks_now.plain asks_now.unlisted rows h).answer Null
 
     unchanged : (rows : List Row) → Shown text params old new rows → IsUnchanged old new
     unfolding Shown

@@ -35,7 +35,6 @@ filter_of look_up.Mutation = same (col 1 1) caller ∷ still 1 9
 filter_of look_up.ParcelsOfUnit = same (col 1 2) caller ∷ still 1 6
 filter_of look_up.EntriesOfUnit = same (col 1 2) caller ∷ still 1 12
 filter_of look_up.NamingsOfUnit = same (col 1 2) caller ∷ still 1 3
-filter_of look_up.EntriesOfParty = same (col 1 3) caller ∷ still 1 12
 filter_of look_up.RolesOfParty = same (col 1 1) caller ∷ still 1 3
 filter_of look_up.MembersOfGroup = same (col 1 1) caller ∷ still 1 5
 filter_of look_up.Administrators = word (col 1 2) (codes "stateAdministrator") ∷ still 1 3
@@ -51,7 +50,6 @@ project_of look_up.Mutation = columns_of 1 1 10
 project_of look_up.ParcelsOfUnit = columns_of 1 1 7
 project_of look_up.EntriesOfUnit = columns_of 1 1 13
 project_of look_up.NamingsOfUnit = columns_of 1 1 4
-project_of look_up.EntriesOfParty = columns_of 1 1 13
 project_of look_up.RolesOfParty = columns_of 1 1 4
 project_of look_up.MembersOfGroup = columns_of 1 1 6
 project_of look_up.Administrators = columns_of 1 1 4
@@ -71,7 +69,6 @@ asks look_up.Mutation indexes = record { names = codes "number" ∷ codes "lodge
 asks look_up.ParcelsOfUnit indexes = record { names = codes "number" ∷ codes "unit" ∷ codes "label" ∷ codes "outline" ∷ codes "source" ∷ codes "since" ∷ codes "until" ∷ []; command = refl; unlisted = refl; plain = (refl, refl) }
 asks look_up.EntriesOfUnit indexes = record { names = codes "number" ∷ codes "unit" ∷ codes "party" ∷ codes "class" ∷ codes "num" ∷ codes "den" ∷ codes "amount" ∷ codes "currency" ∷ codes "place" ∷ codes "words" ∷ codes "source" ∷ codes "since" ∷ codes "until" ∷ []; command = refl; unlisted = refl; plain = (refl, refl) }
 asks look_up.NamingsOfUnit indexes = record { names = codes "mutation" ∷ codes "unit" ∷ codes "since" ∷ codes "until" ∷ []; command = refl; unlisted = refl; plain = (refl, refl) }
-asks look_up.EntriesOfParty indexes = record { names = codes "number" ∷ codes "unit" ∷ codes "party" ∷ codes "class" ∷ codes "num" ∷ codes "den" ∷ codes "amount" ∷ codes "currency" ∷ codes "place" ∷ codes "words" ∷ codes "source" ∷ codes "since" ∷ codes "until" ∷ []; command = refl; unlisted = refl; plain = (refl, refl) }
 asks look_up.RolesOfParty indexes = record { names = codes "party" ∷ codes "role" ∷ codes "since" ∷ codes "until" ∷ []; command = refl; unlisted = refl; plain = (refl, refl) }
 asks look_up.MembersOfGroup indexes = record { names = codes "grp" ∷ codes "party" ∷ codes "num" ∷ codes "den" ∷ codes "since" ∷ codes "until" ∷ []; command = refl; unlisted = refl; plain = (refl, refl) }
 asks look_up.Administrators indexes = record { names = codes "party" ∷ codes "role" ∷ codes "since" ∷ codes "until" ∷ []; command = refl; unlisted = refl; plain = (refl, refl) }
@@ -87,7 +84,6 @@ stored look_up.Mutation db = refl
 stored look_up.ParcelsOfUnit db = refl
 stored look_up.EntriesOfUnit db = refl
 stored look_up.NamingsOfUnit db = refl
-stored look_up.EntriesOfParty db = refl
 stored look_up.RolesOfParty db = refl
 stored look_up.MembersOfGroup db = refl
 stored look_up.Administrators db = refl
@@ -103,7 +99,6 @@ shown look_up.Mutation params r = refl
 shown look_up.ParcelsOfUnit params r = refl
 shown look_up.EntriesOfUnit params r = refl
 shown look_up.NamingsOfUnit params r = refl
-shown look_up.EntriesOfParty params r = refl
 shown look_up.RolesOfParty params r = refl
 shown look_up.MembersOfGroup params r = refl
 shown look_up.Administrators params r = refl
@@ -129,8 +124,6 @@ tests look_up.EntriesOfUnit r v e number t =
     by_number (passes (filter_of look_up.EntriesOfUnit) (given (asked_for number) t) r) v.what.1.unit number t v.since v.until (shows rrrs r v e).1.2 (decides rrrs r v e (asked_for number) t (filter_of look_up.EntriesOfUnit) refl)
 tests look_up.NamingsOfUnit r v e number t =
     by_number (passes (filter_of look_up.NamingsOfUnit) (given (asked_for number) t) r) v.what.unit number t v.since v.until (shows names r v e).1.1 (decides names r v e (asked_for number) t (filter_of look_up.NamingsOfUnit) refl)
-tests look_up.EntriesOfParty r v e number t =
-    by_number (passes (filter_of look_up.EntriesOfParty) (given (asked_for number) t) r) v.what.1.party number t v.since v.until (shows rrrs r v e).1.0 (decides rrrs r v e (asked_for number) t (filter_of look_up.EntriesOfParty) refl)
 tests look_up.RolesOfParty r v e number t =
     by_number (passes (filter_of look_up.RolesOfParty) (given (asked_for number) t) r) v.what.party number t v.since v.until (shows roles r v e).1 (decides roles r v e (asked_for number) t (filter_of look_up.RolesOfParty) refl)
 tests look_up.MembersOfGroup r v e number t =

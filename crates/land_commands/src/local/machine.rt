@@ -1,6 +1,7 @@
 //! Work on the machine that the program runs on.
 use crate::host::Host;
 use crate::local_host::LocalHost;
+use land_desk::service::stopwatch::Stopwatch;
 use std::rt::HostRuntime;
 
 /// Work that any machine can do.
@@ -14,6 +15,7 @@ pub trait Work {
 
 /// Does work on the machine that the program runs on.
 pub fn on_local_host<W: Work>(rt: &HostRuntime, work: W) -> W::Outcome {
-    let mut host = LocalHost::new(rt);
+    let watch = Stopwatch::new(*rt);
+    let mut host = LocalHost::new(rt, &watch);
     work.done_on(&mut host)
 }

@@ -14,7 +14,6 @@ text_of look_up.Mutation = texts.MUTATION.now
 text_of look_up.ParcelsOfUnit = texts.PARCELS_OF_UNIT.now
 text_of look_up.EntriesOfUnit = texts.ENTRIES_OF_UNIT.now
 text_of look_up.NamingsOfUnit = texts.NAMINGS_OF_UNIT.now
-text_of look_up.EntriesOfParty = texts.ENTRIES_OF_PARTY.now
 text_of look_up.RolesOfParty = texts.ROLES_OF_PARTY.now
 text_of look_up.MembersOfGroup = texts.MEMBERS_OF_GROUP.now
 text_of look_up.Administrators = texts.ADMINISTRATORS.now

@@ -25,8 +25,6 @@ pub enum LookUp {
     EntriesOfUnit,
     /// Which mutations name a unit.
     NamingsOfUnit,
-    /// The entries whose party is a party.
-    EntriesOfParty,
     /// The roles of a party.
     RolesOfParty,
     /// The members of a group.
@@ -49,7 +47,6 @@ pub fn text_of(look_up: LookUp) -> &'static str
         LookUp::ParcelsOfUnit => texts::PARCELS_OF_UNIT,
         LookUp::EntriesOfUnit => texts::ENTRIES_OF_UNIT,
         LookUp::NamingsOfUnit => texts::NAMINGS_OF_UNIT,
-        LookUp::EntriesOfParty => texts::ENTRIES_OF_PARTY,
         LookUp::RolesOfParty => texts::ROLES_OF_PARTY,
         LookUp::MembersOfGroup => texts::MEMBERS_OF_GROUP,
         LookUp::Administrators => texts::ADMINISTRATORS,

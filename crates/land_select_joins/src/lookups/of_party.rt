@@ -10,10 +10,7 @@ ghost use Rattle.sqlite.specs.State.{HasCleanDisk};
 
 use crate::lookups::finding::find;
 use crate::lookups::look_up::LookUp;
-use land_core::records::Records;
 use land_core::roles::Roles;
-use land_core::rrr::RrrRecord;
-use land_tables_history::part::part_at;
 use land_tables_history::roles::roles_at;
 use land_tables_rows::listing::fault::ReadFault;
 use sqlite::{Alter, Connection};
@@ -33,21 +30,4 @@ pub fn roles<S: Alter>(
 {
     let found = find(alloc, conn, LookUp::RolesOfParty, party, at)?;
     Ok(roles_at(alloc, found.as_slice(), at)?)
-}
-
-/// The entries of a party that stand at a moment, in milliseconds since 1970 UTC, under their numbers: what it holds, what burdens it, and
-/// the mortgages of which it is the creditor. 520: the tables hold no history. 501: there was no memory.
-pub fn entries<S: Alter>(
-    alloc: Global,
-    conn: &mut Connection<S>,
-    party: u64,
-    at: i64,
-) -> Result<Records<RrrRecord>, ReadFault>
-    requires land { HasCleanDisk (state S.Store conn.old) → IsLand (state S.Store conn.old).now.schema }
-    ensures look { IsLook result (λ it. IsPart (λ r. only (λ n e. nat_eq e.party party) r.rrrs) at (state S.Store conn.old).now.trees it) (state S.Store conn.old) (state S.Store conn.new) }
-    ensures unreadable { HasCleanDisk (state S.Store conn.new) → IfErr result (HoldsNone (state S.Store conn.old).now.trees) }
-    ensures mode { conn.old.in_transaction ≡ false → conn.new.in_transaction ≡ false }
-{
-    let found = find(alloc, conn, LookUp::EntriesOfParty, party, at)?;
-    Ok(part_at(alloc, found.as_slice(), at)?)
 }

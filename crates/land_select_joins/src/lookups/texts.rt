@@ -39,10 +39,6 @@ pub const ENTRIES_OF_UNIT: &str =
 pub const NAMINGS_OF_UNIT: &str =
     "SELECT mutation, unit, since, until FROM names WHERE unit = ?1 AND since <= ?2 AND ?2 < until";
 
-/// The entries whose party is a party.
-pub const ENTRIES_OF_PARTY: &str =
-    "SELECT number, unit, party, class, num, den, amount, currency, place, words, source, since, until FROM rrr WHERE party = ?1 AND since <= ?2 AND ?2 < until";
-
 /// The roles of a party.
 pub const ROLES_OF_PARTY: &str =
     "SELECT party, role, since, until FROM role WHERE party = ?1 AND since <= ?2 AND ?2 < until";
