@@ -4,7 +4,6 @@ pub mod bodies;
 pub mod contents;
 pub mod extracts;
 pub mod faults;
-pub mod outlines;
 mod reading;
 pub mod routes;
 pub mod sheets;

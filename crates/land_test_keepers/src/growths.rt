@@ -3,8 +3,8 @@
 //! and what they are told is held; how often memory is asked for is counted from outside, by `.ci/growths`.
 
 pub mod calls_read_less;
-mod marks;
-mod registers;
+pub(crate) mod marks;
+pub(crate) mod registers;
 mod shown;
 mod slices;
 pub mod texts_read_less;

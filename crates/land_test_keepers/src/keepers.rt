@@ -1,7 +1,7 @@
 //! The worked rows as bytes, over each keeper: the register in memory, the tables of sqlite read whole, and the same read by joins.
 //! What is told has to be, byte for byte, what the rows say, so that all keepers tell the same.
 
-mod keepers;
+pub(crate) mod keepers;
 mod looks;
 mod parcels;
 mod requests;

@@ -7,7 +7,7 @@ mod dice;
 mod drafts;
 mod drawn;
 mod keepers;
-mod looks;
+pub(crate) mod looks;
 mod page;
 pub mod registers;
 mod tally;

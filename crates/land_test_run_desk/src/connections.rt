@@ -3,19 +3,15 @@ use crate::conclusion::conclude;
 use land_desk::service::connections::Connections;
 use land_desk::service::serving::{ServiceFault, serve_connections};
 use land_keep::plain_keeper::PlainKeeper;
-use land_test_scenario::calls::{
-    CALLS, Call, Calls, ENROL, ENROLLED, expect_all_told, expect_told, sinks,
-};
+use land_test_scenario::calls::{CALLS, Call, Calls, expect_all_told, sinks};
 use land_test_scenario::doubles::Readings;
 use land_test_scenario::stop::{Stop, expect};
 use std::alloc::Global;
-use std::io::{Read, Write};
-use std::net::{TcpListener, TcpStream};
 use std::rt::HostRuntime;
 use std::test::Fail;
 
 /// Serves so many connections over a new register.
-fn served<L: Connections>(
+pub(crate) fn served<L: Connections>(
     alloc: Global,
     listener: &mut L,
     connections: u32,
@@ -51,34 +47,4 @@ fn a_connection_that_breaks_off_ends_alone(rt: HostRuntime) -> Result<(), Fail> 
 fn a_connection_that_cannot_be_had_is_told(rt: HostRuntime) -> Result<(), Fail> {
     let outcome = expect_served(rt.alloc(), &CALLS[..1], 2, Err(ServiceFault::Accept));
     conclude(&rt, outcome)
-}
-
-/// All that comes to a client. Want of memory may end its connection with the request unread, which resets it.
-fn told_to(client: &mut TcpStream, alloc: Global) -> Result<Vec<u8>, Stop> {
-    let mut told = Vec::new(alloc);
-    match client.read_to_end(&mut told) {
-        Ok(_) => Ok(told),
-        Err(_) => Err(Stop::Memory),
-    }
-}
-
-/// A client of this process asks, is served, and is told.
-fn exchange(rt: &HostRuntime, listener: &mut TcpListener) -> Result<(), Stop> {
-    let mut client = TcpStream::connect(rt, listener.local_addr()?)?;
-    client.write_all(ENROL)?;
-    let served = served(rt.alloc(), listener, 1)?;
-    expect(served == Ok(()), "the ending", 0)?;
-    let told = told_to(&mut client, rt.alloc())?;
-    expect_told(0, &told, ENROLLED)
-}
-
-/// The same over a port of this machine.
-fn loopback(rt: &HostRuntime) -> Result<(), Stop> {
-    let mut listener = TcpListener::bind(rt, "127.0.0.1:0")?;
-    exchange(rt, &mut listener)
-}
-
-#[test]
-fn loopback_one_process(rt: HostRuntime) -> Result<(), Fail> {
-    conclude(&rt, loopback(&rt))
 }

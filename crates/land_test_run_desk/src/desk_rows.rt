@@ -16,13 +16,13 @@ fn the_first_run(rt: HostRuntime) -> Result<(), Fail> {
 }
 
 #[test]
-fn readers_fail_at_each_place(rt: HostRuntime) -> Result<(), Fail> {
-    conclude(&rt, failures::readers_fail_at_each_place(rt.alloc()))
+fn readers_fail_at_each_byte(rt: HostRuntime) -> Result<(), Fail> {
+    conclude(&rt, failures::readers_fail_at_each_byte(rt.alloc()))
 }
 
 #[test]
-fn writers_fail_at_each_place(rt: HostRuntime) -> Result<(), Fail> {
-    conclude(&rt, failures::writers_fail_at_each_place(rt.alloc()))
+fn writers_fail_at_each_byte(rt: HostRuntime) -> Result<(), Fail> {
+    conclude(&rt, failures::writers_fail_at_each_byte(rt.alloc()))
 }
 
 #[test]

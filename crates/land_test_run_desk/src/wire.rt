@@ -1,6 +1,6 @@
 //! Routes, bodies, contents, title sheets, rows of extracts.
 use crate::conclusion::conclude;
-use land_test_desk::wire::{bodies, contents, extracts, faults, outlines, routes};
+use land_test_desk::wire::{bodies, contents, extracts, faults, routes};
 use std::test::Fail;
 
 #[test]
@@ -80,16 +80,6 @@ fn levels_are_read_up_to_127(rt: HostRuntime) -> Result<(), Fail> {
 #[test]
 fn bytes_that_are_no_text_are_130(rt: HostRuntime) -> Result<(), Fail> {
     conclude(&rt, faults::bytes_that_are_no_text_are_130(rt.alloc()))
-}
-
-#[test]
-fn outlines_of_200_points_are_read(rt: HostRuntime) -> Result<(), Fail> {
-    conclude(&rt, outlines::outlines_of_200_points_are_read(rt.alloc()))
-}
-
-#[test]
-fn a_crossed_outline_is_119(rt: HostRuntime) -> Result<(), Fail> {
-    conclude(&rt, outlines::a_crossed_outline_is_119(rt.alloc()))
 }
 
 #[test]

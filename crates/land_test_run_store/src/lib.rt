@@ -7,15 +7,21 @@
 #![tactic(auto)]
 
 #[cfg(test)]
-mod adopting;
-#[cfg(test)]
 mod calls_read_less;
 #[cfg(test)]
 mod commands;
 #[cfg(test)]
 mod conclusion;
 #[cfg(test)]
+mod damage;
+#[cfg(test)]
+mod every_growth;
+#[cfg(test)]
+mod every_stop;
+#[cfg(test)]
 mod extracts;
+#[cfg(test)]
+mod hostile;
 #[cfg(test)]
 mod joins;
 #[cfg(test)]
@@ -23,7 +29,7 @@ mod random;
 #[cfg(test)]
 mod rows;
 #[cfg(test)]
-mod stops;
+mod sights;
 #[cfg(test)]
 mod tables;
 #[cfg(test)]

@@ -19,15 +19,18 @@ pub const ENROLLED: &[u8] =
 const ENROLLED_NEXT: &[u8] =
     b"HTTP/1.1 200 OK\r\nContent-Type: application/json\r\nContent-Length: 36\r\nConnection: close\r\n\r\n{\"made\":[3],\"number\":3,\"stamp\":1001}";
 
-const CUT: &[u8] =
+/// What is told of a request that is cut.
+pub const CUT: &[u8] =
     b"HTTP/1.1 400 Bad Request\r\nContent-Type: application/json\r\nContent-Length: 13\r\nConnection: close\r\n\r\n{\"fault\":144}";
 
-/// A connection: what it brings, how often it can be read, how often it can be written to, and what is told on it.
+/// A connection: what it brings, how often it can be read, how often it can be written to, what is told on it, and whether it is ended
+/// then, or has broken off.
 pub struct Call {
     pub brings: &'static [u8],
     pub reads: u64,
     pub writes: usize,
     pub told: &'static [u8],
+    pub is_ended: bool,
 }
 
 /// A whole request, one that is cut in its head, one that breaks off in its body, one whose reply breaks off, and a whole one.
@@ -37,30 +40,35 @@ pub const CALLS: &[Call] = &[
         reads: u64::MAX,
         writes: usize::MAX,
         told: ENROLLED,
+        is_ended: true,
     },
     Call {
         brings: b"POST /acts/enrol HT",
         reads: u64::MAX,
         writes: usize::MAX,
         told: CUT,
+        is_ended: true,
     },
     Call {
         brings: ENROL,
         reads: 3,
         writes: usize::MAX,
         told: b"",
+        is_ended: false,
     },
     Call {
         brings: b"GET / HTTP/1.1\r\n\r\n",
         reads: u64::MAX,
         writes: 3,
         told: b"HTTP/1.1 ",
+        is_ended: false,
     },
     Call {
         brings: ENROL,
         reads: u64::MAX,
         writes: usize::MAX,
         told: ENROLLED_NEXT,
+        is_ended: true,
     },
 ];
 
@@ -91,6 +99,10 @@ impl<'a> Connections for Calls<'a> {
         };
         Ok((reader, sink))
     }
+
+    fn end(_reader: &mut Pieces<'static>, writer: &mut &'a mut Sink) {
+        writer.is_ended = true;
+    }
 }
 
 /// Writers for these connections.
@@ -116,10 +128,11 @@ pub fn expect_told(place: usize, taken: &[u8], wanted: &[u8]) -> Result<(), Stop
     expect(taken == wanted, "connections", place)
 }
 
-/// On each connection was told what it is to be.
+/// On each connection was told what it is to be, and those that were served are ended.
 pub fn expect_all_told(calls: &[Call], sinks: &[Sink]) -> Result<(), Stop> {
     for (place, (call, sink)) in calls.iter().zip(sinks.iter()).enumerate() {
         expect_told(place, &sink.taken, call.told)?;
+        expect(sink.is_ended == call.is_ended, "the end", place)?;
     }
     Ok(())
 }

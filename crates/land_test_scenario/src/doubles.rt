@@ -25,12 +25,15 @@ impl Read for Pieces<'_> {
     }
 }
 
-/// A writer that takes at most 3 bytes at a time, `writes` times, and then fails or takes none.
+/// A writer that takes at most `piece` bytes at a time, `writes` times, and then fails or takes none. It knows whether its connection was
+/// ended.
 #[derive(Drop)]
 pub struct Sink {
     pub taken: Vec<u8>,
+    pub piece: usize,
     pub writes: usize,
     pub fails: bool,
+    pub is_ended: bool,
 }
 
 impl Write for Sink {
@@ -42,7 +45,7 @@ impl Write for Sink {
             return Ok(0);
         }
         self.writes -= 1;
-        let count = buf.len().min(3);
+        let count = self.piece.min(buf.len());
         self.taken.extend_from_slice(&buf[..count])?;
         Ok(count)
     }

@@ -1,4 +1,4 @@
-//! The first step of the scenario, as it is asked.
+//! The first step of the scenario, as it is asked, and its bytes.
 use land_core::act::{Act, Enrol};
 use land_core::ask::{Ask, Request};
 use land_core::caller::Caller;
@@ -15,6 +15,14 @@ const OFFICE: Caller = Caller {
     party: 1,
     role: Role::StateAdministrator,
 };
+
+/// The bytes that ask for it.
+pub const ENROL_ANNA: &[u8] =
+    b"POST /acts/enrol HTTP/1.1\r\nRegister-Party: 1\r\nRegister-Role: stateAdministrator\r\nContent-Length: 38\r\n\r\n{\"kind\":\"naturalPerson\",\"name\":\"Anna\"}";
+
+/// The bytes that tell of it.
+pub const ANNA_IS_ENROLLED: &[u8] =
+    b"HTTP/1.1 200 OK\r\nContent-Type: application/json\r\nContent-Length: 36\r\n\r\n{\"made\":[2],\"number\":2,\"stamp\":1000}";
 
 /// The office enrols Anna.
 pub fn first_request(alloc: Global) -> Result<Request, AllocError> {

@@ -29,7 +29,7 @@ fn begins_with_no_room(rest: &[u8], head: &[u8]) -> bool {
 }
 
 /// Whether serving came to an end for want of memory, or the first reply that is not as it was to be tells of it.
-fn is_want_of_memory(served: &Result<Served, DeskFault>, taken: &[u8], wanted: &[u8]) -> bool {
+pub fn is_want_of_memory(served: &Result<Served, DeskFault>, taken: &[u8], wanted: &[u8]) -> bool {
     if *served == Err(DeskFault::NoMemory) {
         return true;
     }
@@ -41,12 +41,14 @@ fn is_want_of_memory(served: &Result<Served, DeskFault>, taken: &[u8], wanted: &
     begins_with_no_room(rest, NO_ROOM) || begins_with_no_room(rest, LAST_NO_ROOM)
 }
 
-/// A writer that takes all it is given, and has room for a reply more than is wanted.
+/// A writer that takes all it is given, three bytes at a time, and has room for a reply more than is wanted.
 pub fn open_sink(alloc: Global, wanted: usize) -> Result<Sink, AllocError> {
     Ok(Sink {
         taken: Vec::with_capacity(alloc, wanted.saturating_add(2048))?,
+        piece: 3,
         writes: usize::MAX,
         fails: false,
+        is_ended: false,
     })
 }
 

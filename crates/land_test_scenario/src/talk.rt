@@ -107,6 +107,11 @@ impl Talk {
     pub fn ask(&mut self, name: &'static str, place: usize, row: &Row) -> Result<(), AllocError> {
         self.push_request(row.0, row.1, row.2)?;
         self.tell(row.3, false)?;
+        self.mark(name, place)
+    }
+
+    /// What was asked and told since the row before is a row.
+    pub fn mark(&mut self, name: &'static str, place: usize) -> Result<(), AllocError> {
         self.marks.push(Mark {
             name,
             place,
@@ -116,7 +121,13 @@ impl Talk {
         Ok(())
     }
 
-    fn push_request(&mut self, line: &str, fields: &str, body: &[u8]) -> Result<(), AllocError> {
+    /// A request comes next: its line without the version, the fields of its caller, its body.
+    pub fn push_request(
+        &mut self,
+        line: &str,
+        fields: &str,
+        body: &[u8],
+    ) -> Result<(), AllocError> {
         let length = body.len();
         self.line.clear();
         write!(

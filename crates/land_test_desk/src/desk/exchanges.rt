@@ -1,18 +1,11 @@
 //! Requests and replies as bytes, over a new register.
 use crate::desk::office::is_answered;
+use land_test_scenario::first::{ANNA_IS_ENROLLED, ENROL_ANNA};
 use land_test_scenario::stop::{Stop, expect};
 use std::alloc::Global;
 
 /// How many items are answered, the input, and the output.
 struct Exchange(u64, &'static [u8], &'static [u8]);
-
-/// The request that enrols Anna.
-const ENROL_ANNA: &[u8] =
-    b"POST /acts/enrol HTTP/1.1\r\nRegister-Party: 1\r\nRegister-Role: stateAdministrator\r\nContent-Length: 38\r\n\r\n{\"kind\":\"naturalPerson\",\"name\":\"Anna\"}";
-
-/// The reply to it.
-const ANNA_IS_ENROLLED: &[u8] =
-    b"HTTP/1.1 200 OK\r\nContent-Type: application/json\r\nContent-Length: 36\r\n\r\n{\"made\":[2],\"number\":2,\"stamp\":1000}";
 
 /// The reply to the office that lists the parties of a new register.
 const LISTED: &[u8] =
@@ -36,11 +29,6 @@ const EXCHANGES: &[Exchange] = &[
         2,
         b"POST /acts/enrol HTTP/1.1\r\nRegister-Party: 1\r\nRegister-Role: stateAdministrator\r\nContent-Length: 38\r\n\r\n{\"kind\":\"naturalPerson\",\"name\":\"Anna\"}POST /acts/enrol HTTP/1.1\r\nRegister-Party: 1\r\nRegister-Role: stateAdministrator\r\nContent-Length: 38\r\n\r\n{\"kind\":\"naturalPerson\",\"name\":\"Anna\"",
         b"HTTP/1.1 200 OK\r\nContent-Type: application/json\r\nContent-Length: 36\r\n\r\n{\"made\":[2],\"number\":2,\"stamp\":1000}HTTP/1.1 400 Bad Request\r\nContent-Type: application/json\r\nContent-Length: 13\r\nConnection: close\r\n\r\n{\"fault\":144}",
-    ),
-    Exchange(
-        1,
-        b"POST /acts/enrol HTTP/1.1\r\nRegister-Party: 1\r\nRegister-Role: stateAdministrator\r\nContent-Length: 38\r\n\r\n{\"kind\":\"naturalPerson\",\"name\":\"Anna\"",
-        b"HTTP/1.1 400 Bad Request\r\nContent-Type: application/json\r\nContent-Length: 13\r\nConnection: close\r\n\r\n{\"fault\":144}",
     ),
     // An empty line after the last body is the beginning of a request.
     Exchange(
@@ -148,11 +136,11 @@ pub fn requests_and_replies_as_bytes(alloc: Global) -> Result<(), Stop> {
     Ok(())
 }
 
-/// The first enrolment, which is the same however its bytes come.
+/// The first enrolment, which is the same in whatever pieces its bytes come.
 pub fn the_first_run(alloc: Global) -> Result<(), Stop> {
     let lengths = (ENROL_ANNA.len(), ANNA_IS_ENROLLED.len());
     expect(lengths == (141, 107), "lengths", 0)?;
-    for piece in [1, 2, 104, 141] {
+    for piece in 1..=ENROL_ANNA.len() {
         let is_answered = is_answered(alloc, ENROL_ANNA, piece, 1, ANNA_IS_ENROLLED)?;
         expect(is_answered, "in pieces of", piece)?;
     }

@@ -1,4 +1,4 @@
-//! Readers and writers that fail at each place of a small stream.
+//! Readers and writers that fail at each byte of a small stream.
 use crate::desk::office::{Office, common, is_want_of_memory, open_sink};
 use land_desk::serve::{DeskFault, Served};
 use land_keep::keeper::Keeper;
@@ -42,12 +42,12 @@ struct Left {
     last: i64,
 }
 
-/// Serves the rows, which come in pieces of 7 bytes, of which so many can be read.
+/// Serves the rows, which come one byte at a time, of which so many can be read.
 fn serve_rows(alloc: Global, talk: &Talk, reads: u64, sink: &mut Sink) -> Result<Left, Stop> {
     let mut office = Office::new(alloc, &[])?;
     let reader = Pieces {
         left: talk.input.as_slice(),
-        piece: 7,
+        piece: 1,
         reads,
     };
     let served = office.serve(alloc, reader, sink);
@@ -73,10 +73,10 @@ fn end_of(talk: &Talk, rows: usize) -> usize {
     }
 }
 
-/// Whether a reader that fails after so many pieces leaves what was read whole answered and done, and nothing else.
-fn is_unread(alloc: Global, talk: &Talk, reads: u64, bytes: usize) -> Result<bool, Stop> {
+/// Whether a reader that fails after so many bytes leaves what was read whole answered and done, and nothing else.
+fn is_unread(alloc: Global, talk: &Talk, bytes: usize) -> Result<bool, Stop> {
     let mut sink = open_sink(alloc, talk.output.len())?;
-    let left = serve_rows(alloc, talk, reads, &mut sink)?;
+    let left = serve_rows(alloc, talk, bytes as u64, &mut sink)?;
     let rows = rows_within(talk, bytes);
     let answered = end_of(talk, rows);
     Ok(
@@ -87,37 +87,23 @@ fn is_unread(alloc: Global, talk: &Talk, reads: u64, bytes: usize) -> Result<boo
     )
 }
 
-/// A reader may fail at each place of the stream.
-pub fn readers_fail_at_each_place(alloc: Global) -> Result<(), Stop> {
+/// A reader may fail after each byte of the stream, the last one too: what was read whole is answered and done.
+pub fn readers_fail_at_each_byte(alloc: Global) -> Result<(), Stop> {
     let mut talk = Talk::new(alloc)?;
     talk.ask_all("rows", ROWS)?;
-    expect_unread(alloc, &talk)
-}
-
-/// Readers that fail at each place in turn leave what was read whole answered and done. One read more, or two, which find the end, are
-/// none too few.
-fn expect_unread(alloc: Global, talk: &Talk) -> Result<(), Stop> {
-    let mut bytes: usize = 0;
-    for reads in 0..100 {
-        expect(is_unread(alloc, talk, reads, bytes)?, "read", bytes)?;
-        if bytes == talk.input.len() {
-            return Ok(());
-        }
-        bytes = bytes.saturating_add(7).min(talk.input.len());
+    for bytes in 0..=talk.input.len() {
+        expect(is_unread(alloc, &talk, bytes)?, "read", bytes)?;
     }
-    Err(Stop::Unlike("the end of the stream", bytes))
+    Ok(())
 }
 
-/// Whether a writer that takes three bytes so many times has them and no others, and what was begun to be told stands;
-/// nothing where it takes everything.
-fn is_unwritten(alloc: Global, talk: &Talk, writes: usize) -> Result<Option<bool>, Stop> {
+/// Whether a writer that takes so many bytes, one at a time, has them and no others, and what was begun to be told stands.
+fn is_unwritten(alloc: Global, talk: &Talk, bytes: usize, fails: bool) -> Result<bool, Stop> {
     let mut sink = open_sink(alloc, talk.output.len())?;
-    sink.writes = writes;
-    sink.fails = writes % 2 == 0;
+    sink.piece = 1;
+    sink.writes = bytes;
+    sink.fails = fails;
     let left = serve_rows(alloc, talk, u64::MAX, &mut sink)?;
-    if sink.taken.len() == talk.output.len() {
-        return Ok(None);
-    }
     let whole = talk
         .marks
         .iter()
@@ -127,29 +113,24 @@ fn is_unwritten(alloc: Global, talk: &Talk, writes: usize) -> Result<Option<bool
     if left.last < last_after(whole.saturating_add(1)) {
         return Err(Stop::Memory);
     }
-    Ok(Some(
+    Ok(
         left.served == Err(DeskFault::Write)
             && left.last == last_after(whole.saturating_add(1))
-            && common(&sink.taken, talk.output.as_bytes()) == sink.taken.len(),
-    ))
+            && sink.taken.len() == bytes
+            && common(&sink.taken, talk.output.as_bytes()) == bytes,
+    )
 }
 
-/// Writers that fail at each place in turn have what was told before.
-fn expect_unwritten(alloc: Global, talk: &Talk) -> Result<(), Stop> {
-    for writes in 0..1000 {
-        match is_unwritten(alloc, talk, writes)? {
-            Some(is) => expect(is, "write", writes)?,
-            None => return Ok(()),
-        }
-    }
-    Err(Stop::Unlike("the end of the stream", 1000))
-}
-
-/// A writer may fail at each place of what is told.
-pub fn writers_fail_at_each_place(alloc: Global) -> Result<(), Stop> {
+/// A writer may fail, or take nothing, after each byte of what is told but the last: it has what was told before.
+pub fn writers_fail_at_each_byte(alloc: Global) -> Result<(), Stop> {
     let mut talk = Talk::new(alloc)?;
     talk.ask_all("rows", ROWS)?;
-    expect_unwritten(alloc, &talk)
+    for bytes in 0..talk.output.len() {
+        for fails in [false, true] {
+            expect(is_unwritten(alloc, &talk, bytes, fails)?, "write", bytes)?;
+        }
+    }
+    Ok(())
 }
 
 /// How often a writer takes three bytes of eight, and what comes of it.
@@ -180,8 +161,10 @@ const SENDINGS: &[Sending] = &[
 fn is_sent(alloc: Global, row: &Sending, fails: bool) -> Result<bool, Stop> {
     let mut sink = Sink {
         taken: Vec::with_capacity(alloc, 8)?,
+        piece: 3,
         writes: row.writes,
         fails,
+        is_ended: false,
     };
     Ok(
         send(&mut sink, b"abcdefgh") == row.sent

@@ -5,7 +5,7 @@ use crate::desk::long_requests::joined;
 use crate::desk::office::is_told;
 use httparse::spans::{EMPTY_HEADER_SPAN, HeaderSpan, RequestSpans};
 use land_streams::buffer::drop_front;
-use land_streams::counted_reader::{CountedReader, MOST_READS};
+use land_streams::counted_reader::CountedReader;
 use land_streams::stream_fault::StreamFault;
 use land_test_scenario::doubles::Pieces;
 use land_test_scenario::stop::{Stop, expect};
@@ -15,6 +15,7 @@ use land_wire::framing::head::FIELD_ROOM;
 use land_wire::framing::item::{Front, read_item};
 use land_wire::framing::listing::item_count;
 use std::alloc::{AllocError, Global};
+use std::io::Read;
 
 /// A whole request, as it is told from its bytes.
 struct Request {
@@ -552,44 +553,39 @@ const LONG: &[LongStream] = &[
     },
 ];
 
-/// A stream that is read, with what was read ahead.
+/// What was read ahead of a stream.
 #[derive(Drop)]
-struct Reading<'a> {
-    reader: CountedReader<Pieces<'a>>,
+struct Reading {
     headers: Vec<HeaderSpan>,
     buffer: Vec<u8>,
 }
 
-impl Reading<'_> {
-    /// A stream that comes in pieces, and may be asked for so many.
-    fn new(
-        alloc: Global,
-        left: &[u8],
-        piece: usize,
-        budget: u64,
-    ) -> Result<Reading<'_>, AllocError> {
-        let reads = u64::MAX;
+impl Reading {
+    fn new(alloc: Global) -> Result<Reading, AllocError> {
         Ok(Reading {
-            reader: CountedReader::with_budget(Pieces { left, piece, reads }, budget),
             headers: vec![in alloc; EMPTY_HEADER_SPAN; FIELD_ROOM]?,
             buffer: Vec::new(alloc),
         })
     }
 
     /// Reads the item at the front, and drops nothing.
-    fn front(&mut self) -> Result<Front, StreamFault> {
+    fn front<R: Read>(&mut self, reader: &mut CountedReader<'_, R>) -> Result<Front, StreamFault> {
         if self.headers.len() < FIELD_ROOM {
             return Err(StreamFault::NoMemory);
         }
-        read_item(&mut self.reader, &mut self.buffer, &mut self.headers)
+        read_item(reader, &mut self.buffer, &mut self.headers)
     }
 
     /// Whether this stands at the front. A request is dropped.
-    fn is_next(&mut self, item: &Item) -> Result<bool, Stop> {
+    fn is_next<R: Read>(
+        &mut self,
+        reader: &mut CountedReader<'_, R>,
+        item: &Item,
+    ) -> Result<bool, Stop> {
         if self.headers.len() < FIELD_ROOM {
             return Err(Stop::Call);
         }
-        match read_item(&mut self.reader, &mut self.buffer, &mut self.headers) {
+        match read_item(reader, &mut self.buffer, &mut self.headers) {
             Err(StreamFault::NoMemory) => Err(Stop::Memory),
             Err(StreamFault::Read) => Ok(false),
             Ok(Front::End) => Ok(matches!(item, Item::End)),
@@ -601,6 +597,12 @@ impl Reading<'_> {
             }
         }
     }
+}
+
+/// A reader of a stream in pieces of such a size, which does not fail.
+fn whole(left: &[u8], piece: usize) -> Pieces<'_> {
+    let reads = u64::MAX;
+    Pieces { left, piece, reads }
 }
 
 fn is_fault(item: &Item, number: u16) -> bool {
@@ -634,9 +636,11 @@ fn is_request(
 
 /// Whether the stream has these items, in pieces of such a size.
 fn has_items(alloc: Global, bytes: &[u8], piece: usize, items: &[Item]) -> Result<bool, Stop> {
-    let mut stream = Reading::new(alloc, bytes, piece, MOST_READS)?;
+    let mut pieces = whole(bytes, piece);
+    let mut reader = CountedReader::new(&mut pieces);
+    let mut stream = Reading::new(alloc)?;
     for item in items {
-        if !stream.is_next(item)? {
+        if !stream.is_next(&mut reader, item)? {
             return Ok(false);
         }
     }
@@ -716,8 +720,10 @@ pub fn streams_have_their_items(alloc: Global) -> Result<(), Stop> {
 /// Whether a stream that may be asked for so many pieces of ten bytes ends in a failed read, and what was read is kept.
 fn is_unread(alloc: Global, budget: u64) -> Result<bool, Stop> {
     let left = b"POST / HTTP/1.1\r\nContent-Length: 5\r\n\r\nhello".as_slice();
-    let mut stream = Reading::new(alloc, left, 10, budget)?;
-    match stream.front() {
+    let mut pieces = whole(left, 10);
+    let mut reader = CountedReader::with_budget(&mut pieces, budget);
+    let mut stream = Reading::new(alloc)?;
+    match stream.front(&mut reader) {
         Err(StreamFault::NoMemory) => Err(Stop::Memory),
         Err(StreamFault::Read) => Ok(
             left.starts_with(stream.buffer.as_slice())
@@ -730,13 +736,14 @@ fn is_unread(alloc: Global, budget: u64) -> Result<bool, Stop> {
 /// Whether a reader that fails after so many pieces of ten bytes ends in a failed read.
 fn is_failed(alloc: Global, reads: u64) -> Result<bool, Stop> {
     let left = b"POST / HTTP/1.1\r\nContent-Length: 5\r\n\r\nhello".as_slice();
-    let mut stream = Reading::new(alloc, left, 10, MOST_READS)?;
-    stream.reader = CountedReader::new(Pieces {
+    let mut pieces = Pieces {
         left,
         piece: 10,
         reads,
-    });
-    match stream.front() {
+    };
+    let mut reader = CountedReader::new(&mut pieces);
+    let mut stream = Reading::new(alloc)?;
+    match stream.front(&mut reader) {
         Err(StreamFault::NoMemory) => Err(Stop::Memory),
         Err(StreamFault::Read) => Ok(true),
         Ok(_) => Ok(false),
@@ -757,8 +764,14 @@ const TWO: &[u8] = b"GET / HTTP/1.1\r\n\r\nGET / HTTP/1.1\r\n\r\n";
 
 /// Whether both requests of one piece are found by one read, and the end by a second one alone.
 fn is_asked_once(alloc: Global) -> Result<bool, Stop> {
-    let mut stream = Reading::new(alloc, TWO, 4096, 1)?;
-    Ok(stream.is_next(&GET)? && stream.is_next(&GET)? && !stream.is_next(&Item::End)?)
+    let mut pieces = whole(TWO, 4096);
+    let mut reader = CountedReader::with_budget(&mut pieces, 1);
+    let mut stream = Reading::new(alloc)?;
+    Ok(
+        stream.is_next(&mut reader, &GET)?
+            && stream.is_next(&mut reader, &GET)?
+            && !stream.is_next(&mut reader, &Item::End)?,
+    )
 }
 
 /// What was read ahead is not read again.

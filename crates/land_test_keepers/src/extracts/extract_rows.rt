@@ -1,4 +1,5 @@
 //! The rows of extracts.
+use crate::each::new_tables;
 use crate::extracts::page::Page;
 use crate::extracts::texts;
 use land_core::caller::Caller;
@@ -9,10 +10,8 @@ use land_keep::store_fault::StoreFault;
 use land_select::sql_keeper::SqlKeeper;
 use land_sheet::extracts::extract::extract_to;
 use land_sheet::extracts::fault::ExtractFault;
-use land_tables::tables::Tables;
 use land_test_scenario::playing::{plain, play_steps};
 use land_test_scenario::stop::{Stop, expect};
-use sqlite::{Connection, MemStore};
 use std::alloc::Global;
 
 /// An extract: who asks in which role, the kind, the moment, what is told, and the bytes that are then written.
@@ -204,14 +203,6 @@ pub fn extract_rows(alloc: Global) -> Result<(), Stop> {
     let mut keeper = plain(alloc)?;
     compare_all(alloc, &mut keeper)?;
     compare_cuts(alloc, &mut keeper)
-}
-
-/// The tables of a new register.
-pub fn new_tables(alloc: Global) -> Result<Tables<MemStore>, Stop> {
-    match Tables::create(Connection::open_in_memory(alloc)?) {
-        Ok(tables) => Ok(tables),
-        Err((_, fault)) => Err(Stop::from(fault)),
-    }
 }
 
 /// Over the keeper of joins.

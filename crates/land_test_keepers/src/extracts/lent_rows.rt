@@ -1,5 +1,5 @@
 //! Rows that are lent one at a time.
-use crate::extracts::extract_rows::new_tables;
+use crate::each::new_tables;
 use land_core::caller::Caller;
 use land_core::kind::Kind;
 use land_core::object::Object;

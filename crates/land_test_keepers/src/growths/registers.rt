@@ -1,4 +1,5 @@
 //! The registers over which calls are counted.
+use crate::each::new_tables;
 use land_core::ask::Request;
 use land_keep::keeper::Keeper;
 use land_keep::machine::answer;
@@ -8,19 +9,11 @@ use land_tables::tables::Tables;
 use land_test_scenario::first::first_request;
 use land_test_scenario::playing::play_steps;
 use land_test_scenario::stop::Stop;
-use sqlite::{Connection, MemStore};
+use sqlite::MemStore;
 use std::alloc::Global;
 
 /// How many parties are enrolled after the scenario.
 const NEIGHBOURS: usize = 300;
-
-/// The tables of a new register.
-pub fn new_tables(alloc: Global) -> Result<Tables<MemStore>, Stop> {
-    match Tables::create(Connection::open_in_memory(alloc)?) {
-        Ok(tables) => Ok(tables),
-        Err((_, fault)) => Err(Stop::from(fault)),
-    }
-}
 
 /// The store fault that the caller of an enrolment is told, 0 where somebody is enrolled, 1 where anything else is told.
 fn fault_of<K: Keeper>(alloc: Global, keeper: &mut K, request: &Request) -> u16 {

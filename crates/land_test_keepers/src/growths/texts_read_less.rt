@@ -1,6 +1,6 @@
 //! The texts of lists read less than whole tables: lists after the scenario, over tables and over joins.
+use crate::each::new_tables;
 use crate::growths::marks::{mark, mark_end};
-use crate::growths::registers::new_tables;
 use land_core::caller::Caller;
 use land_core::kind::Kind;
 use land_core::role::Role;
@@ -14,7 +14,7 @@ use std::alloc::Global;
 /// A list that is asked for: its name, who asks, in which role, for which kind, and what is told.
 struct List(&'static str, u64, Role, Kind, &'static [u64]);
 
-/// The parcels in each role, and each kind as notary.
+/// The parcels in each role, each kind as notary, and kinds more as bank and conveyancer.
 const LISTS: &[List] = &[
     List(
         "parcels, citizen",
@@ -75,6 +75,27 @@ const LISTS: &[List] = &[
         Kind::Mutation,
         &[15, 18, 20, 23],
     ),
+    List(
+        "rrrs, bank",
+        4,
+        Role::Bank,
+        Kind::Rrr,
+        &[13, 16, 21, 27, 28, 29],
+    ),
+    List(
+        "parties, conveyancer",
+        5,
+        Role::Conveyancer,
+        Kind::Party,
+        &[5],
+    ),
+    List(
+        "mutations, conveyancer",
+        5,
+        Role::Conveyancer,
+        Kind::Mutation,
+        &[18, 20],
+    ),
 ];
 
 /// The moment of the last step.
@@ -90,9 +111,13 @@ fn is_told<K: Keeper>(alloc: Global, keeper: &mut K, list: &List) -> Result<bool
     Ok(numbers.as_slice() == list.4)
 }
 
-/// Plays the scenario, and then asks for each list. A line comes before each, and one after the last.
+/// Plays the scenario, and asks for each list twice: once, by which its texts are planned, and then with a line before it. One line
+/// comes after the last.
 fn are_told<K: Keeper>(rt: &impl Print, alloc: Global, keeper: &mut K) -> Result<(), Stop> {
     play_steps(alloc, keeper)?;
+    for (place, list) in LISTS.iter().enumerate() {
+        expect(is_told(alloc, keeper, list)?, list.0, place)?;
+    }
     for (place, list) in LISTS.iter().enumerate() {
         mark(rt, list.0)?;
         expect(is_told(alloc, keeper, list)?, list.0, place)?;

@@ -1,43 +1,25 @@
 //! A talk over each keeper.
-use land_keep::plain_keeper::PlainKeeper;
-use land_select::sql_keeper::SqlKeeper;
-use land_tables::table_keeper::TableKeeper;
-use land_tables::tables::Tables;
+use crate::each::{Trial, over_each};
+use land_keep::keeper::Keeper;
 use land_test_scenario::playing::play;
 use land_test_scenario::stop::Stop;
 use land_test_scenario::talk::Talk;
-use sqlite::{Connection, MemStore};
 use std::alloc::Global;
 
-/// The tables of a new register.
-fn new_tables(alloc: Global) -> Result<Tables<MemStore>, Stop> {
-    match Tables::create(Connection::open_in_memory(alloc)?) {
-        Ok(tables) => Ok(tables),
-        Err((_, fault)) => Err(Stop::from(fault)),
+/// A talk, and the moments that the clock reads in turn for it before it reads 1000 each time.
+#[derive(Clone, Copy)]
+struct Played<'a> {
+    clock: &'static [i64],
+    talk: &'a Talk,
+}
+
+impl Trial for Played<'_> {
+    fn run<K: Keeper>(&self, alloc: Global, keeper: &mut K) -> Result<(), Stop> {
+        play(alloc, keeper, self.clock, self.talk)
     }
-}
-
-/// Plays a talk over a new register in memory, where the clock reads these moments in turn and then 1000 each time.
-fn play_over_memory(alloc: Global, clock: &'static [i64], talk: &Talk) -> Result<(), Stop> {
-    let mut keeper = PlainKeeper::new(alloc)?;
-    play(alloc, &mut keeper, clock, talk)
-}
-
-/// The same over the tables of a new register, read whole.
-fn play_over_tables(alloc: Global, clock: &'static [i64], talk: &Talk) -> Result<(), Stop> {
-    let mut keeper = TableKeeper::new(new_tables(alloc)?);
-    play(alloc, &mut keeper, clock, talk)
-}
-
-/// The same over the tables of a new register, read by joins.
-fn play_over_joins(alloc: Global, clock: &'static [i64], talk: &Talk) -> Result<(), Stop> {
-    let mut keeper = SqlKeeper::new(new_tables(alloc)?);
-    play(alloc, &mut keeper, clock, talk)
 }
 
 /// Plays a talk over each keeper: all reply as it says, byte for byte.
 pub fn play_over_each(alloc: Global, clock: &'static [i64], talk: &Talk) -> Result<(), Stop> {
-    play_over_memory(alloc, clock, talk)?;
-    play_over_tables(alloc, clock, talk)?;
-    play_over_joins(alloc, clock, talk)
+    over_each(alloc, &Played { clock, talk })
 }

@@ -28,13 +28,8 @@ const END_OF_HEAD: &[u8] = b"\r\n\r\n";
 /// This is told of what the input has had since the row before.
 fn tell_next(talk: &mut Talk, told: Told, ends: bool) -> Result<(), AllocError> {
     talk.tell(told, ends)?;
-    if let Some(mark) = talk.marks.last() {
-        let mut next = *mark;
-        next.asked = talk.input.len();
-        next.told = talk.output.len();
-        talk.marks.push(next)?;
-    }
-    Ok(())
+    let place = talk.marks.len();
+    talk.mark(NAME, place)
 }
 
 /// A head of so many bytes comes next, which lists the parties.

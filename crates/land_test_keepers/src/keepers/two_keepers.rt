@@ -115,9 +115,8 @@ pub fn the_scenario_with_what_is_told_beside_its_last_steps(alloc: Global) -> Re
     are_told_beside(alloc, LAST_LOOKS)
 }
 
-/// A stream that ends within a request, one that has no byte, and heads at their limit.
+/// A stream that ends within its second request, and heads at their limit.
 pub fn streams_end_where_they_are_cut(alloc: Global) -> Result<(), Stop> {
-    play_over_each(alloc, &[], &Talk::new(alloc)?)?;
     play_over_each(alloc, &[], &cut_in_a_body(alloc)?)?;
     play_over_each(alloc, &[], &heads_at_their_limit(alloc)?)
 }

@@ -1,12 +1,12 @@
 //! The three keepers of one register.
+use crate::each::new_tables;
 use crate::random::page::{Page, tell};
 use land_keep::plain_keeper::PlainKeeper;
 use land_select::sql_keeper::SqlKeeper;
 use land_tables::table_keeper::TableKeeper;
-use land_tables::tables::Tables;
 use land_test_scenario::playing::play_steps;
 use land_test_scenario::stop::{Stop, expect};
-use sqlite::{Connection, MemStore};
+use sqlite::MemStore;
 use std::alloc::Global;
 
 /// A register in memory, in the tables of sqlite read whole, and in others read by joins.
@@ -17,14 +17,6 @@ pub struct Keepers {
     pub joins: SqlKeeper<MemStore>,
     /// How many lists were compared.
     pub lists: usize,
-}
-
-/// The tables of a new register.
-fn new_tables(alloc: Global) -> Result<Tables<MemStore>, Stop> {
-    match Tables::create(Connection::open_in_memory(alloc)?) {
-        Ok(tables) => Ok(tables),
-        Err((_, fault)) => Err(Stop::from(fault)),
-    }
 }
 
 impl Keepers {

@@ -3,9 +3,10 @@ use crate::random::dice::Dice;
 use crate::random::drafts::{ANYBODY, DRAFTS, Draft, THROWS};
 use crate::random::drawn::Drawn;
 use crate::random::tally::Tally;
-use land_desk::serve::{DeskFault, serve};
+use crate::serving::serve_stream;
+use land_desk::serve::DeskFault;
 use land_keep::keeper::Keeper;
-use land_test_scenario::doubles::{Pieces, Readings, Sink};
+use land_test_scenario::doubles::Sink;
 use land_test_scenario::playing::open_sink;
 use land_test_scenario::stop::{Stop, expect};
 use std::alloc::{AllocError, Global};
@@ -94,14 +95,7 @@ pub fn tell<K: Keeper>(
     request: &str,
     told: &mut Sink,
 ) -> Result<(), Stop> {
-    told.taken.clear();
-    let mut reader = Pieces {
-        left: request.as_bytes(),
-        piece: 4096,
-        reads: u64::MAX,
-    };
-    let mut clock = Readings { left: &[] };
-    match serve(alloc, &mut reader, told, keeper, &mut clock) {
+    match serve_stream(alloc, keeper, request.as_bytes(), told) {
         Ok(served) => expect(served.replies == 1, "replies", 0)?,
         Err(DeskFault::NoMemory) => return Err(Stop::Memory),
         Err(_) => return Err(Stop::Call),

@@ -1,14 +1,14 @@
 //! Stores that are taken for a register's, and damaged ones that are not.
 use crate::conclusion::conclude;
-use land_test_tables::adopting;
+use land_test_tables::damage;
 use std::test::Fail;
 
 #[test]
 fn damaged_tables_have_their_faults(rt: HostRuntime) -> Result<(), Fail> {
-    conclude(&rt, adopting::damaged_tables_have_their_faults(rt.alloc()))
+    conclude(&rt, damage::damaged_tables_have_their_faults(rt.alloc()))
 }
 
 #[test]
 fn stores_of_others_are_520(rt: HostRuntime) -> Result<(), Fail> {
-    conclude(&rt, adopting::stores_of_others_are_520(rt.alloc()))
+    conclude(&rt, damage::stores_of_others_are_520(rt.alloc()))
 }

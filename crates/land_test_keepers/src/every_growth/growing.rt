@@ -1,0 +1,102 @@
+//! A request of which a growth may be refused.
+use crate::growths::marks::{mark, mark_end};
+use crate::serving::serve_stream;
+use land_desk::serve::{DeskFault, Served};
+use land_keep::keeper::Keeper;
+use land_test_scenario::doubles::Sink;
+use land_test_scenario::playing::{open_sink, play};
+use land_test_scenario::scenario::{MORE, STEPS};
+use land_test_scenario::stop::{Stop, expect};
+use land_test_scenario::talk::{Row, Talk};
+use std::alloc::{AllocError, Global};
+
+/// The reply that tells of want of memory. The connection goes on.
+const NO_ROOM: &[u8] =
+    b"HTTP/1.1 503 Service Unavailable\r\nContent-Type: application/json\r\nContent-Length: 13\r\n\r\n{\"store\":501}";
+
+/// A step of the scenario, or of what comes after it.
+fn step(place: usize) -> Option<&'static Row> {
+    match place.checked_sub(STEPS.len()) {
+        None => STEPS.get(place),
+        Some(later) => MORE.get(later),
+    }
+}
+
+/// Some steps, as requests.
+fn some_steps(alloc: Global, first: usize, end: usize) -> Result<Talk, AllocError> {
+    let mut talk = Talk::new(alloc)?;
+    for place in first..end {
+        if let Some(step) = step(place) {
+            talk.ask("a step", place, step)?;
+        }
+    }
+    Ok(talk)
+}
+
+/// Plays some steps.
+fn play_steps<K: Keeper>(
+    alloc: Global,
+    keeper: &mut K,
+    first: usize,
+    end: usize,
+) -> Result<(), Stop> {
+    let talk = some_steps(alloc, first, end)?;
+    play(alloc, keeper, &[], &talk)
+}
+
+/// Whether a reply was the only one, after which memory may have been wanted for more input.
+fn ended(served: &Result<Served, DeskFault>) -> bool {
+    *served == Ok(Served { replies: 1 }) || *served == Err(DeskFault::NoMemory)
+}
+
+/// Whether the request got its own reply; an error where anything but want of memory was told.
+fn got_its_own(
+    talk: &Talk,
+    served: &Result<Served, DeskFault>,
+    taken: &[u8],
+) -> Result<bool, Stop> {
+    if taken == talk.output.as_bytes() && ended(served) {
+        return Ok(true);
+    }
+    let is_told = taken == NO_ROOM && ended(served);
+    let is_cut = taken.is_empty() && *served == Err(DeskFault::NoMemory);
+    expect(
+        is_told || is_cut,
+        "its own reply, or none for want of memory",
+        0,
+    )?;
+    Ok(false)
+}
+
+/// Asks a step, between two lines: whether it got its own reply.
+fn asked<K: Keeper>(
+    rt: &impl Print,
+    alloc: Global,
+    keeper: &mut K,
+    place: usize,
+) -> Result<bool, Stop> {
+    let talk = some_steps(alloc, place, place.saturating_add(1))?;
+    let mut told = open_sink(alloc, talk.output.len())?;
+    mark(rt, "a request")?;
+    let served = serve_stream(alloc, keeper, &talk.input, &mut told);
+    mark_end(rt)?;
+    got_its_own(&talk, &served, &told.taken)
+}
+
+/// A step after those before it. Where it has not got its own reply, the last stamp is what it was, and it is asked again. The step after it
+/// then gets its own reply, whose numbers and stamp follow.
+pub fn is_asked<K: Keeper>(
+    rt: &impl Print,
+    alloc: Global,
+    keeper: &mut K,
+    place: usize,
+) -> Result<(), Stop> {
+    let next = place.saturating_add(1);
+    play_steps(alloc, keeper, 0, place)?;
+    let last = keeper.last();
+    if asked(rt, alloc, keeper, place)? {
+        return play_steps(alloc, keeper, next, next.saturating_add(1));
+    }
+    expect(keeper.last() == last, "the last stamp", place)?;
+    play_steps(alloc, keeper, place, next.saturating_add(1))
+}

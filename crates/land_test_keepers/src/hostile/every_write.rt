@@ -1,0 +1,55 @@
+//! The first enrolment, whose writer fails after each byte of its reply.
+use crate::each::{Trial, over_each};
+use crate::hostile::stream::Stream;
+use land_core::kind::Kind;
+use land_core::object::Object;
+use land_desk::serve::DeskFault;
+use land_keep::keeper::Keeper;
+use land_test_scenario::first::{ANNA_IS_ENROLLED, ENROL_ANNA};
+use land_test_scenario::stop::{Stop, expect};
+use std::alloc::Global;
+
+/// The writer fails after so many bytes: these were told, and the enrolment stands.
+fn unwritten_after(bytes: usize) -> Stream<'static> {
+    Stream {
+        input: ENROL_ANNA,
+        piece: usize::MAX,
+        reads: u64::MAX,
+        writes: bytes,
+        ending: Err(DeskFault::Write),
+        told: &ANNA_IS_ENROLLED[..bytes.min(ANNA_IS_ENROLLED.len())],
+        last: 1000,
+    }
+}
+
+/// Whether Anna is party 2.
+fn is_enrolled<K: Keeper>(alloc: Global, keeper: &mut K) -> Result<bool, Stop> {
+    match keeper.object(alloc, Kind::Party, 2, 1000)? {
+        Some(Object::Party(party)) => Ok(party.number == 2 && party.name.as_str() == "Anna"),
+        _ => Ok(false),
+    }
+}
+
+/// The enrolment, whose writer takes so many bytes.
+#[derive(Clone, Copy)]
+struct Unwritten(usize);
+
+impl Trial for Unwritten {
+    fn run<K: Keeper>(&self, alloc: Global, keeper: &mut K) -> Result<(), Stop> {
+        let is_served = unwritten_after(self.0).is_served(alloc, keeper)?;
+        // A reply of 501 that does not go out looks the same to the writer.
+        if keeper.last() == 0 {
+            return Err(Stop::Memory);
+        }
+        expect(is_served, "unwritten", self.0)?;
+        expect(is_enrolled(alloc, keeper)?, "enrolled", self.0)
+    }
+}
+
+/// An enrolment whose reply breaks off stands, wherever it does.
+pub fn every_write(alloc: Global) -> Result<(), Stop> {
+    for bytes in 0..ANNA_IS_ENROLLED.len() {
+        over_each(alloc, &Unwritten(bytes))?;
+    }
+    Ok(())
+}

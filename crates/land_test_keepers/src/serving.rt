@@ -1,0 +1,22 @@
+//! Streams that a keeper is asked.
+use land_desk::serve::{DeskFault, Served, serve};
+use land_keep::keeper::Keeper;
+use land_test_scenario::doubles::{Pieces, Readings, Sink};
+use std::alloc::Global;
+
+/// Serves a stream over a keeper, where the clock reads 1000 each time. What was told before is taken off the sink.
+pub fn serve_stream<K: Keeper>(
+    alloc: Global,
+    keeper: &mut K,
+    input: &[u8],
+    told: &mut Sink,
+) -> Result<Served, DeskFault> {
+    told.taken.clear();
+    let mut reader = Pieces {
+        left: input,
+        piece: 4096,
+        reads: u64::MAX,
+    };
+    let mut clock = Readings { left: &[] };
+    serve(alloc, &mut reader, told, keeper, &mut clock)
+}

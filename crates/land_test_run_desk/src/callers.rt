@@ -1,0 +1,161 @@
+//! Callers at a port of this machine, by clocks that tests make.
+use crate::conclusion::conclude;
+use crate::connections::served;
+use land_desk::service::callers::Callers;
+use land_desk::service::stopwatch::Stopwatch;
+use land_test_scenario::calls::{ENROL, ENROLLED, expect_told};
+use land_test_scenario::stop::{Stop, expect};
+use std::alloc::{AllocError, Global};
+use std::cell::Cell;
+use std::io::{Read, Write};
+use std::net::{Shutdown, TcpListener, TcpStream};
+use std::rt::HostRuntime;
+use std::test::Fail;
+use std::time::Duration;
+use std::{io, time};
+
+/// A clock that goes on by so many seconds each time that it is read.
+#[derive(Drop)]
+struct Ticks {
+    step: u64,
+    seconds: Cell<u64>,
+}
+
+impl time::Clock for Ticks {
+    fn monotonic(&self) -> io::Result<Duration> {
+        let seconds = self.seconds.get().saturating_add(self.step);
+        self.seconds.set(seconds);
+        Ok(Duration::from_secs(seconds))
+    }
+
+    fn since_1970(&self) -> io::Result<Duration> {
+        self.monotonic()
+    }
+}
+
+/// What a caller brings: requests, each with so many bytes that are passed over; what it is told then, or its connection breaks off.
+struct Bringing {
+    step: u64,
+    requests: usize,
+    request: &'static [u8],
+    padding: usize,
+    told: Option<&'static [u8]>,
+}
+
+/// The parties are asked for. The head has less than 1024 bytes, so that with the body it is read in four pieces.
+const LIST: &[u8] =
+    b"GET /parties HTTP/1.1\r\nRegister-Party: 1\r\nRegister-Role: stateAdministrator\r\nContent-Length: 3000\r\n\r\n";
+
+const LISTED: &[u8] =
+    b"HTTP/1.1 200 OK\r\nContent-Type: application/json\r\nContent-Length: 15\r\n\r\n{\"numbers\":[1]}";
+
+const LISTED_TWICE: &[u8] =
+    b"HTTP/1.1 200 OK\r\nContent-Type: application/json\r\nContent-Length: 15\r\n\r\n{\"numbers\":[1]}HTTP/1.1 200 OK\r\nContent-Type: application/json\r\nContent-Length: 15\r\n\r\n{\"numbers\":[1]}";
+
+/// A fault, whatever comes after it.
+const FAULTY: &[u8] = b"HELLO\r\n\r\n";
+
+const FAULT: &[u8] =
+    b"HTTP/1.1 400 Bad Request\r\nContent-Type: application/json\r\nContent-Length: 13\r\nConnection: close\r\n\r\n{\"fault\":140}";
+
+const BRINGINGS: &[Bringing] = &[
+    Bringing {
+        step: 0,
+        requests: 1,
+        request: ENROL,
+        padding: 0,
+        told: Some(ENROLLED),
+    },
+    // The fourth piece is read 57 seconds after the first one.
+    Bringing {
+        step: 19,
+        requests: 1,
+        request: LIST,
+        padding: 3000,
+        told: Some(LISTED),
+    },
+    // After a minute it is not read.
+    Bringing {
+        step: 20,
+        requests: 1,
+        request: LIST,
+        padding: 3000,
+        told: None,
+    },
+    // Each request has a minute of its own.
+    Bringing {
+        step: 19,
+        requests: 2,
+        request: LIST,
+        padding: 3000,
+        told: Some(LISTED_TWICE),
+    },
+    // The last reply comes, though more was brought than is read before it.
+    Bringing {
+        step: 0,
+        requests: 1,
+        request: FAULTY,
+        padding: 20_000,
+        told: Some(FAULT),
+    },
+];
+
+/// All that a caller brings.
+fn brought(alloc: Global, row: &Bringing) -> Result<Vec<u8>, AllocError> {
+    let mut bytes = Vec::new(alloc);
+    for _request in 0..row.requests {
+        bytes.extend_from_slice(row.request)?;
+        for _byte in 0..row.padding {
+            bytes.push(b' ')?;
+        }
+    }
+    Ok(bytes)
+}
+
+/// All that comes to a caller. Want of memory may end its connection with the request unread, which resets it.
+fn told_to(caller: &mut TcpStream, alloc: Global) -> Result<Vec<u8>, Stop> {
+    let mut told = Vec::new(alloc);
+    match caller.read_to_end(&mut told) {
+        Ok(_) => Ok(told),
+        Err(_) => Err(Stop::Memory),
+    }
+}
+
+/// A caller of this process brings this, says that no more comes, and is served.
+fn call(rt: &HostRuntime, listener: TcpListener, row: &Bringing) -> Result<TcpStream, Stop> {
+    let mut caller = TcpStream::connect(rt, listener.local_addr()?)?;
+    caller.write_all(&brought(rt.alloc(), row)?)?;
+    caller.shutdown(Shutdown::Write)?;
+    let watch = Stopwatch::new(Ticks {
+        step: row.step,
+        seconds: Cell::new(0),
+    });
+    let mut callers = Callers::new(listener, &watch);
+    let ending = served(rt.alloc(), &mut callers, 1)?;
+    expect(ending == Ok(()), "the ending", 0)?;
+    Ok(caller)
+}
+
+/// A caller at a port of this machine is told what it is to be.
+fn expect_call(rt: &HostRuntime, place: usize, row: &Bringing) -> Result<(), Stop> {
+    let listener = TcpListener::bind(rt, "127.0.0.1:0")?;
+    let mut caller = call(rt, listener, row)?;
+    let told = told_to(&mut caller, rt.alloc());
+    match row.told {
+        Some(wanted) => expect_told(place, &told?, wanted),
+        None => expect(told.is_err(), "the end", place),
+    }
+}
+
+/// So are all callers.
+fn loopback(rt: &HostRuntime) -> Result<(), Stop> {
+    for (place, row) in BRINGINGS.iter().enumerate() {
+        expect_call(rt, place, row)?;
+    }
+    Ok(())
+}
+
+#[test]
+fn loopback_one_process(rt: HostRuntime) -> Result<(), Fail> {
+    conclude(&rt, loopback(&rt))
+}

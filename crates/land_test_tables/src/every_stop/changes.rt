@@ -1,0 +1,207 @@
+//! Changes over files of which one stops, after no call of it, after one, after two, until a run ends with no stop.
+use crate::every_stop::asking::Ending;
+use crate::every_stop::disks::{Disks, Fuses, Image, have_stopped, lose_power};
+use crate::every_stop::opening::{Asked, Room, Way, ask_files};
+use crate::every_stop::registers::{
+    Change, MERGER, REGISTRATION, SUBDIVISION, Story, TRANSFER, rows_in, story_of,
+};
+use land_test_scenario::doubles::Sink;
+use land_test_scenario::playing::open_sink;
+use land_test_scenario::stop::{Stop, expect};
+use std::alloc::Global;
+
+/// A run ends with no stop at the latest after so many calls of a file.
+const MOST: u64 = 100000;
+
+/// Which file stops.
+#[derive(Clone, Copy)]
+enum Which {
+    Log,
+    Database,
+}
+
+/// It stops after so many calls, the other one does not.
+fn stopping(which: Which, calls: u64) -> Fuses {
+    match which {
+        Which::Log => Fuses {
+            log: calls,
+            db: u64::MAX,
+        },
+        Which::Database => Fuses {
+            log: u64::MAX,
+            db: calls,
+        },
+    }
+}
+
+/// Whether files hold the register from before a change, or that from after it.
+#[derive(Clone, Copy)]
+struct Held {
+    is_before: bool,
+    is_after: bool,
+}
+
+fn held_by(alloc: Global, image: &Image, story: &Story) -> Result<Held, Stop> {
+    let rows = rows_in(alloc, image)?;
+    Ok(Held {
+        is_before: rows.as_str() == story.before.as_str(),
+        is_after: rows.as_str() == story.after.as_str(),
+    })
+}
+
+/// The register that files hold as they are.
+fn held_in(alloc: Global, files: &Disks, story: &Story) -> Result<Held, Stop> {
+    let image = Image::of(alloc, files)?;
+    held_by(alloc, &image, story)
+}
+
+/// Whether that may be left, by what became of the change.
+fn may_be_left(ending: Ending, held: Held) -> bool {
+    match ending {
+        Ending::Unasked => held.is_before,
+        Ending::Failed => held.is_before || held.is_after,
+        Ending::Done | Ending::Told => held.is_after,
+        Ending::Lacked | Ending::Other => false,
+    }
+}
+
+fn is_told(ending: Ending) -> bool {
+    match ending {
+        Ending::Told => true,
+        _ => false,
+    }
+}
+
+fn is_failed(ending: Ending) -> bool {
+    match ending {
+        Ending::Failed => true,
+        _ => false,
+    }
+}
+
+/// A change, and the files over which it is asked.
+#[derive(Clone, Copy)]
+struct Trial<'a> {
+    story: &'a Story,
+    asked: Asked<'a>,
+    which: Which,
+}
+
+/// Looks at what files hold: what a process leaves that dies, and then what a machine leaves that loses its power.
+fn look_at_files(
+    alloc: Global,
+    story: &Story,
+    ending: Ending,
+    files: &mut Disks,
+    calls: usize,
+) -> Result<(), Stop> {
+    let written = held_in(alloc, files, story)?;
+    expect(may_be_left(ending, written), "what was written", calls)?;
+    lose_power(files);
+    let synced = held_in(alloc, files, story)?;
+    expect(may_be_left(ending, synced), "what was synced", calls)
+}
+
+/// What becomes of the change where the file stops after so many calls, and whether it has stopped.
+fn run(
+    alloc: Global,
+    trial: Trial<'_>,
+    calls: u64,
+    told: &mut Sink,
+) -> Result<(Ending, bool), Stop> {
+    let files = trial
+        .story
+        .files
+        .disks(alloc, stopping(trial.which, calls))?;
+    let (ending, left) = ask_files(alloc, files, trial.asked, told);
+    let mut files = left;
+    if let Ending::Lacked = ending {
+        return Err(Stop::Memory);
+    }
+    let is_stopped = have_stopped(&mut files);
+    look_at_files(alloc, trial.story, ending, &mut files, calls as usize)?;
+    Ok((ending, is_stopped))
+}
+
+/// The file stops, until a run ends with no stop, in which all is told: how often the store failed at the change.
+fn count_failed(alloc: Global, trial: Trial<'_>, told: &mut Sink) -> Result<u64, Stop> {
+    let mut failed = 0u64;
+    for calls in 0..MOST {
+        let (ending, is_stopped) = run(alloc, trial, calls, told)?;
+        if !is_stopped {
+            expect(is_told(ending), "a run with no stop", calls as usize)?;
+            return Ok(failed);
+        }
+        if is_failed(ending) {
+            failed = failed.saturating_add(1);
+        }
+    }
+    Err(Stop::Unlike("a run with no stop", 0))
+}
+
+/// The log stops, and then the database file. The store fails at the change, at least where the log stops.
+fn each_file_stops(alloc: Global, story: &Story, asked: Asked<'_>) -> Result<(), Stop> {
+    let mut told = open_sink(alloc, 4096)?;
+    let mut trial = Trial {
+        story,
+        asked,
+        which: Which::Log,
+    };
+    expect(count_failed(alloc, trial, &mut told)? > 0, "failed", 0)?;
+    trial.which = Which::Database;
+    count_failed(alloc, trial, &mut told)?;
+    Ok(())
+}
+
+/// They stop in a store that is opened as the program does, and in one with little room.
+fn stops(alloc: Global, change: &Change, way: Way) -> Result<(), Stop> {
+    let story = story_of(alloc, change)?;
+    let mut asked = Asked {
+        way,
+        room: Room::Ample,
+        talk: &story.talk,
+    };
+    each_file_stops(alloc, &story, asked)?;
+    asked.room = Room::Tight;
+    each_file_stops(alloc, &story, asked)
+}
+
+/// A registration, over whole tables.
+pub fn a_registration_over_tables(alloc: Global) -> Result<(), Stop> {
+    stops(alloc, &REGISTRATION, Way::Tables)
+}
+
+/// The same, over joins.
+pub fn a_registration_over_joins(alloc: Global) -> Result<(), Stop> {
+    stops(alloc, &REGISTRATION, Way::Joins)
+}
+
+/// The approval of a transfer, over whole tables.
+pub fn a_transfer_over_tables(alloc: Global) -> Result<(), Stop> {
+    stops(alloc, &TRANSFER, Way::Tables)
+}
+
+/// The same, over joins.
+pub fn a_transfer_over_joins(alloc: Global) -> Result<(), Stop> {
+    stops(alloc, &TRANSFER, Way::Joins)
+}
+
+/// The approval of a subdivision, over whole tables.
+pub fn a_subdivision_over_tables(alloc: Global) -> Result<(), Stop> {
+    stops(alloc, &SUBDIVISION, Way::Tables)
+}
+
+/// The same, over joins.
+pub fn a_subdivision_over_joins(alloc: Global) -> Result<(), Stop> {
+    stops(alloc, &SUBDIVISION, Way::Joins)
+}
+
+/// The approval of a merger, over whole tables.
+pub fn a_merger_over_tables(alloc: Global) -> Result<(), Stop> {
+    stops(alloc, &MERGER, Way::Tables)
+}
+
+/// The same, over joins.
+pub fn a_merger_over_joins(alloc: Global) -> Result<(), Stop> {
+    stops(alloc, &MERGER, Way::Joins)
+}

@@ -1,0 +1,154 @@
+//! Registers in files whose disks may stop.
+use crate::every_stop::asking::{Ending, ask};
+use crate::every_stop::disks::Disks;
+use land_select::sql_keeper::SqlKeeper;
+use land_tables::fault::AdoptFault;
+use land_tables::table_keeper::TableKeeper;
+use land_tables::tables::Tables;
+use land_test_scenario::doubles::Sink;
+use land_test_scenario::stop::Stop;
+use land_test_scenario::talk::Talk;
+use sqlite::{Connection, Error, ErrorCode, FileStore, Options};
+use sqlite_disk::{Fuse, Memory};
+use std::alloc::Global;
+
+/// A store in such files.
+pub type Store = FileStore<Fuse<Memory>>;
+
+/// How tables are read.
+#[derive(Clone, Copy)]
+pub enum Way {
+    Tables,
+    Joins,
+}
+
+/// How a store is opened.
+#[derive(Clone, Copy)]
+pub enum Room {
+    /// As the program opens a file.
+    Ample,
+    /// With few pages in memory, so that both files are read again and again, and with a log that is copied into the database file before
+    /// each change.
+    Tight,
+}
+
+fn options(room: Room) -> Options {
+    let ample = Options::new(1);
+    match room {
+        Room::Ample => ample,
+        Room::Tight => Options {
+            cache_pages: 8,
+            spill_pages: 4,
+            checkpoint_frames: 1,
+            seed: 1,
+        },
+    }
+}
+
+/// A change and a look, and how they are asked.
+#[derive(Clone, Copy)]
+pub struct Asked<'a> {
+    pub way: Way,
+    pub room: Room,
+    pub talk: &'a Talk,
+}
+
+fn by_tables(
+    alloc: Global,
+    tables: Tables<Store>,
+    talk: &Talk,
+    told: &mut Sink,
+) -> (Ending, Tables<Store>) {
+    let mut keeper = TableKeeper::new(tables);
+    let ending = ask(alloc, &mut keeper, talk, told);
+    (ending, keeper.into_tables())
+}
+
+fn by_joins(
+    alloc: Global,
+    tables: Tables<Store>,
+    talk: &Talk,
+    told: &mut Sink,
+) -> (Ending, Tables<Store>) {
+    let mut keeper = SqlKeeper::new(tables);
+    let ending = ask(alloc, &mut keeper, talk, told);
+    (ending, keeper.into_tables())
+}
+
+/// Asks over tables.
+fn over(
+    alloc: Global,
+    tables: Tables<Store>,
+    asked: Asked<'_>,
+    told: &mut Sink,
+) -> (Ending, Tables<Store>) {
+    match asked.way {
+        Way::Tables => by_tables(alloc, tables, asked.talk, told),
+        Way::Joins => by_joins(alloc, tables, asked.talk, told),
+    }
+}
+
+/// The files of a store. What is not committed is lost.
+pub fn files_of(conn: Connection<Store>) -> Disks {
+    conn.into_store().close()
+}
+
+/// A store that is not opened.
+fn unopened(error: Error) -> Ending {
+    match error {
+        Error::SqliteFailure(ErrorCode::SystemIoFailure) => Ending::Unasked,
+        Error::SqliteFailure(ErrorCode::OutOfMemory) => Ending::Lacked,
+        _ => Ending::Other,
+    }
+}
+
+/// A store that is not taken.
+fn untaken(fault: AdoptFault) -> Ending {
+    match fault {
+        AdoptFault::Store => Ending::Unasked,
+        AdoptFault::NoMemory => Ending::Lacked,
+        _ => Ending::Other,
+    }
+}
+
+fn ask_store(
+    alloc: Global,
+    conn: Connection<Store>,
+    asked: Asked<'_>,
+    told: &mut Sink,
+) -> (Ending, Disks) {
+    match Tables::adopt(alloc, conn) {
+        Ok(tables) => {
+            let (ending, tables) = over(alloc, tables, asked, told);
+            (ending, files_of(tables.into_connection()))
+        }
+        Err((conn, fault)) => (untaken(fault), files_of(conn)),
+    }
+}
+
+/// Opens files, takes the register in them, and asks: what becomes of it, and the files then.
+pub fn ask_files(
+    alloc: Global,
+    files: Disks,
+    asked: Asked<'_>,
+    told: &mut Sink,
+) -> (Ending, Disks) {
+    if !files.may_be_used() {
+        return (Ending::Other, files);
+    }
+    match Connection::open_files(alloc, files, options(asked.room)) {
+        Ok(conn) => ask_store(alloc, conn, asked, told),
+        Err((error, left)) => (unopened(error), left.into_files()),
+    }
+}
+
+/// A store in files that do not stop.
+pub fn opened(alloc: Global, files: Disks, room: Room) -> Result<Connection<Store>, Stop> {
+    if !files.may_be_used() {
+        return Err(Stop::Call);
+    }
+    match Connection::open_files(alloc, files, options(room)) {
+        Ok(conn) => Ok(conn),
+        Err((error, _)) => Err(Stop::from(error)),
+    }
+}

@@ -1,0 +1,151 @@
+//! Registers before a change, in files, and the rows that stand before it and after it.
+use crate::cases::playing::{created, played, taken};
+use crate::every_stop::disks::{Disks, ENDLESS, Image};
+use crate::every_stop::opening::{Room, Store, files_of, opened};
+use crate::every_stop::rows::rows_at;
+use land_core::limits::LAST_MOMENT;
+use land_tables::table_keeper::TableKeeper;
+use land_test_scenario::looks::{look_at_more, look_at_steps};
+use land_test_scenario::playing::{play, play_more};
+use land_test_scenario::scenario::{MORE, STEPS};
+use land_test_scenario::stop::Stop;
+use land_test_scenario::talk::{OFFICE, Row, Talk, Told};
+use sqlite::{Connection, MemStore};
+use std::alloc::{AllocError, Global};
+
+/// A change: how many steps come before it, the stamp of the last of them, and its own.
+pub struct Change {
+    steps: usize,
+    before: i64,
+    after: i64,
+}
+
+pub const REGISTRATION: Change = Change {
+    steps: 9,
+    before: 1008,
+    after: 1009,
+};
+
+/// The approval of a transfer.
+pub const TRANSFER: Change = Change {
+    steps: 13,
+    before: 1012,
+    after: 1013,
+};
+
+/// The approval of a subdivision.
+pub const SUBDIVISION: Change = Change {
+    steps: 17,
+    before: 1016,
+    after: 1017,
+};
+
+/// The approval of a merger.
+pub const MERGER: Change = Change {
+    steps: 19,
+    before: 1018,
+    after: 1019,
+};
+
+/// What is asked after each change: the parties.
+const LOOK: Row = Row(
+    "GET /parties",
+    OFFICE,
+    b"",
+    Told::Shown(r#"{"numbers":[1,2,3,4,5,6,7]}"#),
+);
+
+/// Files that hold the register before a change, the rows before and after it, and the change with a look after it.
+#[derive(Drop)]
+pub struct Story {
+    pub files: Image,
+    pub before: String,
+    pub after: String,
+    pub talk: Talk,
+}
+
+/// A step of the scenario, or of what comes after it.
+fn step(place: usize) -> Option<&'static Row> {
+    match place.checked_sub(STEPS.len()) {
+        None => STEPS.get(place),
+        Some(later) => MORE.get(later),
+    }
+}
+
+/// The steps before a change, as requests.
+fn steps_before(alloc: Global, change: &Change) -> Result<Talk, AllocError> {
+    let mut talk = Talk::new(alloc)?;
+    for place in 0..change.steps {
+        if let Some(step) = step(place) {
+            talk.ask("a step", place, step)?;
+        }
+    }
+    Ok(talk)
+}
+
+/// A change and a look, as requests.
+fn asked(alloc: Global, change: &Change) -> Result<Talk, AllocError> {
+    let mut talk = Talk::new(alloc)?;
+    if let Some(step) = step(change.steps) {
+        talk.ask("a change", change.steps, step)?;
+    }
+    talk.ask("a look", 0, &LOOK)?;
+    Ok(talk)
+}
+
+/// A store in files that are new, and do not stop.
+fn new_store(alloc: Global) -> Result<Connection<Store>, Stop> {
+    let files = Image::empty(alloc).disks(alloc, ENDLESS)?;
+    opened(alloc, files, Room::Tight)
+}
+
+/// Files in which the steps before a change are played. Their log holds the last step, which the database file has not got yet.
+fn played_files(alloc: Global, change: &Change) -> Result<Disks, Stop> {
+    let mut keeper = TableKeeper::new(created(new_store(alloc)?)?);
+    let steps = steps_before(alloc, change)?;
+    play(alloc, &mut keeper, &[], &steps)?;
+    Ok(files_of(keeper.into_tables().into_connection()))
+}
+
+fn image_before(alloc: Global, change: &Change) -> Result<Image, Stop> {
+    let files = played_files(alloc, change)?;
+    Ok(Image::of(alloc, &files)?)
+}
+
+/// A store in memory after the scenario: it has the rows that are known.
+fn known_steps(alloc: Global) -> Result<Connection<MemStore>, Stop> {
+    let mut conn = played(alloc)?.into_connection();
+    look_at_steps(alloc, &mut conn)?;
+    Ok(conn)
+}
+
+/// The same after what comes after the scenario.
+fn known_rows(alloc: Global) -> Result<Connection<MemStore>, Stop> {
+    let mut keeper = TableKeeper::new(taken(alloc, known_steps(alloc)?)?);
+    play_more(alloc, &mut keeper)?;
+    let mut conn = keeper.into_tables().into_connection();
+    look_at_more(alloc, &mut conn)?;
+    Ok(conn)
+}
+
+fn known_at(alloc: Global, at: i64) -> Result<String, Stop> {
+    let mut conn = known_rows(alloc)?;
+    rows_at(alloc, &mut conn, at)
+}
+
+/// A change, and the register before it.
+pub fn story_of(alloc: Global, change: &Change) -> Result<Story, Stop> {
+    Ok(Story {
+        files: image_before(alloc, change)?,
+        before: known_at(alloc, change.before)?,
+        after: known_at(alloc, change.after)?,
+        talk: asked(alloc, change)?,
+    })
+}
+
+/// All rows of the register that files hold, which are opened and taken.
+pub fn rows_in(alloc: Global, image: &Image) -> Result<String, Stop> {
+    let conn = opened(alloc, image.disks(alloc, ENDLESS)?, Room::Ample)?;
+    let mut conn = taken(alloc, conn)?.into_connection();
+    rows_at(alloc, &mut conn, LAST_MOMENT)
+}
