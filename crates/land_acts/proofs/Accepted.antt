@@ -116,10 +116,10 @@ next_grows r caller (act.Approve it) stamp = approve_grows r it
 next_grows r caller (act.Refuse it) stamp = refuse_grows r it
 
 names_once : (r : Register) (caller : Caller) (a : Act) (stamp : ℤ) → IsSound r → first_that_holds (refusals_of r caller a (Some stamp)) ≡ None → NamesKeysOnce (change_of r caller a stamp)
-names_once r caller (act.Enrol it) stamp sound none = record { parties = refl; roles = refl; members = refl; units = refl; parcels = refl; rrrs = refl; sources = refl; mutations = refl }
-names_once r caller (act.Group it) stamp sound none = record { parties = refl; roles = refl; members = refl; units = refl; parcels = refl; rrrs = refl; sources = refl; mutations = refl }
-names_once r caller (act.Regroup it) stamp sound none = record { parties = refl; roles = refl; members = refl; units = refl; parcels = refl; rrrs = refl; sources = refl; mutations = refl }
-names_once r caller (act.Grant it) stamp sound none = record { parties = refl; roles = refl; members = refl; units = refl; parcels = refl; rrrs = refl; sources = refl; mutations = refl }
+names_once r caller (act.Enrol it) stamp sound none = record { parties = refl; roles = refl; members = refl; units = refl; parcels = refl; rrrs = refl; sources = refl; mutations = refl; mandates = refl }
+names_once r caller (act.Group it) stamp sound none = record { parties = refl; roles = refl; members = refl; units = refl; parcels = refl; rrrs = refl; sources = refl; mutations = refl; mandates = refl }
+names_once r caller (act.Regroup it) stamp sound none = record { parties = refl; roles = refl; members = refl; units = refl; parcels = refl; rrrs = refl; sources = refl; mutations = refl; mandates = refl }
+names_once r caller (act.Grant it) stamp sound none = record { parties = refl; roles = refl; members = refl; units = refl; parcels = refl; rrrs = refl; sources = refl; mutations = refl; mandates = refl }
 names_once r caller (act.Register it) stamp sound none = record {
   parties = refl;
   roles = refl;
@@ -129,13 +129,14 @@ names_once r caller (act.Register it) stamp sound none = record {
   rrrs = numbered_once (r.next + 2 + length it.parcels) (map_list (right_of (r.next + 1) r.next) it.rights);
   sources = refl;
   mutations = refl;
+  mandates = refl;
 }
-names_once r caller (act.Burden it) stamp sound none = record { parties = refl; roles = refl; members = refl; units = refl; parcels = refl; rrrs = refl; sources = refl; mutations = refl }
-names_once r caller (act.Lift it) stamp sound none = record { parties = refl; roles = refl; members = refl; units = refl; parcels = refl; rrrs = refl; sources = refl; mutations = refl }
-names_once r caller (act.Lodge it) stamp sound none = record { parties = refl; roles = refl; members = refl; units = refl; parcels = refl; rrrs = refl; sources = refl; mutations = refl }
+names_once r caller (act.Burden it) stamp sound none = record { parties = refl; roles = refl; members = refl; units = refl; parcels = refl; rrrs = refl; sources = refl; mutations = refl; mandates = refl }
+names_once r caller (act.Lift it) stamp sound none = record { parties = refl; roles = refl; members = refl; units = refl; parcels = refl; rrrs = refl; sources = refl; mutations = refl; mandates = refl }
+names_once r caller (act.Lodge it) stamp sound none = record { parties = refl; roles = refl; members = refl; units = refl; parcels = refl; rrrs = refl; sources = refl; mutations = refl; mandates = refl }
 names_once r caller (act.Approve it) stamp sound none = approve_once r it stamp sound (first_none NotLodged (not (is_lodged r it.mutation)) (option_map_or (λ m. content_refusals r m.content (Some stamp)) (map.get r.mutations it.mutation) []) none).rest
 names_once r caller (act.Refuse it) stamp sound none = refuse_once r it
-names_once r caller (act.Revoke it) stamp sound none = record { parties = refl; roles = refl; members = refl; units = refl; parcels = refl; rrrs = refl; sources = refl; mutations = refl }
+names_once r caller (act.Revoke it) stamp sound none = record { parties = refl; roles = refl; members = refl; units = refl; parcels = refl; rrrs = refl; sources = refl; mutations = refl; mandates = refl }
 
 -- the stamp is told with the change
 stamp_told : (r : Register) (caller : Caller) (a : Act) (stamp : ℤ) → (done_of r caller a stamp).stamp ≡ stamp

@@ -127,20 +127,20 @@ refuse_grows r it = found (map.get r.mutations it.mutation)
     found (Some m) = omega arith
 
 nothing_once : (next : ℕ) → NamesKeysOnce (no_change next)
-nothing_once next = record { parties = refl; roles = refl; members = refl; units = refl; parcels = refl; rrrs = refl; sources = refl; mutations = refl }
+nothing_once next = record { parties = refl; roles = refl; members = refl; units = refl; parcels = refl; rrrs = refl; sources = refl; mutations = refl; mandates = refl }
 
 content_once : (r : Register) (number : ℕ) (m : MutationRecord) (c : Content) (stamp : ℤ) → IsSound r → is_well_formed_content c ≡ true → first_that_holds (content_refusals r c (Some stamp)) ≡ None
     → NamesKeysOnce (with_state Approved number m (content_change r m.source c))
 content_once r number m (content.Transfer it) stamp sound formed none =
     let move = unrefused_move r it (Some stamp) none in
     subst (λ (o : Option Held). NamesKeysOnce (with_state Approved number m (transfer_change r m.source it o))) (sym move.held)
-    (record { parties = refl; roles = refl; members = refl; units = refl; parcels = refl; rrrs = (sound_names_once r m.source it move.from sound move.held move.other).rrrs; sources = refl; mutations = refl })
+    (record { parties = refl; roles = refl; members = refl; units = refl; parcels = refl; rrrs = (sound_names_once r m.source it move.from sound move.held move.other).rrrs; sources = refl; mutations = refl; mandates = refl })
 content_once r number m (content.Merger it) stamp sound formed none = approved_merger_once r it (Some stamp) none sound number m formed
 content_once r number m (content.Subdivision it) stamp sound formed none =
     let named = subdivision_names_once r m.source it sound (unrefused_subdivision r it (Some stamp) none).parcel in
-    record { parties = refl; roles = refl; members = refl; units = named.units; parcels = named.parcels; rrrs = named.rrrs; sources = refl; mutations = refl }
-content_once r number m (content.Mortgage it) stamp sound formed none = record { parties = refl; roles = refl; members = refl; units = refl; parcels = refl; rrrs = refl; sources = refl; mutations = refl }
-content_once r number m (content.Discharge it) stamp sound formed none = record { parties = refl; roles = refl; members = refl; units = refl; parcels = refl; rrrs = refl; sources = refl; mutations = refl }
+    record { parties = refl; roles = refl; members = refl; units = named.units; parcels = named.parcels; rrrs = named.rrrs; sources = refl; mutations = refl; mandates = refl }
+content_once r number m (content.Mortgage it) stamp sound formed none = record { parties = refl; roles = refl; members = refl; units = refl; parcels = refl; rrrs = refl; sources = refl; mutations = refl; mandates = refl }
+content_once r number m (content.Discharge it) stamp sound formed none = record { parties = refl; roles = refl; members = refl; units = refl; parcels = refl; rrrs = refl; sources = refl; mutations = refl; mandates = refl }
 
 pub approve_once : (r : Register) (it : Decision) (stamp : ℤ) → IsSound r → first_that_holds (option_map_or (λ m. content_refusals r m.content (Some stamp)) (map.get r.mutations it.mutation) []) ≡ None
     → NamesKeysOnce (approve_change r it)
@@ -156,4 +156,4 @@ refuse_once r it = found (map.get r.mutations it.mutation)
   where
     found : (o : Option MutationRecord) → NamesKeysOnce (option_map_or (λ m. with_state Refused it.mutation m (no_change r.next)) o (no_change r.next))
     found None = nothing_once r.next
-    found (Some m) = record { parties = refl; roles = refl; members = refl; units = refl; parcels = refl; rrrs = refl; sources = refl; mutations = refl }
+    found (Some m) = record { parties = refl; roles = refl; members = refl; units = refl; parcels = refl; rrrs = refl; sources = refl; mutations = refl; mandates = refl }

@@ -68,6 +68,7 @@ module _ (r : Register) (number : ℕ) (m : MutationRecord) (state : MutationSta
         mutations = none_passes nat_cmp_total nat_cmp-IsAntisymmetric (λ n x. is_loose_mutation new x) new.mutations (λ n x is.
             let old = was there n x is in
             ap (is_loose_mutation r) old.is ∙ none_at nat_cmp_total nat_cmp-IsAntisymmetric (λ n x. is_loose_mutation r x) r.mutations n old.old before.mutations old.there);
+        mandates = before.mandates;
       })
   decided_is_sound there sound Reused =
       none_passes nat_cmp_total nat_cmp-IsAntisymmetric (is_reused_later new) new.mutations (λ n x is.

@@ -25,4 +25,4 @@ discharged_is_sound r it sound mortgage =
     ended_is_sound r it.mortgage (λ e is. mortgage_no_right e.class (sym (ap (λ o. option_map_or (λ e. is_some (rank_of e.class)) o false) is) ∙ mortgage)) sound
 
 pub discharge_names_once : (r : Register) (it : Discharge) → NamesKeysOnce (discharge_change r it)
-discharge_names_once r it = record { parties = refl; roles = refl; members = refl; units = refl; parcels = refl; rrrs = refl; sources = refl; mutations = refl }
+discharge_names_once r it = record { parties = refl; roles = refl; members = refl; units = refl; parcels = refl; rrrs = refl; sources = refl; mutations = refl; mandates = refl }

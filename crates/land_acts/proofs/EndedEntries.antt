@@ -166,6 +166,7 @@ module _ (r : Register) (number : ℕ) (no_type : (e : RrrRecord) → map.get r.
             let one = anchored r before.rrrs n e (removed_before r.rrrs number n e is) in
             record { unit = one.unit; party = one.party; source = one.source });
         mutations = before.mutations;
+        mandates = before.mandates;
       })
   ended_is_sound sound Shares =
       none_passes nat_cmp_total nat_cmp-IsAntisymmetric (λ n u. u.checked && not (has_whole_shares left n)) r.units

@@ -184,6 +184,7 @@ module _ (r : Register) (sound : IsSound r) (number : ℕ) (entry : RrrRecord) (
         rrrs = anchored_back more (each_record r.rrrs number entry (λ n e. AreAnchored more e) h.anchored
             (λ n e is. let one = anchored r before.rrrs n e is in record { unit = one.unit; party = one.party; source = h.sources_stay e.source one.source }));
         mutations = mutations_stay r more refl (λ n there. there) h.sources_stay before.mutations;
+        mandates = before.mandates;
       })
   entered_is_sound Shares =
       none_passes nat_cmp_total nat_cmp-IsAntisymmetric (λ n u. u.checked && not (has_whole_shares more n)) r.units

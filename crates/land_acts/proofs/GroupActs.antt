@@ -18,6 +18,7 @@ use Rattle.land_acts.specs.Sharing.{lists_stranger, lists_twice, are_whole, memb
 use Rattle.land_core.proofs.Booleans.{not_false}
 use Rattle.land_core.proofs.FiniteMaps.{is_equal}
 use Rattle.land_core.proofs.FiniteSets.{grants_total, exact_grants}
+use Rattle.land_core.proofs.LooseMandates.{mandates_stay}
 use Rattle.land_core.proofs.SoundRegisters.{AreTight, refers, refers_back, loose_from, single_from, loose_members_from, members_from, unbroken_from, whole_from, administrator_from, administrator_at, apart_itself}
 use Rattle.land_core.specs.Changes.{after}
 use Rattle.land_core.specs.Grants.{grant_cmp, grant_of}
@@ -99,6 +100,7 @@ enrolled_is_sound r it sound single room Reference =
       parcels = before.parcels;
       rrrs = no_loose_rrr r new party refl refl sound refl refl refl;
       mutations = mutations_stay r new refl (has_stays r.parties new.parties stays) (λ n h. h) before.mutations;
+      mandates = mandates_stay r new (single_stays r new stays) refl before.mandates;
     })
 enrolled_is_sound r it sound single room Administrator =
     let new = after (enrol_change r it) r in
@@ -146,6 +148,7 @@ grouped_is_sound r it sound size known room whole once Reference =
       parcels = before.parcels;
       rrrs = no_loose_rrr r new party refl refl sound refl refl refl;
       mutations = mutations_stay r new refl (has_stays r.parties new.parties stays) (λ n h. h) before.mutations;
+      mandates = mandates_stay r new (single_stays r new stays) refl before.mandates;
     })
 
 -- ---- regrouping
@@ -177,4 +180,5 @@ regrouped_is_sound r it sound size group known whole once Reference =
       parcels = before.parcels;
       rrrs = before.rrrs;
       mutations = before.mutations;
+      mandates = before.mandates;
     })

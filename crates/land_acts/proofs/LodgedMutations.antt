@@ -127,6 +127,7 @@ module _ (r : Register) (caller : Caller) (it : Lodging) (stamp : ℤ) (sound : 
             (ap (λ b. not (b && has more.sources r.next && is_well_formed_content it.content)) lodger
             ∙ ap (λ b. not (b && is_well_formed_content it.content)) (ap is_some (here r.sources r.next document)) ∙ ap not formed)
             old_ones);
+        mandates = before.mandates;
       })
   lodged_is_sound lodger formed room none Reused =
       none_passes nat_cmp_total nat_cmp-IsAntisymmetric (is_reused_later more) more.mutations

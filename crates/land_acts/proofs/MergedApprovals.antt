@@ -49,7 +49,7 @@ module _ (r : Register) (it : Merger) (stamp : Option ℤ) (none : first_that_ho
       → NamesKeysOnce (with_state Approved number m (merger_change r m.source it))
   approved_merger_once sound number m formed =
       let once = merger_names_once r m.source it sound formed (unrefused_merger r it stamp none).parcels in
-      record { parties = once.parties; roles = once.roles; members = once.members; units = once.units; parcels = once.parcels; rrrs = once.rrrs; sources = once.sources; mutations = refl }
+      record { parties = once.parties; roles = once.roles; members = once.members; units = once.units; parcels = once.parcels; rrrs = once.rrrs; sources = once.sources; mutations = refl; mandates = refl }
 
   -- its new parcel has a number
   pub merger_fits : Fits r (content.Merger it)

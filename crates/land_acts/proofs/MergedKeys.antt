@@ -21,7 +21,7 @@ use Rattle.land_acts.specs.Mutations.Grounds.{are_same_ground}
 use Rattle.land_acts.specs.Mutations.Merging.{has_unlike, is_named, is_parcel_named, lacks_parcel, lacks_unit, merger_change, would_have_more_parcels}
 use Rattle.land_acts.specs.Mutations.Planning.{first_that_holds, lacks_numbers}
 use Rattle.land_acts.specs.declared.mutations.refusal.Refusal.{Refusal}
-use Rattle.land_acts.specs.declared.mutations.refusal.Refusal.TheVariants.{NoSuchUnit, NoSuchParcel, UnlikeUnits, TooMany, ClockOut, NotMatched}
+use Rattle.land_acts.specs.declared.mutations.refusal.Refusal.TheVariants.{NoSuchUnit, NoSuchParcel, UnitsUnlike, TooMany, ClockOut, NotMatched}
 use Rattle.land_core.proofs.Booleans.{T_true, both_of, not_false, or_false}
 use Rattle.land_core.proofs.SoundRegisters.{are_used, refers, used_bounds, used_from}
 use Rattle.land_core.specs.Changes.{NamesKeysOnce}
@@ -55,10 +55,10 @@ unrefused_merger r it stamp none =
     let last : List (Refusal × Bool) = (NotMatched, not same) ∷ [] in
     let fourth : List (Refusal × Bool) = (ClockOut, is_none stamp) ∷ last in
     let third : List (Refusal × Bool) = (TooMany, crowded) ∷ fourth in
-    let second : List (Refusal × Bool) = (UnlikeUnits, has_unlike r it) ∷ third in
+    let second : List (Refusal × Bool) = (UnitsUnlike, has_unlike r it) ∷ third in
     let unit = first_none NoSuchUnit (lacks_unit r it) ((NoSuchParcel, lacks_parcel r it) ∷ second) none in
     let parcel = first_none NoSuchParcel (lacks_parcel r it) second unit.rest in
-    let unlike = first_none UnlikeUnits (has_unlike r it) third parcel.rest in
+    let unlike = first_none UnitsUnlike (has_unlike r it) third parcel.rest in
     let number = first_none TooMany crowded fourth unlike.rest in
     let many = or_false (lacks_numbers r 1) (would_have_more_parcels r it) number.first in
     let clock = first_none ClockOut (is_none stamp) last number.rest in
@@ -154,4 +154,5 @@ module _ (r : Register) (source : ℕ) (it : Merger) (sound : IsSound r) where
         rrrs = entries_once (λ e. lists_number it.others e.1.unit) (map.entries r.rrrs) (T_true _ (map.entries_sorted r.rrrs));
         sources = refl;
         mutations = refl;
+        mandates = refl;
       }

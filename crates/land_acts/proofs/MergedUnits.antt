@@ -93,6 +93,7 @@ module _ (r : Register) (sound : IsSound r) (source : ℕ) (it : Merger) (h : Me
             let one = anchored r before.rrrs n e left.before in
             record { unit = unit_stays r sound source it h e.unit left.apart one.unit; party = one.party; source = one.source });
         mutations = mutations_stay r new refl (λ n there. there) (λ n there. there) before.mutations;
+        mandates = before.mandates;
       })
     where
       parcel : ParcelRecord

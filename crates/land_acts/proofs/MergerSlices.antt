@@ -13,7 +13,7 @@ use Rattle.land_acts.specs.Mutations.Planning.{first_that_holds, lacks_numbers}
 use Rattle.land_acts.specs.Mutations.Subdividing.{entries_of, parcels_beside}
 use Rattle.land_acts.specs.Mutations.Transferring.{is_checked}
 use Rattle.land_acts.specs.declared.mutations.refusal.Refusal.{Refusal}
-use Rattle.land_acts.specs.declared.mutations.refusal.Refusal.TheVariants.{NoSuchUnit, NoSuchParcel, UnlikeUnits, TooMany, ClockOut, NotMatched}
+use Rattle.land_acts.specs.declared.mutations.refusal.Refusal.TheVariants.{NoSuchUnit, NoSuchParcel, UnitsUnlike, TooMany, ClockOut, NotMatched}
 use Rattle.land_core.proofs.Pairs.{list_any_same}
 use Rattle.land_core.specs.Contents.{names_unit as content_names_unit}
 use Rattle.land_core.specs.Entries.{has}
@@ -97,16 +97,16 @@ module _ (s r : Register) (it : Merger) (named : ℕ → Bool) (agree : AgreeOnU
       ∙ ap (cond (lacks_unit r it) (Some NoSuchUnit)) (later_lines NoSuchParcel (lacks_parcel r it) of_slice of_register rest)
     where
       of_slice : List (Refusal × Bool)
-      of_slice = (UnlikeUnits, has_unlike s it) ∷ (TooMany, is_many s) ∷ (ClockOut, is_none stamp) ∷ (NotMatched, is_lost s) ∷ []
+      of_slice = (UnitsUnlike, has_unlike s it) ∷ (TooMany, is_many s) ∷ (ClockOut, is_none stamp) ∷ (NotMatched, is_lost s) ∷ []
 
       of_register : List (Refusal × Bool)
-      of_register = (UnlikeUnits, has_unlike r it) ∷ (TooMany, is_many r) ∷ (ClockOut, is_none stamp) ∷ (NotMatched, is_lost r) ∷ []
+      of_register = (UnitsUnlike, has_unlike r it) ∷ (TooMany, is_many r) ∷ (ClockOut, is_none stamp) ∷ (NotMatched, is_lost r) ∷ []
 
       rest : lacks_parcel r it ≡ false → first_that_holds of_slice ≡ first_that_holds of_register
       rest none =
-          ap (λ b. first_that_holds ((UnlikeUnits, b) ∷ (TooMany, is_many s) ∷ (ClockOut, is_none stamp) ∷ (NotMatched, is_lost s) ∷ [])) unlike_agree
-          ∙ ap (λ b. first_that_holds ((UnlikeUnits, has_unlike r it) ∷ (TooMany, b) ∷ (ClockOut, is_none stamp) ∷ (NotMatched, is_lost s) ∷ [])) many_agrees
-          ∙ ap (λ b. first_that_holds ((UnlikeUnits, has_unlike r it) ∷ (TooMany, is_many r) ∷ (ClockOut, is_none stamp) ∷ (NotMatched, b) ∷ [])) (lost_agrees none)
+          ap (λ b. first_that_holds ((UnitsUnlike, b) ∷ (TooMany, is_many s) ∷ (ClockOut, is_none stamp) ∷ (NotMatched, is_lost s) ∷ [])) unlike_agree
+          ∙ ap (λ b. first_that_holds ((UnitsUnlike, has_unlike r it) ∷ (TooMany, b) ∷ (ClockOut, is_none stamp) ∷ (NotMatched, is_lost s) ∷ [])) many_agrees
+          ∙ ap (λ b. first_that_holds ((UnitsUnlike, has_unlike r it) ∷ (TooMany, is_many r) ∷ (ClockOut, is_none stamp) ∷ (NotMatched, b) ∷ [])) (lost_agrees none)
 
   -- ---- the change
 

@@ -41,4 +41,4 @@ mortgaged_is_sound r source it sound from unit creditor room few =
     in_use rank next least most = grind (arith, nat_tests)
 
 pub mortgage_names_once : (r : Register) (source : ℕ) (it : Mortgage) → NamesKeysOnce (mortgage_change r source it)
-mortgage_names_once r source it = record { parties = refl; roles = refl; members = refl; units = refl; parcels = refl; rrrs = refl; sources = refl; mutations = refl }
+mortgage_names_once r source it = record { parties = refl; roles = refl; members = refl; units = refl; parcels = refl; rrrs = refl; sources = refl; mutations = refl; mandates = refl }

@@ -358,6 +358,7 @@ module _ (r : Register) (it : NewUnit) (sound : IsSound r) where
             ap (λ b. not (b && has r.parties e.party && has more.sources e.source)) (units_stay e.unit one.unit) ∙ ap (λ b. not (b && has more.sources e.source)) one.party ∙ ap not (sources_stay e.source one.source)))
             (any_numbered (right_of unit r.next) (λ e. not (has more.units e.unit && has more.parties e.party && has more.sources e.source)) (r.next + 2 + length it.parcels) it.rights ∙ rights_anchored it.rights known);
         mutations = mutations_stay r more refl (λ n h. h) sources_stay before.mutations;
+        mandates = before.mandates;
       })
     where
       new_used : (n : ℕ) → 0 < r.next → r.next + 2 ≤ n → n < more.next → is_used more n ≡ true

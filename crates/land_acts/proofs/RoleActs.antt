@@ -54,6 +54,7 @@ granted_is_sound r it sound single Reference =
       parcels = before.parcels;
       rrrs = before.rrrs;
       mutations = before.mutations;
+      mandates = before.mandates;
     })
 granted_is_sound r it sound single Administrator =
     let new = after (grant_change r it) r in
@@ -134,6 +135,7 @@ revoked_is_sound r it sound last Reference =
       parcels = before.parcels;
       rrrs = before.rrrs;
       mutations = before.mutations;
+      mandates = before.mandates;
     })
 revoked_is_sound r it sound last Administrator =
     let new = after (revoke_change r it) r in

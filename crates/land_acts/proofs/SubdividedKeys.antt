@@ -130,6 +130,7 @@ subdivision_names_once r source it sound parcel = record {
   rrrs = rise_once r.next (keys (copies_made origin r.next (all_parts it))) [] (copies_rise origin r.next (all_parts it)) tt refl;
   sources = refl;
   mutations = refl;
+  mandates = refl;
 }
   where
     origin : Origin

@@ -126,6 +126,7 @@ module _ (r : Register) (sound : IsSound r) (left : FinMap nat_cmp ParcelRecord)
             (λ n p is. placed r before.parcels n p (are_left.before n p is)));
         rrrs = before.rrrs;
         mutations = mutations_stay r more refl (λ n there. there) (λ n there. there) before.mutations;
+        mandates = before.mandates;
       })
   parcelled_is_sound unit source room fits Bare =
       none_passes nat_cmp_total nat_cmp-IsAntisymmetric (λ n u. not (has_parcel more n && has_owner more n)) r.units

@@ -276,6 +276,7 @@ module _ (r : Register) (sound : IsSound r) (unit : ℕ) (new : UnitRecord) (par
             (no_copy (λ n e. not (has more.units e.unit && has r.parties e.party && has r.sources e.source)) (λ n e stood low high.
             let one = anchored r before.rrrs stood.number e stood.there in refer r.next e unit_here one.party one.source));
         mutations = mutations_stay r more refl (λ n there. there) (λ n there. there) before.mutations;
+        mandates = before.mandates;
       })
     where
       refer : (unit : ℕ) (e : RrrRecord) → has more.units unit ≡ true → has r.parties e.party ≡ true → has r.sources e.source ≡ true → not (has more.units unit && has r.parties e.party && has r.sources e.source) ≡ false

@@ -223,6 +223,8 @@ module _ (r : Register) (rrrs : FinMap nat_cmp RrrRecord) (unit receiver source 
           (record { unit = in_unit; party = has_receiver; source = has_source })
           (λ n e off away is. let it = before.entries n e is in record { unit = it.unit; party = it.party; source = it.source });
       mutations = λ n mutation is. let it = before.mutations n mutation is in record { lodger = it.lodger; source = it.source; content = it.content };
+      mandates = λ principal agent h.
+          let it = before.mandates principal agent h in record { principal_single = it.principal_single; agent_single = it.agent_single; apart = it.apart };
       groups = before.groups;
       units = λ n u is.
           let it = before.units n u is in

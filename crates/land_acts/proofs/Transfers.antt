@@ -392,6 +392,7 @@ module _ (r : Register) (source : ℕ) (it : Transfer) (from : Held) where
     rrrs = once held other apart (grows_at r it from) refl;
     sources = refl;
     mutations = refl;
+    mandates = refl;
   }
 
   -- in a sound register none does

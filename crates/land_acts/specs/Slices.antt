@@ -116,6 +116,7 @@ slice_of r caller a = record {
   rrrs = only (λ n e. looks_at_rrr r a n e) r.rrrs;
   sources = only (λ n s. looks_at_source r caller a n) r.sources;
   mutations = mutations_looked_at r caller a;
+  mandates = map.empty;
   next = r.next;
 }
 

@@ -10,6 +10,7 @@ use land_core::act::Act;
 use land_core::caller::Caller;
 use land_core::content::Content;
 use land_core::duplicate::Duplicate;
+use land_core::mandates::Mandates;
 use land_core::mutation::MutationRecord;
 use land_core::parcel::ParcelRecord;
 use land_core::records::Records;
@@ -43,6 +44,7 @@ pub fn slice_of(
         rrrs: rrrs_looked_at(alloc, register, act)?,
         sources: sources_of(alloc, register, &mutations)?,
         mutations,
+        mandates: Mandates::new(alloc),
         next: register.next,
     })
 }

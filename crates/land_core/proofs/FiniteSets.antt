@@ -13,7 +13,9 @@ use Rattle.std.proofs.lemmas.Cmp.{on_total, then_total}
 use Rattle.std.proofs.lemmas.Map.Lookups.{exact_pairs, exact_unsigned}
 use Rattle.land_core.proofs.FiniteMaps.{one_inserted, one_removed}
 use Rattle.land_core.specs.Grants.{grant_cmp, marks}
+use Rattle.land_core.specs.Mandates.{mandate_cmp}
 use Rattle.land_core.specs.Role.{place_of, role_at, role_at_place}
+use Rattle.land_core.specs.declared.mandates.Mandate.{Mandate}
 use Rattle.land_core.specs.declared.roles.Grant.{Grant}
 
 pub grants_total : IsTotalOrder grant_cmp
@@ -28,6 +30,19 @@ unpacked_packed g = ap (λ r. let it : Grant = record { party = g.party; role = 
 
 pub exact_grants : IsAntisymmetric grant_cmp
 exact_grants a b h = sym (unpacked_packed a) ∙ ap unpacked (exact_pairs nat_cmp nat_cmp exact_unsigned exact_unsigned (a.party, place_of a.role) (b.party, place_of b.role) h) ∙ unpacked_packed b
+
+pub mandates_total : IsTotalOrder mandate_cmp
+mandates_total = then_total (on_total (λ m. m.principal) nat_cmp_total) (on_total (λ m. m.agent) nat_cmp_total)
+
+pair_of : ℕ × ℕ → Mandate
+pair_of p = record { principal = p.0; agent = p.1 }
+
+pair_itself : (m : Mandate) → pair_of (m.principal, m.agent) ≡ m
+unfolding pair_of
+pair_itself m = refl
+
+pub exact_mandates : IsAntisymmetric mandate_cmp
+exact_mandates a b h = sym (pair_itself a) ∙ ap pair_of (exact_pairs nat_cmp nat_cmp exact_unsigned exact_unsigned (a.principal, a.agent) (b.principal, b.agent) h) ∙ pair_itself b
 
 abbrev pub mark : Bool → Option (Unit {0})
 mark b = cond b (Some tt) None

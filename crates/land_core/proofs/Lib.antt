@@ -2,6 +2,7 @@ pub mod Booleans
 pub mod FiniteMaps
 pub mod FiniteSets
 pub mod LookUps
+pub mod LooseMandates
 pub mod NewRegister
 pub mod Pairs
 pub mod References

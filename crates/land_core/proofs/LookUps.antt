@@ -8,19 +8,22 @@ use Rattle.std.specs.Str.{bytes_eq}
 use Rattle.std.specs.FinMap as map
 use Rattle.std.specs.FinMap.{FinMap, nat_cmp-IsAntisymmetric}
 use Rattle.std.specs.Ordering.{nat_cmp}
-use Rattle.land_core.proofs.Booleans.{both_of, not_false, or_false}
+use Rattle.land_core.proofs.Booleans.{both_of, not_false, not_true, or_false}
+use Rattle.land_core.proofs.LooseMandates.{loose_mandates_from, mandates_from}
 use Rattle.land_core.proofs.Reflection.{none_at, none_passes, some_at, some_passes}
 use Rattle.land_core.proofs.SoundRegisters.{are_used, are_used_back, administrator_at, administrator_from, loose_from, loose_members_from, members_from, refers, refers_back, single_from, unbroken_from, unused_from, used_bounds, used_from, whole_from}
 use Rattle.land_core.specs.Contents.{is_well_formed_content}
 use Rattle.land_core.specs.Entries.{has, some}
 use Rattle.land_core.specs.Grants.{grant_of}
-use Rattle.land_core.specs.Laws.{AreOfGroup, EntryRefers, GoTogether, HasOwner, HasParcel, IsInUse, IsSoundByLookUps, IsSoundUnit, MutationRefers, ParcelRefers, SoundnessByLookUps}
+use Rattle.land_core.specs.Laws.{AreOfGroup, EntryRefers, GoTogether, HasOwner, HasParcel, IsInUse, IsSoundByLookUps, IsSoundUnit, MandateRefers, MutationRefers, ParcelRefers, SoundnessByLookUps}
+use Rattle.land_core.specs.Mandates.{mandate_of}
 use Rattle.land_core.specs.Members.{are_group_shares, is_group_size, is_yes}
 use Rattle.land_core.specs.Mutations.{share_a_reference}
-use Rattle.land_core.specs.Register.{holds, shares_of}
+use Rattle.land_core.specs.Register.{has_single_party, holds, shares_of}
 use Rattle.land_core.specs.Role.{is_role, place_of, role_at, role_at_place}
-use Rattle.land_core.specs.Soundness.{IsSound, clashes_later, has_clash, has_reused_reference, is_loose_mutation, is_loose_rank, is_reused_later, is_used}
+use Rattle.land_core.specs.Soundness.{IsSound, clashes_later, has_clash, has_reused_reference, is_loose_mandate, is_loose_mutation, is_loose_rank, is_reused_later, is_used}
 use Rattle.land_core.specs.Units.{are_of_one_rank, are_of_one_type, are_whole_or_none, do_clash, has_owner, has_parcel, has_whole_shares, is_right_in, is_right_of, is_type, parcel_count, rank_of, rrr_count, type_of, type_shares}
+use Rattle.land_core.specs.declared.mandates.Mandate.{Mandate}
 use Rattle.land_core.specs.declared.mutation.MutationRecord.{MutationRecord}
 use Rattle.land_core.specs.declared.parcel.ParcelRecord.{ParcelRecord}
 use Rattle.land_core.specs.declared.register.Register.{Register}
@@ -203,6 +206,22 @@ mutation_fast : (r : Register) (m : MutationRecord) → MutationRefers r m → i
 mutation_fast r m h =
     ap not (both (has r.parties m.lodger && has r.sources m.source) (is_well_formed_content m.content) (both (has r.parties m.lodger) (has r.sources m.source) h.lodger h.source) h.content)
 
+mandate_refers : (r : Register) (m : Mandate) → is_loose_mandate r m ≡ false → MandateRefers r m.principal m.agent
+mandate_refers r m h =
+    let it = both_of (has_single_party r m.principal && has_single_party r m.agent) (not (nat_eq m.principal m.agent)) (not_false _ h) in
+    let single = both_of (has_single_party r m.principal) (has_single_party r m.agent) it.0 in
+    record {
+      principal_single = single.0;
+      agent_single = single.1;
+      apart = λ same. false≢true (sym (not_true (nat_eq m.principal m.agent) it.1) ∙ eq-eqb m.principal m.agent same);
+    }
+
+mandate_tight : (r : Register) (m : Mandate) → MandateRefers r m.principal m.agent → is_loose_mandate r m ≡ false
+mandate_tight r m h =
+    let apart = untrue (nat_eq m.principal m.agent) (λ same. h.apart (eqb-true m.principal m.agent same)) in
+    ap not (both (has_single_party r m.principal && has_single_party r m.agent) (not (nat_eq m.principal m.agent))
+    (both (has_single_party r m.principal) (has_single_party r m.agent) h.principal_single h.agent_single) (ap not apart))
+
 -- pairs of mutations, the lesser number first or last
 references_from : (r : Register) → has_reused_reference r ≡ false → (m n : ℕ) (it other : MutationRecord) → map.get r.mutations m ≡ Some it → map.get r.mutations n ≡ Some other → m ≢ n
     → it.lodger ≡ other.lodger → it.reference ≢ other.reference
@@ -343,6 +362,8 @@ module _ (law : WholenessLaw) where
         parcels = λ n p is. parcel_refers r p (at (λ n p. not (has r.units p.unit && has r.sources p.source)) r.parcels parts.parcels n p is);
         entries = λ n e is. entry_refers r e (at (λ n e. not (has r.units e.unit && has r.parties e.party && has r.sources e.source)) r.rrrs parts.rrrs n e is);
         mutations = λ n m is. mutation_refers r m (at (λ n m. is_loose_mutation r m) r.mutations parts.mutations n m is);
+        mandates = λ principal agent h.
+            let it = mandate_of principal agent in mandate_refers r it (mandates_from r parts.mandates it (granted (map.get r.mandates it) h));
         groups = λ n p is group. group_from (shares_of r n) (whole_from r (sound Group) n p is group);
         units = unit_from r sound;
         pairs = pairs_from r (sound Twice);
@@ -375,6 +396,7 @@ module _ (law : WholenessLaw) where
             let it = h.entries n e is in
             ap not (both (has r.units e.unit && has r.parties e.party) (has r.sources e.source) (both (has r.units e.unit) (has r.parties e.party) it.unit it.party) it.source));
         mutations = each (λ n m. is_loose_mutation r m) r.mutations (λ n m is. mutation_fast r m (h.mutations n m is));
+        mandates = loose_mandates_from r (λ m is. mandate_tight r m (h.mandates m.principal m.agent (ap is_some is)));
       })
   look_ups_to r h Shares = each (λ n u. u.checked && not (has_whole_shares r n)) r.units (λ n u is. unit_in_parts r n u (h.units n u is))
   look_ups_to r h Group = unbroken_from r (λ n p is group. group_to (shares_of r n) (h.groups n p is group))

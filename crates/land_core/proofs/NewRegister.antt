@@ -9,6 +9,7 @@ use Rattle.std.specs.FinMap as map
 use Rattle.std.specs.FinMap.{nat_cmp-IsAntisymmetric}
 use Rattle.land_core.proofs.FiniteMaps.{is_equal, none_is_not_some}
 use Rattle.land_core.proofs.FiniteSets.{grants_total, exact_grants}
+use Rattle.land_core.proofs.LooseMandates.{no_mandates_are_tight}
 use Rattle.land_core.proofs.SoundRegisters.{are_used_back, none_in_empty, refers_back, loose_from, unused_from, loose_members_from, unbroken_from, single_put, apart_itself, administrator_at}
 use Rattle.land_core.specs.Entries.{has}
 use Rattle.land_core.specs.Grants.{grant_cmp, grant_of}
@@ -55,6 +56,7 @@ new_is_sound Reference =
       parcels = none_in_empty (λ n p. not (has new_register.units p.unit && has new_register.sources p.source));
       rrrs = none_in_empty (λ n e. not (has new_register.units e.unit && has new_register.parties e.party && has new_register.sources e.source));
       mutations = none_in_empty (λ n m. is_loose_mutation new_register m);
+      mandates = no_mandates_are_tight new_register refl;
     })
 new_is_sound Shares = none_in_empty (λ n u. u.checked && not (has_whole_shares new_register n))
 new_is_sound Bare = none_in_empty (λ n u. not (has_parcel new_register n && has_owner new_register n))

@@ -16,7 +16,7 @@ use Rattle.land_core.specs.Grants.{grants_in}
 use Rattle.land_core.specs.Members.{Members, are_group_shares}
 use Rattle.land_core.specs.Register.{has_single_party, has_group, is_single, shares_of}
 use Rattle.land_core.specs.Role.{is_role}
-use Rattle.land_core.specs.Soundness.{IsSound, has_fault, is_past_the_numbers, is_used, has_unused, has_unused_number, has_loose_grant, has_loose_members, has_loose_member, has_loose_parcel, has_loose_rrr, has_loose_mutation, are_loose, has_broken_group, has_administrator}
+use Rattle.land_core.specs.Soundness.{IsSound, has_fault, is_past_the_numbers, is_used, has_unused, has_unused_number, has_loose_grant, has_loose_members, has_loose_member, has_loose_parcel, has_loose_rrr, has_loose_mutation, has_loose_mandate, are_loose, has_broken_group, has_administrator}
 use Rattle.land_core.specs.declared.party.PartyRecord.{PartyRecord}
 use Rattle.land_core.specs.declared.register.Register.{Register}
 use Rattle.land_core.specs.declared.role.Role.TheVariants.{StateAdministrator}
@@ -24,7 +24,7 @@ use Rattle.land_core.specs.declared.roles.Grant.{Grant}
 use Rattle.land_core.specs.declared.soundness.Unsound.TheVariants.{Reference, Administrator}
 use Rattle.land_fraction.specs.Ratio.{Ratio}
 
--- what a register without faults of reference has: the seven parts of that fault
+-- what a register without faults of reference has: the eight parts of that fault
 pub record Refers (r : Register) : Type 0 where
   pub room : is_past_the_numbers r ≡ false
   pub numbers : has_unused_number r ≡ false
@@ -33,26 +33,29 @@ pub record Refers (r : Register) : Type 0 where
   pub parcels : has_loose_parcel r ≡ false
   pub rrrs : has_loose_rrr r ≡ false
   pub mutations : has_loose_mutation r ≡ false
+  pub mandates : has_loose_mandate r ≡ false
 
 pub refers : (r : Register) → has_fault Reference r ≡ false → Refers r
 refers r h =
-    let mutations = or_false (is_past_the_numbers r || has_unused_number r || has_loose_grant r || has_loose_members r || has_loose_parcel r || has_loose_rrr r) (has_loose_mutation r) h in
+    let mandates = or_false (is_past_the_numbers r || has_unused_number r || has_loose_grant r || has_loose_members r || has_loose_parcel r || has_loose_rrr r || has_loose_mutation r) (has_loose_mandate r) h in
+    let mutations = or_false (is_past_the_numbers r || has_unused_number r || has_loose_grant r || has_loose_members r || has_loose_parcel r || has_loose_rrr r) (has_loose_mutation r) mandates.0 in
     let rrrs = or_false (is_past_the_numbers r || has_unused_number r || has_loose_grant r || has_loose_members r || has_loose_parcel r) (has_loose_rrr r) mutations.0 in
     let parcels = or_false (is_past_the_numbers r || has_unused_number r || has_loose_grant r || has_loose_members r) (has_loose_parcel r) rrrs.0 in
     let members = or_false (is_past_the_numbers r || has_unused_number r || has_loose_grant r) (has_loose_members r) parcels.0 in
     let grants = or_false (is_past_the_numbers r || has_unused_number r) (has_loose_grant r) members.0 in
     let numbers = or_false (is_past_the_numbers r) (has_unused_number r) grants.0 in
-    record { room = numbers.0; numbers = numbers.1; grants = grants.1; members = members.1; parcels = parcels.1; rrrs = rrrs.1; mutations = mutations.1 }
+    record { room = numbers.0; numbers = numbers.1; grants = grants.1; members = members.1; parcels = parcels.1; rrrs = rrrs.1; mutations = mutations.1; mandates = mandates.1 }
 
 pub refers_back : (r : Register) → Refers r → has_fault Reference r ≡ false
 refers_back r h =
-    ap (λ b. b || has_unused_number r || has_loose_grant r || has_loose_members r || has_loose_parcel r || has_loose_rrr r || has_loose_mutation r) h.room
-    ∙ ap (λ b. b || has_loose_grant r || has_loose_members r || has_loose_parcel r || has_loose_rrr r || has_loose_mutation r) h.numbers
-    ∙ ap (λ b. b || has_loose_members r || has_loose_parcel r || has_loose_rrr r || has_loose_mutation r) h.grants
-    ∙ ap (λ b. b || has_loose_parcel r || has_loose_rrr r || has_loose_mutation r) h.members
-    ∙ ap (λ b. b || has_loose_rrr r || has_loose_mutation r) h.parcels
-    ∙ ap (λ b. b || has_loose_mutation r) h.rrrs
-    ∙ h.mutations
+    ap (λ b. b || has_unused_number r || has_loose_grant r || has_loose_members r || has_loose_parcel r || has_loose_rrr r || has_loose_mutation r || has_loose_mandate r) h.room
+    ∙ ap (λ b. b || has_loose_grant r || has_loose_members r || has_loose_parcel r || has_loose_rrr r || has_loose_mutation r || has_loose_mandate r) h.numbers
+    ∙ ap (λ b. b || has_loose_members r || has_loose_parcel r || has_loose_rrr r || has_loose_mutation r || has_loose_mandate r) h.grants
+    ∙ ap (λ b. b || has_loose_parcel r || has_loose_rrr r || has_loose_mutation r || has_loose_mandate r) h.members
+    ∙ ap (λ b. b || has_loose_rrr r || has_loose_mutation r || has_loose_mandate r) h.parcels
+    ∙ ap (λ b. b || has_loose_mutation r || has_loose_mandate r) h.rrrs
+    ∙ ap (λ b. b || has_loose_mandate r) h.mutations
+    ∙ h.mandates
 
 -- numbers in use of each map that has objects
 pub record AreUsed (r : Register) : Type 0 where

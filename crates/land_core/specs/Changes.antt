@@ -3,6 +3,7 @@ use Rattle.std.specs.Prelude.{◌≡◌, ℕ, true, [], ◌++◌, nat_eq, map as
 use Rattle.std.specs.Ordering.{eq_by_cmp}
 use Rattle.land_core.specs.Entries.{updated, are_distinct}
 use Rattle.land_core.specs.Grants.{marks, grant_cmp}
+use Rattle.land_core.specs.Mandates.{mandate_cmp}
 use Rattle.land_core.specs.declared.change.Change.{Change}
 use Rattle.land_core.specs.declared.change.Ended.{Ended}
 use Rattle.land_core.specs.declared.change.Put.{Put}
@@ -10,10 +11,10 @@ use Rattle.land_core.specs.declared.register.Register.{Register}
 
 -- nothing that is put, and nothing that ends
 abbrev pub no_put : Put
-no_put = record { parties = []; roles = []; members = []; units = []; parcels = []; rrrs = []; sources = []; mutations = [] }
+no_put = record { parties = []; roles = []; members = []; units = []; parcels = []; rrrs = []; sources = []; mutations = []; mandates = [] }
 
 abbrev pub no_ended : Ended
-no_ended = record { parties = []; roles = []; members = []; units = []; parcels = []; rrrs = []; sources = []; mutations = [] }
+no_ended = record { parties = []; roles = []; members = []; units = []; parcels = []; rrrs = []; sources = []; mutations = []; mandates = [] }
 
 -- the change that puts and ends nothing
 abbrev pub no_change : (next : ℕ) → Change
@@ -30,6 +31,7 @@ after change r = record {
   rrrs = updated r.rrrs change.put.rrrs change.ended.rrrs;
   sources = updated r.sources change.put.sources change.ended.sources;
   mutations = updated r.mutations change.put.mutations change.ended.mutations;
+  mandates = updated r.mandates (marks change.put.mandates) change.ended.mandates;
   next = change.next;
 }
 
@@ -43,3 +45,4 @@ pub record NamesKeysOnce (change : Change) : Type 0 where
   pub rrrs : are_distinct nat_eq (map_list (λ e. e.0) change.put.rrrs ++ change.ended.rrrs) ≡ true
   pub sources : are_distinct nat_eq (map_list (λ e. e.0) change.put.sources ++ change.ended.sources) ≡ true
   pub mutations : are_distinct nat_eq (map_list (λ e. e.0) change.put.mutations ++ change.ended.mutations) ≡ true
+  pub mandates : are_distinct (eq_by_cmp mandate_cmp) (change.put.mandates ++ change.ended.mandates) ≡ true

@@ -5,6 +5,7 @@ use Rattle.std.specs.FinMap.{FinMap}
 use Rattle.std.specs.Option.{IsSome}
 use Rattle.std.specs.Ordering.{nat_cmp}
 use Rattle.land_core.specs.Contents.{is_well_formed_content}
+use Rattle.land_core.specs.Mandates.{has_mandate, mandate_of}
 use Rattle.land_core.specs.Members.{Members}
 use Rattle.land_core.specs.Register.{has_group, has_single_party, holds, is_single, shares_of}
 use Rattle.land_core.specs.Soundness.{IsSound}
@@ -53,6 +54,12 @@ pub record MutationRefers (r : Register) (mutation : MutationRecord) : Type 0 wh
 pub record GroupRefers (r : Register) (group : ℕ) (members : Members) : Type 0 where
   pub grouped : has_group r group ≡ true
   pub single : (n : ℕ) (share : Ratio) → map.get members n ≡ Some share → has_single_party r n ≡ true
+
+-- a mandate is between two single parties, which differ
+pub record MandateRefers (r : Register) (principal agent : ℕ) : Type 0 where
+  pub principal_single : has_single_party r principal ≡ true
+  pub agent_single : has_single_party r agent ≡ true
+  pub apart : principal ≢ agent
 
 -- 2 to 64 shares that make a whole
 pub record AreOfGroup (shares : List Ratio) : Type 0 where
@@ -103,6 +110,7 @@ pub record IsSoundByLookUps (r : Register) : Type 0 where
   pub parcels : (n : ℕ) (parcel : ParcelRecord) → map.get r.parcels n ≡ Some parcel → ParcelRefers r parcel
   pub entries : (n : ℕ) (entry : RrrRecord) → map.get r.rrrs n ≡ Some entry → EntryRefers r entry
   pub mutations : (n : ℕ) (mutation : MutationRecord) → map.get r.mutations n ≡ Some mutation → MutationRefers r mutation
+  pub mandates : (principal agent : ℕ) → has_mandate r.mandates (mandate_of principal agent) ≡ true → MandateRefers r principal agent
   pub groups : (n : ℕ) (party : PartyRecord) → map.get r.parties n ≡ Some party → is_single party.kind ≡ false → AreOfGroup (shares_of r n)
   pub units : (n : ℕ) (unit : UnitRecord) → map.get r.units n ≡ Some unit → IsSoundUnit r n unit
   pub pairs : (m n : ℕ) (e f : RrrRecord) → map.get r.rrrs m ≡ Some e → map.get r.rrrs n ≡ Some f → m ≢ n → e.unit ≡ f.unit → GoTogether e f

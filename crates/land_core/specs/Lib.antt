@@ -6,6 +6,7 @@ pub mod Contents
 pub mod Entries
 pub mod Grants
 pub mod Laws
+pub mod Mandates
 pub mod Members
 pub mod Mergers
 pub mod Mutations

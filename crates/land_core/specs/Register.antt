@@ -35,6 +35,7 @@ nothing = record {
   rrrs = map.empty;
   sources = map.empty;
   mutations = map.empty;
+  mandates = map.empty;
   next = 2;
 }
 
@@ -49,6 +50,7 @@ new_register = record {
   rrrs = map.empty;
   sources = map.empty;
   mutations = map.empty;
+  mandates = map.empty;
   next = 2;
 }
 

@@ -1,17 +1,19 @@
 -- When a register is sound. A record is called loose where something that it refers to does not stand, or is not of the kind
 -- that is asked for.
-use Rattle.std.specs.Prelude.{ℕ, ◌≡◌, Bool, false, not, ◌&&◌, ◌||◌, nat_lt, Option, Some, None}
+use Rattle.std.specs.Prelude.{ℕ, ◌≡◌, Bool, false, not, ◌&&◌, ◌||◌, nat_eq, nat_lt, Option, Some, None}
 use Rattle.std.specs.FinMap.{FinMap}
 use Rattle.std.specs.List.{list_any}
 use Rattle.std.specs.Ordering.{nat_cmp}
 use Rattle.land_core.specs.Contents.{is_well_formed_content}
 use Rattle.land_core.specs.Entries.{some, has}
 use Rattle.land_core.specs.Grants.{grants_in}
+use Rattle.land_core.specs.Mandates.{mandates_in}
 use Rattle.land_core.specs.Members.{Members, are_group_shares}
 use Rattle.land_core.specs.Mutations.{share_a_reference}
 use Rattle.land_core.specs.Register.{has_single_party, has_group, is_single, shares_of}
 use Rattle.land_core.specs.Role.{is_role}
 use Rattle.land_core.specs.Units.{has_whole_shares, has_parcel, has_owner, parcel_count, rrr_count, do_clash, rank_of}
+use Rattle.land_core.specs.declared.mandates.Mandate.{Mandate}
 use Rattle.land_core.specs.declared.mutation.MutationRecord.{MutationRecord}
 use Rattle.land_core.specs.declared.register.Register.{Register}
 use Rattle.land_core.specs.declared.role.Role.TheVariants.{StateAdministrator}
@@ -65,6 +67,13 @@ is_loose_mutation r m = not (has r.parties m.lodger && has r.sources m.source &&
 abbrev pub has_loose_mutation : Register → Bool
 has_loose_mutation r = some (λ n m. is_loose_mutation r m) r.mutations
 
+-- whether a mandate is not one between two single parties that stand and differ
+abbrev pub is_loose_mandate : Register → Mandate → Bool
+is_loose_mandate r m = not (has_single_party r m.principal && has_single_party r m.agent && not (nat_eq m.principal m.agent))
+
+abbrev pub has_loose_mandate : Register → Bool
+has_loose_mandate r = list_any (λ m. is_loose_mandate r m) (mandates_in r.mandates)
+
 -- whether a group has not 2 to 64 members whose shares make a whole
 abbrev pub has_broken_group : Register → Bool
 has_broken_group r = some (λ n p. not (is_single p.kind) && not (are_group_shares (shares_of r n))) r.parties
@@ -111,10 +120,10 @@ has_reused_reference r = some (λ n m. is_reused_later r n m) r.mutations
 
 -- whether the register has a fault
 abbrev pub has_fault : Unsound → Register → Bool
--- what a record refers to stands, numbers are in use, only groups have members, members are single parties, groups have no roles, and
--- contents keep their limits
+-- what a record refers to stands, numbers are in use, only groups have members, members are single parties, groups have no roles,
+-- contents keep their limits, and mandates are between two single parties
 has_fault Reference r =
-    is_past_the_numbers r || has_unused_number r || has_loose_grant r || has_loose_members r || has_loose_parcel r || has_loose_rrr r || has_loose_mutation r
+    is_past_the_numbers r || has_unused_number r || has_loose_grant r || has_loose_members r || has_loose_parcel r || has_loose_rrr r || has_loose_mutation r || has_loose_mandate r
 -- in each checked unit the shares of each type of right that occurs make a whole
 has_fault Shares r = has_unit_in_parts r
 -- each group has 2 to 64 members whose shares make a whole

@@ -2,6 +2,7 @@
 ghost use Rattle.std.specs.Prelude.{◌≡◌};
 ghost use Rattle.land_core.specs.Changes.{no_change};
 
+use crate::mandates::Mandate;
 use crate::member::Members;
 use crate::mutation::MutationRecord;
 use crate::parcel::ParcelRecord;
@@ -32,6 +33,8 @@ pub struct Put {
     pub sources: Sequence<(u64, SourceRecord)>,
     /// Mutations under their numbers.
     pub mutations: Sequence<(u64, MutationRecord)>,
+    /// Mandates that begin.
+    pub mandates: Sequence<Mandate>,
 }
 
 /// Keys of the register's maps whose entries end.
@@ -53,6 +56,8 @@ pub struct Ended {
     pub sources: NumberList,
     /// Numbers of mutations.
     pub mutations: NumberList,
+    /// Mandates that end.
+    pub mandates: Sequence<Mandate>,
 }
 
 /// What an act changes. No key of one map stands twice in it.
@@ -81,6 +86,7 @@ impl Change {
                 rrrs: Sequence::new(alloc),
                 sources: Sequence::new(alloc),
                 mutations: Sequence::new(alloc),
+                mandates: Sequence::new(alloc),
             },
             ended: Ended {
                 parties: Sequence::new(alloc),
@@ -91,6 +97,7 @@ impl Change {
                 rrrs: Sequence::new(alloc),
                 sources: Sequence::new(alloc),
                 mutations: Sequence::new(alloc),
+                mandates: Sequence::new(alloc),
             },
             next,
         }

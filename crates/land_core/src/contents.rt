@@ -1,43 +1,12 @@
-//! What a unit has: its parcels, and the entries in it.
+//! The entries in a unit: how many, and the shares of its rights.
 ghost use Rattle.std.specs.Prelude.{◌≡◌, IfOk};
-ghost use Rattle.land_core.specs.Units.{has_owner, has_parcel, parcel_count, rrr_count, type_shares};
+ghost use Rattle.land_core.specs.Units.{rrr_count, type_shares};
 
 use crate::register::Register;
 use crate::rrr::RightType;
 use crate::sequence::Sequence;
 use land_fraction::Fraction;
 use std::alloc::{AllocError, Global};
-
-/// Whether a unit has a parcel.
-pub fn has_parcel(register: &Register, unit: u64) -> bool
-    ensures { result ≡ has_parcel register.now unit }
-{
-    register
-        .parcels
-        .iter()
-        .any(|(_, parcel)| parcel.unit == unit)
-}
-
-/// Whether somebody owns a unit.
-pub fn has_owner(register: &Register, unit: u64) -> bool
-    ensures { result ≡ has_owner register.now unit }
-{
-    register
-        .rrrs
-        .iter()
-        .any(|(_, entry)| entry.is_right_in(unit, RightType::Ownership))
-}
-
-/// How many parcels a unit has.
-pub fn parcel_count(register: &Register, unit: u64) -> usize
-    ensures { result ≡ parcel_count register.now unit }
-{
-    register
-        .parcels
-        .iter()
-        .filter(|(_, parcel)| parcel.unit == unit)
-        .count()
-}
 
 /// How many entries a unit has.
 pub fn rrr_count(register: &Register, unit: u64) -> usize

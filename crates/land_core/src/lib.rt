@@ -11,6 +11,7 @@ pub mod duplicate;
 pub mod kind;
 pub mod laws;
 pub mod limits;
+pub mod mandates;
 pub mod member;
 pub mod merger;
 pub mod mutation;

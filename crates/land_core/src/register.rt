@@ -7,6 +7,7 @@ ghost use Rattle.land_core.specs.Soundness.{IsSound};
 use crate::change::Change;
 use crate::duplicate::Duplicate;
 use crate::kind::{Kind, PartyKind};
+use crate::mandates::Mandates;
 use crate::member::{Member, Members, listed};
 use crate::mutation::{Mutation, MutationRecord};
 use crate::object::Object;
@@ -42,6 +43,8 @@ pub struct Register {
     pub sources: Records<SourceRecord>,
     /// Mutations under their numbers.
     pub mutations: Records<MutationRecord>,
+    /// Which party holds whose mandate.
+    pub mandates: Mandates,
     /// The number that the next new object takes: 2 to 1_000_000_001 in a sound register.
     pub next: u64,
 }
@@ -79,6 +82,7 @@ impl Register {
             rrrs: Records::new(alloc),
             sources: Records::new(alloc),
             mutations: Records::new(alloc),
+            mandates: Mandates::new(alloc),
             next: 2,
         }
     }
@@ -100,6 +104,9 @@ impl Register {
             mutations: self
                 .mutations
                 .updated(alloc, &put.mutations, &ended.mutations)?,
+            mandates: self
+                .mandates
+                .updated(alloc, &put.mandates, &ended.mandates)?,
             next: change.next,
         })
     }
@@ -307,6 +314,7 @@ impl Duplicate for Register {
             rrrs: self.rrrs.copy(alloc)?,
             sources: self.sources.copy(alloc)?,
             mutations: self.mutations.copy(alloc)?,
+            mandates: self.mandates.copy(alloc)?,
             next: self.next,
         })
     }

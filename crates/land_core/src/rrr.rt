@@ -1,6 +1,6 @@
 //! Rights, restrictions, responsibilities and mortgages (LA_RRR): the entries of units.
 ghost use Rattle.std.specs.Prelude.{◌≡◌};
-ghost use Rattle.land_core.specs.Units.{are_of_one_rank, are_of_one_type, do_clash, is_right_in, is_type, rank_of, share_in, type_of};
+ghost use Rattle.land_core.specs.Units.{is_right_in, is_type, rank_of, share_in, type_of};
 
 use crate::duplicate::Duplicate;
 use crate::text::Text;
@@ -163,34 +163,6 @@ impl RrrRecord {
         } else {
             None
         }
-    }
-
-    /// Whether two entries do not go together in one unit: two rights of one type of one party, or two mortgages of one
-    /// rank.
-    pub fn do_clash(&self, other: &RrrRecord) -> bool
-        ensures { result ≡ do_clash self.now other.now }
-    {
-        self.unit == other.unit
-            && (self.party == other.party && are_of_one_type(&self.class, &other.class)
-                || are_of_one_rank(&self.class, &other.class))
-    }
-}
-
-fn are_of_one_type(class: &Class, other: &Class) -> bool
-    ensures { result ≡ are_of_one_type (type_of class.now) (type_of other.now) }
-{
-    match (class.right_type(), other.right_type()) {
-        (Some(right_type), Some(other)) => right_type.is(other),
-        _ => false,
-    }
-}
-
-fn are_of_one_rank(class: &Class, other: &Class) -> bool
-    ensures { result ≡ are_of_one_rank (rank_of class.now) (rank_of other.now) }
-{
-    match (class.rank(), other.rank()) {
-        (Some(rank), Some(other)) => rank == other,
-        _ => false,
     }
 }
 

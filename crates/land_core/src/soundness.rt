@@ -14,7 +14,8 @@ mod units;
 #[derive(Clone, Copy, Debug, PartialEq, Eq)]
 pub enum Unsound {
     /// A number is not in use, a role is that of nobody or of a group, a member that of no group or no single party, what a
-    /// parcel, an entry or a mutation refers to does not stand, or a content is not within its limits.
+    /// parcel, an entry or a mutation refers to does not stand, a content is not within its limits, or a mandate is not between
+    /// two single parties.
     Reference,
     /// The shares of a type of right in a checked unit do not sum to one.
     Shares,

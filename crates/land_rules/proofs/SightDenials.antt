@@ -10,6 +10,7 @@ use Rattle.std.proofs.lemmas.Bool.Decides.{nat_tests}
 use Rattle.land_core.proofs.Booleans.{both_of, or_false, not_false}
 use Rattle.land_core.proofs.FiniteMaps.{none_is_not_some}
 use Rattle.land_core.proofs.Reflection.{none_at, some_passes}
+use Rattle.land_core.proofs.LooseMandates.{no_mandates_are_tight}
 use Rattle.land_core.proofs.SoundRegisters.{Refers, are_used_back, loose_from, none_in_empty, refers}
 use Rattle.land_core.specs.Entries.{has}
 use Rattle.land_core.specs.Grants.{grant_cmp}
@@ -103,6 +104,7 @@ refers_nothing = record {
   parcels = none_in_empty _;
   rrrs = none_in_empty _;
   mutations = none_in_empty _;
+  mandates = no_mandates_are_tight nothing refl;
 }
 
 -- what the tests of a register's references say, where it is sound and where nothing is in it

@@ -140,6 +140,7 @@ pub sliced : (r : Register) (caller : Caller) (a : Act) (known : Known) (papers 
       rrrs = rrrs;
       sources = papers.sources;
       mutations = known.mutations;
+      mandates = map.empty;
       next = known.next;
     }) (slice_of r caller a)
 sliced r caller a known papers lifted rrrs is knows lifts puts =
@@ -160,6 +161,6 @@ sliced r caller a known papers lifted rrrs is knows lifts puts =
     sources = knows.sources ∙ ap (λ ms. only (λ n s. some (λ k m. nat_eq m.source n) ms) r.sources) is.mutations
 
     alike : (p p' : _) (g g' : _) (m m' : _) (u u' : _) (l l' : _) (e e' : _) (s s' : _) (t t' : _) (n n' : _) → p ≡ p' → g ≡ g' → m ≡ m' → u ≡ u' → l ≡ l' → e ≡ e' → s ≡ s' → t ≡ t' → n ≡ n'
-        → ◌≡◌ {A = Register} (record { parties = p; roles = g; members = m; units = u; parcels = l; rrrs = e; sources = s; mutations = t; next = n })
-        (record { parties = p'; roles = g'; members = m'; units = u'; parcels = l'; rrrs = e'; sources = s'; mutations = t'; next = n' })
+        → ◌≡◌ {A = Register} (record { parties = p; roles = g; members = m; units = u; parcels = l; rrrs = e; sources = s; mutations = t; mandates = map.empty; next = n })
+        (record { parties = p'; roles = g'; members = m'; units = u'; parcels = l'; rrrs = e'; sources = s'; mutations = t'; mandates = map.empty; next = n' })
     alike p p' g g' m m' u u' l l' e e' s s' t t' n n' a b c d f h i j k = cc

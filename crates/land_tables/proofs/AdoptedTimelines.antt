@@ -60,6 +60,7 @@ stands_there moments h m p lawful = record {
   mutations = part_stands moments m.stamp h.mutations p.mutations;
   namings = same_namings (standing m.stamp h.namings) (namings_of (history.register_at m.stamp h m.next).mutations)
       (distinct_standing is_same_naming m.stamp h.namings p.namings.apart) (namings_distinct (history.register_at m.stamp h m.next) lawful.sound) lawful.named;
+  mandates = refl;
 }
 
 -- ---- and up to the next one
@@ -77,6 +78,7 @@ stands_still moments h s t r p least most same there = record {
   sources = on is_same_number h.sources p.sources there.sources;
   mutations = on is_same_number h.mutations p.mutations there.mutations;
   namings = on is_same_naming h.namings p.namings there.namings;
+  mandates = there.mandates;
 }
   where
     on : {X : Type 0} (alike : X → X → Bool) (vs : List (Version X)) {records : List X} → Proper alike moments vs → IsPermutation (standing s vs) records → IsPermutation (standing t vs) records
@@ -95,6 +97,7 @@ nothing_stands moments h t p none = record {
   sources = on is_same_number h.sources p.sources (no_entries nat_cmp _);
   mutations = on is_same_number h.mutations p.mutations (no_entries nat_cmp _);
   namings = on is_same_naming h.namings p.namings (no_namings (map.entries (map.empty {X = MutationRecord} {R = nat_cmp})) (no_entries nat_cmp MutationRecord));
+  mandates = refl;
 }
   where
     on : {X : Type 0} (alike : X → X → Bool) (vs : List (Version X)) {records : List X} → Proper alike moments vs → records ≡ [] → IsPermutation (standing t vs) records

@@ -42,6 +42,7 @@ stands_too t one other r same h = record {
   sources = stand_too t one.sources other.sources _ same.sources h.sources;
   mutations = stand_too t one.mutations other.mutations _ same.mutations h.mutations;
   namings = stand_too t one.namings other.namings _ same.namings h.namings;
+  mandates = h.mandates;
 }
 
 pub reordered : OrderDoesNotMatter

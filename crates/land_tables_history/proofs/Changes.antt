@@ -1,16 +1,21 @@
 -- What a change leaves of what stands, what stands from then on, and how lifespans end.
-use Rattle.std.proofs.Common.{◌≡◌, ℕ, ◌++◌, Bool, true, false, ◌&&◌, List, refl, sym, subst, IsPermutation}
+use Rattle.std.proofs.Common.{◌≡◌, ℕ, ◌++◌, Bool, true, false, ◌&&◌, List, [], refl, sym, ap, ◌∙◌, subst, IsPermutation}
 use Rattle.std.specs.Prelude.{ℤ, ◌<ℤ◌}
 use Rattle.std.specs.List.{list_all}
 use Rattle.std.specs.Ordering.{eq_by_cmp}
 use Rattle.land_core.proofs.Booleans.{both_of}
-use Rattle.land_core.specs.Grants.{grant_cmp}
+use Rattle.land_core.specs.Changes.{after}
+use Rattle.land_core.specs.Entries.{updated}
+use Rattle.land_core.specs.Grants.{grant_cmp, marks}
+use Rattle.land_core.specs.declared.change.Change.{Change}
+use Rattle.land_core.specs.declared.mandates.Mandate.{Mandate}
+use Rattle.land_core.specs.declared.register.Register.{Register}
 use Rattle.land_tables_history.proofs.ChangedGroups.{members_change}
 use Rattle.land_tables_history.proofs.ChangedNamings.{namings_change}
 use Rattle.land_tables_history.proofs.ChangedParts.{part_changes, roles_change}
 use Rattle.land_tables_history.proofs.ChangedVersions.{changed_end, past_versions}
 use Rattle.land_tables_history.specs.Changed.{changed_part, changed_versions, is_among, is_changed, listed_members, named_by, new_mutations}
-use Rattle.land_tables_history.specs.Laws.{ChangeStands, ChangedHaveEnded, PastStands}
+use Rattle.land_tables_history.specs.Laws.{ChangeStands, ChangedHaveEnded, LeavesMandates, PastStands}
 use Rattle.land_tables_history.specs.Open.{has_ended, have_ended, never}
 use Rattle.land_tables_history.specs.Standing.{standing}
 use Rattle.land_tables_history.specs.declared.history.History.{History}
@@ -32,6 +37,7 @@ past_stands next change stamp t h r less early stands = record {
   sources = still _ _ stamp t h.sources _ less early stands.sources;
   mutations = still _ _ stamp t h.mutations _ less early stands.mutations;
   namings = still (named_by (new_mutations next change.put.mutations)) (λ naming. false) stamp t h.namings _ less early stands.namings;
+  mandates = stands.mandates;
 }
 
 -- ---- each kind of versions
@@ -85,6 +91,11 @@ changed_have_ended next change last stamp h all less =
 
 -- ---- from the stamp on
 
+-- a change that leaves mandates alone
+mandates_stay : (change : Change) (r : Register) → LeavesMandates change → (after change r).mandates ≡ r.mandates
+mandates_stay change r leaves =
+    ap (λ (given : List Mandate). updated r.mandates (marks given) change.ended.mandates) leaves.put ∙ ap (λ (ended : List Mandate). updated r.mandates [] ended) leaves.ended
+
 pub change_stands : ChangeStands
 change_stands change last stamp t h r all less since early once puts stands =
     let ended = each_ended last h all in
@@ -100,4 +111,5 @@ change_stands change last stamp t h r all less since early once puts stands =
       sources = part_changes last stamp t less since early put.sources over.sources h.sources r.sources ended.sources once.sources stands.sources;
       mutations = part_changes last stamp t less since early put.mutations over.mutations h.mutations r.mutations ended.mutations once.mutations stands.mutations;
       namings = namings_change last stamp t less since early r change h.namings ended.namings once.mutations puts stands.namings;
+      mandates = mandates_stay change r puts.mandates ∙ stands.mandates;
     }

@@ -88,6 +88,7 @@ module _ (moments : List Moment) (last stamp : ℤ) (by : AllByRecursion (λ (m 
       sources = still h.sources _ proper.sources stands.sources;
       mutations = still h.mutations _ proper.mutations stands.mutations;
       namings = still h.namings _ proper.namings stands.namings;
+      mandates = stands.mandates;
     }
 
     module _ (change : Change) (r : Register) (once : NamesKeysOnce change) (puts : PutsMutations r change)

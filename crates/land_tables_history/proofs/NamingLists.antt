@@ -9,11 +9,12 @@ use Rattle.std.specs.FinMap.Entries.{below_all}
 use Rattle.std.specs.List.{AllByRecursion, list_all, list_any}
 use Rattle.std.specs.Ordering.{is_lt, nat_cmp}
 use Rattle.land_core.proofs.Booleans.{T_true, both_of, not_false, not_true, or_false}
+use Rattle.land_core.proofs.SoundRegisters.{refers}
 use Rattle.land_core.specs.Contents.{is_well_formed_content}
 use Rattle.land_core.specs.Entries.{are_distinct, has}
 use Rattle.land_core.specs.Mergers.{are_merged, are_others, are_rising, lists_number, rise_above}
 use Rattle.land_core.specs.Numbers.{is_number}
-use Rattle.land_core.specs.Soundness.{IsSound, has_loose_grant, has_loose_members, has_loose_mutation, has_loose_parcel, has_loose_rrr, has_unused_number, is_loose_mutation, is_past_the_numbers}
+use Rattle.land_core.specs.Soundness.{IsSound, is_loose_mutation}
 use Rattle.land_core.specs.Texts.{is_label}
 use Rattle.land_core.specs.declared.content.Content.{Content}
 use Rattle.land_core.specs.declared.content.Content.TheVariants as content
@@ -138,13 +139,9 @@ well_formed r (e ∷ es) none =
     let parts = or_false (is_loose_mutation r e.1) (list_any (λ e. is_loose_mutation r e.1) es) none in
     ((both_of (has r.parties e.1.lodger && has r.sources e.1.source) (is_well_formed_content e.1.content) (not_false _ parts.0)).1, well_formed r es parts.1)
 
-no_loose_mutation : (r : Register) → IsSound r → has_loose_mutation r ≡ false
-no_loose_mutation r sound =
-    (or_false (is_past_the_numbers r || has_unused_number r || has_loose_grant r || has_loose_members r || has_loose_parcel r || has_loose_rrr r) (has_loose_mutation r) (sound Reference)).1
-
 pub namings_distinct : (r : Register) → IsSound r → are_distinct is_same_naming (namings_of r.mutations) ≡ true
 namings_distinct r sound =
-    named_distinct (map.entries r.mutations) (T_true (is_sorted nat_cmp (map.entries r.mutations)) (map.entries_sorted r.mutations)) (well_formed r (map.entries r.mutations) (no_loose_mutation r sound))
+    named_distinct (map.entries r.mutations) (T_true (is_sorted nat_cmp (map.entries r.mutations)) (map.entries_sorted r.mutations)) (well_formed r (map.entries r.mutations) (refers r (sound Reference)).mutations)
 
 -- ---- namings that are the same, none twice
 

@@ -1,5 +1,5 @@
 -- What of the register's versions stands at a moment is a register.
-use Rattle.std.specs.Prelude.{ℕ, ℤ, List, [], ◌∷◌, flat_map, map as map_list}
+use Rattle.std.specs.Prelude.{◌≡◌, ℕ, ℤ, List, [], ◌∷◌, flat_map, map as map_list}
 use Rattle.std.specs.FinMap as map
 use Rattle.std.specs.FinMap.{FinMap}
 use Rattle.std.specs.List.Sorted.{IsPermutation}
@@ -25,7 +25,8 @@ named_units (content.Discharge it) = it.unit ∷ []
 abbrev pub namings_of : FinMap nat_cmp MutationRecord → List Naming
 namings_of mutations = flat_map (λ m. map_list (λ unit. record { mutation = m.0; unit = unit }) (named_units m.1.content)) (map.entries mutations)
 
--- the versions that stand at a moment are the register's records, roles and members, and the units that its mutations name, each once
+-- the versions that stand at a moment are the register's records, roles and members, and the units that its mutations name, each once;
+-- no versions are kept of mandates, and there are none
 pub record StandsAt (t : ℤ) (history : History) (register : Register) : Type 0 where
   pub parties : IsPartAt t history.parties register.parties
   pub roles : AreRolesAt t history.roles register.roles
@@ -36,6 +37,7 @@ pub record StandsAt (t : ℤ) (history : History) (register : Register) : Type 0
   pub sources : IsPartAt t history.sources register.sources
   pub mutations : IsPartAt t history.mutations register.mutations
   pub namings : IsPermutation (standing t history.namings) (namings_of register.mutations)
+  pub mandates : register.mandates ≡ map.empty
 
 -- the register that stands at a moment, with the number that the next new object takes then
 abbrev pub register_at : ℤ → History → (next : ℕ) → Register
@@ -48,5 +50,6 @@ register_at t history next = record {
   rrrs = part_at t history.rrrs;
   sources = part_at t history.sources;
   mutations = part_at t history.mutations;
+  mandates = map.empty;
   next = next;
 }

@@ -4,7 +4,8 @@ use Rattle.std.proofs.lemmas.Bool.{false≢true}
 use Rattle.std.proofs.lemmas.List.Elements.{All-from_recursion, recursion_from_All}
 use Rattle.std.specs.List.{All, AllByRecursion}
 use Rattle.land_core.proofs.Booleans.{both_of, or_false}
-use Rattle.land_core.specs.Soundness.{IsSound, has_bare_unit, has_broken_group, has_clash, has_crowded_unit, has_loose_grant, has_loose_members, has_loose_mutation, has_loose_parcel, has_loose_rank, has_loose_rrr, has_reused_reference, has_unit_in_parts, has_unused_number, is_past_the_numbers}
+use Rattle.land_core.proofs.LooseMandates.{no_mandates_are_tight}
+use Rattle.land_core.specs.Soundness.{IsSound, has_bare_unit, has_broken_group, has_clash, has_crowded_unit, has_loose_grant, has_loose_mandate, has_loose_members, has_loose_mutation, has_loose_parcel, has_loose_rank, has_loose_rrr, has_reused_reference, has_unit_in_parts, has_unused_number, is_past_the_numbers}
 use Rattle.land_core.specs.declared.register.Register.{Register}
 use Rattle.land_core.specs.declared.soundness.Unsound.{Unsound}
 use Rattle.land_core.specs.declared.soundness.Unsound.TheVariants.{Reference, Shares, Group, Bare, Crowded, Twice, Rank, Administrator, Reused, Memory}
@@ -32,8 +33,8 @@ five a b c d e p q r s t = two (a && b && c && d) e (two (a && b && c) d (two (a
 
 -- ---- one register
 
-seven : {a b c d e f g : Bool} → a ≡ false → b ≡ false → c ≡ false → d ≡ false → e ≡ false → f ≡ false → g ≡ false → (a || b || c || d || e || f || g) ≡ false
-seven p q r s t u v = ap₂ (λ x y. x || y) (ap₂ (λ x y. x || y) (ap₂ (λ x y. x || y) (ap₂ (λ x y. x || y) (ap₂ (λ x y. x || y) (ap₂ (λ x y. x || y) p q) r) s) t) u) v
+eight : {a b c d e f g h : Bool} → a ≡ false → b ≡ false → c ≡ false → d ≡ false → e ≡ false → f ≡ false → g ≡ false → h ≡ false → (a || b || c || d || e || f || g || h) ≡ false
+eight p q r s t u v w = ap₂ (λ x y. x || y) (ap₂ (λ x y. x || y) (ap₂ (λ x y. x || y) (ap₂ (λ x y. x || y) (ap₂ (λ x y. x || y) (ap₂ (λ x y. x || y) (ap₂ (λ x y. x || y) p q) r) s) t) u) v) w
 
 -- a register without any of the faults
 record IsFree (r : Register) : Type 0 where
@@ -44,6 +45,7 @@ record IsFree (r : Register) : Type 0 where
   parcels : has_loose_parcel r ≡ false
   entries : has_loose_rrr r ≡ false
   mutations : has_loose_mutation r ≡ false
+  mandates : has_loose_mandate r ≡ false
   shares : has_unit_in_parts r ≡ false
   groups : has_broken_group r ≡ false
   bare : has_bare_unit r ≡ false
@@ -54,7 +56,7 @@ record IsFree (r : Register) : Type 0 where
   references : has_reused_reference r ≡ false
 
 sound : (r : Register) → IsFree r → IsSound r
-sound r f Reference = seven f.past f.unused f.grants f.members f.parcels f.entries f.mutations
+sound r f Reference = eight f.past f.unused f.grants f.members f.parcels f.entries f.mutations f.mandates
 sound r f Shares = f.shares
 sound r f Group = f.groups
 sound r f Bare = f.bare
@@ -67,7 +69,8 @@ sound r f Memory = refl
 
 free : (r : Register) → IsSound r → IsFree r
 free r s =
-    let g = or_false (is_past_the_numbers r || has_unused_number r || has_loose_grant r || has_loose_members r || has_loose_parcel r || has_loose_rrr r) (has_loose_mutation r) (s Reference) in
+    let h = or_false (is_past_the_numbers r || has_unused_number r || has_loose_grant r || has_loose_members r || has_loose_parcel r || has_loose_rrr r || has_loose_mutation r) (has_loose_mandate r) (s Reference) in
+    let g = or_false (is_past_the_numbers r || has_unused_number r || has_loose_grant r || has_loose_members r || has_loose_parcel r || has_loose_rrr r) (has_loose_mutation r) h.0 in
     let f = or_false (is_past_the_numbers r || has_unused_number r || has_loose_grant r || has_loose_members r || has_loose_parcel r) (has_loose_rrr r) g.0 in
     let e = or_false (is_past_the_numbers r || has_unused_number r || has_loose_grant r || has_loose_members r) (has_loose_parcel r) f.0 in
     let d = or_false (is_past_the_numbers r || has_unused_number r || has_loose_grant r) (has_loose_members r) e.0 in
@@ -81,6 +84,7 @@ free r s =
       parcels = e.1;
       entries = f.1;
       mutations = g.1;
+      mandates = h.1;
       shares = s Shares;
       groups = s Group;
       bare = s Bare;
@@ -133,6 +137,7 @@ module _ (h : History) where
     parcels = f.parcels.0;
     entries = f.entries.0;
     mutations = f.mutations.0;
+    mandates = no_mandates_are_tight (register_at m.stamp h m.next) refl;
     shares = f.shares.0;
     groups = f.groups.0;
     bare = f.bare.0;

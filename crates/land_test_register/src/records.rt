@@ -14,6 +14,7 @@ pub mod copies;
 pub mod crowds;
 pub mod faults;
 pub mod garden;
+pub mod mandates;
 pub mod mutation_faults;
 pub mod objects;
 pub mod right_faults;

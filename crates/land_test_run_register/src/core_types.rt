@@ -1,5 +1,6 @@
 //! The small types give back what they were made of.
 use land_core::duplicate::Duplicate;
+use land_core::mandates::{Mandate, Mandates};
 use land_core::records::Records;
 use land_core::role::Role;
 use land_core::roles::{Grant, Roles};
@@ -70,5 +71,28 @@ fn granted(alloc: Global) -> Result<Roles, AllocError> {
 fn roles_are_given_back(rt: HostRuntime) -> Result<(), Fail> {
     let roles = granted(rt.alloc())?;
     assert!(&rt; roles.contains(GRANT) && !Roles::new(rt.alloc()).contains(GRANT));
+    Ok(())
+}
+
+const MANDATE: Mandate = Mandate {
+    principal: 2,
+    agent: 3,
+};
+
+const TURNED: Mandate = Mandate {
+    principal: 3,
+    agent: 2,
+};
+
+fn given(alloc: Global) -> Result<Mandates, AllocError> {
+    let mut mandates = Mandates::new(alloc);
+    mandates.insert(MANDATE)?;
+    Ok(Mandates::from_set(mandates.into_set()))
+}
+
+#[test]
+fn mandates_are_given_back(rt: HostRuntime) -> Result<(), Fail> {
+    let mandates = given(rt.alloc())?;
+    assert!(&rt; mandates.contains(MANDATE) && !mandates.contains(TURNED));
     Ok(())
 }

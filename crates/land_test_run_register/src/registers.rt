@@ -1,7 +1,7 @@
 //! Registers with their faults, the objects that they show, and changes.
 use crate::conclusion::conclude;
 use land_test_register::records::{
-    changing, copies, crowds, faults, mutation_faults, objects, right_faults, unit_faults,
+    changing, copies, crowds, faults, mandates, mutation_faults, objects, right_faults, unit_faults,
 };
 use std::test::Fail;
 
@@ -103,6 +103,19 @@ fn numbers_in_use_lie_below_the_next_one(rt: HostRuntime) -> Result<(), Fail> {
 #[test]
 fn a_role_is_that_of_a_single_party(rt: HostRuntime) -> Result<(), Fail> {
     conclude(&rt, faults::a_role_is_that_of_a_single_party(rt.alloc()))
+}
+
+#[test]
+fn a_mandate_is_between_two_single_parties(rt: HostRuntime) -> Result<(), Fail> {
+    conclude(
+        &rt,
+        mandates::a_mandate_is_between_two_single_parties(rt.alloc()),
+    )
+}
+
+#[test]
+fn mandates_are_those_of_the_change(rt: HostRuntime) -> Result<(), Fail> {
+    conclude(&rt, mandates::mandates_are_those_of_the_change(rt.alloc()))
 }
 
 #[test]

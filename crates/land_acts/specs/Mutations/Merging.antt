@@ -10,7 +10,7 @@ use Rattle.land_acts.specs.Mutations.Planning.{lacks_numbers}
 use Rattle.land_acts.specs.Mutations.Subdividing.{entries_of, parcels_beside}
 use Rattle.land_acts.specs.Mutations.Transferring.{is_checked}
 use Rattle.land_acts.specs.declared.mutations.refusal.Refusal.{Refusal}
-use Rattle.land_acts.specs.declared.mutations.refusal.Refusal.TheVariants.{NoSuchUnit, NoSuchParcel, UnlikeUnits, TooMany, ClockOut, NotMatched}
+use Rattle.land_acts.specs.declared.mutations.refusal.Refusal.TheVariants.{NoSuchUnit, NoSuchParcel, UnitsUnlike, TooMany, ClockOut, NotMatched}
 use Rattle.land_core.specs.Changes.{no_put, no_ended}
 use Rattle.land_core.specs.Contents.{is_same_share}
 use Rattle.land_core.specs.Entries.{has, numbers_where}
@@ -101,7 +101,7 @@ abbrev pub merger_refusals : Register → Merger → Option ℤ → List (Refusa
 merger_refusals r it stamp =
     (NoSuchUnit, lacks_unit r it)
     ∷ (NoSuchParcel, lacks_parcel r it)
-    ∷ (UnlikeUnits, has_unlike r it)
+    ∷ (UnitsUnlike, has_unlike r it)
     ∷ (TooMany, lacks_numbers r 1 || would_have_more_parcels r it)
     ∷ (ClockOut, is_none stamp)
     ∷ (NotMatched, not (are_same_ground (outlines_at r it.parcels) (it.outline ∷ [])))

@@ -1,7 +1,7 @@
 -- What planning reads of a register, and what all plans have in common.
 use Rattle.std.specs.Prelude.{ℕ, ◌+◌, ℤ, Bool, List, [], ◌∷◌, Option, Some, None, nat_lt, if◌then◌else◌}
 use Rattle.land_acts.specs.declared.mutations.refusal.Refusal.{Refusal}
-use Rattle.land_acts.specs.declared.mutations.refusal.Refusal.TheVariants.{NotLodged, NoSuchUnit, NoSuchParcel, NoSuchRight, NoSuchParty, ShareTooLarge, SharesTooFine, UnlikeUnits, TooMany, NotBank, NotMortgage, SharesNotWhole, ReferenceUsed, RoleHeld, RoleNotHeld, ClockOut, LastAdministrator, SameParty, NotMatched, NoMemory}
+use Rattle.land_acts.specs.declared.mutations.refusal.Refusal.TheVariants.{NotLodged, NoSuchUnit, NoSuchParcel, NoSuchRight, NoSuchParty, ShareTooLarge, SharesTooFine, UnitsUnlike, TooMany, NotBank, NotMortgage, SharesNotWhole, ReferenceUsed, RoleHeld, RoleNotHeld, ClockOut, LastAdministrator, SameParty, NotMatched, NoMemory}
 use Rattle.land_core.specs.Units.{rrr_count}
 use Rattle.land_core.specs.declared.change.Done.{Done}
 use Rattle.land_core.specs.declared.register.Register.{Register}
@@ -17,7 +17,7 @@ number_of NoSuchRight = 204
 number_of NoSuchParty = 205
 number_of ShareTooLarge = 206
 number_of SharesTooFine = 207
-number_of UnlikeUnits = 209
+number_of UnitsUnlike = 209
 number_of TooMany = 210
 number_of NotBank = 211
 number_of NotMortgage = 212

@@ -39,7 +39,7 @@ pub(crate) fn refusal(
     } else if lacks_parcel(slice, it) {
         Some(Refusal::NoSuchParcel)
     } else if has_unlike(slice, it) {
-        Some(Refusal::UnlikeUnits)
+        Some(Refusal::UnitsUnlike)
     } else if lacks_numbers(slice, 1) || would_have_more_parcels(slice, it) {
         Some(Refusal::TooMany)
     } else if stamp.is_none() {

@@ -22,7 +22,7 @@ pub enum Refusal {
     /// 207: the shares have no common denominator up to 1_000_000_000.
     SharesTooFine,
     /// 209: a unit that is to end would keep a parcel, or is not checked alike, or has other entries.
-    UnlikeUnits,
+    UnitsUnlike,
     /// 210: a new number would be above 1_000_000_000, or a unit would have more than 256 parcels or entries.
     TooMany,
     /// 211: the creditor does not hold the role of a bank.
@@ -65,7 +65,7 @@ impl Refusal {
             Refusal::NoSuchParty => 205,
             Refusal::ShareTooLarge => 206,
             Refusal::SharesTooFine => 207,
-            Refusal::UnlikeUnits => 209,
+            Refusal::UnitsUnlike => 209,
             Refusal::TooMany => 210,
             Refusal::NotBank => 211,
             Refusal::NotMortgage => 212,

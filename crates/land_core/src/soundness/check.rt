@@ -2,9 +2,10 @@
 ghost use Rattle.std.specs.Prelude.{◌≡◌, ◌≢◌, true, IfOk, OnOk, IfErr};
 ghost use Rattle.land_core.specs.Members.{are_group_shares};
 ghost use Rattle.land_core.specs.Register.{shares_of};
-ghost use Rattle.land_core.specs.Soundness.{IsSound, has_fault, has_unused, has_unused_number, has_loose_grant, has_loose_members, has_loose_parcel, has_loose_rrr, are_loose, has_loose_member, has_broken_group, has_administrator, is_used};
+ghost use Rattle.land_core.specs.Soundness.{IsSound, has_fault, has_unused, has_unused_number, has_loose_grant, has_loose_mandate, has_loose_members, has_loose_parcel, has_loose_rrr, is_loose_mandate, are_loose, has_loose_member, has_broken_group, has_administrator, is_used};
 
 use crate::kind::{Kind, PartyKind};
+use crate::mandates::Mandate;
 use crate::member::{Members, shares_of};
 use crate::records::Records;
 use crate::register::Register;
@@ -45,6 +46,7 @@ fn has_reference_fault(register: &Register) -> bool
         || has_loose_parcel(register)
         || has_loose_rrr(register)
         || has_loose_mutation(register)
+        || has_loose_mandate(register)
 }
 
 fn has_unused_number(register: &Register) -> bool
@@ -91,6 +93,24 @@ fn has_loose_grant(register: &Register) -> bool
         .roles
         .iter()
         .any(|grant| !register.has_single_party(grant.party))
+}
+
+fn has_loose_mandate(register: &Register) -> bool
+    ensures { result ≡ has_loose_mandate register.now }
+{
+    register
+        .mandates
+        .iter()
+        .any(|mandate| is_loose_mandate(register, *mandate))
+}
+
+/// Whether a mandate is not one between two single parties that stand and differ.
+fn is_loose_mandate(register: &Register, mandate: Mandate) -> bool
+    ensures { result ≡ is_loose_mandate register.now mandate }
+{
+    !(register.has_single_party(mandate.principal)
+        && register.has_single_party(mandate.agent)
+        && mandate.principal != mandate.agent)
 }
 
 fn has_loose_members(register: &Register) -> bool

@@ -4,6 +4,7 @@ use crate::facts::lodged::mutation;
 use crate::facts::making::{members, parcel, party, rrr, source, unit};
 use land_core::change::{Change, Ended, Put};
 use land_core::kind::Kind;
+use land_core::mandates::Mandate;
 use land_core::role::Role;
 use land_core::roles::Grant;
 use land_core::sequence::{NumberList, Sequence};
@@ -22,6 +23,11 @@ fn add<V: Drop>(
 /// Lets a change begin a role of a party.
 fn begin(roles: &mut Sequence<Grant>, party: u64, role: Role) -> Result<(), Stop> {
     Ok(roles.push(Grant { party, role })?)
+}
+
+/// Lets a change name a mandate, among those that begin or those that end.
+fn name(mandates: &mut Sequence<Mandate>, principal: u64, agent: u64) -> Result<(), Stop> {
+    Ok(mandates.push(Mandate { principal, agent })?)
 }
 
 /// Lets a change put what a fact says.
@@ -47,6 +53,7 @@ fn put(alloc: Global, put: &mut Put, fact: &Fact) -> Result<(), Stop> {
         Fact::Mutation(number, lodged) => {
             add(&mut put.mutations, *number, mutation(alloc, lodged))
         }
+        Fact::Mandate(principal, agent) => name(&mut put.mandates, *principal, *agent),
         _ => Err(Stop::Unmade("a change")),
     }
 }
@@ -78,6 +85,7 @@ fn ending(ended: &mut Ended, kind: Kind, number: u64) -> Result<(), Stop> {
 fn change_by(alloc: Global, change: &mut Change, fact: &Fact) -> Result<(), Stop> {
     match fact {
         Fact::Ended(kind, number) => ending(&mut change.ended, *kind, *number),
+        Fact::Withdrawn(principal, agent) => name(&mut change.ended.mandates, *principal, *agent),
         fact => put(alloc, &mut change.put, fact),
     }
 }

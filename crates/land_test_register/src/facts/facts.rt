@@ -43,6 +43,10 @@ pub enum Fact {
     Rrr(u64, u64, u64, u64, Held),
     /// A mutation's number, and how it was lodged.
     Mutation(u64, Lodged),
+    /// A mandate that begins, from its principal to its agent.
+    Mandate(u64, u64),
+    /// A mandate that ends.
+    Withdrawn(u64, u64),
     /// What stands under a number no longer does.
     Ended(Kind, u64),
 }

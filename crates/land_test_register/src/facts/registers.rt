@@ -3,6 +3,7 @@ use crate::facts::facts::Fact;
 use crate::facts::lodged::mutation;
 use crate::facts::making::{crowd, members, parcel, party, rrr, source, unit};
 use land_core::kind::Kind;
+use land_core::mandates::{Mandate, Mandates};
 use land_core::records::Records;
 use land_core::register::Register;
 use land_core::role::Role;
@@ -29,6 +30,17 @@ fn grant(roles: &mut Roles, party: u64, role: Role) -> Result<(), Stop> {
 /// A role of a party ends.
 fn revoke(roles: &mut Roles, party: u64, role: Role) -> Result<(), Stop> {
     roles.remove(Grant { party, role });
+    Ok(())
+}
+
+/// A mandate begins.
+fn give(mandates: &mut Mandates, principal: u64, agent: u64) -> Result<(), Stop> {
+    Ok(mandates.insert(Mandate { principal, agent })?)
+}
+
+/// A mandate ends.
+fn withdraw(mandates: &mut Mandates, principal: u64, agent: u64) -> Result<(), Stop> {
+    mandates.remove(Mandate { principal, agent });
     Ok(())
 }
 
@@ -66,6 +78,8 @@ fn tell(alloc: Global, register: &mut Register, fact: &Fact) -> Result<(), Stop>
         Fact::Mutation(number, lodged) => {
             enter(&mut register.mutations, *number, mutation(alloc, lodged))
         }
+        Fact::Mandate(principal, agent) => give(&mut register.mandates, *principal, *agent),
+        Fact::Withdrawn(principal, agent) => withdraw(&mut register.mandates, *principal, *agent),
         Fact::Ended(kind, number) => end(register, *kind, *number),
     }
 }

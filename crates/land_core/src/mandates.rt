@@ -1,0 +1,140 @@
+//! The mandates that stand, which contracts see as a set of pairs.
+ghost use Rattle.std.specs.Prelude.{◌≡◌, OnOk, OnErr, IfOk};
+ghost use Rattle.std.specs.FinMap as map;
+ghost use Rattle.std.specs.Map.Iter.{ShowsInOrder, deref};
+ghost use Rattle.land_core.specs.Entries.{updated, with_entries, without};
+ghost use Rattle.land_core.specs.Grants.{marks};
+ghost use Rattle.land_core.specs.Mandates.{has_mandate, mandates_in};
+ghost use Rattle.land_core.specs.declared.mandates.Mandate.{Mandate};
+
+use crate::duplicate::Duplicate;
+use crate::sequence::Sequence;
+use std::alloc::{AllocError, Global};
+use std::collections::BTreeSet;
+use std::collections::btree_set::Iter;
+use std::marker::Model;
+
+/// A party lets another look as it does.
+#[derive(Clone, Copy, Debug, PartialEq, Eq, PartialOrd, Ord)]
+pub struct Mandate {
+    /// The number of the party that gives the mandate.
+    pub principal: u64,
+    /// The number of the party that holds it.
+    pub agent: u64,
+}
+
+/// Which party holds whose mandate. A mandate has no number and is no object.
+#[derive(Debug, Drop)]
+pub struct Mandates {
+    pairs: BTreeSet<Mandate>,
+}
+
+impl Model for Mandates {
+    ghost use Rattle.std.specs.FinMap as map;
+    ghost use Rattle.std.specs.FinSet as set;
+    ghost use Rattle.land_core.specs.Grants.{marks};
+    ghost use Rattle.land_core.specs.Mandates.{coded_mandate, Mandates};
+
+    ghost Value = { Mandates };
+
+    ghost coded = { set.code coded_mandate };
+
+    ghost view = { λ a. map.from_entries (marks a.pairs.keys) };
+}
+
+impl Mandates {
+    /// No mandates, which takes no memory.
+    pub fn new(alloc: Global) -> Mandates
+        ensures { result ≡ map.empty }
+    {
+        Mandates {
+            pairs: BTreeSet::new(alloc),
+        }
+    }
+
+    /// The mandates of a set, which they keep.
+    pub fn from_set(pairs: BTreeSet<Mandate>) -> Mandates
+        ensures { result ≡ map.from_entries (marks pairs.keys) }
+    {
+        Mandates { pairs }
+    }
+
+    /// The set that the mandates kept.
+    pub fn into_set(self) -> BTreeSet<Mandate>
+        ensures { map.from_entries (marks result.keys) ≡ self }
+    {
+        let Mandates { pairs } = self;
+        pairs
+    }
+
+    /// Whether a mandate stands.
+    pub fn contains(&self, mandate: Mandate) -> bool
+        ensures { result ≡ has_mandate self.now mandate }
+    {
+        self.pairs.contains(&mandate)
+    }
+
+    /// Lets a mandate stand. After want of memory the mandates are unchanged.
+    pub fn insert(&mut self, mandate: Mandate) -> Result<(), AllocError>
+        ensures ok { OnOk result (self.new ≡ map.insert self.old mandate tt) }
+        ensures err { OnErr result (self.new ≡ self.old) }
+    {
+        self.pairs.insert(mandate)?;
+        Ok(())
+    }
+
+    /// Ends a mandate.
+    pub fn remove(&mut self, mandate: Mandate)
+        ensures { self.new ≡ map.remove self.old mandate }
+    {
+        let _ = self.pairs.remove(&mandate);
+    }
+
+    /// All mandates, by principal and then by agent.
+    pub fn iter(&self) -> Iter<'_, Mandate>
+        ensures rest { result ≡ mandates_in self.now }
+        ensures runs { ShowsInOrder (deref {X = Mandate}) }
+    {
+        self.pairs.iter()
+    }
+
+    /// These mandates without some, and with others given.
+    pub fn updated(
+        &self,
+        alloc: Global,
+        put: &Sequence<Mandate>,
+        ended: &Sequence<Mandate>,
+    ) -> Result<Mandates, AllocError>
+        ensures { IfOk result (λ it. it ≡ updated self.now (marks put.now) ended.now) }
+    {
+        let mut mandates = self.copy(alloc)?;
+        mandates.end_all(ended.as_slice());
+        mandates.put_all(put.as_slice())?;
+        Ok(mandates)
+    }
+
+    fn put_all(&mut self, put: &[Mandate]) -> Result<(), AllocError>
+        ensures { OnOk result (self.new ≡ with_entries self.old (marks put.now)) }
+    {
+        for mandate in put {
+            self.insert(*mandate)?;
+        }
+        Ok(())
+    }
+
+    fn end_all(&mut self, ended: &[Mandate])
+        ensures { self.new ≡ without self.old ended.now }
+    {
+        for mandate in ended {
+            self.remove(*mandate);
+        }
+    }
+}
+
+impl Duplicate for Mandates {
+    fn copy(&self, _alloc: Global) -> Result<Mandates, AllocError> {
+        Ok(Mandates {
+            pairs: self.pairs.clone()?,
+        })
+    }
+}
