@@ -1,5 +1,5 @@
 -- The members of groups that stand at a moment.
-use Rattle.std.specs.Prelude.{◌≢◌, ℕ, ℤ, Bool, nat_eq, List, [], ◌∷◌, Some, flat_map, map as map_list, if◌then◌else◌}
+use Rattle.std.specs.Prelude.{◌≢◌, ℕ, ℤ, List, [], ◌∷◌, Some, flat_map, map as map_list}
 use Rattle.std.specs.FinMap as map
 use Rattle.std.specs.FinMap.{FinMap}
 use Rattle.std.specs.List.Sorted.{IsPermutation}

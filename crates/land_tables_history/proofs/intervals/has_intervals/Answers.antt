@@ -1,5 +1,5 @@
 use Rattle.std.proofs.Common.{◌≡◌, ◌∙◌, ap, Bool}
-use Rattle.std.specs.Prelude.{IfOk, ℤ, List}
+use Rattle.std.specs.Prelude.{ℤ, List}
 use Rattle.std.proofs.lemmas.Result.{IfOk-weaker}
 use Rattle.land_tables_history.proofs.StampIntervals.{by_stamps}
 use Rattle.land_tables_history.specs.Intervals.{has_intervals, has_intervals_of}
