@@ -10,6 +10,7 @@ use Rattle.land_acts.specs.Slices.{looks_at_party, looks_at_rrr, mutations_looke
 use Rattle.land_core.proofs.FiniteSets.{exact_grants, grants_total}
 use Rattle.land_core.specs.Entries.{only, some}
 use Rattle.land_core.specs.Grants.{Grants, grants_in}
+use Rattle.land_core.specs.Mandates.{Mandates}
 use Rattle.land_core.specs.Role.{is_role}
 use Rattle.land_core.specs.declared.act.Act.{Act}
 use Rattle.land_core.specs.declared.act.Act.TheVariants as act
@@ -128,9 +129,9 @@ papers_gathered r mutations it grown = record {
 
 -- ---- the slice
 
--- the slice has what is known of it, its sources, and its entries with the one that is lifted
-pub sliced : (r : Register) (caller : Caller) (a : Act) (known : Known) (papers : Papers) (lifted rrrs : FinMap nat_cmp RrrRecord) → IsKnown r caller a known
-    → KnowsPapers r (λ n. some (λ k m. nat_eq m.source n) known.mutations) papers → lifted ≡ only (λ n e. names_rrr r a n) r.rrrs → rrrs ≡ put_all known.holdings.rrrs lifted
+-- the slice has what is known of it, its sources, its entries with the one that is lifted, and no mandates
+pub sliced : (r : Register) (caller : Caller) (a : Act) (known : Known) (papers : Papers) (lifted rrrs : FinMap nat_cmp RrrRecord) (mandates : Mandates) → IsKnown r caller a known
+    → KnowsPapers r (λ n. some (λ k m. nat_eq m.source n) known.mutations) papers → lifted ≡ only (λ n e. names_rrr r a n) r.rrrs → rrrs ≡ put_all known.holdings.rrrs lifted → mandates ≡ map.empty
     → ◌≡◌ {A = Register} (record {
       parties = known.people.parties;
       roles = known.people.roles;
@@ -140,11 +141,11 @@ pub sliced : (r : Register) (caller : Caller) (a : Act) (known : Known) (papers 
       rrrs = rrrs;
       sources = papers.sources;
       mutations = known.mutations;
-      mandates = map.empty;
+      mandates = mandates;
       next = known.next;
     }) (slice_of r caller a)
-sliced r caller a known papers lifted rrrs is knows lifts puts =
-    alike _ _ _ _ _ _ _ _ _ _ _ _ _ _ _ _ _ _ is.people.parties is.people.roles is.people.members is.holdings.units is.holdings.parcels entries sources is.mutations (sym is.next)
+sliced r caller a known papers lifted rrrs mandates is knows lifts puts none =
+    alike _ _ _ _ _ _ _ _ _ _ _ _ _ _ _ _ _ _ _ _ is.people.parties is.people.roles is.people.members is.holdings.units is.holdings.parcels entries sources is.mutations none (sym is.next)
   where
     entries : rrrs ≡ only (λ n e. looks_at_rrr r a n e) r.rrrs
     entries =
@@ -160,7 +161,7 @@ sliced r caller a known papers lifted rrrs is knows lifts puts =
     sources : papers.sources ≡ only (λ n s. some (λ k m. nat_eq m.source n) (mutations_looked_at r caller a)) r.sources
     sources = knows.sources ∙ ap (λ ms. only (λ n s. some (λ k m. nat_eq m.source n) ms) r.sources) is.mutations
 
-    alike : (p p' : _) (g g' : _) (m m' : _) (u u' : _) (l l' : _) (e e' : _) (s s' : _) (t t' : _) (n n' : _) → p ≡ p' → g ≡ g' → m ≡ m' → u ≡ u' → l ≡ l' → e ≡ e' → s ≡ s' → t ≡ t' → n ≡ n'
-        → ◌≡◌ {A = Register} (record { parties = p; roles = g; members = m; units = u; parcels = l; rrrs = e; sources = s; mutations = t; mandates = map.empty; next = n })
-        (record { parties = p'; roles = g'; members = m'; units = u'; parcels = l'; rrrs = e'; sources = s'; mutations = t'; mandates = map.empty; next = n' })
-    alike p p' g g' m m' u u' l l' e e' s s' t t' n n' a b c d f h i j k = cc
+    alike : (p p' : _) (g g' : _) (m m' : _) (u u' : _) (l l' : _) (e e' : _) (s s' : _) (t t' : _) (d d' : _) (n n' : _) → p ≡ p' → g ≡ g' → m ≡ m' → u ≡ u' → l ≡ l' → e ≡ e' → s ≡ s' → t ≡ t' → d ≡ d' → n ≡ n'
+        → ◌≡◌ {A = Register} (record { parties = p; roles = g; members = m; units = u; parcels = l; rrrs = e; sources = s; mutations = t; mandates = d; next = n })
+        (record { parties = p'; roles = g'; members = m'; units = u'; parcels = l'; rrrs = e'; sources = s'; mutations = t'; mandates = d'; next = n' })
+    alike p p' g g' m m' u u' l l' e e' s s' t t' d d' n n' a b c f h i j k o q = cc
