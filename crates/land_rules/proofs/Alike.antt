@@ -10,7 +10,7 @@ use Rattle.std.proofs.lemmas.Bool.{false≢true}
 use Rattle.land_core.proofs.Booleans.{both_of}
 use Rattle.land_core.proofs.Reflection.{some_at, some_passes}
 use Rattle.land_core.specs.Entries.{has}
-use Rattle.land_core.specs.Register.{is_member, mutation_at, object_at}
+use Rattle.land_core.specs.Register.{mutation_at, object_at}
 use Rattle.land_core.specs.declared.ask.Ask.TheVariants as ask
 use Rattle.land_core.specs.declared.caller.Caller.{Caller}
 use Rattle.land_core.specs.declared.kind.Kind.{Kind}
@@ -28,6 +28,7 @@ use Rattle.land_rules.proofs.Seeing.{number_is, seen_exactly}
 use Rattle.land_rules.proofs.SightDenials.{party_stands, told_by_references}
 use Rattle.land_rules.proofs.SightLaws.{sees_lodged}
 use Rattle.land_rules.specs.Alike.{LookAlike, VerdictsTellNothingUnseen}
+use Rattle.land_rules.specs.Circles.{circle_of, is_group_of, is_in_circle}
 use Rattle.land_rules.specs.Laws.{IsSoundOrNothing, is_itself, is_named_by_itself, rule_of_role}
 use Rattle.land_rules.specs.Relations.{is_lodger_of, is_lodger_on, is_pending_on}
 use Rattle.land_rules.specs.Rules.{first_denial, is_allowed, is_of_the_present, is_party_in_sight, is_rrr_in_sight, seen_of, sees, view_rules}
@@ -188,7 +189,7 @@ module _ (at : Register) (sound : IsSoundOrNothing at) (n : ℕ) (e : RrrRecord)
   seen_by_role : (party : ℕ) (role : Role) → let caller : Caller = record { party = party; role = role } in
       sees at caller kind.Rrr n ≡ true → sees at caller kind.Party e.party ≡ true
   seen_by_role party Citizen seen = let caller : Caller = record { party = party; role = Citizen } in
-      met_beside (nat_eq e.party party) (is_member at e.party party) (is_party_in_sight at caller e.party) (has at.parties e.party) 13 (met caller seen) (party_stands at sound caller e.party (met caller seen))
+      met_beside (is_in_circle at party e.party) (is_group_of at (circle_of at party) e.party) (is_party_in_sight at caller e.party) (has at.parties e.party) 13 (met caller seen) (party_stands at sound caller e.party (met caller seen))
   seen_by_role party Conveyancer seen = let caller : Caller = record { party = party; role = Conveyancer } in
       met_there (nat_eq e.party party) (is_party_in_sight at caller e.party) (has at.parties e.party) 21 (met caller seen) (party_stands at sound caller e.party (met caller seen))
   seen_by_role party Notary seen = let caller : Caller = record { party = party; role = Notary } in

@@ -1,5 +1,5 @@
 -- What interest a party has in a unit, by the names in which it has it.
-use Rattle.std.proofs.Common.{◌≡◌, ℕ, Bool, true, false, ◌&&◌, ◌||◌, Option, Some, None, refl, sym, subst, ap, ◌∙◌}
+use Rattle.std.proofs.Common.{◌≡◌, ℕ, Bool, true, false, ◌&&◌, ◌||◌, Option, Some, None, refl, sym, subst, ap, ap₂, ◌∙◌}
 use Rattle.std.proofs.lemmas.Bool.{false≢true}
 use Rattle.std.specs.BTreeSet.{BTreeSet}
 use Rattle.std.specs.Cmp.{nat_cmp_total}
@@ -11,17 +11,20 @@ use Rattle.std.specs.Prelude.{nat_eq}
 use Rattle.land_core.proofs.Booleans.{both_of}
 use Rattle.land_core.proofs.Pairs.{list_any_same}
 use Rattle.land_core.proofs.Reflection.{some_at, some_passes}
-use Rattle.land_core.specs.Entries.{has, some}
+use Rattle.land_core.specs.Entries.{some}
+use Rattle.land_core.specs.Mandates.{mandates_in}
 use Rattle.land_core.specs.Members.{Members}
-use Rattle.land_core.specs.Register.{is_member, stands}
+use Rattle.land_core.specs.Register.{stands}
 use Rattle.land_core.specs.declared.kind.Kind.TheVariants as kind
+use Rattle.land_core.specs.declared.mandates.Mandate.{Mandate}
 use Rattle.land_core.specs.declared.register.Register.{Register}
 use Rattle.land_core.specs.declared.rrr.RrrRecord.{RrrRecord}
 use Rattle.land_rules.proofs.Booleans.{any_where, same_tests}
+use Rattle.land_rules.proofs.InCircles.{held_by_names, names_among, owned_by_names, some_principal}
 use Rattle.land_rules.proofs.Denied.{eq-itself}
 use Rattle.land_rules.proofs.Seeing.{number_is}
-use Rattle.land_rules.specs.Holdings.{AreNames, gives_interest, has_interest, has_interest_as, has_interest_by, has_number}
-use Rattle.land_rules.specs.Relations.{holds_as}
+use Rattle.land_rules.specs.Circles.{circle_of, is_in_circle, is_name_of}
+use Rattle.land_rules.specs.Holdings.{AreNames, gives_interest, has_interest, has_interest_as, has_interest_by, has_member_among, has_number, is_name_among}
 use Rattle.land_rules.specs.declared.rules.holdings.Interest.{Interest}
 use Rattle.land_rules.specs.declared.rules.holdings.Interest.TheVariants.{Holder, Owner, Creditor}
 
@@ -33,8 +36,8 @@ is_in_names interest is_name unit e = nat_eq e.unit unit && gives_interest inter
 
 -- by an entry in one of its names a party has the interest in a unit that stands
 interest_as : (interest : Interest) (at : Register) (party unit : ℕ) → (stands at kind.Unit unit && some (λ n e. is_in_names interest (has_interest_as interest at party) unit e) at.rrrs) ≡ has_interest interest at party unit
-interest_as Holder at party unit = refl
-interest_as Owner at party unit = refl
+interest_as Holder at party unit = sym (held_by_names at (circle_of at party) unit)
+interest_as Owner at party unit = sym (owned_by_names at (circle_of at party) unit)
 interest_as Creditor at party unit = refl
 
 -- so a party has the interest in a unit where some entry in one of these names gives it
@@ -49,35 +52,60 @@ interest_by_names interest at party names are unit =
 
 -- ---- the names of a citizen
 
-eq_turned : (a b : ℕ) → nat_eq a b ≡ nat_eq b a
+pub eq_turned : (a b : ℕ) → nat_eq a b ≡ nat_eq b a
 eq_turned a b = same_tests (nat_eq a b) (nat_eq b a) (turned a b) (turned b a)
   where
     turned : (n k : ℕ) → nat_eq n k ≡ true → nat_eq k n ≡ true
     turned n k h = subst (λ (m : ℕ). nat_eq m n ≡ true) (number_is n k h) (eq-itself n)
 
--- whether a group is the one that is named and has a party for a member
-abbrev pub is_group_named : (party named : ℕ) → ℕ × Members → Bool
-is_group_named party named e = nat_eq e.0 named && has e.1 party
+-- whether a group is the one that is named, and its members pass a test
+abbrev pub is_group_where : (passes : Members → Bool) → (named : ℕ) → ℕ × Members → Bool
+is_group_where passes named e = nat_eq e.0 named && passes e.1
 
-abbrev is_its_group : (party named group : ℕ) → Members → Bool
-is_its_group party named group members = is_group_named party named (group, members)
+abbrev is_its_group : (passes : Members → Bool) → (named group : ℕ) → Members → Bool
+is_its_group passes named group members = is_group_where passes named (group, members)
 
--- some group with the party for a member is the one that is named where the party is a member of that
-member_of : (at : Register) (party named : ℕ) → list_any (is_group_named party named) (map.entries at.members) ≡ is_member at named party
-member_of at party named = same_tests (list_any (is_group_named party named) (map.entries at.members)) (is_member at named party) forth (back (map.get at.members named) refl)
+-- some group whose members pass is the one that is named where the members of that pass
+pub group_where : (passes : Members → Bool) (at : Register) (named : ℕ)
+    → list_any (is_group_where passes named) (map.entries at.members) ≡ option_map_or passes (map.get at.members named) false
+group_where passes at named = same_tests _ _ forth (back (map.get at.members named) refl)
   where
-    forth : list_any (is_group_named party named) (map.entries at.members) ≡ true → is_member at named party ≡ true
+    forth : list_any (is_group_where passes named) (map.entries at.members) ≡ true → option_map_or passes (map.get at.members named) false ≡ true
     forth h =
-        let it = some_passes nat_cmp_total nat_cmp-IsAntisymmetric (is_its_group party named) at.members h in
-        let parts = both_of (nat_eq it.key named) (has it.value party) it.passes in
-        ap (λ o. option_map_or (λ members. has members party) o false) (ap (map.get at.members) (sym (number_is it.key named parts.0)) ∙ it.there) ∙ parts.1
+        let it = some_passes nat_cmp_total nat_cmp-IsAntisymmetric (is_its_group passes named) at.members h in
+        let parts = both_of (nat_eq it.key named) (passes it.value) it.passes in
+        ap (λ o. option_map_or passes o false) (ap (map.get at.members) (sym (number_is it.key named parts.0)) ∙ it.there) ∙ parts.1
 
-    back : (found : Option Members) → map.get at.members named ≡ found → is_member at named party ≡ true → list_any (is_group_named party named) (map.entries at.members) ≡ true
-    back None is h = absurd (false≢true (sym (ap (λ o. option_map_or (λ members. has members party) o false) is) ∙ h))
+    back : (found : Option Members) → map.get at.members named ≡ found → option_map_or passes (map.get at.members named) false ≡ true
+        → list_any (is_group_where passes named) (map.entries at.members) ≡ true
+    back None is h = absurd (false≢true (sym (ap (λ o. option_map_or passes o false) is) ∙ h))
     back (Some members) is h =
-        some_at nat_cmp_total nat_cmp-IsAntisymmetric (is_its_group party named) at.members named members is
-        (ap (λ b. b && has members party) (eq-itself named) ∙ sym (ap (λ o. option_map_or (λ them. has them party) o false) is) ∙ h)
+        some_at nat_cmp_total nat_cmp-IsAntisymmetric (is_its_group passes named) at.members named members is
+        (ap (λ b. b && passes members) (eq-itself named) ∙ sym (ap (λ o. option_map_or passes o false) is) ∙ h)
 
--- so these are the names of a citizen: its own, and those of the groups that have it for a member
-pub names_of : (at : Register) (party named : ℕ) → (nat_eq party named || list_any (is_group_named party named) (map.entries at.members)) ≡ holds_as at party named
-names_of at party named = ap (λ b. b || list_any (is_group_named party named) (map.entries at.members)) (eq_turned party named) ∙ ap (λ b. nat_eq named party || b) (member_of at party named)
+-- so these are the names of some parties: their own, and those of the groups that have one of them for a member
+pub names_grouped : (at : Register) (is_one : ℕ → Bool) (named : ℕ)
+    → (is_one named || list_any (is_group_where (has_member_among is_one) named) (map.entries at.members)) ≡ is_name_among at is_one named
+names_grouped at is_one named = ap (λ b. is_one named || b) (group_where (has_member_among is_one) at named)
+
+-- and those of a set that is the circle of a citizen are the citizen's
+names_alike : (at : Register) (one other : ℕ → Bool) → ((n : ℕ) → one n ≡ other n) → (named : ℕ) → is_name_among at one named ≡ is_name_among at other named
+names_alike at one other same named = ap₂ (λ a b. a || b) (same named) (by_members (map.get at.members named))
+  where
+    by_members : (found : Option Members) → option_map_or (has_member_among one) found false ≡ option_map_or (has_member_among other) found false
+    by_members None = refl
+    by_members (Some members) = list_any_same (λ e. one e.0) (λ e. other e.0) (λ e. same e.0) (map.entries members)
+
+pub names_of_circle : (at : Register) (party : ℕ) (circle : BTreeSet ℕ) → ((number : ℕ) → has_number circle number ≡ is_in_circle at party number)
+    → (named : ℕ) → is_name_among at (has_number circle) named ≡ is_name_of at (circle_of at party) named
+names_of_circle at party circle are named = names_alike at (has_number circle) (is_in_circle at party) are named ∙ names_among at (circle_of at party) named
+
+-- ---- the circle of a citizen
+
+pub circle_held : (at : Register) (party number : ℕ)
+    → (nat_eq party number || list_any (λ m. nat_eq m.agent party && nat_eq m.principal number) (mandates_in at.mandates)) ≡ is_in_circle at party number
+circle_held at party number =
+    ap₂ (λ a b. a || b) (eq_turned party number)
+    (list_any_same (λ (m : Mandate). nat_eq m.agent party && nat_eq m.principal number) (λ m. nat_eq m.agent party && nat_eq number m.principal)
+    (λ m. ap (λ b. nat_eq m.agent party && b) (eq_turned m.principal number)) (mandates_in at.mandates)
+    ∙ sym (some_principal (nat_eq number) at party))

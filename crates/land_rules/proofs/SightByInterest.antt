@@ -1,5 +1,5 @@
 -- What a citizen or a bank sees of a unit and of its entries, and a citizen of what names the unit, is told by its interest in the unit.
-use Rattle.std.proofs.Common.{◌≡◌, ◌⊎◌, ◌↔◌, inl, inr, ℕ, Bool, true, false, not, ◌&&◌, ◌||◌, cond, nat_eq, List, [], ◌∷◌, filter, Option, Some, None, is_some, refl, sym, ap, ap₂, subst, ◌∙◌}
+use Rattle.std.proofs.Common.{◌≡◌, ◌↔◌, inl, inr, ℕ, Bool, true, false, not, ◌&&◌, ◌||◌, cond, nat_eq, List, [], ◌∷◌, filter, Option, Some, None, is_some, refl, sym, ap, ap₂, subst, ◌∙◌}
 use Rattle.std.proofs.lemmas.Bool.{eqb-true, false≢true}
 use Rattle.std.proofs.lemmas.Bool.Decides.{Decides-eqb}
 use Rattle.std.proofs.lemmas.Map.Views.{Contains-from_any, list_any-from_Contains}
@@ -31,9 +31,11 @@ use Rattle.land_core.specs.declared.rrr.Class.{Class}
 use Rattle.land_core.specs.declared.rrr.RightType.TheVariants.{Ownership}
 use Rattle.land_core.specs.declared.rrr.RrrRecord.{RrrRecord}
 use Rattle.land_rules.proofs.Booleans.{same_tests}
+use Rattle.land_rules.proofs.InCircles.{held_by_names, owned_by_names}
+use Rattle.land_rules.specs.Circles.{circle_of, is_held_by, is_name_of, is_owned_by, is_told_to_circle, names_held_by}
 use Rattle.land_rules.specs.Denials.Interests.{AreNamesOf, Entries, InterestsTellSight, NamesTellInterests, entries_of, interest_at, interest_of, is_shown_by_interest, names_shown, sees_by_interest, shows_entry, shows_unit}
 use Rattle.land_rules.specs.Laws.{IsSoundOrNothing}
-use Rattle.land_rules.specs.Relations.{holds_as, is_credit, is_creditor_on, is_held_right, is_holder, is_mortgage, is_mutation_where, is_owner, is_right, is_rrr_where, is_told_to_creditor, is_told_to_holder, names_holding}
+use Rattle.land_rules.specs.Relations.{is_credit, is_creditor_on, is_mortgage, is_mutation_where, is_right, is_rrr_where, is_told_to_creditor}
 use Rattle.land_rules.specs.Rules.{is_allowed, is_told_to_bank, sees}
 use Rattle.land_rules.specs.declared.denials.interests.Interest.{Interest}
 use Rattle.land_rules.specs.declared.denials.interests.Interest.TheVariants.{Stranger, Holder, Owner, Creditor}
@@ -164,32 +166,38 @@ module _ (r : Register) (refers : UnitsStand r) (p : ℕ) where
   abbrev bank : Caller
   bank = record { party = p; role = roles.Bank }
 
+  abbrev is_name : ℕ → Bool
+  is_name named = is_name_of r (circle_of r p) named
+
   abbrev holds : ℕ → Bool
-  holds unit = some (λ n e. is_right e.class && holds_as r p e.party) (entries_of r unit)
+  holds unit = some (λ n e. is_right e.class && is_name e.party) (entries_of r unit)
 
   abbrev owns : ℕ → Bool
-  owns unit = some (λ n e. is_right_of Ownership e.class && holds_as r p e.party) (entries_of r unit)
+  owns unit = some (λ n e. is_right_of Ownership e.class && is_name e.party) (entries_of r unit)
 
   abbrev credits : ℕ → Bool
   credits unit = some (λ n e. is_mortgage e.class && nat_eq e.party p) (entries_of r unit)
 
-  holder : (unit : ℕ) → is_holder r p unit ≡ holds unit
-  holder unit = in_unit r refers is_right (holds_as r p) unit
+  holder : (unit : ℕ) → is_held_by r (circle_of r p) unit ≡ holds unit
+  holder unit = held_by_names r (circle_of r p) unit ∙ in_unit r refers is_right is_name unit
 
-  owner : (unit : ℕ) → is_owner r p unit ≡ owns unit
-  owner unit = in_unit r refers (is_right_of Ownership) (holds_as r p) unit
+  owner : (unit : ℕ) → is_owned_by r (circle_of r p) unit ≡ owns unit
+  owner unit = owned_by_names r (circle_of r p) unit ∙ in_unit r refers (is_right_of Ownership) is_name unit
 
   creditor : (unit : ℕ) → is_creditor_on r p unit ≡ credits unit
   creditor unit = in_unit r refers is_mortgage (λ q. nat_eq q p) unit
 
   unit_of_citizen : (unit : ℕ) → sees r citizen kind.Unit unit ≡ shows_unit (interest_at r citizen unit)
   unit_of_citizen unit =
-      passes_both (is_holder r p unit) (has r.units unit) 11 ∙ again (has r.units unit) (some (λ n e. is_held_right r p unit e) r.rrrs) ∙ holder unit ∙ unit_to_citizen (holds unit) (owns unit)
+      passes_both (is_held_by r (circle_of r p) unit) (has r.units unit) 11
+      ∙ ap (λ b. b && has r.units unit) (held_by_names r (circle_of r p) unit)
+      ∙ again (has r.units unit) (some (λ n e. nat_eq e.unit unit && is_right e.class && is_name e.party) r.rrrs)
+      ∙ in_unit r refers is_right is_name unit ∙ unit_to_citizen (holds unit) (owns unit)
 
   unit_of_bank : (unit : ℕ) → sees r bank kind.Unit unit ≡ shows_unit (interest_at r bank unit)
   unit_of_bank unit = passes_both (is_creditor_on r p unit) (has r.units unit) 15 ∙ again (has r.units unit) (some (λ n e. is_credit p unit e) r.rrrs) ∙ creditor unit ∙ unit_to_bank (credits unit)
 
-  told_to_citizen : (e : RrrRecord) → is_told_to_holder r p e ≡ shows_entry (interest_at r citizen e.unit) p e
+  told_to_citizen : (e : RrrRecord) → is_told_to_circle r (circle_of r p) e ≡ shows_entry (interest_at r citizen e.unit) p e
   told_to_citizen e = ap₂ (λ a b. a && (not (is_mortgage e.class) || b)) (holder e.unit) (owner e.unit) ∙ entry_to_citizen (holds e.unit) (owns e.unit) p e
 
   told_to_bank : (e : RrrRecord) → is_told_to_bank r bank e ≡ shows_entry (interest_at r bank e.unit) p e
@@ -197,22 +205,22 @@ module _ (r : Register) (refers : UnitsStand r) (p : ℕ) where
 
   entry_of_citizen : (n : ℕ) → sees r citizen kind.Rrr n ≡ is_shown_by_interest r citizen kind.Rrr n
   entry_of_citizen n =
-      passes_both (is_rrr_where (is_told_to_holder r p) r n) (has r.rrrs n) 12
-      ∙ told_of (is_told_to_holder r p) (λ e. shows_entry (interest_at r citizen e.unit) p e) told_to_citizen (map.get r.rrrs n)
+      passes_both (is_rrr_where (is_told_to_circle r (circle_of r p)) r n) (has r.rrrs n) 12
+      ∙ told_of (is_told_to_circle r (circle_of r p)) (λ e. shows_entry (interest_at r citizen e.unit) p e) told_to_citizen (map.get r.rrrs n)
 
   entry_of_bank : (n : ℕ) → sees r bank kind.Rrr n ≡ is_shown_by_interest r bank kind.Rrr n
   entry_of_bank n =
       passes_both (is_rrr_where (is_told_to_bank r bank) r n) (has r.rrrs n) 16
       ∙ told_of (is_told_to_bank r bank) (λ e. shows_entry (interest_at r bank e.unit) p e) told_to_bank (map.get r.rrrs n)
 
-  names_to_citizen : (m : MutationRecord) → names_holding r p m ≡ names_shown r citizen m
+  names_to_citizen : (m : MutationRecord) → names_held_by r (circle_of r p) m ≡ names_shown r citizen m
   names_to_citizen m =
-      named_alike (is_holder r p) (λ unit. shows_unit (interest_at r citizen unit)) (λ unit. holder unit ∙ unit_to_citizen (holds unit) (owns unit)) m.content
+      named_alike (is_held_by r (circle_of r p)) (λ unit. shows_unit (interest_at r citizen unit)) (λ unit. holder unit ∙ unit_to_citizen (holds unit) (owns unit)) m.content
 
   mutation_of_citizen : (n : ℕ) → sees r citizen kind.Mutation n ≡ is_shown_by_interest r citizen kind.Mutation n
   mutation_of_citizen n =
-      passes_both (is_mutation_where (names_holding r p) r n) (has r.mutations n) 14
-      ∙ told_of (names_holding r p) (names_shown r citizen) names_to_citizen (map.get r.mutations n)
+      passes_both (is_mutation_where (names_held_by r (circle_of r p)) r n) (has r.mutations n) 14
+      ∙ told_of (names_held_by r (circle_of r p)) (names_shown r citizen) names_to_citizen (map.get r.mutations n)
 
   by_role : (role : Role) (k : Kind) (n : ℕ) → sees_by_interest role k ≡ true → sees r (record { party = p; role = role }) k n ≡ is_shown_by_interest r (record { party = p; role = role }) k n
   by_role roles.Citizen kind.Unit n h = unit_of_citizen n
@@ -250,13 +258,13 @@ module _ (p : ℕ) (one other : ℕ → Bool) (same : (named : ℕ) → one name
   interests_alike : interest_of one (record { party = p; role = roles.Citizen }) entries ≡ interest_of other (record { party = p; role = roles.Citizen }) entries
   interests_alike = ap₂ of_citizen (some_alike is_right) (some_alike (is_right_of Ownership))
 
-among_them : (r : Register) (p : ℕ) (names : List ℕ) → ((named : ℕ) → Contains names named ↔ (holds_as r p named ≡ true)) → (named : ℕ) → list_any (nat_eq named) names ≡ holds_as r p named
+among_them : (r : Register) (p : ℕ) (names : List ℕ) → ((named : ℕ) → Contains names named ↔ (is_name_of r (circle_of r p) named ≡ true)) → (named : ℕ) → list_any (nat_eq named) names ≡ is_name_of r (circle_of r p) named
 among_them r p names are named =
-    same_tests (list_any (nat_eq named) names) (holds_as r p named) (λ h. (are named).0 (Contains-from_any eqb-true named names h)) (λ h. list_any-from_Contains nat_eq_equiv named names ((are named).1 h))
+    same_tests (list_any (nat_eq named) names) (is_name_of r (circle_of r p) named) (λ h. (are named).0 (Contains-from_any eqb-true named names h)) (λ h. list_any-from_Contains nat_eq_equiv named names ((are named).1 h))
 
 by_names : (r : Register) (p : ℕ) (role : Role) (names : List ℕ) → AreNamesOf r (record { party = p; role = role }) names → (entries : Entries)
-    → interest_of (λ named. list_any (nat_eq named) names) (record { party = p; role = role }) entries ≡ interest_of (holds_as r p) (record { party = p; role = role }) entries
-by_names r p roles.Citizen names are entries = interests_alike p (λ named. list_any (nat_eq named) names) (holds_as r p) (among_them r p names (are refl)) entries
+    → interest_of (λ named. list_any (nat_eq named) names) (record { party = p; role = role }) entries ≡ interest_of (is_name_of r (circle_of r p)) (record { party = p; role = role }) entries
+by_names r p roles.Citizen names are entries = interests_alike p (λ named. list_any (nat_eq named) names) (is_name_of r (circle_of r p)) (among_them r p names (are refl)) entries
 by_names r p roles.Conveyancer names are entries = refl
 by_names r p roles.Notary names are entries = refl
 by_names r p roles.Bank names are entries = refl

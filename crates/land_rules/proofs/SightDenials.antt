@@ -4,16 +4,18 @@ use Rattle.std.specs.Prelude.{is_some, nat_eq}
 use Rattle.std.specs.Option.{option_map_or}
 use Rattle.std.specs.Cmp.{nat_cmp_total}
 use Rattle.std.specs.FinMap as map
+use Rattle.std.specs.List.{list_any}
 use Rattle.std.specs.FinMap.{nat_cmp-IsAntisymmetric}
 use Rattle.std.proofs.lemmas.Bool.{false≢true}
 use Rattle.std.proofs.lemmas.Bool.Decides.{nat_tests}
 use Rattle.land_core.proofs.Booleans.{both_of, or_false, not_false}
 use Rattle.land_core.proofs.FiniteMaps.{none_is_not_some}
 use Rattle.land_core.proofs.Reflection.{none_at, some_passes}
-use Rattle.land_core.proofs.LooseMandates.{no_mandates_are_tight}
+use Rattle.land_core.proofs.LooseMandates.{mandates_from, no_mandates_are_tight}
 use Rattle.land_core.proofs.SoundRegisters.{Refers, are_used_back, loose_from, none_in_empty, refers}
 use Rattle.land_core.specs.Entries.{has}
 use Rattle.land_core.specs.Grants.{grant_cmp}
+use Rattle.land_core.specs.Mandates.{mandate_of}
 use Rattle.land_core.specs.Members.{Members}
 use Rattle.land_core.specs.Register.{is_member, is_single, nothing}
 use Rattle.land_core.specs.Soundness.{are_loose}
@@ -25,8 +27,11 @@ use Rattle.land_core.specs.declared.register.Register.{Register}
 use Rattle.land_core.specs.declared.role.Role.{Role}
 use Rattle.land_core.specs.declared.role.Role.TheVariants.{Citizen, Conveyancer, Notary, Bank, CertifiedSurveyor, StateAdministrator}
 use Rattle.land_core.specs.declared.soundness.Unsound.TheVariants.{Reference}
+use Rattle.land_rules.proofs.InCircles.{is_principal}
+use Rattle.land_rules.proofs.SomeOf.{any_says}
 use Rattle.land_rules.specs.Laws.{DenialsTellSight, IsSoundOrNothing, told_by_sight}
-use Rattle.land_rules.specs.Relations.{is_lodger_of, is_lodger_on, is_told_to_holder, names_holding}
+use Rattle.land_rules.specs.Circles.{circle_of, is_group_of, is_held_by, is_told_to_circle, names_held_by, principals_of}
+use Rattle.land_rules.specs.Relations.{is_holder, is_lodger_of, is_lodger_on, is_member_of}
 use Rattle.land_rules.specs.Rules.{first_denial, is_allowed, is_party_in_sight, is_rrr_in_sight, is_told_to_bank, is_told_to_conveyancer, view_rules}
 use Rattle.land_rules.specs.declared.verdict.Verdict.{Verdict}
 use Rattle.land_rules.specs.declared.verdict.Verdict.TheVariants.{Allowed, Denied}
@@ -50,6 +55,12 @@ related true true k = refl
 related true false k = refl
 related false has k = refl
 
+-- by a relation that one of several has, which nobody has to what does not stand
+related_together : (passes there : Bool) (k : ℕ) → (passes ≡ true → there ≡ true) → tells (cond (not passes) (Denied k) (cond (not there) (Denied 27) Allowed)) k
+related_together true true k h = refl
+related_together true false k h = absurd (false≢true (h refl))
+related_together false there k h = refl
+
 -- by what is asked of others, whether it stands or not
 lodged : (lodged there : Bool) (k : ℕ) → tells (cond (not lodged) (Denied k) (cond (not there) (Denied 27) Allowed)) (cond (lodged || false) 27 k)
 lodged true true k = refl
@@ -69,15 +80,17 @@ met false true true k h = refl
 met false true false k h = absurd (false≢true (h refl))
 met false false there k h = refl
 
-met_twice : (itself one seen there : Bool) (k : ℕ) → (one ≡ true → there ≡ true) → (seen ≡ true → there ≡ true)
-    → tells (cond (not (itself || one || seen)) (Denied k) (cond (not there) (Denied 27) Allowed)) (cond itself 27 k)
-met_twice true one seen true k g h = refl
-met_twice true one seen false k g h = refl
-met_twice false true seen true k g h = refl
-met_twice false true seen false k g h = absurd (false≢true (g refl))
-met_twice false false true true k g h = refl
-met_twice false false true false k g h = absurd (false≢true (h refl))
-met_twice false false false there k g h = refl
+met_thrice : (itself one two seen there : Bool) (k : ℕ) → (one ≡ true → there ≡ true) → (two ≡ true → there ≡ true) → (seen ≡ true → there ≡ true)
+    → tells (cond (not ((itself || one) || two || seen)) (Denied k) (cond (not there) (Denied 27) Allowed)) (cond itself 27 k)
+met_thrice true one two seen true k f g h = refl
+met_thrice true one two seen false k f g h = refl
+met_thrice false true two seen true k f g h = refl
+met_thrice false true two seen false k f g h = absurd (false≢true (f refl))
+met_thrice false false true seen true k f g h = refl
+met_thrice false false true seen false k f g h = absurd (false≢true (g refl))
+met_thrice false false false true true k f g h = refl
+met_thrice false false false true false k f g h = absurd (false≢true (h refl))
+met_thrice false false false false there k f g h = refl
 
 apart : (itself there : Bool) (k : ℕ) → tells (cond (not itself) (Denied k) (cond (not there) (Denied 27) Allowed)) (cond itself 27 k)
 apart true true k = refl
@@ -127,6 +140,20 @@ module _ (at : Register) (sound : IsSoundOrNothing at) where
           let whole = none_at nat_cmp_total nat_cmp-IsAntisymmetric (λ n m. are_loose at n m) at.members group members (references at sound).members e in
           is_there (map.get at.parties group) (not_false _ (or_false _ _ whole).0)
 
+  -- principals stand
+  principal_stands : (party number : ℕ) → list_any (nat_eq number) (principals_of at party) ≡ true → has at.parties number ≡ true
+  principal_stands party number h = found (map.get at.mandates (mandate_of number party)) refl (sym (is_principal at party number) ∙ h)
+    where
+      is_there : (o : Option PartyRecord) → option_map_or (λ p. is_single p.kind) o false ≡ true → is_some o ≡ true
+      is_there None h = h
+      is_there (Some p) h = refl
+
+      found : (o : Option (Unit {0})) → map.get at.mandates (mandate_of number party) ≡ o → is_some o ≡ true → has at.parties number ≡ true
+      found None e h = absurd (false≢true h)
+      found (Some u) e h =
+          let tight = not_false _ (mandates_from at (references at sound).mandates (mandate_of number party) e) in
+          is_there (map.get at.parties number) (both_of _ _ (both_of _ _ tight).0).0
+
   -- parties of entries stand
   pub party_stands : (caller : Caller) (party : ℕ) → is_party_in_sight at caller party ≡ true → has at.parties party ≡ true
   party_stands caller party h =
@@ -137,12 +164,14 @@ module _ (at : Register) (sound : IsSoundOrNothing at) where
 
   told : (party : ℕ) (role : Role) (k : Kind) (n : ℕ) → let caller : Caller = record { party = party; role = role } in first_denial (view_rules at caller k n) ≡ told_by_sight at caller k n
   told party Citizen kind.Party n = let caller : Caller = record { party = party; role = Citizen } in
-      met_twice (nat_eq n party) (is_member at n party) (is_party_in_sight at caller n) (has at.parties n) 13 (group_stands party n) (party_stands caller n)
-  told party Citizen kind.Unit n = related (has at.units n) _ 11
+      met_thrice (nat_eq n party) (list_any (nat_eq n) (principals_of at party)) (is_group_of at (circle_of at party) n) (is_party_in_sight at caller n) (has at.parties n) 13
+      (principal_stands party n) (any_says (λ p. is_member_of at p n) (λ p. group_stands p n) (circle_of at party)) (party_stands caller n)
+  told party Citizen kind.Unit n =
+      related_together (is_held_by at (circle_of at party) n) (has at.units n) 11 (any_says (λ p. is_holder at p n) (λ p h. (both_of _ _ h).0) (circle_of at party))
   told party Citizen kind.Parcel n = absent (has at.parcels n)
-  told party Citizen kind.Rrr n = tested (is_told_to_holder at party) (map.get at.rrrs n) 12
+  told party Citizen kind.Rrr n = tested (is_told_to_circle at (circle_of at party)) (map.get at.rrrs n) 12
   told party Citizen kind.Source n = refl
-  told party Citizen kind.Mutation n = tested (names_holding at party) (map.get at.mutations n) 14
+  told party Citizen kind.Mutation n = tested (names_held_by at (circle_of at party)) (map.get at.mutations n) 14
   told party Conveyancer kind.Party n = let caller : Caller = record { party = party; role = Conveyancer } in
       met (nat_eq n party) (is_party_in_sight at caller n) (has at.parties n) 21 (party_stands caller n)
   told party Conveyancer kind.Unit n = lodged (is_lodger_on at party n) (has at.units n) 19

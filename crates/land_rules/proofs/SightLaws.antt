@@ -23,10 +23,12 @@ use Rattle.land_core.specs.declared.rrr.Class.TheVariants.{Right, Restriction, R
 use Rattle.land_core.specs.declared.rrr.RightType.TheVariants.{Ownership}
 use Rattle.land_core.specs.declared.rrr.RrrRecord.{RrrRecord}
 use Rattle.land_rules.proofs.Denied.{eq-itself}
-use Rattle.land_rules.specs.Laws.{citizen}
-use Rattle.land_rules.specs.Relations.{holds_as, is_credit, is_creditor_on, is_held_ownership, is_held_right, is_holder, is_lodger_of, is_lodger_on, is_mortgage, is_mutation_where, is_owner, is_pending_on, is_right, is_told_to_creditor, is_told_to_holder}
-use Rattle.land_rules.specs.Rules.{first_denial, is_allowed, is_of_the_present, is_told_to_bank, is_unit_in_sight, rrr_rules, sees, unit_rules}
-use Rattle.land_rules.specs.SightLaws.{BanksSeeByTheirMortgages, ConveyancersSeeByTheirLodgings, EndedEntriesGiveNoSight, HasEntry, HasLodged, HasPending, HoldsNone, IsOfOthers, IsOpenToBank, LodgersSeeTheirMutations, MembersHold, OwnersAloneSeeMortgages, bank, conveyancer}
+use Rattle.land_rules.proofs.SomeOf.{any_at, none_at_all}
+use Rattle.land_rules.specs.Circles.{circle_of, is_group_of, is_held_by, is_in_circle, is_owned_by, is_told_to_circle}
+use Rattle.land_rules.specs.Laws.{MembersSeeGroups, citizen}
+use Rattle.land_rules.specs.Relations.{holds_as, is_credit, is_creditor_on, is_held_ownership, is_held_right, is_holder, is_lodger_of, is_lodger_on, is_member_of, is_mortgage, is_mutation_where, is_owner, is_pending_on, is_right, is_told_to_creditor}
+use Rattle.land_rules.specs.Rules.{first_denial, is_allowed, is_of_the_present, is_party_in_sight, is_told_to_bank, is_unit_in_sight, rrr_rules, sees, unit_rules}
+use Rattle.land_rules.specs.SightLaws.{BanksSeeByTheirMortgages, CircleHoldsNone, ConveyancersSeeByTheirLodgings, EndedEntriesGiveNoSight, HasEntry, HasLodged, HasPending, HoldsNone, IsOfOthers, IsOpenToBank, LodgersSeeTheirMutations, MembersHold, OwnersAloneSeeMortgages, bank, conveyancer}
 use Rattle.land_rules.specs.declared.verdict.Verdict.{Verdict}
 use Rattle.land_rules.specs.declared.verdict.Verdict.TheVariants.{Allowed, Denied}
 
@@ -73,28 +75,12 @@ may_ask true true false v e = refl
 may_ask true false past v e = absurd (false≢true e)
 may_ask false holds past v e = absurd (false≢true e)
 
-shown_by : (there has : Bool) (k : ℕ) → (there && has) ≡ true → cond (not (there && has)) (Denied k) (cond (not there) (Denied 27) Allowed) ≡ Allowed
-shown_by true true k e = refl
-shown_by true false k e = absurd (false≢true e)
-shown_by false has k e = absurd (false≢true e)
+shown_by : (passes there : Bool) (k : ℕ) → passes ≡ true → there ≡ true → cond (not passes) (Denied k) (cond (not there) (Denied 27) Allowed) ≡ Allowed
+shown_by true true k e f = refl
+shown_by true false k e f = absurd (false≢true f)
+shown_by false there k e f = absurd (false≢true e)
 
 module _ (at : Register) (party : ℕ) where
-  unit_shown : (unit : ℕ) → is_holder at party unit ≡ true → first_denial (unit_rules at (citizen party) unit) ≡ Allowed
-  unit_shown unit h = shown_by (stands at kind.Unit unit) (some (λ n e. is_held_right at party unit e) at.rrrs) 11 h
-
-  unit_denied : (unit : ℕ) → is_holder at party unit ≡ false → first_denial (unit_rules at (citizen party) unit) ≡ Denied 11
-  unit_denied unit h = ap (λ b. cond (not b) (Denied 11) (cond (not (stands at kind.Unit unit)) (Denied 27) Allowed)) h
-
-  -- what is told of an entry that stands
-  entry_told : (number : ℕ) (e : RrrRecord) → map.get at.rrrs number ≡ Some e → first_denial (rrr_rules at (citizen party) number) ≡ cond (not (is_told_to_holder at party e)) (Denied 12) Allowed
-  entry_told number e there = ap (λ o. cond (not (option_map_or (is_told_to_holder at party) o false)) (Denied 12) (cond (not (is_some o)) (Denied 27) Allowed)) there
-
-  entry_shown : (number : ℕ) (e : RrrRecord) → map.get at.rrrs number ≡ Some e → is_told_to_holder at party e ≡ true → first_denial (rrr_rules at (citizen party) number) ≡ Allowed
-  entry_shown number e there told = entry_told number e there ∙ ap (λ b. cond (not b) (Denied 12) Allowed) told
-
-  entry_denied : (number : ℕ) (e : RrrRecord) → map.get at.rrrs number ≡ Some e → is_told_to_holder at party e ≡ false → first_denial (rrr_rules at (citizen party) number) ≡ Denied 12
-  entry_denied number e there told = entry_told number e there ∙ ap (λ b. cond (not b) (Denied 12) Allowed) told
-
   -- who is a member of a group holds what is held in its name, and nobody holds what is held in the name of others
   holds_as_member : (group named : ℕ) → is_member at group party ≡ true → named ≡ group → holds_as at party named ≡ true
   holds_as_member group named member is = or_right (nat_eq named party) (is_member at named party) (subst (λ (g : ℕ). is_member at g party ≡ true) (sym is) member)
@@ -132,35 +118,91 @@ module _ (at : Register) (party : ℕ) where
       both _ _ parts.0 (some_at nat_cmp_total nat_cmp-IsAntisymmetric (λ n e. is_held_right at party unit e) at.rrrs it.key it.value it.there
       (all_three _ _ _ (both_of _ _ tests.0).0 (right_from_ownership it.value.class (both_of _ _ tests.0).1) tests.1))
 
-  told_no_mortgage : (unit : ℕ) (e : RrrRecord) → is_holder at party unit ≡ true → e.unit ≡ unit → is_mortgage e.class ≡ false → is_told_to_holder at party e ≡ true
-  told_no_mortgage unit e holder of_unit class =
-      both _ _ (subst (λ (n : ℕ). is_holder at party n ≡ true) (sym of_unit) holder) (ap (λ b. not b || is_owner at party e.unit) class)
+-- ---- what one of its circle is tells what a citizen is told
 
-  told_as_owner : (unit : ℕ) (e : RrrRecord) → is_owner at party unit ≡ true → e.unit ≡ unit → is_told_to_holder at party e ≡ true
-  told_as_owner unit e owner of_unit =
-      let owns : is_owner at party e.unit ≡ true = subst (λ (n : ℕ). is_owner at party n ≡ true) (sym of_unit) owner in
-      both _ _ (owner_is_holder e.unit owns) (or_right _ _ owns)
+module _ (at : Register) (party : ℕ) where
+  unit_shown : (one unit : ℕ) → is_in_circle at party one ≡ true → is_holder at one unit ≡ true → first_denial (unit_rules at (citizen party) unit) ≡ Allowed
+  unit_shown one unit among h =
+      shown_by (is_held_by at (circle_of at party) unit) (stands at kind.Unit unit) 11 (any_at (λ p. is_holder at p unit) one (circle_of at party) among h) (both_of _ _ h).0
 
-  not_told : (unit : ℕ) (e : RrrRecord) → is_owner at party unit ≡ false → e.unit ≡ unit → is_mortgage e.class ≡ true → is_told_to_holder at party e ≡ false
-  not_told unit e owner of_unit class =
-      and_false _ _ (ap (λ b. not b || is_owner at party e.unit) class ∙ subst (λ (n : ℕ). is_owner at party n ≡ false) (sym of_unit) owner)
+  unit_denied : (unit : ℕ) → CircleHoldsNone is_right at party unit → first_denial (unit_rules at (citizen party) unit) ≡ Denied 11
+  unit_denied unit none =
+      ap (λ b. cond (not b) (Denied 11) (cond (not (stands at kind.Unit unit)) (Denied 27) Allowed))
+      (none_at_all (λ p. is_holder at p unit) (circle_of at party) (λ one among. no_holder at one unit (none one among)))
+
+  -- what is told of an entry that stands
+  entry_told : (number : ℕ) (e : RrrRecord) → map.get at.rrrs number ≡ Some e
+      → first_denial (rrr_rules at (citizen party) number) ≡ cond (not (is_told_to_circle at (circle_of at party) e)) (Denied 12) Allowed
+  entry_told number e there = ap (λ o. cond (not (option_map_or (is_told_to_circle at (circle_of at party)) o false)) (Denied 12) (cond (not (is_some o)) (Denied 27) Allowed)) there
+
+  entry_shown : (number : ℕ) (e : RrrRecord) → map.get at.rrrs number ≡ Some e → is_told_to_circle at (circle_of at party) e ≡ true
+      → first_denial (rrr_rules at (citizen party) number) ≡ Allowed
+  entry_shown number e there told = entry_told number e there ∙ ap (λ b. cond (not b) (Denied 12) Allowed) told
+
+  entry_denied : (number : ℕ) (e : RrrRecord) → map.get at.rrrs number ≡ Some e → is_told_to_circle at (circle_of at party) e ≡ false
+      → first_denial (rrr_rules at (citizen party) number) ≡ Denied 12
+  entry_denied number e there told = entry_told number e there ∙ ap (λ b. cond (not b) (Denied 12) Allowed) told
+
+  held : (one unit : ℕ) (e : RrrRecord) → is_in_circle at party one ≡ true → is_holder at one unit ≡ true → e.unit ≡ unit → is_held_by at (circle_of at party) e.unit ≡ true
+  held one unit e among holder of_unit = any_at (λ p. is_holder at p e.unit) one (circle_of at party) among (subst (λ (n : ℕ). is_holder at one n ≡ true) (sym of_unit) holder)
+
+  told_no_mortgage : (one unit : ℕ) (e : RrrRecord) → is_in_circle at party one ≡ true → is_holder at one unit ≡ true → e.unit ≡ unit → is_mortgage e.class ≡ false
+      → is_told_to_circle at (circle_of at party) e ≡ true
+  told_no_mortgage one unit e among holder of_unit class =
+      both _ _ (held one unit e among holder of_unit) (ap (λ b. not b || is_owned_by at (circle_of at party) e.unit) class)
+
+  told_as_owner : (one unit : ℕ) (e : RrrRecord) → is_in_circle at party one ≡ true → is_owner at one unit ≡ true → e.unit ≡ unit
+      → is_told_to_circle at (circle_of at party) e ≡ true
+  told_as_owner one unit e among owner of_unit =
+      let owns : is_owner at one e.unit ≡ true = subst (λ (n : ℕ). is_owner at one n ≡ true) (sym of_unit) owner in
+      both _ _ (held one unit e among (owner_is_holder at one unit owner) of_unit) (or_right _ _ (any_at (λ p. is_owner at p e.unit) one (circle_of at party) among owns))
+
+  not_told : (unit : ℕ) (e : RrrRecord) → CircleHoldsNone (is_right_of Ownership) at party unit → e.unit ≡ unit → is_mortgage e.class ≡ true
+      → is_told_to_circle at (circle_of at party) e ≡ false
+  not_told unit e none of_unit class =
+      and_false _ _ (ap (λ b. not b || is_owned_by at (circle_of at party) e.unit) class
+      ∙ subst (λ (n : ℕ). is_owned_by at (circle_of at party) n ≡ false) (sym of_unit)
+      (none_at_all (λ p. is_owner at p unit) (circle_of at party) (λ one among. no_owner at one unit (none one among))))
+
+-- a party is told by being of the circle, a group by a member of the circle, or either by what is in sight
+told_as_group : (among grouped in_sight : Bool) → grouped ≡ true → (among || grouped || in_sight) ≡ true
+told_as_group true grouped in_sight e = refl
+told_as_group false grouped in_sight e = ap (λ b. b || in_sight) e
+
+told_by_none : (among grouped in_sight : Bool) → among ≡ false → grouped ≡ false → in_sight ≡ false → (among || grouped || in_sight) ≡ false
+told_by_none true grouped in_sight e f g = absurd (false≢true (sym e))
+told_by_none false true in_sight e f g = absurd (false≢true (sym f))
+told_by_none false false in_sight e f g = g
+
+pub members_see : MembersSeeGroups
+members_see now at party group moment past there role = record {
+  member = λ one among member stands_then.
+      may_ask _ _ past _ (both _ _ there role)
+      ∙ shown_by _ (stands at kind.Party group) 13
+      (told_as_group (is_in_circle at party group) (is_group_of at (circle_of at party) group) (is_party_in_sight at (citizen party) group)
+      (any_at (λ p. is_member_of at p group) one (circle_of at party) among member)) stands_then;
+  other = λ outside no_group out_of_sight.
+      may_ask _ _ past _ (both _ _ there role)
+      ∙ ap (λ b. cond (not b) (Denied 13) (cond (not (stands at kind.Party group)) (Denied 27) Allowed))
+      (told_by_none (is_in_circle at party group) (is_group_of at (circle_of at party) group) (is_party_in_sight at (citizen party) group) outside no_group out_of_sight);
+}
 
 pub members_hold : MembersHold
-members_hold now at party group unit moment past asks member there it =
-    let holder = member_is_holder at party group unit member there it in
+members_hold now at party one group unit moment past asks among member there it =
+    let holder = member_is_holder at one group unit member there it in
     record {
       holder = holder;
-      unit_shown = may_ask _ _ past _ asks ∙ unit_shown at party unit holder;
-      entries_shown = λ number e is class. may_ask _ _ past _ asks ∙ entry_shown at party number e is.there (told_no_mortgage at party unit e holder is.of_unit class);
+      unit_shown = may_ask _ _ past _ asks ∙ unit_shown at party one unit among holder;
+      entries_shown = λ number e is class. may_ask _ _ past _ asks ∙ entry_shown at party number e is.there (told_no_mortgage at party one unit e among holder is.of_unit class);
     }
 
 pub ended_entries : EndedEntriesGiveNoSight
-ended_entries now at party unit moment past asks none = may_ask _ _ past _ asks ∙ unit_denied at party unit (no_holder at party unit none)
+ended_entries now at party unit moment past asks none = may_ask _ _ past _ asks ∙ unit_denied at party unit none
 
 pub owners_alone : OwnersAloneSeeMortgages
 owners_alone now at party unit number e moment past asks is class = record {
-  owner = λ owner. may_ask _ _ past _ asks ∙ entry_shown at party number e is.there (told_as_owner at party unit e owner is.of_unit);
-  other = λ none. may_ask _ _ past _ asks ∙ entry_denied at party number e is.there (not_told at party unit e (no_owner at party unit none) is.of_unit class);
+  owner = λ one among owner. may_ask _ _ past _ asks ∙ entry_shown at party number e is.there (told_as_owner at party one unit e among owner is.of_unit);
+  other = λ none. may_ask _ _ past _ asks ∙ entry_denied at party number e is.there (not_told at party unit e none is.of_unit class);
 }
 
 -- ---- banks

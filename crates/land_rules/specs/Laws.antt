@@ -12,6 +12,7 @@ use Rattle.land_core.specs.declared.kind.Kind.TheVariants as kind
 use Rattle.land_core.specs.declared.register.Register.{Register}
 use Rattle.land_core.specs.declared.role.Role.{Role}
 use Rattle.land_core.specs.declared.role.Role.TheVariants.{Citizen, Conveyancer, Notary, Bank, CertifiedSurveyor, StateAdministrator}
+use Rattle.land_rules.specs.Circles.{circle_of, is_group_of, is_in_circle}
 use Rattle.land_rules.specs.Relations.{is_lodger_on}
 use Rattle.land_rules.specs.Rules.{rules_on, verdict_of, denies, first_denial, rise_above, ascends, sees, seen_of, is_party_in_sight, view_rules}
 use Rattle.land_rules.specs.declared.verdict.Verdict.{Verdict}
@@ -46,14 +47,16 @@ SeenIsExactly = (at : Register) (caller : Caller) (k : Kind) → SeenIsExact at 
 abbrev pub citizen : ℕ → Caller
 citizen party = record { party = party; role = Citizen }
 
--- what the policy says of a citizen's view of a group, whatever the register is now: it is shown to its members at the
--- asked moment, and to no other party that is not the group itself and sees it in nothing else
+-- what the policy says of a citizen's view of a group, whatever the register is now: it is shown where one of the citizen's
+-- circle at the asked moment is its member then, and to no other party that does not have it in its circle and sees it in nothing else
 pub record GroupIsSeen (now at : Register) (party group : ℕ) (moment : Option ℤ) (past : Bool) : Type 0 where
-  pub member : is_member at group party ≡ true → stands at kind.Party group ≡ true → verdict_of now at (citizen party) (ask.View kind.Party group moment) past ≡ Allowed
-  pub other : nat_eq group party ≡ false → is_member at group party ≡ false → is_party_in_sight at (citizen party) group ≡ false
+  pub member : (one : ℕ) → is_in_circle at party one ≡ true → is_member at group one ≡ true → stands at kind.Party group ≡ true
+      → verdict_of now at (citizen party) (ask.View kind.Party group moment) past ≡ Allowed
+  pub other : is_in_circle at party group ≡ false → is_group_of at (circle_of at party) group ≡ false → is_party_in_sight at (citizen party) group ≡ false
       → verdict_of now at (citizen party) (ask.View kind.Party group moment) past ≡ Denied 13
 
--- members at the asked moment see their group, and others do not; the register now only says that the caller is a citizen
+-- members at the asked moment, and those who hold their mandate then, see their group, and others do not; the register now only says
+-- that the caller is a citizen
 abbrev pub MembersSeeGroups : Type 0
 MembersSeeGroups = (now at : Register) (party group : ℕ) (moment : Option ℤ) (past : Bool) → stands now kind.Party party ≡ true → holds now party Citizen ≡ true
     → GroupIsSeen now at party group moment past

@@ -2,6 +2,8 @@
 pub mod ActLaws
 pub mod Acts
 pub mod Alike
+pub mod CircleLaws
+pub mod Circles
 pub mod Denials
 pub mod Holdings
 pub mod Laws

@@ -14,7 +14,8 @@ use Rattle.land_core.specs.declared.register.Register.{Register}
 use Rattle.land_core.specs.declared.role.Role.TheVariants.{Citizen, Conveyancer, Notary, Bank, CertifiedSurveyor, StateAdministrator}
 use Rattle.land_core.specs.declared.rrr.RrrRecord.{RrrRecord}
 use Rattle.land_rules.specs.Acts.{decides, is_discharge_of_another, is_mortgage_of_another, is_of_a_mortgage, is_of_mortgages, is_of_outlines, is_of_transfers, is_office_act, is_transfer, lodges}
-use Rattle.land_rules.specs.Relations.{has_lodged, is_creditor_on, is_holder, is_lodger_on, is_member_of, is_mutation_where, is_rrr_where, is_told_to_creditor, is_told_to_holder, names_holding}
+use Rattle.land_rules.specs.Circles.{circle_of, is_group_of, is_held_by, is_in_circle, is_told_to_circle, names_held_by}
+use Rattle.land_rules.specs.Relations.{has_lodged, is_creditor_on, is_lodger_on, is_mutation_where, is_rrr_where, is_told_to_creditor}
 use Rattle.land_rules.specs.declared.verdict.Verdict.{Verdict}
 use Rattle.land_rules.specs.declared.verdict.Verdict.TheVariants.{Allowed, Denied}
 
@@ -74,8 +75,8 @@ standing_rules now caller (ask.Do it) past = caller_rules now caller past ++ act
 
 abbrev pub unit_rules : (at : Register) → Caller → (number : ℕ) → Rules
 unit_rules at caller number =
-    -- a citizen sees the units in which it is a holder
-    (11, is_role caller.role Citizen && not (is_holder at caller.party number))
+    -- a citizen sees the units in which one of its circle is a holder
+    (11, is_role caller.role Citizen && not (is_held_by at (circle_of at caller.party) number))
     -- a bank sees the units on which it is a creditor
     ∷ (15, is_role caller.role Bank && not (is_creditor_on at caller.party number))
     -- a conveyancer sees the units that its undecided mutations name
@@ -99,8 +100,8 @@ is_told_to_conveyancer at caller e = is_unit_in_sight at caller e.unit
 
 abbrev pub rrr_rules : (at : Register) → Caller → (number : ℕ) → Rules
 rrr_rules at caller number =
-    -- a citizen sees the entries of a unit in which it is a holder, and its mortgages if it is an owner
-    (12, is_role caller.role Citizen && not (is_rrr_where (is_told_to_holder at caller.party) at number))
+    -- a citizen sees the entries of a unit in which one of its circle is a holder, and its mortgages if one of it is an owner
+    (12, is_role caller.role Citizen && not (is_rrr_where (is_told_to_circle at (circle_of at caller.party)) at number))
     -- a bank sees the entries of a unit in its sight, but no mortgage of another creditor
     ∷ (16, is_role caller.role Bank && not (is_rrr_where (is_told_to_bank at caller) at number))
     -- a conveyancer sees the entries of a unit in its sight
@@ -122,8 +123,8 @@ abbrev pub party_rules : (at : Register) → Caller → (number : ℕ) → Rules
 party_rules at caller number =
     let itself = nat_eq number caller.party in
     let in_sight = is_party_in_sight at caller number in
-    -- a citizen sees itself, its groups, and the parties of what is in its sight
-    (13, is_role caller.role Citizen && not (itself || is_member_of at caller.party number || in_sight))
+    -- a citizen sees its circle, the groups of which one of it is a member, and the parties of what is in its sight
+    (13, is_role caller.role Citizen && not (is_in_circle at caller.party number || is_group_of at (circle_of at caller.party) number || in_sight))
     -- a bank sees itself and the parties of what is in its sight
     ∷ (17, is_role caller.role Bank && not (itself || in_sight))
     -- a conveyancer sees itself and the parties of what is in its sight
@@ -155,8 +156,8 @@ source_rules at caller number =
 abbrev pub mutation_rules : (at : Register) → Caller → (number : ℕ) → Rules
 mutation_rules at caller number =
     let lodged_it = has_lodged at caller.party number in
-    -- a citizen sees the mutations that name a unit in which it is a holder
-    (14, is_role caller.role Citizen && not (is_mutation_where (names_holding at caller.party) at number))
+    -- a citizen sees the mutations that name a unit in which one of its circle is a holder
+    (14, is_role caller.role Citizen && not (is_mutation_where (names_held_by at (circle_of at caller.party)) at number))
     -- a bank sees the mutations that it lodged
     ∷ (18, is_role caller.role Bank && not lodged_it)
     -- a conveyancer sees the mutations that it lodged

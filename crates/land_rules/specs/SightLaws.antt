@@ -15,6 +15,7 @@ use Rattle.land_core.specs.declared.role.Role.TheVariants.{Citizen, Conveyancer,
 use Rattle.land_core.specs.declared.rrr.Class.{Class}
 use Rattle.land_core.specs.declared.rrr.RightType.TheVariants.{Ownership}
 use Rattle.land_core.specs.declared.rrr.RrrRecord.{RrrRecord}
+use Rattle.land_rules.specs.Circles.{is_in_circle}
 use Rattle.land_rules.specs.Laws.{citizen}
 use Rattle.land_rules.specs.Relations.{is_holder, is_mortgage, is_owner, is_right}
 use Rattle.land_rules.specs.Rules.{is_of_the_present, sees, verdict_of}
@@ -51,28 +52,33 @@ pub record IsOfOthers (at : Register) (party named : ℕ) : Type 0 where
 abbrev pub HoldsNone : (is_of : Class → Bool) → Register → (party unit : ℕ) → Type 0
 HoldsNone is_of at party unit = (number : ℕ) (e : RrrRecord) → IsEntryOf at unit number e → is_of e.class ≡ true → IsOfOthers at party e.party
 
--- a holder is shown the unit, and all its entries that are no mortgages
-pub record IsToldAsHolder (now at : Register) (party unit : ℕ) (moment : Option ℤ) (past : Bool) : Type 0 where
-  pub holder : is_holder at party unit ≡ true
+-- so are they for each of the circle of a party
+abbrev pub CircleHoldsNone : (is_of : Class → Bool) → Register → (party unit : ℕ) → Type 0
+CircleHoldsNone is_of at party unit = (one : ℕ) → is_in_circle at party one ≡ true → HoldsNone is_of at one unit
+
+-- one is a holder, and a party that has it in its circle is shown the unit, and all its entries that are no mortgages
+pub record IsToldAsHolder (now at : Register) (one party unit : ℕ) (moment : Option ℤ) (past : Bool) : Type 0 where
+  pub holder : is_holder at one unit ≡ true
   pub unit_shown : citizen_told now at party kind.Unit unit moment past ≡ Allowed
   pub entries_shown : (number : ℕ) (e : RrrRecord) → IsEntryOf at unit number e → is_mortgage e.class ≡ false → citizen_told now at party kind.Rrr number moment past ≡ Allowed
 
--- who holds through a group holds: where a group has a right in a unit at the asked moment, its members then are holders
+-- who holds through a group holds: where a group has a right in a unit at the asked moment, its members then are holders, and are told
+-- as such, they and those who hold their mandate then
 abbrev pub MembersHold : Type 0
-MembersHold = (now at : Register) (party group unit : ℕ) (moment : Option ℤ) (past : Bool) → is_citizen now party ≡ true
-    → is_member at group party ≡ true → stands at kind.Unit unit ≡ true → HasEntry is_right at group unit → IsToldAsHolder now at party unit moment past
+MembersHold = (now at : Register) (party one group unit : ℕ) (moment : Option ℤ) (past : Bool) → is_citizen now party ≡ true → is_in_circle at party one ≡ true
+    → is_member at group one ≡ true → stands at kind.Unit unit ≡ true → HasEntry is_right at group unit → IsToldAsHolder now at one party unit moment past
 
--- an ended entry gives no sight: where a citizen has no right in a unit at the asked moment, rule 11 denies the unit, whatever
--- the register now says of it
+-- an ended entry gives no sight: where none of a citizen's circle has a right in a unit at the asked moment, rule 11 denies the unit,
+-- whatever the register now says of it
 abbrev pub EndedEntriesGiveNoSight : Type 0
 EndedEntriesGiveNoSight = (now at : Register) (party unit : ℕ) (moment : Option ℤ) (past : Bool) → is_citizen now party ≡ true
-    → HoldsNone is_right at party unit → citizen_told now at party kind.Unit unit moment past ≡ Denied 11
+    → CircleHoldsNone is_right at party unit → citizen_told now at party kind.Unit unit moment past ≡ Denied 11
 
--- what a citizen is told of a mortgage on a unit: an owner sees it, and rule 12 denies it to a party without an ownership there,
--- a lessee among them
+-- what a citizen is told of a mortgage on a unit: one that has an owner in its circle sees it, and rule 12 denies it to one in whose
+-- circle nobody has an ownership there, a lessee among them
 pub record MortgageIsTold (now at : Register) (party unit number : ℕ) (moment : Option ℤ) (past : Bool) : Type 0 where
-  pub owner : is_owner at party unit ≡ true → citizen_told now at party kind.Rrr number moment past ≡ Allowed
-  pub other : HoldsNone (is_right_of Ownership) at party unit → citizen_told now at party kind.Rrr number moment past ≡ Denied 12
+  pub owner : (one : ℕ) → is_in_circle at party one ≡ true → is_owner at one unit ≡ true → citizen_told now at party kind.Rrr number moment past ≡ Allowed
+  pub other : CircleHoldsNone (is_right_of Ownership) at party unit → citizen_told now at party kind.Rrr number moment past ≡ Denied 12
 
 abbrev pub OwnersAloneSeeMortgages : Type 0
 OwnersAloneSeeMortgages = (now at : Register) (party unit number : ℕ) (e : RrrRecord) (moment : Option ℤ) (past : Bool) → is_citizen now party ≡ true

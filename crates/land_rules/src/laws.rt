@@ -1,6 +1,7 @@
 //! Laws, each stated over the definitions alone.
 ghost use Rattle.land_rules.specs.ActLaws.{LodgersDoNotDecide, AdministratorsDecideForOthers};
 ghost use Rattle.land_rules.specs.Alike.{VerdictsTellNothingUnseen};
+ghost use Rattle.land_rules.specs.CircleLaws.{AloneWithoutMandates, CirclesAreOfMandates, CirclesSeeTogether, MandatesServeCitizens};
 ghost use Rattle.land_rules.specs.Laws.{RulesRise, VerdictsAreLeast, SeenIsExactly, MembersSeeGroups, DenialsTellSight};
 ghost use Rattle.land_rules.specs.SightLaws.{MembersHold, EndedEntriesGiveNoSight, OwnersAloneSeeMortgages, BanksSeeByTheirMortgages, LodgersSeeTheirMutations, ConveyancersSeeByTheirLodgings};
 ghost use Rattle.land_rules.specs.StandingLaws.{StrangersAreDeniedEverything, RolesAreHeld, ThePastIsClosedToThreeRoles, ActsOfTheOfficeAreReserved};
@@ -22,23 +23,44 @@ pub fn seen_is_exact()
     ensures { SeenIsExactly }
 {}
 
-/// A group is shown to the citizens that are its members at the asked moment, whatever they are now.
+/// In the circle of a party is the party itself, and whoever gave it a mandate that stands; the principals of these are not in it.
+pub fn circles_are_of_mandates()
+    ensures { CirclesAreOfMandates }
+{}
+
+/// Where there are no mandates, each party is in its circle alone.
+pub fn alone_without_mandates()
+    ensures { AloneWithoutMandates }
+{}
+
+/// A citizen sees exactly what one of its circle at the asked moment would see without mandates: its lists are the union of theirs.
+pub fn circles_see_together()
+    ensures { CirclesSeeTogether }
+{}
+
+/// Mandates serve citizens alone: in each other role a caller is denied the same views by the same rules, whatever mandates stand.
+pub fn mandates_serve_citizens()
+    ensures { MandatesServeCitizens }
+{}
+
+/// A group is shown to the citizens that are its members at the asked moment, whatever they are now, and to those who hold their mandate
+/// then.
 pub fn members_see_their_groups()
     ensures { MembersSeeGroups }
 {}
 
 /// Who holds through a group holds: the members that a group has at the asked moment see the units in which it has a
-/// right then, and their entries that are no mortgages.
+/// right then, and their entries that are no mortgages, and so do those who hold their mandate then.
 pub fn members_hold()
     ensures { MembersHold }
 {}
 
-/// An ended entry gives no sight: rule 11 denies a citizen the units in which it has no right at the asked moment.
+/// An ended entry gives no sight: rule 11 denies a citizen the units in which none of its circle has a right at the asked moment.
 pub fn ended_entries_give_no_sight()
     ensures { EndedEntriesGiveNoSight }
 {}
 
-/// A citizen sees the mortgages of the units that it owns; a lessee, or anyone else, is denied them by rule 12.
+/// A citizen sees the mortgages of the units that it owns, itself or by one of its circle; a lessee, or anyone else, is denied them by rule 12.
 pub fn owners_alone_see_mortgages()
     ensures { OwnersAloneSeeMortgages }
 {}

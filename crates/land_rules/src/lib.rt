@@ -1,6 +1,7 @@
 //! The policy: who may see and do what, rule by rule.
 #![tactic(auto)]
 
+mod circles;
 pub mod denials;
 pub mod laws;
 mod relations;

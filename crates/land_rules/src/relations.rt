@@ -1,10 +1,8 @@
 //! What a party is to the objects of a register.
 ghost use Rattle.std.specs.Prelude.{◌≡◌};
-ghost use Rattle.std.specs.List.{list_any};
 ghost use Rattle.land_core.specs.Entries.{some};
-ghost use Rattle.land_rules.specs.Relations.{has_lodged, holds_as, is_credit, is_creditor_on, is_held_ownership, is_held_right, is_holder, is_lodger_of, is_lodger_on, is_member_of, is_mortgage, is_owner, is_pending_of, is_pending_on, is_right, is_told_to_creditor, is_told_to_holder, names_holding};
+ghost use Rattle.land_rules.specs.Relations.{has_lodged, holds_as, is_credit, is_creditor_on, is_held_ownership, is_held_right, is_holder, is_lodger_of, is_lodger_on, is_member_of, is_mortgage, is_owner, is_pending_of, is_pending_on, is_right, is_told_to_creditor};
 
-use land_core::content::Content;
 use land_core::kind::Kind;
 use land_core::mutation::MutationRecord;
 use land_core::register::Register;
@@ -86,7 +84,7 @@ pub(crate) fn is_holder(at: &Register, party: u64, unit: u64) -> bool
 }
 
 /// Whether a party owns a unit or a share of it, itself or as a member of a group.
-fn is_owner(at: &Register, party: u64, unit: u64) -> bool
+pub(crate) fn is_owner(at: &Register, party: u64, unit: u64) -> bool
     ensures { result ≡ is_owner at.now party unit }
 {
     at.stands(Kind::Unit, unit) && has_held_ownership(at, party, unit)
@@ -135,36 +133,6 @@ pub(crate) fn is_lodger_on(at: &Register, party: u64, unit: u64) -> bool
     at.mutations
         .iter()
         .any(|(_, mutation)| is_pending_on(party, unit, mutation))
-}
-
-/// Whether a party is a holder in one of some units.
-fn is_holder_in_some(at: &Register, party: u64, units: &[u64]) -> bool
-    ensures { result ≡ list_any (is_holder at.now party) units.now }
-{
-    units.iter().any(|unit| is_holder(at, party, *unit))
-}
-
-/// Whether a mutation names a unit in which a party is a holder.
-pub(crate) fn names_holding(at: &Register, party: u64, mutation: &MutationRecord) -> bool
-    ensures { result ≡ names_holding at.now party mutation.now }
-{
-    match &mutation.content {
-        Content::Transfer(it) => is_holder(at, party, it.unit),
-        Content::Subdivision(it) => is_holder(at, party, it.unit),
-        Content::Merger(it) => {
-            is_holder(at, party, it.unit) || is_holder_in_some(at, party, it.others.as_slice())
-        }
-        Content::Mortgage(it) => is_holder(at, party, it.unit),
-        Content::Discharge(it) => is_holder(at, party, it.unit),
-    }
-}
-
-/// Whether a party may be told an entry as a holder in its unit: a mortgage, only if it is an owner.
-pub(crate) fn is_told_to_holder(at: &Register, party: u64, entry: &RrrRecord) -> bool
-    ensures { result ≡ is_told_to_holder at.now party entry.now }
-{
-    is_holder(at, party, entry.unit)
-        && (!is_mortgage(&entry.class) || is_owner(at, party, entry.unit))
 }
 
 /// Whether a party may be told an entry as a creditor: no mortgage of another.

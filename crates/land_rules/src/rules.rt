@@ -38,8 +38,8 @@ fn sight_verdict(at: &Register, caller: Caller, ask: &Ask) -> Verdict
     }
 }
 
-/// The numbers of a kind that the caller sees in a register, ascending. What the caller holds and lodged is collected once,
-/// in passes over the entries and the mutations, and then each object is asked for by look-ups.
+/// The numbers of a kind that the caller sees in a register, ascending. What the caller's circle holds and the caller lodged is collected
+/// once, in passes over the mandates, the groups, the entries and the mutations, and then each object is asked for by look-ups.
 pub fn seen(
     alloc: Global,
     at: &Register,

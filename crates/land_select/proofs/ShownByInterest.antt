@@ -16,10 +16,12 @@ use Rattle.land_core.specs.declared.caller.Caller.{Caller}
 use Rattle.land_core.specs.declared.kind.Kind.TheVariants.{Rrr}
 use Rattle.land_core.specs.declared.register.Register.{Register}
 use Rattle.land_core.specs.declared.rrr.RrrRecord.{RrrRecord}
+use Rattle.land_rules.proofs.Alone.{name_alone}
 use Rattle.land_rules.proofs.Booleans.{same_tests}
+use Rattle.land_rules.specs.Circles.{circle_of, is_name_of}
 use Rattle.land_rules.specs.Denials.Interests.{InterestsTellSight, entries_of, interest_at, sees_by_interest, shows_entry}
 use Rattle.land_rules.specs.Laws.{IsSoundOrNothing}
-use Rattle.land_rules.specs.Relations.{holds_as, is_member_of}
+use Rattle.land_rules.specs.Relations.{is_member_of}
 use Rattle.land_rules.specs.Rules.{sees}
 use Rattle.land_select.proofs.Viewed.{agreed, twice}
 use Rattle.land_select.specs.Views.{in_sight, shown_of}
@@ -46,10 +48,10 @@ turned true false = refl
 turned false true = refl
 turned false false = refl
 
--- with its own number they are the names in which the party holds
-pub names_are : (r : Register) (party : ℕ) (groups : List ℕ) → ((group : ℕ) → Contains groups group ↔ (is_member_of r party group ≡ true))
-    → (named : ℕ) → Contains (groups ++ party ∷ []) named ↔ (holds_as r party named ≡ true)
-names_are r party groups are named = (
+-- with its own number they are the names in which the party holds, where there are no mandates
+pub names_are : (r : Register) → r.mandates ≡ map.empty → (party : ℕ) (groups : List ℕ) → ((group : ℕ) → Contains groups group ↔ (is_member_of r party group ≡ true))
+    → (named : ℕ) → Contains (groups ++ party ∷ []) named ↔ (is_name_of r (circle_of r party) named ≡ true)
+names_are r none party groups are named = (
   (λ among. sym same ∙ list_any-from_Contains nat_eq_equiv named (groups ++ party ∷ []) among),
   (λ holds. Contains-from_any eqb-true named (groups ++ party ∷ []) (same ∙ holds)),
 )
@@ -59,8 +61,10 @@ names_are r party groups are named = (
         same_tests (list_any (nat_eq named) groups) (is_member_of r party named) (λ h. (are named).0 (Contains-from_any eqb-true named groups h))
         (λ h. list_any-from_Contains nat_eq_equiv named groups ((are named).1 h))
 
-    same : list_any (nat_eq named) (groups ++ party ∷ []) ≡ holds_as r party named
-    same = list_any-append (nat_eq named) groups (party ∷ []) ∙ ap (λ b. b || (nat_eq named party || false)) grouped ∙ turned (is_member_of r party named) (nat_eq named party)
+    same : list_any (nat_eq named) (groups ++ party ∷ []) ≡ is_name_of r (circle_of r party) named
+    same =
+        list_any-append (nat_eq named) groups (party ∷ []) ∙ ap (λ b. b || (nat_eq named party || false)) grouped ∙ turned (is_member_of r party named) (nat_eq named party)
+        ∙ sym (name_alone r none party named)
 
 -- a test that is asked for only where another passes
 pub only_where : (a b c : Bool) → (a ≡ true → b ≡ c) → (a && b) ≡ (a && c)

@@ -15,9 +15,10 @@ use Rattle.land_core.specs.declared.unit.UnitRecord.{UnitRecord}
 use Rattle.land_keep.specs.Sheets.{entries_seen, named_rrr, parcels_at}
 use Rattle.land_keep.specs.declared.view.NamedRrr.{NamedRrr}
 use Rattle.land_keep.specs.declared.view.View.{View}
+use Rattle.land_rules.specs.Circles.{circle_of, is_name_of}
 use Rattle.land_rules.specs.Denials.Interests.{AreNamesOf, Entries, interest_of, shows_entry}
 use Rattle.land_rules.specs.Laws.{IsSoundOrNothing}
-use Rattle.land_rules.specs.Relations.{holds_as, is_lodger_on, is_member_of}
+use Rattle.land_rules.specs.Relations.{is_lodger_on, is_member_of}
 use Rattle.land_rules.specs.Rules.{sees}
 use Rattle.land_select_joins.specs.Joins.Running.{OfHeld}
 use Rattle.land_tables_history.specs.History.{StandsAt}
@@ -52,7 +53,7 @@ AreNamesAt caller t db names = OfHeld db (λ h. (r : Register) → StandsAt t h 
 
 -- of the entries of a unit those that are shown to a caller by the caller's interest in the unit
 abbrev pub shown_of : Register → Caller → Entries → Entries
-shown_of r caller entries = only (λ n e. shows_entry (interest_of (holds_as r caller.party) caller entries) caller.party e) entries
+shown_of r caller entries = only (λ n e. shows_entry (interest_of (is_name_of r (circle_of r caller.party)) caller entries) caller.party e) entries
 
 -- the entries of a unit that an undecided mutation of a party names, none of another unit
 abbrev pub awaited_of : Register → (party unit : ℕ) → Entries → Entries

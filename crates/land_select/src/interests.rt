@@ -4,8 +4,8 @@ ghost use Rattle.land_core.specs.Entries.{only};
 ghost use Rattle.land_core.specs.Role.{is_role};
 ghost use Rattle.land_core.specs.declared.kind.Kind.TheVariants as kinds;
 ghost use Rattle.land_core.specs.declared.role.Role.TheVariants as roles;
+ghost use Rattle.land_rules.specs.Circles.{circle_of, is_name_of};
 ghost use Rattle.land_rules.specs.Denials.Interests.{interest_at, interest_of, is_shown_by_interest, shows_entry, shows_unit};
-ghost use Rattle.land_rules.specs.Relations.{holds_as};
 ghost use Rattle.land_select.specs.Views.{AreGroupsAt, AreNamesAt, shown_of};
 ghost use Rattle.land_select_joins.specs.Lookups.Parts.{IsPart};
 ghost use Rattle.land_tables_schema.specs.Land.{IsLand};
@@ -79,7 +79,7 @@ fn interest_by<S: Alter>(
 ) -> Result<Interest, ReadFault>
     requires open { HasCleanDisk (state S.Store conn.old) → IsTrue (state S.Store conn.old).is_open }
     requires land { HasCleanDisk (state S.Store conn.old) → IsLand (state S.Store conn.old).now.schema }
-    ensures look { IsLook result (λ it. IsPart (λ r. interest_of (holds_as r caller.party) caller entries.now) at (state S.Store conn.old).now.trees it) (state S.Store conn.old) (state S.Store conn.new) }
+    ensures look { IsLook result (λ it. IsPart (λ r. interest_of (is_name_of r (circle_of r caller.party)) caller entries.now) at (state S.Store conn.old).now.trees it) (state S.Store conn.old) (state S.Store conn.new) }
     ensures mode { conn.old.in_transaction ≡ false → conn.new.in_transaction ≡ false }
 {
     names_tell_interests();

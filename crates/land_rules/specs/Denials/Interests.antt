@@ -17,8 +17,9 @@ use Rattle.land_core.specs.declared.role.Role.{Role}
 use Rattle.land_core.specs.declared.role.Role.TheVariants.{Bank, Citizen}
 use Rattle.land_core.specs.declared.rrr.RightType.TheVariants.{Ownership}
 use Rattle.land_core.specs.declared.rrr.RrrRecord.{RrrRecord}
+use Rattle.land_rules.specs.Circles.{circle_of, is_name_of}
 use Rattle.land_rules.specs.Laws.{IsSoundOrNothing}
-use Rattle.land_rules.specs.Relations.{holds_as, is_mortgage, is_mutation_where, is_right, is_rrr_where, is_told_to_creditor}
+use Rattle.land_rules.specs.Relations.{is_mortgage, is_mutation_where, is_right, is_rrr_where, is_told_to_creditor}
 use Rattle.land_rules.specs.Rules.{sees}
 use Rattle.land_rules.specs.declared.denials.interests.Interest.{Interest}
 use Rattle.land_rules.specs.declared.denials.interests.Interest.TheVariants.{Stranger, Holder, Owner, Creditor}
@@ -73,9 +74,9 @@ shows_entry Creditor party e = is_told_to_creditor party e
 
 -- ---- in a register
 
--- the interest of a caller in a unit: a citizen holds in its own name and in those of its groups
+-- the interest of a caller in a unit: a citizen holds in the names of its circle and of the groups of which one of it is a member
 abbrev pub interest_at : Register → Caller → (unit : ℕ) → Interest
-interest_at at caller unit = interest_of (holds_as at caller.party) caller (entries_of at unit)
+interest_at at caller unit = interest_of (is_name_of at (circle_of at caller.party)) caller (entries_of at unit)
 
 -- whether a mutation names a unit that is shown by the caller's interest in it
 abbrev pub names_shown : Register → Caller → MutationRecord → Bool
@@ -107,11 +108,12 @@ InterestsTellSight = (at : Register) → IsSoundOrNothing at → (caller : Calle
 
 -- ---- the names
 
--- these are the names in which a citizen holds, its own and those of its groups; of another caller none need be known
+-- these are the names in which a citizen holds, those of its circle and of the groups of which one of it is a member; of another caller
+-- none need be known
 abbrev pub AreNamesOf : Register → Caller → (names : List ℕ) → Type 0
-AreNamesOf at caller names = is_role caller.role Citizen ≡ true → (named : ℕ) → Contains names named ↔ (holds_as at caller.party named ≡ true)
+AreNamesOf at caller names = is_role caller.role Citizen ≡ true → (named : ℕ) → Contains names named ↔ (is_name_of at (circle_of at caller.party) named ≡ true)
 
 -- so the list of its names and the entries of a unit tell the caller's interest in it
 abbrev pub NamesTellInterests : Type 0
 NamesTellInterests = (at : Register) (caller : Caller) (names : List ℕ) → AreNamesOf at caller names → (entries : Entries)
-    → interest_of (λ named. list_any (nat_eq named) names) caller entries ≡ interest_of (holds_as at caller.party) caller entries
+    → interest_of (λ named. list_any (nat_eq named) names) caller entries ≡ interest_of (is_name_of at (circle_of at caller.party)) caller entries

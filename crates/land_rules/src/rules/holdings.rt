@@ -3,13 +3,15 @@
 ghost use Rattle.std.specs.Prelude.{◌≡◌, ℕ, ◌||◌, nat_eq, IfOk, OnOk};
 ghost use Rattle.land_core.specs.Contents.{names_unit};
 ghost use Rattle.land_core.specs.Mergers.{lists_number};
-ghost use Rattle.land_rules.specs.Holdings.{AreHoldings, AreLodgedOn, AreNames, AreOfInterest, gives_interest, has_interest_by, has_number};
+ghost use Rattle.land_rules.specs.Holdings.{AreHoldings, AreLodgedOn, AreNames, AreOfInterest, gives_interest, has_interest_by, has_member_among, has_number, is_name_among};
 ghost use Rattle.land_rules.specs.declared.rules.holdings.Interest.TheVariants as interests;
 
+use crate::circles::circle_of;
 use crate::relations::{is_mortgage, is_pending_of, is_right};
 use land_core::caller::Caller;
 use land_core::content::Content;
 use land_core::kind::Kind;
+use land_core::member::Members;
 use land_core::register::Register;
 use land_core::role::Role;
 use land_core::rrr::{Class, RightType, RrrRecord};
@@ -30,9 +32,11 @@ enum Interest {
 /// The units in which a caller has an interest or on which it lodged, as far as the sight of its role depends on them.
 #[derive(Drop)]
 pub(crate) struct Holdings {
-    /// A citizen's: the units in which it is a holder.
+    /// A citizen's: the names of its circle, and of the groups that have one of it for a member.
+    pub(crate) names: BTreeSet<u64>,
+    /// A citizen's: the units in which one of its circle is a holder.
     pub(crate) held: BTreeSet<u64>,
-    /// A citizen's: the units in which it is an owner.
+    /// A citizen's: the units in which one of its circle is an owner.
     pub(crate) owned: BTreeSet<u64>,
     /// A bank's: the units on which it is a creditor.
     pub(crate) credited: BTreeSet<u64>,
@@ -46,6 +50,7 @@ impl Holdings {
         ensures { IfOk result (λ it. AreHoldings at.now caller it) }
     {
         let mut holdings = Holdings {
+            names: BTreeSet::new(alloc),
             held: BTreeSet::new(alloc),
             owned: BTreeSet::new(alloc),
             credited: BTreeSet::new(alloc),
@@ -55,6 +60,7 @@ impl Holdings {
             let names = names_of_citizen(alloc, at, caller.party)?;
             holdings.held = units_of_interest(alloc, at, &names, Interest::Holder)?;
             holdings.owned = units_of_interest(alloc, at, &names, Interest::Owner)?;
+            holdings.names = names;
         }
         if caller.role == Role::Bank {
             let names = names_of_bank(alloc, caller.party)?;
@@ -67,18 +73,32 @@ impl Holdings {
     }
 }
 
-/// The names in which a citizen has rights: its own, and those of the groups of which it is a member.
+/// The names in which a citizen has rights: those of its circle, and of the groups that have one of it for a member.
 fn names_of_citizen(alloc: Global, at: &Register, party: u64) -> Result<BTreeSet<u64>, AllocError>
     ensures { IfOk result (λ it. AreNames interests.Holder at.now party it) }
 {
-    let mut names = BTreeSet::new(alloc);
-    names.insert(party)?;
+    let circle = circle_of(alloc, at, party)?;
+    names_of(at, &circle)
+}
+
+/// The names of some parties, and of the groups that have one of them for a member.
+fn names_of(at: &Register, parties: &BTreeSet<u64>) -> Result<BTreeSet<u64>, AllocError>
+    ensures { IfOk result (λ it. (named : ℕ) → has_number it named ≡ is_name_among at.now (has_number parties.now) named) }
+{
+    let mut names = parties.clone()?;
     for (group, members) in at.members.iter() {
-        if members.get(party).is_some() {
+        if has_member_among(members, parties) {
             names.insert(*group)?;
         }
     }
     Ok(names)
+}
+
+/// Whether one of some parties is among the members of a group.
+fn has_member_among(members: &Members, parties: &BTreeSet<u64>) -> bool
+    ensures { result ≡ has_member_among (has_number parties.now) members.now }
+{
+    members.iter().any(|(party, _)| parties.contains(party))
 }
 
 /// The name in which a bank is a creditor: its own.

@@ -4,12 +4,12 @@ ghost use Rattle.std.specs.Prelude.{◌≡◌, IfOk, true};
 ghost use Rattle.std.specs.List.{list_any};
 ghost use Rattle.land_core.specs.Contents.{names_where};
 ghost use Rattle.land_core.specs.declared.kind.Kind.TheVariants as kind;
-ghost use Rattle.land_rules.specs.Holdings.{AreHoldings, AreMet, AreOfInterest, meets_parties};
-ghost use Rattle.land_rules.specs.Relations.{is_holder};
+ghost use Rattle.land_rules.specs.Circles.{circle_of, is_held_by};
+ghost use Rattle.land_rules.specs.Holdings.{AreHoldings, AreMet, AreOfInterest, is_its_name, meets_parties};
 ghost use Rattle.land_rules.specs.Rules.{sees, seen_of};
 ghost use Rattle.land_rules.specs.declared.rules.holdings.Interest.TheVariants.{Holder};
 
-use crate::relations::{is_member_of, is_mortgage, is_told_to_creditor};
+use crate::relations::{is_mortgage, is_told_to_creditor};
 use crate::rules::holdings::Holdings;
 use crate::rules::{seen_among, sees};
 use land_core::caller::Caller;
@@ -64,8 +64,9 @@ pub(crate) fn parties(
     if !meets_parties(caller) {
         return seen_among(alloc, &at.parties, at, caller, Kind::Party);
     }
-    let met = met_parties(alloc, at, caller)?;
-    parties_by(alloc, at, caller, &met)
+    let holdings = Holdings::of(alloc, at, caller)?;
+    let met = met_parties(alloc, at, caller, &holdings)?;
+    parties_by(alloc, at, caller, &holdings, &met)
 }
 
 /// Whether a role sees the parties of the entries in its sight.
@@ -75,34 +76,41 @@ fn meets_parties(caller: Caller) -> bool
     caller.role == Role::Citizen || caller.role == Role::Bank || caller.role == Role::Conveyancer
 }
 
-/// The parties of the entries in the sight of a caller.
-fn met_parties(alloc: Global, at: &Register, caller: Caller) -> Result<BTreeSet<u64>, AllocError>
+/// The parties of the entries in the sight of a caller with these holdings.
+fn met_parties(
+    alloc: Global,
+    at: &Register,
+    caller: Caller,
+    holdings: &Holdings,
+) -> Result<BTreeSet<u64>, AllocError>
+    requires { AreHoldings at.now caller holdings.now }
     ensures { IfOk result (λ it. AreMet at.now caller it) }
 {
-    let holdings = Holdings::of(alloc, at, caller)?;
     let mut met = BTreeSet::new(alloc);
     for (number, entry) in at.rrrs.iter() {
-        if sees_entry(at, caller, &holdings, *number) {
+        if sees_entry(at, caller, holdings, *number) {
             met.insert(entry.party)?;
         }
     }
     Ok(met)
 }
 
-/// The parties that a caller sees, which met these in the entries that it sees.
+/// The parties that a caller with these holdings sees, which met these in the entries that it sees.
 fn parties_by(
     alloc: Global,
     at: &Register,
     caller: Caller,
+    holdings: &Holdings,
     met: &BTreeSet<u64>,
 ) -> Result<NumberList, AllocError>
+    requires holdings { AreHoldings at.now caller holdings.now }
     requires met { AreMet at.now caller met.now }
     requires role { meets_parties caller ≡ true }
     ensures { IfOk result (λ it. it ≡ seen_of at.now caller kind.Party) }
 {
     let mut seen = Sequence::new(alloc);
     for (number, _) in at.parties.iter() {
-        if sees_party(at, caller, met, *number) {
+        if sees_party(at, caller, holdings, met, *number) {
             seen.push(*number)?;
         }
     }
@@ -217,18 +225,18 @@ fn citizen_sees_mutation(at: &Register, caller: Caller, holdings: &Holdings, num
     }
 }
 
-/// Whether a party is a holder in one of some units.
+/// Whether one of the circle of a party is a holder in one of some units.
 fn holds_some(at: &Register, party: u64, held: &BTreeSet<u64>, units: &[u64]) -> bool
     requires { AreOfInterest Holder at.now party held.now }
-    ensures { result ≡ list_any (is_holder at.now party) units.now }
+    ensures { result ≡ list_any (is_held_by at.now (circle_of at.now party)) units.now }
 {
     units.iter().any(|unit| held.contains(unit))
 }
 
-/// Whether a content names one of the units in which a party is a holder.
+/// Whether a content names one of the units in which one of the circle of a party is a holder.
 fn names_held(at: &Register, party: u64, held: &BTreeSet<u64>, content: &Content) -> bool
     requires { AreOfInterest Holder at.now party held.now }
-    ensures { result ≡ names_where (is_holder at.now party) content.now }
+    ensures { result ≡ names_where (is_held_by at.now (circle_of at.now party)) content.now }
 {
     match content {
         Content::Transfer(it) => held.contains(&it.unit),
@@ -241,14 +249,34 @@ fn names_held(at: &Register, party: u64, held: &BTreeSet<u64>, content: &Content
     }
 }
 
-/// Whether a caller that met these parties in the entries that it sees sees a party.
-fn sees_party(at: &Register, caller: Caller, met: &BTreeSet<u64>, number: u64) -> bool
+/// Whether a number is a name of a caller with these holdings: of a citizen one in which one of its circle holds, of another its own.
+fn is_its_name(at: &Register, caller: Caller, holdings: &Holdings, number: u64) -> bool
+    requires { AreHoldings at.now caller holdings.now }
+    ensures { result ≡ is_its_name caller.role at.now caller.party number }
+{
+    match caller.role {
+        Role::Citizen => holdings.names.contains(&number),
+        Role::Conveyancer
+        | Role::Notary
+        | Role::Bank
+        | Role::CertifiedSurveyor
+        | Role::StateAdministrator => number == caller.party,
+    }
+}
+
+/// Whether a caller with these holdings, which met these parties in the entries that it sees, sees a party.
+fn sees_party(
+    at: &Register,
+    caller: Caller,
+    holdings: &Holdings,
+    met: &BTreeSet<u64>,
+    number: u64,
+) -> bool
+    requires holdings { AreHoldings at.now caller holdings.now }
     requires met { AreMet at.now caller met.now }
     requires role { meets_parties caller ≡ true }
     ensures { result ≡ sees at.now caller kind.Party number }
 {
     at.stands(Kind::Party, number)
-        && (number == caller.party
-            || caller.role == Role::Citizen && is_member_of(at, caller.party, number)
-            || met.contains(&number))
+        && (is_its_name(at, caller, holdings, number) || met.contains(&number))
 }

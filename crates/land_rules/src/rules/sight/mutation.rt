@@ -1,9 +1,11 @@
 //! The sight of mutations.
 ghost use Rattle.std.specs.Prelude.{◌≡◌};
-ghost use Rattle.land_rules.specs.Relations.{is_mutation_where, names_holding};
+ghost use Rattle.land_rules.specs.Circles.{circle_of, names_held_by};
+ghost use Rattle.land_rules.specs.Relations.{is_mutation_where};
 ghost use Rattle.land_rules.specs.Rules.{first_denial, mutation_rules};
 
-use crate::relations::{has_lodged, names_holding};
+use crate::circles::names_held_by;
+use crate::relations::has_lodged;
 use crate::verdict::Verdict;
 use land_core::caller::Caller;
 use land_core::kind::Kind;
@@ -29,11 +31,11 @@ pub(crate) fn verdict(at: &Register, caller: Caller, number: u64) -> Verdict
     }
 }
 
-/// Whether a mutation stands, and names a unit in which a party is a holder.
+/// Whether a mutation stands, and names a unit in which one of the circle of a party is a holder.
 fn is_about_a_holding(at: &Register, party: u64, number: u64) -> bool
-    ensures { result ≡ is_mutation_where (names_holding at.now party) at.now number }
+    ensures { result ≡ is_mutation_where (names_held_by at.now (circle_of at.now party)) at.now number }
 {
     at.mutations
         .get(number)
-        .is_some_and(|mutation| names_holding(at, party, mutation))
+        .is_some_and(|mutation| names_held_by(at, party, mutation))
 }

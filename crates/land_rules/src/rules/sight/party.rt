@@ -3,7 +3,7 @@ ghost use Rattle.std.specs.Prelude.{◌≡◌};
 ghost use Rattle.land_rules.specs.Rules.{first_denial, is_party_in_sight, party_rules};
 
 use super::rrr;
-use crate::relations::is_member_of;
+use crate::circles::{is_group_of, is_in_circle};
 use crate::verdict::Verdict;
 use land_core::caller::Caller;
 use land_core::kind::Kind;
@@ -16,7 +16,9 @@ pub(crate) fn verdict(at: &Register, caller: Caller, number: u64) -> Verdict
 {
     let itself = number == caller.party;
     if caller.role == Role::Citizen
-        && !(itself || is_member_of(at, caller.party, number) || is_in_sight(at, caller, number))
+        && !(is_in_circle(at, caller.party, number)
+            || is_group_of(at, caller.party, number)
+            || is_in_sight(at, caller, number))
     {
         Verdict::Denied(13)
     } else if caller.role == Role::Bank && !(itself || is_in_sight(at, caller, number)) {

@@ -1,10 +1,12 @@
 //! The sight of entries.
 ghost use Rattle.std.specs.Prelude.{◌≡◌};
-ghost use Rattle.land_rules.specs.Relations.{is_rrr_where, is_told_to_holder};
+ghost use Rattle.land_rules.specs.Circles.{circle_of, is_told_to_circle};
+ghost use Rattle.land_rules.specs.Relations.{is_rrr_where};
 ghost use Rattle.land_rules.specs.Rules.{first_denial, is_rrr_in_sight, is_told_to_bank, is_told_to_conveyancer, rrr_rules};
 
 use super::unit;
-use crate::relations::{is_told_to_creditor, is_told_to_holder};
+use crate::circles::is_told_to_circle;
+use crate::relations::is_told_to_creditor;
 use crate::verdict::Verdict;
 use land_core::caller::Caller;
 use land_core::kind::Kind;
@@ -38,11 +40,11 @@ pub(crate) fn is_in_sight(at: &Register, caller: Caller, number: u64) -> bool
 }
 
 fn is_told_to_citizen(at: &Register, caller: Caller, number: u64) -> bool
-    ensures { result ≡ is_rrr_where (is_told_to_holder at.now caller.party) at.now number }
+    ensures { result ≡ is_rrr_where (is_told_to_circle at.now (circle_of at.now caller.party)) at.now number }
 {
     at.rrrs
         .get(number)
-        .is_some_and(|entry| is_told_to_holder(at, caller.party, entry))
+        .is_some_and(|entry| is_told_to_circle(at, caller.party, entry))
 }
 
 fn is_told_to_bank(at: &Register, caller: Caller, number: u64) -> bool

@@ -2,7 +2,8 @@
 ghost use Rattle.std.specs.Prelude.{◌≡◌};
 ghost use Rattle.land_rules.specs.Rules.{first_denial, is_unit_in_sight, unit_rules};
 
-use crate::relations::{is_creditor_on, is_holder, is_lodger_on};
+use crate::circles::is_held_by;
+use crate::relations::{is_creditor_on, is_lodger_on};
 use crate::verdict::Verdict;
 use land_core::caller::Caller;
 use land_core::kind::Kind;
@@ -13,7 +14,7 @@ use land_core::role::Role;
 pub(crate) fn verdict(at: &Register, caller: Caller, number: u64) -> Verdict
     ensures { result ≡ first_denial (unit_rules at.now caller number) }
 {
-    if caller.role == Role::Citizen && !is_holder(at, caller.party, number) {
+    if caller.role == Role::Citizen && !is_held_by(at, caller.party, number) {
         Verdict::Denied(11)
     } else if caller.role == Role::Bank && !is_creditor_on(at, caller.party, number) {
         Verdict::Denied(15)

@@ -1,7 +1,7 @@
 use Rattle.std.proofs.Common.{rules, ◌≡◌, ◌++◌, ◌↔◌, [], ◌∷◌, ℕ, List, sym, subst, true, to_z, of_z, w64, ◌∙◌}
 use Rattle.std.proofs.lemmas.Bool.{false≢true}
 use Rattle.std.specs.List.{Contains}
-use Rattle.land_rules.specs.Relations.{holds_as}
+use Rattle.land_rules.specs.Circles.{circle_of, is_name_of}
 use Rattle.land_select.proofs.Judged.{looked_at_nothing}
 use Rattle.land_select.proofs.ShownByInterest.{names_are}
 use Rattle.land_select.proofs.Viewed.{look_lost}
@@ -22,4 +22,4 @@ returns-clause-look g c =
     let grown : c.push.new.self ≡ c.in_ok-names.names ++ party ∷ [] = c.in_ok-push.ensures.ok in
     look_told (state g.S.Store c.args.conn.now) (state g.S.Store c.groups_of.new.conn) _ look
     (λ clean are moments h held r stands citizen.
-    subst (λ (names : List ℕ). (named : ℕ) → Contains names named ↔ (holds_as r party named ≡ true)) (sym grown) (names_are r party c.in_ok-names.names (are moments h held r stands)))
+    subst (λ (names : List ℕ). (named : ℕ) → Contains names named ↔ (is_name_of r (circle_of r party) named ≡ true)) (sym grown) (names_are r stands.mandates party c.in_ok-names.names (are moments h held r stands)))

@@ -1,11 +1,9 @@
-use Rattle.std.proofs.Common.{rules, ◌≡◌, ◌||◌, nat_eq, ◌∙◌}
-use Rattle.std.specs.FinMap as map
-use Rattle.std.specs.List.{list_any}
-use Rattle.land_rules.proofs.Interests.{is_group_named, names_of}
-use Rattle.land_rules.specs.Holdings.{has_number}
+use Rattle.std.proofs.Common.{◌∙◌}
+use Rattle.std.proofs.lemmas.Result.{IfOk-weaker}
+use Rattle.land_rules.proofs.Interests.{names_of_circle}
 use Rattle.land_rules.proofs.rules.holdings.names_of_citizen.Goals as goal
 
 pub returns : goal.returns
-returns c = λ named.
-    let by_groups : has_number c.loop-group.names named ≡ (nat_eq c.args.party named || list_any (is_group_named c.args.party named) (map.entries c.args.at.now.members)) = search rules in
-    by_groups ∙ names_of c.args.at.now c.args.party named
+returns c =
+    IfOk-weaker c.names_of.result _ _ (λ it are named. are named ∙ names_of_circle c.args.at.now c.args.party c.in_ok-circle.circle c.in_ok-circle.ensures named)
+    c.names_of.ensures
