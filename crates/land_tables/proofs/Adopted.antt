@@ -1,19 +1,22 @@
 -- What is found in the tables of a store says whether it is a register's, and why not.
-use Rattle.std.proofs.Common.{◌≡◌, ℕ, ℤ, pos, ◌&&◌, if◌then◌else◌, Bool, true, false, List, [], ◌∷◌, map, Some, Ok, Err, IfErr, IfOk, Result, refl, sym, ap, ◌∙◌, subst, arith, IsPermutation}
+use Rattle.std.proofs.Common.{◌≡◌, ℕ, ℤ, pos, ◌&&◌, if◌then◌else◌, Bool, true, false, List, [], ◌∷◌, map, Some, Ok, Err, IfErr, IfOk, IsErrAnd, Result, refl, sym, ap, ◌∙◌, subst, arith, IsPermutation}
 use Rattle.std.specs.Prelude.{◌≤ℤ◌, int_le}
 use Rattle.std.proofs.lemmas.Bool.{false≢true}
 use Rattle.std.proofs.lemmas.Int.{ints}
 use Rattle.std.proofs.lemmas.List.Elements.{All-cons, All-nil, All-from_recursion, recursion_from_All}
-use Rattle.std.proofs.lemmas.List.Sorted.{All-permutation, IsPermutation-sym, length_permutation}
-use Rattle.std.specs.List.{All, AllByRecursion}
+use Rattle.std.proofs.lemmas.List.Sorted.{All-permutation, IsPermutation-refl, IsPermutation-sym, length_permutation}
+use Rattle.std.specs.List.{All, AllByRecursion, IsDistinct}
+use Rattle.std.specs.Ordering.{int_eq}
 use Rattle.land_core.proofs.Booleans.{both_of}
+use Rattle.land_core.specs.declared.mandates.Mandate.{Mandate}
 use Rattle.land_keep.specs.Moments.{IsMoment, last_moment}
 use Rattle.land_keep.specs.Timeline.{last_register, last_stamp}
 use Rattle.land_tables.proofs.Tellings.{read_stands, tells, told_reordered}
-use Rattle.land_tables.specs.Adopting.{HoldsNone, IsRefused, IsRegisterTo}
-use Rattle.land_tables.specs.Registers.{AreFirst, AreIntervals, AreOurs}
-use Rattle.land_tables.specs.Findings.{Finds, IsJudged, IsPassed, Misses, SaysAll, is_first_version, is_one_edition}
-use Rattle.land_tables.specs.Standing.{HoldsTimeline, timeline_in}
+use Rattle.land_tables.specs.Adopting.{HoldsNone, IsFound, IsMissing, IsRefused, IsRegisterTo}
+use Rattle.land_tables.specs.Faults.{of_read}
+use Rattle.land_tables.specs.Findings.{AreMandates, Finds, FindsFirst, IsEditionOf, IsJudged, IsPassed, Misses, SaysAll, SaysFirstRows, is_one_edition, is_version}
+use Rattle.land_tables.specs.Registers.{AreIntervals, AreOf, AreOurs, HasMandates, MayBeOurs, Shapes, the_second}
+use Rattle.land_tables.specs.Standing.{HoldsTimeline, timeline_in, without_mandates}
 use Rattle.land_tables.specs.Timelines.{timeline_of}
 use Rattle.land_tables.specs.Timelines.Judging.{OrderKeepsIntervals, SoundTimelinesAreLawful}
 use Rattle.land_tables.specs.Timelines.Laws.{LastMomentIsTheLastStamp, LawfulVersionsStand, OrderDoesNotMatter, VersionsStandForOne}
@@ -22,20 +25,26 @@ use Rattle.land_tables.specs.declared.fault.AdoptFault.TheVariants.{NotOurs, Int
 use Rattle.land_tables.specs.declared.finding.Findings.{Findings}
 use Rattle.land_tables_history.specs.Intervals.{has_intervals}
 use Rattle.land_tables_history.specs.declared.moment.Moment.{Moment}
+use Rattle.land_tables_history.specs.declared.version.Version.{Version as Lived}
 use Rattle.land_tables_rows.proofs.ToldTables.{told_is}
 use Rattle.land_tables_rows.proofs.WrittenCells.{moment_cell}
-use Rattle.land_tables_rows.specs.Listing.Reading.{Says, editions, moments}
+use Rattle.land_tables_rows.specs.Listing.Reading.{CannotSay, Says, editions, mandates, moments}
 use Rattle.land_tables_rows.specs.Listing.Told.{history_in, told_by}
 use Rattle.land_tables_rows.specs.Moment.Reading.{change_in}
 use Rattle.land_tables_rows.specs.Reading.Cells.{moment_in, next_in}
-use Rattle.land_tables_rows.specs.Rowids.{AreAllKeyed}
+use Rattle.land_tables_rows.specs.Rowids.{AreFirstKeyed, AreKeyed}
 use Rattle.land_tables_rows.specs.Writing.History.{HoldsHistory}
 use Rattle.land_tables_rows.specs.declared.edition.reading.Edition.{Edition}
-use Rattle.land_tables_schema.specs.Land.{IsLand}
+use Rattle.land_tables_rows.specs.declared.listing.fault.ReadFault.{ReadFault}
+use Rattle.land_tables_rows.specs.declared.listing.fault.ReadFault.TheVariants as read
+use Rattle.land_tables_schema.specs.Land.{MayBeLand}
+use Rattle.land_tables_schema.specs.Rows.Forms.{AreNumbered}
+use Rattle.land_tables_schema.specs.Tables.{mandate}
 use Rattle.land_wire_json.specs.Bodies.WireFaults.{◌>>=◌}
 use Rattle.land_wire_json.specs.declared.bodies.wire_fault.WireFault.{WireFault}
 use Rattle.land_wire_json.specs.declared.bodies.wire_fault.WireFault.TheVariants as wire
 use Rattle.sqlite.specs.Effect.{Database}
+use Rattle.sqlite.specs.State.{State}
 use Rattle.sqlite_trees.specs.Tree.{Trees}
 use Rattle.sqlite_value.specs.Order.{Row, column}
 use Rattle.sqlite_value.specs.declared.value.Value.{Value}
@@ -103,8 +112,8 @@ are_moments db ms says =
 -- ---- what tables hold
 
 -- tables that say a history, in rows with rowids of their own, hold it
-held_if_said : (db : Trees) (found : Findings) → SaysAll db found → AreAllKeyed db → HoldsHistory db found.moments found.history
-held_if_said db found said keyed = record {
+held_if_said : (db : Trees) (found : Findings) → SaysAll db found → AreFirstKeyed db → AreKeyed mandate db → HoldsHistory db found.moments found.history
+held_if_said db found said keyed mandates_keyed = record {
   the_moments = said.moments;
   the_parties = record { said = said.history.parties; numbered = keyed.persons.parties };
   the_roles = record { said = said.history.roles; numbered = keyed.persons.roles };
@@ -115,77 +124,242 @@ held_if_said db found said keyed = record {
   the_sources = record { said = said.history.sources; numbered = keyed.papers.sources };
   the_mutations = record { said = said.history.mutations; numbered = keyed.papers.mutations };
   the_namings = record { said = said.history.namings; numbered = keyed.papers.namings };
+  the_mandates = record { said = said.history.mandates; numbered = mandates_keyed };
 }
 
+-- ---- what is found first
+
+module _ (db : Database) (land : MayBeLand db.schema) (found : Findings) (finds : FindsFirst db.trees found) where
+  pub told_editions : is_one_edition found.editions ≡ true → told_by editions db.trees ≡ found.editions
+  told_editions is = one_is_alone found.editions (told_by editions db.trees) is (told_is editions db.trees found.editions finds.said.editions)
+
+  pub may_be : is_one_edition found.editions ≡ true → MayBeOurs db
+  may_be is = record { land = land; found = found; said = finds.said; one = ap is_one_edition (told_editions is) ∙ is }
+
+  -- where not one edition is found, not one is told
+  not_one : is_one_edition found.editions ≡ false → ¬ MayBeOurs db
+  not_one missed it =
+      let same = one_is_alone (told_by editions db.trees) found.editions it.one (IsPermutation-sym found.editions (told_by editions db.trees) (told_is editions db.trees found.editions finds.said.editions)) in
+      false≢true (sym missed ∙ ap is_one_edition same ∙ it.one)
+
+  -- its edition is the one that is asked for, or it is missing
+  pub to_found : (version : ℕ) → IsEditionOf version found.editions (Ok tt) → IsFound version db found
+  to_found version is = record { land = land; finds = finds; one = is.0; made = is.1 }
+
+  pub to_missing : (version : ℕ) (why : AdoptFault) → IsEditionOf version found.editions (Err why) → IsMissing version why db
+  to_missing version NotOurs missed = not_one missed
+  to_missing version Version missed = (may_be missed.0, ap (is_version version) (told_editions missed.0) ∙ missed.1)
+  to_missing version Interval missed = absurd missed
+  to_missing version Unsound missed = absurd missed
+  to_missing version NoMemory missed = tt
+  to_missing version Store missed = tt
+
+-- tables that are not those of the first version, or cannot be read, are not ours
+pub other_tables : (db : Database) → (¬ MayBeLand db.schema) → ¬ MayBeOurs db
+other_tables db none it = none it.land
+
+pub unread : (db : Database) → ((found : Findings) → ¬ SaysFirstRows db.trees found) → ¬ MayBeOurs db
+unread db none it = none it.found it.said
+
+-- a look at them that failed
+pub unread_missing : (version : ℕ) (db : Database) (fault : ReadFault) → CannotSay (SaysFirstRows db.trees) fault → IsMissing version (of_read fault) db
+unread_missing version db read.Unreadable cannot = unread db (cannot refl)
+unread_missing version db read.NoMemory cannot = tt
+unread_missing version db read.Store cannot = tt
+
+pub missing_after : {X : Type 0} (version : ℕ) (db : Database) (r : Result X AdoptFault) (fault : ReadFault) → IsErrAnd r (λ f. f ≡ of_read fault) → CannotSay (SaysFirstRows db.trees) fault
+    → IfErr r (λ why. IsMissing version why db)
+missing_after version db (Ok x) fault is cannot = tt
+missing_after version db (Err f) fault is cannot = subst (λ (g : AdoptFault). IsMissing version g db) (sym is) (unread_missing version db fault cannot)
+
+-- ---- by which shapes
+
+-- the store may be a register's, and this version made its tables
+pub record IsMadeBy (version : ℕ) (db : Database) : Type 0 where
+  pub may_be : MayBeOurs db
+  pub made : is_version version (told_by editions db.trees) ≡ true
+
+pub made_by : (version : ℕ) (db : Database) (found : Findings) → IsFound version db found → IsMadeBy version db
+made_by version db found it = record {
+  may_be = may_be db it.land found it.finds it.one;
+  made = ap (is_version version) (told_editions db it.land found it.finds it.one) ∙ it.made;
+}
+
+-- with its shapes it is one of that version
+pub is_of : (shapes : Shapes) (db : Database) → IsMadeBy shapes.version db → shapes.AreThere db → AreOf shapes db
+is_of shapes db made there = record { ours = record { first = made.may_be; there = λ _. there }; version = made.made }
+
+-- and without them it is not ours
+pub is_none : (shapes : Shapes) (db : Database) → IsMadeBy shapes.version db → (¬ shapes.AreThere db) → ¬ AreOurs shapes db
+is_none shapes db made none ours = none (ours.there made.made)
+
+-- what is missing is refused, whatever the shapes
+pub missing_refused : (shapes : Shapes) (why : AdoptFault) (db : Database) → IsMissing shapes.version why db → IsRefused shapes why db
+missing_refused shapes NotOurs db missing = λ ours. missing ours.first
+missing_refused shapes Version db missing = (
+  record { first = missing.0; there = λ is. absurd (false≢true (sym missing.1 ∙ is)) },
+  λ it. false≢true (sym missing.1 ∙ it.version),
+)
+missing_refused shapes Interval db missing = absurd missing
+missing_refused shapes Unsound db missing = absurd missing
+missing_refused shapes NoMemory db missing = tt
+missing_refused shapes Store db missing = tt
+
+-- a fault that is handed on
+pub missing_on : {X : Type 0} (shapes : Shapes) (db : Database) (r : Result X AdoptFault) (fault : AdoptFault) → IsErrAnd r (λ f. f ≡ fault) → IsMissing shapes.version fault db → IfErr r (λ why. IsRefused shapes why db)
+missing_on shapes db (Ok x) fault is missing = tt
+missing_on shapes db (Err f) fault is missing = missing_refused shapes f db (subst (λ (g : AdoptFault). IsMissing shapes.version g db) (sym is) missing)
+
+-- what is so of a fault is so of a result that tells it
+pub told_on : {X : Type 0} (Q : AdoptFault → Type 0) (r : Result X AdoptFault) (fault : AdoptFault) → IsErrAnd r (λ f. f ≡ fault) → Q fault → IfErr r Q
+told_on Q (Ok x) fault is so = tt
+told_on Q (Err f) fault is so = subst Q (sym is) so
+
+pub refused_on : {X : Type 0} (shapes : Shapes) (db : Database) (r : Result X AdoptFault) (fault : AdoptFault) → IsErrAnd r (λ f. f ≡ fault) → IsRefused shapes fault db → IfErr r (λ why. IsRefused shapes why db)
+refused_on shapes db (Ok x) fault is refused = tt
+refused_on shapes db (Err f) fault is refused = subst (λ (g : AdoptFault). IsRefused shapes g db) (sym is) refused
+
+-- what is found of a store with the shapes
+module _ (a b : State) (shapes : Shapes) (found : Findings) (first : IsFound shapes.version a.now found) (same : b.now ≡ a.now) where
+  pub lacks : (shapes.AreThere b.now → ⊥) → ¬ AreOurs shapes a.now
+  lacks none = is_none shapes a.now (made_by shapes.version a.now found first) (λ there. none (subst shapes.AreThere (sym same) there))
+
+  pub has : shapes.AreThere b.now → AreOf shapes a.now
+  has there = is_of shapes a.now (made_by shapes.version a.now found first) (subst shapes.AreThere same there)
+
+-- ---- the mandates
+
+-- what all tables say, where those of the first version say this and the mandates that
+all_said : (db : Trees) (found : Findings) (listed : List (Lived Mandate)) → SaysFirstRows db found → Says mandates db listed
+    → SaysAll db (record found { history = record found.history { mandates = listed } })
+all_said db found listed said listed_said = record {
+  editions = said.editions;
+  moments = said.moments;
+  history = record {
+    parties = said.history.parties;
+    roles = said.history.roles;
+    members = said.history.members;
+    units = said.history.units;
+    parcels = said.history.parcels;
+    rrrs = said.history.rrrs;
+    sources = said.history.sources;
+    mutations = said.history.mutations;
+    namings = said.history.namings;
+    mandates = listed_said;
+  };
+}
+
+pub with_mandates_found : (db : Trees) (found : Findings) (listed : List (Lived Mandate)) → FindsFirst db found → AreMandates db listed
+    → Finds db (record found { history = record found.history { mandates = listed } })
+with_mandates_found db found listed finds are = record { said = all_said db found listed finds.said are.said; keyed = finds.keyed; mandates = are.keyed }
+
+-- in the first version they say that there are none
+none_said : (db : Trees) (found : Findings) → SaysFirstRows db found → SaysAll (without_mandates db) found
+none_said db found said = record {
+  editions = said.editions;
+  moments = said.moments;
+  history = record {
+    parties = said.history.parties;
+    roles = said.history.roles;
+    members = said.history.members;
+    units = said.history.units;
+    parcels = said.history.parcels;
+    rrrs = said.history.rrrs;
+    sources = said.history.sources;
+    mutations = said.history.mutations;
+    namings = said.history.namings;
+    mandates = subst (λ (listed : List (Lived Mandate)). Says mandates (without_mandates db) listed) (sym said.history.none) (IsPermutation-refl []);
+  };
+}
+
+none_keyed : (db : Trees) → AreFirstKeyed db → AreFirstKeyed (without_mandates db)
+none_keyed db keyed = record {
+  persons = record { parties = keyed.persons.parties; roles = keyed.persons.roles; members = keyed.persons.members };
+  holdings = record { units = keyed.holdings.units; parcels = keyed.holdings.parcels; rrrs = keyed.holdings.rrrs };
+  papers = record { sources = keyed.papers.sources; mutations = keyed.papers.mutations; namings = keyed.papers.namings };
+}
+
+none_apart : IsDistinct int_eq []
+unfolding IsDistinct
+none_apart = tt
+
+no_rows : AreNumbered []
+no_rows = record { whole = refl; apart = none_apart }
+
+pub first_found : (db : Trees) (found : Findings) → FindsFirst db found → Finds (without_mandates db) found
+first_found db found finds = record { said = none_said db found finds.said; keyed = none_keyed db finds.keyed; mandates = no_rows }
+
+-- mandates that cannot be read are none
+pub no_mandates_said : (db : Database) → ((listed : List (Lived Mandate)) → ¬ Says mandates db.trees listed) → ¬ HasMandates db
+no_mandates_said db none it = none it.listed it.said
+
+pub unread_refused : (db : Database) (fault : ReadFault) → IsMadeBy 2 db → CannotSay (Says mandates db.trees) fault → IsRefused the_second (of_read fault) db
+unread_refused db read.Unreadable made cannot = is_none the_second db made (no_mandates_said db (cannot refl))
+unread_refused db read.NoMemory made cannot = tt
+unread_refused db read.Store made cannot = tt
+
+pub refused_after : {X : Type 0} (db : Database) (r : Result X AdoptFault) (fault : ReadFault) → IsErrAnd r (λ f. f ≡ of_read fault) → IsMadeBy 2 db → CannotSay (Says mandates db.trees) fault
+    → IfErr r (λ why. IsRefused the_second why db)
+refused_after db (Ok x) fault is made cannot = tt
+refused_after db (Err f) fault is made cannot = subst (λ (g : AdoptFault). IsRefused the_second g db) (sym is) (unread_refused db fault made cannot)
+
+-- ---- what is judged
+
 module _ (stand : LawfulVersionsStand) (one : VersionsStandForOne) (order : OrderDoesNotMatter) (latest_is : LastMomentIsTheLastStamp) (lawful_too : SoundTimelinesAreLawful) (intervals_too : OrderKeepsIntervals)
-    (db : Database) (land : IsLand db.schema) (found : Findings) (finds : Finds db.trees found) where
-  said : SaysAll db.trees found
+    (shapes : Shapes) (db : Database) (of : AreOf shapes db) (found : Findings) (finds : Finds (shapes.rows db.trees) found) where
+  said : SaysAll (shapes.rows db.trees) found
   said = finds.said
 
-  told_editions : is_one_edition found.editions ≡ true → told_by editions db.trees ≡ found.editions
-  told_editions is = one_is_alone found.editions (told_by editions db.trees) is (told_is editions db.trees found.editions said.editions)
+  told_intervals : has_intervals (told_by moments (shapes.rows db.trees)) (history_in (shapes.rows db.trees)) ≡ has_intervals found.moments found.history
+  told_intervals = intervals_too found.moments (told_by moments (shapes.rows db.trees)) found.history (history_in (shapes.rows db.trees))
+      (told_is moments (shapes.rows db.trees) found.moments said.moments) (told_reordered (shapes.rows db.trees) found.history said.history)
 
-  told_intervals : has_intervals (told_by moments db.trees) (history_in db.trees) ≡ has_intervals found.moments found.history
-  told_intervals = intervals_too found.moments (told_by moments db.trees) found.history (history_in db.trees)
-      (told_is moments db.trees found.moments said.moments) (told_reordered db.trees found.history said.history)
-
-  ours : is_one_edition found.editions ≡ true → AreOurs db
-  ours is = record { land = land; found = found; said = said; one = ap is_one_edition (told_editions is) ∙ is }
-
-  first : is_one_edition found.editions ≡ true → is_first_version found.editions ≡ true → AreFirst db
-  first is version = record { ours = ours is; first = ap is_first_version (told_editions is) ∙ version }
-
-  intervals : is_one_edition found.editions ≡ true → is_first_version found.editions ≡ true → has_intervals found.moments found.history ≡ true → AreIntervals db
-  intervals is version proper = record { first = first is version; intervals = told_intervals ∙ proper }
+  intervals : has_intervals found.moments found.history ≡ true → AreIntervals shapes db
+  intervals proper = record { made = of; intervals = told_intervals ∙ proper }
 
   -- what misses a test is refused for it
-  pub misses : (why : AdoptFault) → Misses why found → IsRefused why db
-  misses NotOurs missed = λ it.
-      let same = one_is_alone (told_by editions db.trees) found.editions it.one (IsPermutation-sym found.editions (told_by editions db.trees) (told_is editions db.trees found.editions said.editions)) in
-      false≢true (sym missed ∙ ap is_one_edition same ∙ it.one)
-  misses Version missed = (ours missed.0, λ it. false≢true (sym missed.1 ∙ ap is_first_version (sym (told_editions missed.0)) ∙ it.first))
-  misses Interval missed = (first missed.0 missed.1, λ it. false≢true (sym missed.2 ∙ sym told_intervals ∙ it.intervals))
+  pub misses : (why : AdoptFault) → Misses why found → IsRefused shapes why db
+  misses NotOurs missed = absurd missed
+  misses Version missed = absurd missed
+  misses Interval missed = (of, λ it. false≢true (sym missed ∙ sym told_intervals ∙ it.intervals))
   misses Unsound missed = (
-    intervals missed.0 missed.1 missed.2,
+    intervals missed.0,
     λ tl holds sound.
-        missed.3 (lawful_too found.moments found.history tl (read_stands one order db.trees tl holds found.moments found.history said.moments said.history) sound),
+        missed.1 (lawful_too found.moments found.history tl (read_stands one order (shapes.rows db.trees) tl holds found.moments found.history said.moments said.history) sound),
   )
   misses NoMemory missed = tt
   misses Store missed = tt
 
   -- what passes all tests is a register
-  pub passes : (latest : Moment) → IsPassed found latest → IsRegisterTo db latest
+  pub passes : (latest : Moment) → IsPassed found latest → IsRegisterTo shapes db latest
   passes latest passed =
       let p = passed.passes in
+      let rows = shapes.rows db.trees in
       let tl = timeline_of found.moments found.history in
-      let stands = stand found.moments found.history (are_moments db.trees found.moments said.moments) p.intervals p.lawful in
-      let holds : HoldsTimeline db.trees tl = record { listed = found.moments; history = found.history; holds = held_if_said db.trees found said finds.keyed; stands = stands.0 } in
-      let is : timeline_in db.trees ≡ tl = tells one order db.trees tl holds stands.1 in
+      let stands = stand found.moments found.history (are_moments rows found.moments said.moments) p.intervals p.lawful in
+      let holds : HoldsTimeline rows tl = record { listed = found.moments; history = found.history; holds = held_if_said rows found said finds.keyed finds.mandates; stands = stands.0 } in
+      let is : timeline_in rows ≡ tl = tells one order rows tl holds stands.1 in
       let last_is : Some latest ≡ Some (let it : Moment = record { stamp = last_stamp tl; next = (last_register tl).next } in it) = sym passed.last ∙ latest_is found.moments found.history tl stands.0 stands.1 in
       record {
-        register = record { intervals = intervals p.one p.first p.intervals; holds = rw is holds; sound = rw is stands.1 };
+        register = record { intervals = intervals p.intervals; holds = rw is holds; sound = rw is stands.1 };
         last = rw is (let e = last_is in cc);
         next = rw is (let e = last_is in cc);
       }
 
   -- what is judged is a register, or refused
-  pub to_register : (r : Result Moment AdoptFault) → IsJudged found r → IfOk r (IsRegisterTo db)
+  pub to_register : (r : Result Moment AdoptFault) → IsJudged found r → IfOk r (IsRegisterTo shapes db)
   to_register (Ok latest) passed = passes latest passed
   to_register (Err why) missed = tt
 
-  pub to_refusal : (r : Result Moment AdoptFault) → IsJudged found r → IfErr r (λ why. IsRefused why db)
+  pub to_refusal : (r : Result Moment AdoptFault) → IsJudged found r → IfErr r (λ why. IsRefused shapes why db)
   to_refusal (Ok latest) passed = tt
   to_refusal (Err why) missed = misses why missed
 
--- tables that cannot be read are not ours
-pub unread : (db : Database) → ((found : Findings) → ¬ SaysAll db.trees found) → ¬ AreOurs db
-unread db none ours = none ours.found ours.said
-
 -- a store that is refused holds no register
-pub refused_holds_none : (why : AdoptFault) (db : Database) → IsRefused why db → HoldsNone why db
-refused_holds_none NotOurs db refused other open_still it = refused it.intervals.first.ours
-refused_holds_none Version db refused other open_still it = refused.1 it.intervals.first
-refused_holds_none Interval db refused other open_still it = refused.1 it.intervals
-refused_holds_none Unsound db refused other open_still it = refused.1 (timeline_in db.trees) it.holds it.sound
-refused_holds_none NoMemory db refused other open_still it = other refl
-refused_holds_none Store db refused other open_still it = open_still refl
+pub refused_holds_none : (shapes : Shapes) (why : AdoptFault) (db : Database) → IsRefused shapes why db → HoldsNone shapes why db
+refused_holds_none shapes NotOurs db refused other open_still it = refused it.intervals.made.ours
+refused_holds_none shapes Version db refused other open_still it = refused.1 it.intervals.made
+refused_holds_none shapes Interval db refused other open_still it = refused.1 it.intervals
+refused_holds_none shapes Unsound db refused other open_still it = refused.1 (timeline_in (shapes.rows db.trees)) it.holds it.sound
+refused_holds_none shapes NoMemory db refused other open_still it = other refl
+refused_holds_none shapes Store db refused other open_still it = open_still refl

@@ -11,8 +11,10 @@ use Rattle.std.specs.Ordering.{int_eq, nat_cmp}
 use Rattle.land_core.proofs.Booleans.{both_of}
 use Rattle.land_core.specs.Entries.{are_distinct}
 use Rattle.land_core.specs.Grants.{grant_cmp, grants_in}
+use Rattle.land_core.specs.Mandates.{mandate_cmp, mandates_in}
 use Rattle.land_core.specs.Register.{nothing}
 use Rattle.land_core.specs.Soundness.{IsSound}
+use Rattle.land_core.specs.declared.mandates.Mandate.{Mandate}
 use Rattle.land_core.specs.declared.mutation.MutationRecord.{MutationRecord}
 use Rattle.land_core.specs.declared.register.Register.{Register}
 use Rattle.land_core.specs.declared.roles.Grant.{Grant}
@@ -26,14 +28,14 @@ use Rattle.land_tables.proofs.Sorting.{is_late}
 use Rattle.land_tables.specs.Timelines.{in_order, moment_of, version_of}
 use Rattle.land_tables.specs.Timelines.Laws.{LawfulVersionsStand}
 use Rattle.land_tables_history.proofs.Distinct.{distinct_standing}
-use Rattle.land_tables_history.proofs.Entered.{made_part, made_roles, no_entries}
+use Rattle.land_tables_history.proofs.Entered.{made_mandates, made_part, made_roles, no_entries}
 use Rattle.land_tables_history.proofs.MadeGroups.{made_groups, no_groups}
 use Rattle.land_tables_history.proofs.NamingLists.{namings_distinct, same_namings}
 use Rattle.land_tables_history.proofs.Permutations.{any_permuted}
 use Rattle.land_tables_history.proofs.Proper.{AllProper, Proper, all_proper}
 use Rattle.land_tables_history.specs.History as history
 use Rattle.land_tables_history.specs.History.{StandsAt, namings_of}
-use Rattle.land_tables_history.specs.Intervals.{is_same_grant, is_same_member, is_same_naming, is_same_number, is_stamp}
+use Rattle.land_tables_history.specs.Intervals.{is_same_grant, is_same_mandate, is_same_member, is_same_naming, is_same_number, is_stamp}
 use Rattle.land_tables_history.specs.Lawful.{IsLawfulAt, is_same_stamp, never_falls}
 use Rattle.land_tables_history.specs.Open.{has_ended, have_ended}
 use Rattle.land_tables_history.specs.Standing.{IsPartAt, part_at, standing}
@@ -60,7 +62,7 @@ stands_there moments h m p lawful = record {
   mutations = part_stands moments m.stamp h.mutations p.mutations;
   namings = same_namings (standing m.stamp h.namings) (namings_of (history.register_at m.stamp h m.next).mutations)
       (distinct_standing is_same_naming m.stamp h.namings p.namings.apart) (namings_distinct (history.register_at m.stamp h m.next) lawful.sound) lawful.named;
-  mandates = refl;
+  mandates = made_mandates (standing m.stamp h.mandates) (distinct_standing is_same_mandate m.stamp h.mandates p.mandates.apart);
 }
 
 -- ---- and up to the next one
@@ -78,7 +80,7 @@ stands_still moments h s t r p least most same there = record {
   sources = on is_same_number h.sources p.sources there.sources;
   mutations = on is_same_number h.mutations p.mutations there.mutations;
   namings = on is_same_naming h.namings p.namings there.namings;
-  mandates = there.mandates;
+  mandates = on is_same_mandate h.mandates p.mandates there.mandates;
 }
   where
     on : {X : Type 0} (alike : X → X → Bool) (vs : List (Version X)) {records : List X} → Proper alike moments vs → IsPermutation (standing s vs) records → IsPermutation (standing t vs) records
@@ -86,7 +88,7 @@ stands_still moments h s t r p least most same there = record {
 
 -- before the first stamp nothing stands
 pub nothing_stands : (moments : List Moment) (h : History) (t : ℤ) → AllProper moments h → ((u : ℤ) → is_stamp moments u ≡ true → int_le u t ≡ false) → StandsAt t h nothing
-unfolding grants_in
+unfolding grants_in mandates_in
 nothing_stands moments h t p none = record {
   parties = on is_same_number h.parties p.parties (no_entries nat_cmp _);
   roles = on is_same_grant h.roles p.roles (ap (map_list (λ (e : Grant × Unit {0}). e.0)) (no_entries grant_cmp (Unit {0})));
@@ -97,7 +99,7 @@ nothing_stands moments h t p none = record {
   sources = on is_same_number h.sources p.sources (no_entries nat_cmp _);
   mutations = on is_same_number h.mutations p.mutations (no_entries nat_cmp _);
   namings = on is_same_naming h.namings p.namings (no_namings (map.entries (map.empty {X = MutationRecord} {R = nat_cmp})) (no_entries nat_cmp MutationRecord));
-  mandates = refl;
+  mandates = on is_same_mandate h.mandates p.mandates (ap (map_list (λ (e : Mandate × Unit {0}). e.0)) (no_entries mandate_cmp (Unit {0})));
 }
   where
     on : {X : Type 0} (alike : X → X → Bool) (vs : List (Version X)) {records : List X} → Proper alike moments vs → records ≡ [] → IsPermutation (standing t vs) records
@@ -155,11 +157,13 @@ of_versions h P Q to [] all = tt
 of_versions h P Q to (m ∷ ms) all = (to m all.0, of_versions h P Q to ms all.1)
 
 ended : (moments : List Moment) (h : History) (ms : List Moment) → AllProper moments h → Orderly h ms → ((u : ℤ) → is_stamp moments u ≡ true → is_stamp ms u ≡ true) → have_ended (last_stamp (map_list (version_of h) ms)) h ≡ true
-ended moments h ms p rises all = nine (on is_same_number h.parties p.parties) (on is_same_grant h.roles p.roles) (on is_same_member h.members p.members) (on is_same_number h.units p.units)
+ended moments h ms p rises all = ten (on is_same_number h.parties p.parties) (on is_same_grant h.roles p.roles) (on is_same_member h.members p.members) (on is_same_number h.units p.units)
     (on is_same_number h.parcels p.parcels) (on is_same_number h.rrrs p.rrrs) (on is_same_number h.sources p.sources) (on is_same_number h.mutations p.mutations) (on is_same_naming h.namings p.namings)
+    (on is_same_mandate h.mandates p.mandates)
   where
-    nine : {a b c d e f g h i : Bool} → a ≡ true → b ≡ true → c ≡ true → d ≡ true → e ≡ true → f ≡ true → g ≡ true → h ≡ true → i ≡ true → (a && b && c && d && e && f && g && h && i) ≡ true
-    nine a b c d e f g h i = cc
+    ten : {a b c d e f g h i j : Bool} → a ≡ true → b ≡ true → c ≡ true → d ≡ true → e ≡ true → f ≡ true → g ≡ true → h ≡ true → i ≡ true → j ≡ true
+        → (a && b && c && d && e && f && g && h && i && j) ≡ true
+    ten a b c d e f g h i j = cc
 
     past : (ns : List Moment) → Orderly h ns → (u : ℤ) → is_stamp ns u ≡ true → int_le u (last_stamp (map_list (version_of h) ns)) ≡ true
     past [] rises u is = absurd (false≢true is)

@@ -1,55 +1,88 @@
--- Tables in which the first edition stands alone are told by one that is the first, and the other way round.
-use Rattle.std.proofs.Common.{◌≡◌, ◌==◌, ℕ, true, List, [], ◌∷◌, ap, ap₂, subst, arith, IsPermutation}
+-- Tables in which an edition stands alone are told by one that is of its version, and the other way round.
+use Rattle.std.proofs.Common.{◌≡◌, ◌==◌, ℕ, true, List, [], ◌∷◌, refl, ap, ap₂, subst, arith, IsPermutation}
 use Rattle.std.proofs.lemmas.Bool.{false≢true}
 use Rattle.std.proofs.lemmas.Bool.Decides.{nat_tests}
 use Rattle.std.proofs.lemmas.List.Sorted.{IsPermutation-sym}
 use Rattle.land_tables.proofs.Adopted.{alone}
 use Rattle.land_tables.proofs.Tellings.{held_is_said}
-use Rattle.land_tables.specs.Findings.{is_first_version, is_one_edition}
+use Rattle.land_tables.specs.Findings.{is_one_edition, is_version}
 use Rattle.land_tables.specs.Office.{HoldsRegister}
-use Rattle.land_tables.specs.Registers.{AreFirst, IsRegister}
+use Rattle.land_tables.specs.Registers.{AreOf, HasMandates, IsRegister, MayBeOurs, Shapes, the_second}
+use Rattle.land_tables_history.specs.declared.history.History.{History}
 use Rattle.land_tables_rows.proofs.ToldTables.{told_is}
-use Rattle.land_tables_rows.specs.Edition.Writing.{KeepsEditions, first_edition}
-use Rattle.land_tables_rows.specs.Listing.Reading.{Says, editions}
+use Rattle.land_tables_rows.specs.Edition.Writing.{KeepsEditions, current_edition}
+use Rattle.land_tables_rows.specs.Listing.Reading.{Says, SaysFirst, SaysHistory, editions}
 use Rattle.land_tables_rows.specs.Listing.Told.{told_by}
 use Rattle.land_tables_rows.specs.declared.edition.reading.Edition.{Edition}
+use Rattle.land_tables_schema.proofs.KnownSchemas.{known_schemas}
 use Rattle.sqlite.specs.Effect.{Database}
 use Rattle.sqlite.specs.State.{State}
 use Rattle.sqlite_trees.specs.Tree.{Trees}
 
+-- the one edition, of a version
+abbrev pub edition_of : ℕ → Edition
+edition_of n = record { id = 1; version = n }
+
 same_number : (a b : ℕ) → (a == b) ≡ true → a ≡ b
 same_number a b h = grind (arith, nat_tests, h)
 
-first_is : (e : Edition) → (e.id == 1) ≡ true → (e.version == 1) ≡ true → e ≡ first_edition
-first_is e id version = ap₂ (λ a b. let it : Edition = record { id = a; version = b } in it) (same_number e.id 1 id) (same_number e.version 1 version)
+edition_is : (n : ℕ) (e : Edition) → (e.id == 1) ≡ true → (e.version == n) ≡ true → e ≡ edition_of n
+edition_is n e id version = ap₂ (λ a b. let it : Edition = record { id = a; version = b } in it) (same_number e.id 1 id) (same_number e.version n version)
 
-only_first : (es : List Edition) → is_one_edition es ≡ true → is_first_version es ≡ true → es ≡ first_edition ∷ []
-only_first [] one first = absurd (false≢true one)
-only_first (e ∷ []) one first = ap (λ x. x ∷ []) (first_is e one first)
-only_first (e ∷ (f ∷ es)) one first = absurd (false≢true one)
+only_edition : (n : ℕ) (es : List Edition) → is_one_edition es ≡ true → is_version n es ≡ true → es ≡ edition_of n ∷ []
+only_edition n [] one version = absurd (false≢true one)
+only_edition n (e ∷ []) one version = ap (λ x. x ∷ []) (edition_is n e one version)
+only_edition n (e ∷ (f ∷ es)) one version = absurd (false≢true one)
 
-pub keeps_first : (db : Database) → AreFirst db → KeepsEditions db.trees (first_edition ∷ [])
-keeps_first db first =
-    let it = first.ours in
-    let told = only_first (told_by editions db.trees) it.one first.first in
-    let found = alone first_edition it.found.editions (IsPermutation-sym it.found.editions (first_edition ∷ []) (subst (λ (es : List Edition). IsPermutation it.found.editions es) told (told_is editions db.trees it.found.editions it.said.editions))) in
+pub keeps_edition : (shapes : Shapes) (db : Database) → AreOf shapes db → KeepsEditions db.trees (edition_of shapes.version ∷ [])
+keeps_edition shapes db of =
+    let it = of.ours.first in
+    let only = edition_of shapes.version in
+    let told = only_edition shapes.version (told_by editions db.trees) it.one of.version in
+    let found = alone only it.found.editions (IsPermutation-sym it.found.editions (only ∷ []) (subst (λ (es : List Edition). IsPermutation it.found.editions es) told (told_is editions db.trees it.found.editions it.said.editions))) in
     subst (Says editions db.trees) found it.said.editions
 
-told_first : (db : Trees) → KeepsEditions db (first_edition ∷ []) → told_by editions db ≡ first_edition ∷ []
-told_first db kept = alone first_edition (told_by editions db) (told_is editions db (first_edition ∷ []) kept)
+told_edition : (n : ℕ) (db : Trees) → KeepsEditions db (edition_of n ∷ []) → told_by editions db ≡ edition_of n ∷ []
+told_edition n db kept = alone (edition_of n) (told_by editions db) (told_is editions db (edition_of n ∷ []) kept)
+
+-- ---- what tables hold between calls
+
+-- the tables of the first version say a history without its mandates
+said_before : (db : Trees) (h : History) → SaysHistory db h → SaysFirst db (record h { mandates = [] })
+said_before db h said = record {
+  parties = said.parties;
+  roles = said.roles;
+  members = said.members;
+  units = said.units;
+  parcels = said.parcels;
+  rrrs = said.rrrs;
+  sources = said.sources;
+  mutations = said.mutations;
+  namings = said.namings;
+  none = refl;
+}
+
+held_may_be : (s : State) → HoldsRegister s → MayBeOurs s.now
+held_may_be s it =
+    let db = s.now.trees in
+    let h = it.holds.history in
+    record {
+      land = known_schemas.land s.now.schema it.land;
+      found = record { editions = current_edition ∷ []; moments = it.holds.listed; history = record h { mandates = [] } };
+      said = record { editions = it.edition; moments = it.holds.holds.the_moments; history = said_before db h (held_is_said db it.holds.listed h it.holds.holds) };
+      one = ap is_one_edition (told_edition 2 db it.edition);
+    }
+
+held_mandates : (s : State) → HoldsRegister s → HasMandates s.now
+held_mandates s it = record { land = it.land; listed = it.holds.history.mandates; said = it.holds.holds.the_mandates.said }
 
 -- what tables hold between calls is what is taken for a register's
-pub register_held : (s : State) → HoldsRegister s → IsRegister s.now
+pub register_held : (s : State) → HoldsRegister s → IsRegister the_second s.now
 register_held s it = record {
   intervals = record {
-    first = record {
-      ours = record {
-        land = it.land;
-        found = record { editions = first_edition ∷ []; moments = it.holds.listed; history = it.holds.history };
-        said = record { editions = it.edition; moments = it.holds.holds.the_moments; history = held_is_said s.now.trees it.holds.listed it.holds.history it.holds.holds };
-        one = ap is_one_edition (told_first s.now.trees it.edition);
-      };
-      first = ap is_first_version (told_first s.now.trees it.edition);
+    made = record {
+      ours = record { first = held_may_be s it; there = λ _. held_mandates s it };
+      version = ap (is_version 2) (told_edition 2 s.now.trees it.edition);
     };
     intervals = it.intervals;
   };

@@ -1,26 +1,39 @@
 -- What is found in tables by looks, one after another.
-use Rattle.std.proofs.Common.{Ok, Err, Result, IfErr, refl, subst}
-use Rattle.land_tables.specs.Findings.{Finds, SaysAll}
+use Rattle.std.proofs.Common.{Ok, Err, List, Result, IfErr, refl, subst}
+use Rattle.land_core.specs.declared.mandates.Mandate.{Mandate}
+use Rattle.land_tables.specs.Findings.{AreMandates, FindsFirst, SaysFirstRows}
 use Rattle.land_tables.specs.declared.finding.Findings.{Findings}
 use Rattle.land_tables_history.specs.declared.history.History.{History}
-use Rattle.land_tables_rows.specs.Listing.Reading.{CannotSay, SaysHistory}
-use Rattle.land_tables_rows.specs.Rowids.{AreAllKeyed}
+use Rattle.land_tables_history.specs.declared.version.Version.{Version}
+use Rattle.land_tables_rows.specs.Listing.Reading.{CannotSay, Says, SaysFirst, mandates}
+use Rattle.land_tables_rows.specs.Rowids.{AreFirstKeyed, AreKeyed}
 use Rattle.land_tables_rows.specs.declared.listing.fault.ReadFault.{ReadFault}
 use Rattle.land_tables_schema.proofs.Looking.{look_fails, look_then, was_clean}
 use Rattle.land_tables_schema.specs.Rows.Looks.{IsLook}
+use Rattle.land_tables_schema.specs.Tables.{mandate}
 use Rattle.sqlite.specs.State.{HasCleanDisk, State}
 use Rattle.sqlite_trees.specs.Tree.{Trees}
 
 -- all that rows say has a history in it
-pub history_said : (db : Trees) (found : Findings) → SaysAll db found → (it : History) × SaysHistory db it
+pub history_said : (db : Trees) (found : Findings) → SaysFirstRows db found → (it : History) × SaysFirst db it
 history_said db found said = (found.history, said.history)
 
-module _ {E : Type 0} (a b c : State) (first : IsLook {X = Unit {0}} {E = E} (Ok tt) (λ _. AreAllKeyed a.now.trees) a b) where
-  -- rows are read after their rowids
-  pub found_then : (r : Result Findings ReadFault) → IsLook r (SaysAll b.now.trees) b c → IsLook r (Finds a.now.trees) a c
-  found_then (Ok found) next = look_then a b c first next (λ _ same keyed said. record { said = subst (λ db. SaysAll db.trees found) same said; keyed = keyed })
+-- rows are read after their rowids
+module _ {E : Type 0} (a b c : State) (first : IsLook {X = Unit {0}} {E = E} (Ok tt) (λ _. AreFirstKeyed a.now.trees) a b) where
+  pub found_then : (r : Result Findings ReadFault) → IsLook r (SaysFirstRows b.now.trees) b c → IsLook r (FindsFirst a.now.trees) a c
+  found_then (Ok found) next = look_then a b c first next (λ _ same keyed said. record { said = subst (λ db. SaysFirstRows db.trees found) same said; keyed = keyed })
   found_then (Err fault) next = look_fails a b c (Err fault) refl first next
 
-  pub unsaid_then : (r : Result Findings ReadFault) → IsLook r (SaysAll b.now.trees) b c → HasCleanDisk c → IfErr r (CannotSay (SaysAll b.now.trees)) → IfErr r (CannotSay (SaysAll a.now.trees))
+  pub unsaid_then : (r : Result Findings ReadFault) → IsLook r (SaysFirstRows b.now.trees) b c → HasCleanDisk c → IfErr r (CannotSay (SaysFirstRows b.now.trees)) → IfErr r (CannotSay (SaysFirstRows a.now.trees))
   unsaid_then (Ok found) next clean none = tt
-  unsaid_then (Err fault) next clean none = subst (λ db. CannotSay (SaysAll db.trees) fault) (first.same (was_clean b c next.survives clean)).0.now_is none
+  unsaid_then (Err fault) next clean none = subst (λ db. CannotSay (SaysFirstRows db.trees) fault) (first.same (was_clean b c next.survives clean)).0.now_is none
+
+-- so are the mandates
+module _ {E : Type 0} (a b c : State) (first : IsLook {X = Unit {0}} {E = E} (Ok tt) (λ _. AreKeyed mandate a.now.trees) a b) where
+  pub mandates_then : (r : Result (List (Version Mandate)) ReadFault) → IsLook r (Says mandates b.now.trees) b c → IsLook r (AreMandates a.now.trees) a c
+  mandates_then (Ok listed) next = look_then a b c first next (λ _ same keyed said. record { said = subst (λ db. Says mandates db.trees listed) same said; keyed = keyed })
+  mandates_then (Err fault) next = look_fails a b c (Err fault) refl first next
+
+  pub unlisted_then : (r : Result (List (Version Mandate)) ReadFault) → IsLook r (Says mandates b.now.trees) b c → HasCleanDisk c → IfErr r (CannotSay (Says mandates b.now.trees)) → IfErr r (CannotSay (Says mandates a.now.trees))
+  unlisted_then (Ok listed) next clean none = tt
+  unlisted_then (Err fault) next clean none = subst (λ db. CannotSay (Says mandates db.trees) fault) (first.same (was_clean b c next.survives clean)).0.now_is none

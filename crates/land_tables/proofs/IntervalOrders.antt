@@ -3,12 +3,12 @@ use Rattle.std.proofs.Common.{◌≡◌, Bool, ◌||◌, ◌&&◌, List, [], ◌
 use Rattle.std.specs.Prelude.{pos, int_lt}
 use Rattle.std.specs.List.{list_all}
 use Rattle.std.specs.Ordering.{int_eq}
-use Rattle.land_tables.proofs.Reordered.{nine}
+use Rattle.land_tables.proofs.Reordered.{ten}
 use Rattle.land_tables.specs.Timelines.Judging.{OrderKeepsIntervals}
 use Rattle.land_tables_history.proofs.Distinct.{distinct_permuted}
-use Rattle.land_tables_history.proofs.Keys.{grants_flip, members_flip, namings_flip, numbers_flip, overlap_flips}
+use Rattle.land_tables_history.proofs.Keys.{grants_flip, mandates_flip, members_flip, namings_flip, numbers_flip, overlap_flips}
 use Rattle.land_tables_history.proofs.Permutations.{all_permuted, any_permuted}
-use Rattle.land_tables_history.specs.Intervals.{are_intervals, is_interval, is_same_grant, is_same_member, is_same_naming, is_same_number, overlap}
+use Rattle.land_tables_history.specs.Intervals.{are_intervals, is_interval, is_same_grant, is_same_mandate, is_same_member, is_same_naming, is_same_number, overlap}
 use Rattle.land_tables_history.specs.declared.moment.Moment.{Moment}
 use Rattle.land_tables_history.specs.declared.version.Version.{Version}
 
@@ -33,7 +33,7 @@ intervals_too same flips moments others p one other q =
 
 pub intervals_anyhow : OrderKeepsIntervals
 intervals_anyhow moments others one other p same =
-    nine (intervals_too is_same_number numbers_flip moments others p one.parties other.parties same.parties)
+    ten (intervals_too is_same_number numbers_flip moments others p one.parties other.parties same.parties)
     (intervals_too is_same_grant grants_flip moments others p one.roles other.roles same.roles)
     (intervals_too is_same_member members_flip moments others p one.members other.members same.members)
     (intervals_too is_same_number numbers_flip moments others p one.units other.units same.units)
@@ -42,3 +42,4 @@ intervals_anyhow moments others one other p same =
     (intervals_too is_same_number numbers_flip moments others p one.sources other.sources same.sources)
     (intervals_too is_same_number numbers_flip moments others p one.mutations other.mutations same.mutations)
     (intervals_too is_same_naming namings_flip moments others p one.namings other.namings same.namings)
+    (intervals_too is_same_mandate mandates_flip moments others p one.mandates other.mandates same.mandates)

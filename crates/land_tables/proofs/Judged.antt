@@ -1,6 +1,6 @@
--- What is found passes its tests, or misses the first that it misses.
-use Rattle.std.proofs.Common.{◌≡◌, Bool, true, false, cond, List, [], ◌∷◌, Some, None, Result, Ok, Err}
-use Rattle.land_tables.specs.Findings.{IsJudged, IsLatest, is_first_version, is_one_edition}
+-- What is found passes its tests, or misses the first that it misses: the lifespans, and the register at each moment.
+use Rattle.std.proofs.Common.{◌≡◌, Bool, true, false, cond, List, [], ◌∷◌, Some, None, Ok, Err}
+use Rattle.land_tables.specs.Findings.{IsJudged, IsLatest}
 use Rattle.land_tables.specs.declared.fault.AdoptFault.{AdoptFault}
 use Rattle.land_tables.specs.declared.fault.AdoptFault.TheVariants.{NotOurs, Interval, Unsound, Version, NoMemory, Store}
 use Rattle.land_tables.specs.declared.finding.Findings.{Findings}
@@ -23,17 +23,15 @@ no_last : (ms : List Moment) (h : History) → last ms ≡ None → ¬ IsLawful 
 no_last [] h none lawful = (let e = lawful.moments in cc)
 no_last (m ∷ ms) h none lawful = some_last m ms none
 
--- what has passed the tests before the latest moment, and has none that is one
-pub missed : (found : Findings) (fault : AdoptFault) → is_one_edition found.editions ≡ true → is_first_version found.editions ≡ true → has_intervals found.moments found.history ≡ true
-    → IsLatest found.moments (Err fault) → IsJudged found (Err fault)
-missed found Unsound one first intervals is = (one, first, intervals, no_last found.moments found.history is)
-missed found Store one first intervals is = is
-missed found NotOurs one first intervals is = absurd is
-missed found Version one first intervals is = absurd is
-missed found Interval one first intervals is = absurd is
-missed found NoMemory one first intervals is = absurd is
+-- lifespans that are as they may be, and no latest moment that is one
+pub missed : (found : Findings) (fault : AdoptFault) → has_intervals found.moments found.history ≡ true → IsLatest found.moments (Err fault) → IsJudged found (Err fault)
+missed found Unsound intervals is = (intervals, no_last found.moments found.history is)
+missed found Store intervals is = is
+missed found NotOurs intervals is = absurd is
+missed found Version intervals is = absurd is
+missed found Interval intervals is = absurd is
+missed found NoMemory intervals is = absurd is
 
 -- what passes all tests
-pub passed : (found : Findings) (latest : Moment) → is_one_edition found.editions ≡ true → is_first_version found.editions ≡ true → has_intervals found.moments found.history ≡ true
-    → IsLawful found.moments found.history → last found.moments ≡ Some latest → IsJudged found (Ok latest)
-passed found latest one first intervals lawful is = record { passes = record { one = one; first = first; intervals = intervals; lawful = lawful }; last = is }
+pub passed : (found : Findings) (latest : Moment) → has_intervals found.moments found.history ≡ true → IsLawful found.moments found.history → last found.moments ≡ Some latest → IsJudged found (Ok latest)
+passed found latest intervals lawful is = record { passes = record { intervals = intervals; lawful = lawful }; last = is }

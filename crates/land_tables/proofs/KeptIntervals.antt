@@ -1,5 +1,5 @@
 -- Lifespans of versions with a change are as they may be.
-use Rattle.std.proofs.Common.{◌≡◌, List, [], ◌∷◌, map as map_list, refl, subst, arith}
+use Rattle.std.proofs.Common.{[], ◌∷◌, map as map_list, subst, arith}
 use Rattle.std.specs.Prelude.{ℤ, ◌<ℤ◌, ◌≤ℤ◌}
 use Rattle.std.proofs.lemmas.Int.{ints}
 use Rattle.std.proofs.lemmas.List.Elements.{All-from_recursion, recursion_from_All}

@@ -15,9 +15,11 @@ pub mod Latest
 pub mod Lawfulness
 pub mod LookedAt
 pub mod Members
+pub mod Migrations
 pub mod News
 pub mod One
 pub mod PutMutations
+pub mod Raised
 pub mod ReadBack
 pub mod Reordered
 pub mod Rising

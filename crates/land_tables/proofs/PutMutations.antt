@@ -1,4 +1,4 @@
--- Which mutations an accepted change puts: a new one, or one that stands in another state. It ends none, and leaves mandates alone.
+-- Which mutations an accepted change puts: a new one, or one that stands in another state. It ends none.
 use Rattle.std.proofs.Common.{◌≡◌, ℕ, ◌<◌, Option, Some, None, [], refl, subst, arith, inl, inr}
 use Rattle.std.specs.Prelude.{ℤ}
 use Rattle.std.specs.FinMap as map
@@ -25,7 +25,7 @@ use Rattle.land_core.specs.declared.mutation.MutationState.{MutationState}
 use Rattle.land_core.specs.declared.mutation.MutationState.TheVariants.{Approved, Refused}
 use Rattle.land_core.specs.declared.register.Register.{Register}
 use Rattle.land_core.specs.declared.soundness.Unsound.TheVariants.{Reference}
-use Rattle.land_tables_history.specs.Laws.{LeavesMandates, PutsMutations}
+use Rattle.land_tables_history.specs.Laws.{PutsMutations}
 
 module _ (r : Register) (sound : IsSound r) where
   below : (n : ℕ) (m : MutationRecord) → map.get r.mutations n ≡ Some m → n < r.next
@@ -43,43 +43,25 @@ module _ (r : Register) (sound : IsSound r) where
   content_ends source (content.Mortgage it) = refl
   content_ends source (content.Discharge it) = refl
 
-  transfer_leaves : (source : ℕ) (it : Transfer) (o : Option Held) → LeavesMandates (transfer_change r source it o)
-  transfer_leaves source it None = record { put = refl; ended = refl }
-  transfer_leaves source it (Some from) = record { put = refl; ended = refl }
-
-  -- no content has to do with mandates
-  content_leaves : (source : ℕ) (c : Content) → LeavesMandates (content_change r source c)
-  content_leaves source (content.Transfer it) = transfer_leaves source it (held_at r it.unit it.right)
-  content_leaves source (content.Subdivision it) = record { put = refl; ended = refl }
-  content_leaves source (content.Merger it) = record { put = refl; ended = refl }
-  content_leaves source (content.Mortgage it) = record { put = refl; ended = refl }
-  content_leaves source (content.Discharge it) = record { put = refl; ended = refl }
-
   -- a decision puts the mutation that stands under its number, in its new state
-  by_decision : (number : ℕ) (state : MutationState) (change : MutationRecord → Change) → ((m : MutationRecord) → (change m).ended.mutations ≡ []) → ((m : MutationRecord) → LeavesMandates (change m)) → (o : Option MutationRecord) → map.get r.mutations number ≡ o
+  by_decision : (number : ℕ) (state : MutationState) (change : MutationRecord → Change) → ((m : MutationRecord) → (change m).ended.mutations ≡ []) → (o : Option MutationRecord) → map.get r.mutations number ≡ o
       → PutsMutations r (option_map_or (λ m. with_state state number m (change m)) o (no_change r.next))
-  by_decision number state change ends leaves None e = record { used = below; put = tt; ended = refl; mandates = record { put = refl; ended = refl } }
-  by_decision number state change ends leaves (Some m) e = record {
-    used = below;
-    put = (inr (record { old = m; there = e; units = refl }), tt);
-    ended = ends m;
-    mandates = record { put = (leaves m).put; ended = (leaves m).ended };
-  }
+  by_decision number state change ends None e = record { used = below; put = tt; ended = refl }
+  by_decision number state change ends (Some m) e = record { used = below; put = (inr (record { old = m; there = e; units = refl }), tt); ended = ends m }
 
   puts : (caller : Caller) (a : Act) (stamp : ℤ) → PutsMutations r (change_of r caller a stamp)
-  puts caller (act.Enrol it) stamp = record { used = below; put = tt; ended = refl; mandates = record { put = refl; ended = refl } }
-  puts caller (act.Group it) stamp = record { used = below; put = tt; ended = refl; mandates = record { put = refl; ended = refl } }
-  puts caller (act.Regroup it) stamp = record { used = below; put = tt; ended = refl; mandates = record { put = refl; ended = refl } }
-  puts caller (act.Grant it) stamp = record { used = below; put = tt; ended = refl; mandates = record { put = refl; ended = refl } }
-  puts caller (act.Revoke it) stamp = record { used = below; put = tt; ended = refl; mandates = record { put = refl; ended = refl } }
-  puts caller (act.Register it) stamp = record { used = below; put = tt; ended = refl; mandates = record { put = refl; ended = refl } }
-  puts caller (act.Burden it) stamp = record { used = below; put = tt; ended = refl; mandates = record { put = refl; ended = refl } }
-  puts caller (act.Lift it) stamp = record { used = below; put = tt; ended = refl; mandates = record { put = refl; ended = refl } }
-  puts caller (act.Lodge it) stamp = record { used = below; put = (inl (omega arith), tt); ended = refl; mandates = record { put = refl; ended = refl } }
+  puts caller (act.Enrol it) stamp = record { used = below; put = tt; ended = refl }
+  puts caller (act.Group it) stamp = record { used = below; put = tt; ended = refl }
+  puts caller (act.Regroup it) stamp = record { used = below; put = tt; ended = refl }
+  puts caller (act.Grant it) stamp = record { used = below; put = tt; ended = refl }
+  puts caller (act.Revoke it) stamp = record { used = below; put = tt; ended = refl }
+  puts caller (act.Register it) stamp = record { used = below; put = tt; ended = refl }
+  puts caller (act.Burden it) stamp = record { used = below; put = tt; ended = refl }
+  puts caller (act.Lift it) stamp = record { used = below; put = tt; ended = refl }
+  puts caller (act.Lodge it) stamp = record { used = below; put = (inl (omega arith), tt); ended = refl }
   puts caller (act.Approve it) stamp =
-      by_decision it.mutation Approved (λ m. content_change r m.source m.content) (λ m. content_ends m.source m.content) (λ m. content_leaves m.source m.content)
-      (map.get r.mutations it.mutation) refl
-  puts caller (act.Refuse it) stamp = by_decision it.mutation Refused (λ m. no_change r.next) (λ m. refl) (λ m. record { put = refl; ended = refl }) (map.get r.mutations it.mutation) refl
+      by_decision it.mutation Approved (λ m. content_change r m.source m.content) (λ m. content_ends m.source m.content) (map.get r.mutations it.mutation) refl
+  puts caller (act.Refuse it) stamp = by_decision it.mutation Refused (λ m. no_change r.next) (λ m. refl) (map.get r.mutations it.mutation) refl
 
 pub accepted_puts : (r : Register) (change : Change) (stamp : ℤ) → IsSound r → IsAccepted r change stamp → PutsMutations r change
 accepted_puts r change stamp sound h = subst (PutsMutations r) (planned r h.caller h.act stamp change h.done h.outcome).same (puts r sound h.caller h.act stamp)

@@ -19,17 +19,17 @@ stand_too t one other records p h =
     IsPermutation-trans (standing t other) (standing t one) records
     (IsPermutation-sym (standing t one) (standing t other) (IsPermutation-map (λ v. v.what) (filter (stands t) one) (filter (stands t) other) (filter_permuted (stands t) one other p))) h
 
-pub nine : {a b c d e f g h i j k l m n o p q r : Bool} → a ≡ j → b ≡ k → c ≡ l → d ≡ m → e ≡ n → f ≡ o → g ≡ p → h ≡ q → i ≡ r
-    → (a && b && c && d && e && f && g && h && i) ≡ (j && k && l && m && n && o && p && q && r)
-nine a b c d e f g h i = cc
+pub ten : {a b c d e f g h i j k l m n o p q r s t : Bool} → a ≡ k → b ≡ l → c ≡ m → d ≡ n → e ≡ o → f ≡ p → g ≡ q → h ≡ r → i ≡ s → j ≡ t
+    → (a && b && c && d && e && f && g && h && i && j) ≡ (k && l && m && n && o && p && q && r && s && t)
+ten a b c d e f g h i j = cc
 
 pub ended_too : (last : ℤ) (one other : History) → IsReordered one other → have_ended last other ≡ have_ended last one
 ended_too last one other same =
-    nine (all_permuted (has_ended last) one.parties other.parties same.parties) (all_permuted (has_ended last) one.roles other.roles same.roles)
+    ten (all_permuted (has_ended last) one.parties other.parties same.parties) (all_permuted (has_ended last) one.roles other.roles same.roles)
     (all_permuted (has_ended last) one.members other.members same.members) (all_permuted (has_ended last) one.units other.units same.units)
     (all_permuted (has_ended last) one.parcels other.parcels same.parcels) (all_permuted (has_ended last) one.rrrs other.rrrs same.rrrs)
     (all_permuted (has_ended last) one.sources other.sources same.sources) (all_permuted (has_ended last) one.mutations other.mutations same.mutations)
-    (all_permuted (has_ended last) one.namings other.namings same.namings)
+    (all_permuted (has_ended last) one.namings other.namings same.namings) (all_permuted (has_ended last) one.mandates other.mandates same.mandates)
 
 pub stands_too : (t : ℤ) (one other : History) (r : Register) → IsReordered one other → StandsAt t one r → StandsAt t other r
 stands_too t one other r same h = record {
@@ -42,7 +42,7 @@ stands_too t one other r same h = record {
   sources = stand_too t one.sources other.sources _ same.sources h.sources;
   mutations = stand_too t one.mutations other.mutations _ same.mutations h.mutations;
   namings = stand_too t one.namings other.namings _ same.namings h.namings;
-  mandates = h.mandates;
+  mandates = stand_too t one.mandates other.mandates _ same.mandates h.mandates;
 }
 
 pub reordered : OrderDoesNotMatter

@@ -7,7 +7,7 @@ use Rattle.land_tables.specs.Timelines.Laws.{IsReordered, OrderDoesNotMatter, Ve
 use Rattle.land_tables_history.specs.declared.history.History.{History}
 use Rattle.land_tables_history.specs.declared.moment.Moment.{Moment}
 use Rattle.land_tables_rows.proofs.ToldTables.{says_same, told_is}
-use Rattle.land_tables_rows.specs.Listing.Reading.{Says, SaysHistory, members, moments, mutations, namings, parcels, parties, roles, rrrs, sources, units}
+use Rattle.land_tables_rows.specs.Listing.Reading.{Says, SaysHistory, mandates, members, moments, mutations, namings, parcels, parties, roles, rrrs, sources, units}
 use Rattle.land_tables_rows.specs.Listing.Told.{history_in, told_by}
 use Rattle.land_tables_rows.specs.Writing.History.{HoldsHistory}
 use Rattle.sqlite_trees.specs.Tree.{Trees}
@@ -24,6 +24,7 @@ says_reordered db one other a b = record {
   sources = says_same sources db one.sources other.sources a.sources b.sources;
   mutations = says_same mutations db one.mutations other.mutations a.mutations b.mutations;
   namings = says_same namings db one.namings other.namings a.namings b.namings;
+  mandates = says_same mandates db one.mandates other.mandates a.mandates b.mandates;
 }
 
 pub told_reordered : (db : Trees) (h : History) → SaysHistory db h → IsReordered h (history_in db)
@@ -37,6 +38,7 @@ told_reordered db h a = record {
   sources = told_is sources db h.sources a.sources;
   mutations = told_is mutations db h.mutations a.mutations;
   namings = told_is namings db h.namings a.namings;
+  mandates = told_is mandates db h.mandates a.mandates;
 }
 
 -- tables that hold a history say it
@@ -51,6 +53,7 @@ held_is_said db listed h held = record {
   sources = held.the_sources.said;
   mutations = held.the_mutations.said;
   namings = held.the_namings.said;
+  mandates = held.the_mandates.said;
 }
 
 module _ (one : VersionsStandForOne) (order : OrderDoesNotMatter) (db : Trees) (tl : Timeline) (holds : HoldsTimeline db tl) where

@@ -23,7 +23,7 @@ use Rattle.land_tables.specs.Timelines.Laws.{OrderDoesNotMatter, VersionsStandFo
 use Rattle.land_tables.specs.Timelines.Writing.{WritesStand}
 use Rattle.land_tables_history.specs.Changed.{changed}
 use Rattle.land_tables_history.specs.Intervals.{has_intervals}
-use Rattle.land_tables_rows.specs.Edition.Writing.{first_edition}
+use Rattle.land_tables_rows.specs.Edition.Writing.{current_edition}
 use Rattle.land_tables_rows.specs.Listing.Reading.{moments}
 use Rattle.land_tables_rows.specs.Listing.Told.{history_in, told_by}
 use Rattle.land_tables_rows.specs.Recording.Whole.{Records}
@@ -78,7 +78,7 @@ module _ (one : VersionsStandForOne) (order : OrderDoesNotMatter) (writes : Writ
           is_open = is_open;
           committed = committed;
           land = subst IsLand (sym done.schema) it.land;
-          edition = done.editions (first_edition ∷ []) it.edition;
+          edition = done.editions (current_edition ∷ []) it.edition;
           intervals = intervals_written old.now new.now next tl it.sound it.holds office.next can done it.intervals;
           holds = rw tells_new (holds_written old.now new.now next tl it.sound it.holds office.next can done);
           sound = rw tells_new (keeps tl change stamp it.sound can);

@@ -1,13 +1,18 @@
 -- Which stores are taken for a register's, and why others are not.
-use Rattle.std.specs.Prelude.{◌≡◌, ◌≢◌, false, IfErr, IfOk, Result, Err, ⊤}
+use Rattle.std.specs.Prelude.{◌≡◌, ◌≢◌, ℕ, true, false, IfErr, IfOk, IsTrue, Result, Err, ⊤}
 use Rattle.land_keep.specs.Timeline.{IsSoundTimeline, Timeline, last_register, last_stamp}
 use Rattle.land_tables.specs.Calls.{IsSame}
+use Rattle.land_tables.specs.Findings.{Finds, FindsFirst, is_one_edition, is_version}
 use Rattle.land_tables.specs.Office.{IsHonest, IsOffice, Office}
-use Rattle.land_tables.specs.Registers.{AreFirst, AreIntervals, AreOurs, IsRegister}
+use Rattle.land_tables.specs.Registers.{AreIntervals, AreOf, AreOurs, IsRegister, MayBeOurs, Shapes, the_second}
 use Rattle.land_tables.specs.Standing.{HoldsTimeline, timeline_in}
 use Rattle.land_tables.specs.declared.fault.AdoptFault.{AdoptFault}
 use Rattle.land_tables.specs.declared.fault.AdoptFault.TheVariants as fault
+use Rattle.land_tables.specs.declared.finding.Findings.{Findings}
 use Rattle.land_tables_history.specs.declared.moment.Moment.{Moment}
+use Rattle.land_tables_rows.specs.Listing.Reading.{editions}
+use Rattle.land_tables_rows.specs.Listing.Told.{told_by}
+use Rattle.land_tables_schema.specs.Land.{MayBeLand}
 use Rattle.sqlite.specs.Effect.{Database}
 use Rattle.sqlite.specs.Held.{Held, state}
 use Rattle.sqlite.specs.State.{HasCleanDisk, State, Survives}
@@ -15,38 +20,62 @@ use Rattle.sqlite.specs.Store.{Ghosts}
 
 -- ---- faults
 
--- why a store is not taken for a register's: it passes the tests before this one, and does not pass this one
-abbrev pub IsRefused : AdoptFault → Database → Type 0
-IsRefused fault.NotOurs db = ¬ AreOurs db
-IsRefused fault.Version db = AreOurs db × (¬ AreFirst db)
-IsRefused fault.Interval db = AreFirst db × (¬ AreIntervals db)
-IsRefused fault.Unsound db = AreIntervals db × ((tl : Timeline) → HoldsTimeline db.trees tl → ¬ IsSoundTimeline tl)
-IsRefused fault.NoMemory db = ⊤
-IsRefused fault.Store db = ⊤
+-- why a store is not taken for a register's, by these shapes: it passes the tests before this one, and does not pass this one
+abbrev pub IsRefused : Shapes → AdoptFault → Database → Type 0
+IsRefused shapes fault.NotOurs db = ¬ AreOurs shapes db
+IsRefused shapes fault.Version db = AreOurs shapes db × (¬ AreOf shapes db)
+IsRefused shapes fault.Interval db = AreOf shapes db × (¬ AreIntervals shapes db)
+IsRefused shapes fault.Unsound db = AreIntervals shapes db × ((tl : Timeline) → HoldsTimeline (shapes.rows db.trees) tl → ¬ IsSoundTimeline tl)
+IsRefused shapes fault.NoMemory db = ⊤
+IsRefused shapes fault.Store db = ⊤
 
 -- a store that is refused for another cause than want of memory or a failed call holds no register
-abbrev pub HoldsNone : AdoptFault → Database → Type 0
-HoldsNone why db = why ≢ fault.NoMemory → why ≢ fault.Store → ¬ IsRegister db
+abbrev pub HoldsNone : Shapes → AdoptFault → Database → Type 0
+HoldsNone shapes why db = why ≢ fault.NoMemory → why ≢ fault.Store → ¬ IsRegister shapes db
+
+-- ---- what is found first
+
+-- what the tables of the first version say, in a store that this version made
+pub record IsFound (version : ℕ) (db : Database) (found : Findings) : Type 0 where
+  pub land : MayBeLand db.schema
+  pub finds : FindsFirst db.trees found
+  pub one : is_one_edition found.editions ≡ true
+  pub made : is_version version found.editions ≡ true
+
+-- or why it is not found
+abbrev pub IsMissing : ℕ → AdoptFault → Database → Type 0
+IsMissing version fault.NotOurs db = ¬ MayBeOurs db
+IsMissing version fault.Version db = MayBeOurs db × (is_version version (told_by editions db.trees) ≡ false)
+IsMissing version fault.Interval db = ⊥
+IsMissing version fault.Unsound db = ⊥
+IsMissing version fault.NoMemory db = ⊤
+IsMissing version fault.Store db = ⊤
+
+-- what the tables say of a store that these shapes made
+pub record IsFoundBy (shapes : Shapes) (db : Database) (found : Findings) : Type 0 where
+  pub made : AreOf shapes db
+  pub finds : Finds (shapes.rows db.trees) found
 
 -- ---- what adopting leaves
 
 -- a store with a register, whose last change was made at this moment
-pub record IsRegisterTo (db : Database) (latest : Moment) : Type 0 where
-  pub register : IsRegister db
-  pub last : latest.stamp ≡ last_stamp (timeline_in db.trees)
-  pub next : latest.next ≡ (last_register (timeline_in db.trees)).next
+pub record IsRegisterTo (shapes : Shapes) (db : Database) (latest : Moment) : Type 0 where
+  pub register : IsRegister shapes db
+  pub last : latest.stamp ≡ last_stamp (timeline_in (shapes.rows db.trees))
+  pub next : latest.next ≡ (last_register (timeline_in (shapes.rows db.trees))).next
 
--- A store is judged: it has a register, or is refused. But for a fault 502 it is open, and as it was. In any case nothing is committed, and a
--- crash leaves what it left before.
-pub record IsJudgement (r : Result Moment AdoptFault) (old new : State) : Type 0 where
-  pub register : HasCleanDisk new → IfOk r (IsRegisterTo old.now)
-  pub refused : HasCleanDisk new → IfErr r (λ why. IsRefused why old.now)
+-- A store is judged: it has a register, or is refused. A store that is open is as it was, and but for a fault 502 it is open. In any case
+-- nothing is committed, and a crash leaves what it left before.
+pub record IsJudgement (shapes : Shapes) (r : Result Moment AdoptFault) (old new : State) : Type 0 where
+  pub register : HasCleanDisk new → IfOk r (IsRegisterTo shapes old.now)
+  pub refused : HasCleanDisk new → IfErr r (λ why. IsRefused shapes why old.now)
   pub same : HasCleanDisk new → r ≢ Err fault.Store → IsSame old new
+  pub kept : HasCleanDisk new → IsTrue new.is_open → IsSame old new
   pub survives : Survives old new (λ _. ⊥)
 
 -- a store was taken for a register's: it holds one, is open and as it was
 pub record IsAdopted {S : Type 0} (g : Ghosts S) (old : Held S) (o : Office S) : Type 0 where
   pub is_open : o.is_closed ≡ false
-  pub register : IsHonest g o → IsRegister (state g old).now
+  pub register : IsHonest g o → IsRegister the_second (state g old).now
   pub office : IsHonest g o → IsOffice (state g o.conn) o.last o.next
   pub same : IsHonest g o → IsSame (state g old) (state g o.conn)

@@ -1,5 +1,6 @@
 -- What is found in the tables of a store, and the tests that it passes.
-use Rattle.std.specs.Prelude.{◌≡◌, ◌<ℤ◌, ◌==◌, Bool, true, false, List, [], ◌∷◌, Result, Ok, Err, Some, None, ⊤}
+use Rattle.std.specs.Prelude.{◌≡◌, ◌<ℤ◌, ◌==◌, ℕ, Bool, true, false, List, [], ◌∷◌, Result, Ok, Err, Some, None, ⊤}
+use Rattle.land_core.specs.declared.mandates.Mandate.{Mandate}
 use Rattle.land_keep.specs.Moments.{last_moment}
 use Rattle.land_tables.specs.declared.fault.AdoptFault.{AdoptFault}
 use Rattle.land_tables.specs.declared.fault.AdoptFault.TheVariants as fault
@@ -8,10 +9,28 @@ use Rattle.land_tables_history.specs.Intervals.{has_intervals}
 use Rattle.land_tables_history.specs.Lawful.{IsLawful}
 use Rattle.land_tables_history.specs.Moments.{last}
 use Rattle.land_tables_history.specs.declared.moment.Moment.{Moment}
-use Rattle.land_tables_rows.specs.Listing.Reading.{Says, SaysHistory, editions, moments}
-use Rattle.land_tables_rows.specs.Rowids.{AreAllKeyed}
+use Rattle.land_tables_history.specs.declared.version.Version.{Version}
+use Rattle.land_tables_rows.specs.Listing.Reading.{Says, SaysFirst, SaysHistory, editions, mandates, moments}
+use Rattle.land_tables_rows.specs.Rowids.{AreFirstKeyed, AreKeyed}
 use Rattle.land_tables_rows.specs.declared.edition.reading.Edition.{Edition}
+use Rattle.land_tables_schema.specs.Tables.{mandate}
 use Rattle.sqlite_trees.specs.Tree.{Trees}
+
+-- all rows of the tables of the first version say this, in which there are no mandates
+pub record SaysFirstRows (db : Trees) (found : Findings) : Type 0 where
+  pub editions : Says editions db found.editions
+  pub moments : Says moments db found.moments
+  pub history : SaysFirst db found.history
+
+-- so they do, and each row of a version lies under a rowid of its own
+pub record FindsFirst (db : Trees) (found : Findings) : Type 0 where
+  pub said : SaysFirstRows db found
+  pub keyed : AreFirstKeyed db
+
+-- the rows of the mandates say these, each under a rowid of its own
+pub record AreMandates (db : Trees) (listed : List (Version Mandate)) : Type 0 where
+  pub said : Says mandates db listed
+  pub keyed : AreKeyed mandate db
 
 -- all rows of all tables say this
 pub record SaysAll (db : Trees) (found : Findings) : Type 0 where
@@ -22,7 +41,8 @@ pub record SaysAll (db : Trees) (found : Findings) : Type 0 where
 -- so they do, and each row of a version lies under a rowid of its own
 pub record Finds (db : Trees) (found : Findings) : Type 0 where
   pub said : SaysAll db found
-  pub keyed : AreAllKeyed db
+  pub keyed : AreFirstKeyed db
+  pub mandates : AreKeyed mandate db
 
 -- there is one row that says by which version of their shapes the tables were made, and its id is 1
 abbrev pub is_one_edition : List Edition → Bool
@@ -30,25 +50,33 @@ is_one_edition [] = false
 is_one_edition (e ∷ []) = e.id == 1
 is_one_edition (e ∷ (f ∷ es)) = false
 
--- they were made by the first version
-abbrev pub is_first_version : List Edition → Bool
-is_first_version [] = false
-is_first_version (e ∷ es) = e.version == 1
+-- they were made by this version
+abbrev pub is_version : ℕ → List Edition → Bool
+is_version n [] = false
+is_version n (e ∷ es) = e.version == n
 
--- what is found passes the tests: the edition, its version, the lifespans, and the register at each moment
+-- the edition of what is found is judged: it is one, and of this version; or there is not one, or it is another
+abbrev pub IsEditionOf : ℕ → List Edition → Result (Unit {0}) AdoptFault → Type 0
+IsEditionOf n es (Ok done) = (is_one_edition es ≡ true) × (is_version n es ≡ true)
+IsEditionOf n es (Err fault.NotOurs) = is_one_edition es ≡ false
+IsEditionOf n es (Err fault.Version) = (is_one_edition es ≡ true) × (is_version n es ≡ false)
+IsEditionOf n es (Err fault.Interval) = ⊥
+IsEditionOf n es (Err fault.Unsound) = ⊥
+IsEditionOf n es (Err fault.NoMemory) = ⊥
+IsEditionOf n es (Err fault.Store) = ⊥
+
+-- what is found passes the other tests: the lifespans, and the register at each moment
 pub record Passes (found : Findings) : Type 0 where
-  pub one : is_one_edition found.editions ≡ true
-  pub first : is_first_version found.editions ≡ true
   pub intervals : has_intervals found.moments found.history ≡ true
   pub lawful : IsLawful found.moments found.history
 
--- the first test that what is found does not pass. A moment past the last one is in no row that can be read: the store gave what it does not have.
+-- the first of these that what is found does not pass. A moment past the last one is in no row that can be read: the store gave what it does
+-- not have.
 abbrev pub Misses : AdoptFault → Findings → Type 0
-Misses fault.NotOurs found = is_one_edition found.editions ≡ false
-Misses fault.Version found = (is_one_edition found.editions ≡ true) × (is_first_version found.editions ≡ false)
-Misses fault.Interval found = (is_one_edition found.editions ≡ true) × (is_first_version found.editions ≡ true) × (has_intervals found.moments found.history ≡ false)
-Misses fault.Unsound found =
-    (is_one_edition found.editions ≡ true) × (is_first_version found.editions ≡ true) × (has_intervals found.moments found.history ≡ true) × (¬ IsLawful found.moments found.history)
+Misses fault.NotOurs found = ⊥
+Misses fault.Version found = ⊥
+Misses fault.Interval found = has_intervals found.moments found.history ≡ false
+Misses fault.Unsound found = (has_intervals found.moments found.history ≡ true) × (¬ IsLawful found.moments found.history)
 Misses fault.NoMemory found = ⊤
 Misses fault.Store found = (m : Moment) × (last found.moments ≡ Some m) × (last_moment <ℤ m.stamp)
 
@@ -57,7 +85,7 @@ pub record IsPassed (found : Findings) (latest : Moment) : Type 0 where
   pub passes : Passes found
   pub last : last found.moments ≡ Some latest
 
--- what is found is judged: it passes the tests, or misses one
+-- what is found is judged: it passes these tests, or misses one
 abbrev pub IsJudged : Findings → Result Moment AdoptFault → Type 0
 IsJudged found (Ok latest) = IsPassed found latest
 IsJudged found (Err missed) = Misses missed found

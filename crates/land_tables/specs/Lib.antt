@@ -3,6 +3,7 @@ pub mod Adopting
 pub mod Calls
 pub mod Faults
 pub mod Findings
+pub mod Migrating
 pub mod Office
 pub mod Registers
 pub mod Standing

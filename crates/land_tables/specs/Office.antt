@@ -6,7 +6,7 @@ use Rattle.land_keep.specs.Moments.{last_moment}
 use Rattle.land_keep.specs.Timeline.{IsSoundTimeline, Timeline, last_register, last_stamp, new_timeline}
 use Rattle.land_tables.specs.Standing.{HoldsTimeline, timeline_in}
 use Rattle.land_tables_history.specs.Intervals.{has_intervals}
-use Rattle.land_tables_rows.specs.Edition.Writing.{KeepsEditions, first_edition}
+use Rattle.land_tables_rows.specs.Edition.Writing.{KeepsEditions, current_edition}
 use Rattle.land_tables_rows.specs.Listing.Reading.{moments}
 use Rattle.land_tables_rows.specs.Listing.Told.{history_in, told_by}
 use Rattle.land_tables_schema.specs.Land.{IsLand}
@@ -27,13 +27,13 @@ office_code {S} store =
     code_by (Held S × (ℤ × (ℕ × Bool))) (coded× (held_code store) (coded× coded_ℤ (coded× coded_ℕ coded_bool)))
     (λ o. (o.conn, (o.last, (o.next, o.is_closed)))) (λ p. record { conn = p.0; last = p.1.0; next = p.1.1.0; is_closed = p.1.1.1 }) (λ _. refl)
 
--- an open store has the tables of a register, made by the first version of their shapes, in which lifespans are as they may be, and holds a
+-- an open store has the tables of a register, made by the second version of their shapes, in which lifespans are as they may be, and holds a
 -- sound timeline, all of it committed
 pub record HoldsRegister (s : State) : Type 0 where
   pub is_open : IsTrue s.is_open
   pub committed : s.committed ≡ s.now
   pub land : IsLand s.now.schema
-  pub edition : KeepsEditions s.now.trees (first_edition ∷ [])
+  pub edition : KeepsEditions s.now.trees (current_edition ∷ [])
   pub intervals : has_intervals (told_by moments s.now.trees) (history_in s.now.trees) ≡ true
   pub holds : HoldsTimeline s.now.trees (timeline_in s.now.trees)
   pub sound : IsSoundTimeline (timeline_in s.now.trees)

@@ -1,5 +1,5 @@
 -- The timeline that tables stand for.
-use Rattle.std.specs.Prelude.{◌≡◌, ℤ, List}
+use Rattle.std.specs.Prelude.{◌≡◌, ℤ, List, []}
 use Rattle.land_core.specs.declared.register.Register.{Register}
 use Rattle.land_keep.specs.Timeline.{Timeline}
 use Rattle.land_tables.specs.Timelines.{StandsFor, timeline_of}
@@ -10,11 +10,20 @@ use Rattle.land_tables_history.specs.declared.moment.Moment.{Moment}
 use Rattle.land_tables_rows.specs.Listing.Reading.{Says, SaysHistory, moments}
 use Rattle.land_tables_rows.specs.Listing.Told.{history_in, told_by}
 use Rattle.land_tables_rows.specs.Writing.History.{HoldsHistory}
-use Rattle.sqlite_trees.specs.Tree.{Trees}
+use Rattle.land_tables_schema.specs.Tables.{mandate}
+use Rattle.sqlite_trees.specs.Tree.{Trees, with_tree}
 
 -- the timeline that tables stand for, if they stand for one
 abbrev pub timeline_in : Trees → Timeline
 timeline_in db = timeline_of (told_by moments db) (history_in db)
+
+-- tables as if there were one of mandates with no row, as there is none in the first version of their shapes
+abbrev pub without_mandates : Trees → Trees
+without_mandates db = with_tree db mandate.tree []
+
+-- the timeline that tables of the first version stand for, if they stand for one
+abbrev pub first_timeline_in : Trees → Timeline
+first_timeline_in db = timeline_in (without_mandates db)
 
 -- tables stand for a timeline: they hold moments and versions that do
 pub record HoldsTimeline (db : Trees) (tl : Timeline) : Type 0 where

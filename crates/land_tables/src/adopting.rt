@@ -2,14 +2,15 @@
 ghost use Rattle.std.specs.Prelude.{◌≡◌, ◌≢◌, ◌⊎◌, ◌≤ℤ◌, false, IfErr, IfOk, IsTrue};
 ghost use Rattle.land_keep.specs.Moments.{last_moment};
 ghost use Rattle.land_tables.specs.Adopting.{IsJudgement, IsRefused, IsRegisterTo};
+ghost use Rattle.land_tables.specs.Registers.{the_first, the_second};
 ghost use Rattle.land_tables.specs.declared.fault.AdoptFault.TheVariants as why;
-ghost use Rattle.land_tables_schema.specs.Rows.Looks.{IsLook};
+ghost use Rattle.land_tables_schema.specs.Rows.Looks.{IsLeft, IsLook};
 ghost use Rattle.sqlite.specs.Held.{state};
 ghost use Rattle.sqlite.specs.State.{HasCleanDisk, IsUnchanged, Survives};
 
 use crate::fault::AdoptFault;
-use crate::finding::find_all;
 use crate::judging::judge;
+use crate::shaped::{found_first, found_second};
 use crate::timelines::judging_laws::{order_keeps_intervals, sound_timelines_are_lawful};
 use crate::timelines::laws::{
     lawful_versions_stand, order_does_not_matter, the_last_moment_is_the_last_stamp,
@@ -17,14 +18,13 @@ use crate::timelines::laws::{
 };
 use land_tables_history::moment::Moment;
 use land_tables_schema::rows::openness::is_open;
-use land_tables_schema::schema::is_land;
 use sqlite::{Alter, Connection};
 use std::alloc::Global;
 
-/// What a store holds, judged.
-fn judge_store<S: Alter>(alloc: Global, conn: &mut Connection<S>) -> Result<Moment, AdoptFault>
-    ensures look { IsLook result (IsRegisterTo (state S.Store conn.old).now) (state S.Store conn.old) (state S.Store conn.new) }
-    ensures refused { HasCleanDisk (state S.Store conn.new) → IfErr result (λ fault. IsRefused fault (state S.Store conn.old).now) }
+/// What a store of the second version holds, judged.
+fn judge_second<S: Alter>(alloc: Global, conn: &mut Connection<S>) -> Result<Moment, AdoptFault>
+    ensures look { IsLook result (IsRegisterTo the_second (state S.Store conn.old).now) (state S.Store conn.old) (state S.Store conn.new) }
+    ensures refused { HasCleanDisk (state S.Store conn.new) → IfErr result (λ fault. IsRefused the_second fault (state S.Store conn.old).now) }
     ensures moment { IfOk result (λ latest. latest.stamp ≤ℤ last_moment) }
     ensures mode { conn.old.in_transaction ≡ false → conn.new.in_transaction ≡ false }
 {
@@ -34,10 +34,24 @@ fn judge_store<S: Alter>(alloc: Global, conn: &mut Connection<S>) -> Result<Mome
     the_last_moment_is_the_last_stamp();
     sound_timelines_are_lawful();
     order_keeps_intervals();
-    if !is_land(conn.schema()) {
-        return Err(AdoptFault::NotOurs);
-    }
-    let found = find_all(alloc, conn)?;
+    let found = found_second(alloc, conn)?;
+    judge(alloc, &found)
+}
+
+/// What a store of the first version holds, judged.
+fn judge_first<S: Alter>(alloc: Global, conn: &mut Connection<S>) -> Result<Moment, AdoptFault>
+    ensures look { IsLook result (IsRegisterTo the_first (state S.Store conn.old).now) (state S.Store conn.old) (state S.Store conn.new) }
+    ensures refused { HasCleanDisk (state S.Store conn.new) → IfErr result (λ fault. IsRefused the_first fault (state S.Store conn.old).now) }
+    ensures moment { IfOk result (λ latest. latest.stamp ≤ℤ last_moment) }
+    ensures mode { conn.old.in_transaction ≡ false → conn.new.in_transaction ≡ false }
+{
+    lawful_versions_stand();
+    versions_stand_for_one();
+    order_does_not_matter();
+    the_last_moment_is_the_last_stamp();
+    sound_timelines_are_lawful();
+    order_keeps_intervals();
+    let found = found_first(alloc, conn)?;
     judge(alloc, &found)
 }
 
@@ -45,6 +59,7 @@ fn judge_store<S: Alter>(alloc: Global, conn: &mut Connection<S>) -> Result<Mome
 fn failed<S: Alter>(conn: &mut Connection<S>, fault: AdoptFault) -> AdoptFault
     ensures fault { (result ≡ fault) ⊎ (result ≡ why.Store) }
     ensures same { HasCleanDisk (state S.Store conn.new) → result ≢ why.Store → IsUnchanged (state S.Store conn.old) (state S.Store conn.new) }
+    ensures left { HasCleanDisk (state S.Store conn.new) → IsTrue (state S.Store conn.new).is_open → IsLeft (state S.Store conn.old) (state S.Store conn.new) }
     ensures survives { Survives (state S.Store conn.old) (state S.Store conn.new) (λ _. ⊥) }
     ensures mode { conn.old.in_transaction ≡ false → conn.new.in_transaction ≡ false }
 {
@@ -55,17 +70,35 @@ fn failed<S: Alter>(conn: &mut Connection<S>, fault: AdoptFault) -> AdoptFault
     }
 }
 
-/// The moment of the last change to the register that a store holds. But for a fault 502 the store is open, and as it was.
+/// The moment of the last change to the register that a store of the second version holds. A store that is open is as it was, and but for a
+/// fault 502 it is open.
 pub(crate) fn adopt_store<S: Alter>(
     alloc: Global,
     conn: &mut Connection<S>,
 ) -> Result<Moment, AdoptFault>
     requires settled { IsTrue (state S.Store conn.old).is_open → (state S.Store conn.old).now ≡ (state S.Store conn.old).committed }
-    ensures judgement { IsJudgement result (state S.Store conn.old) (state S.Store conn.new) }
+    ensures judgement { IsJudgement the_second result (state S.Store conn.old) (state S.Store conn.new) }
     ensures moment { IfOk result (λ latest. latest.stamp ≤ℤ last_moment) }
     ensures mode { conn.old.in_transaction ≡ false → conn.new.in_transaction ≡ false }
 {
-    match judge_store(alloc, conn) {
+    match judge_second(alloc, conn) {
+        Ok(latest) => Ok(latest),
+        Err(fault) => Err(failed(conn, fault)),
+    }
+}
+
+/// The moment of the last change to the register that a store of the first version holds. A store that is open is as it was, and but for a
+/// fault 502 it is open.
+pub(crate) fn first_store<S: Alter>(
+    alloc: Global,
+    conn: &mut Connection<S>,
+) -> Result<Moment, AdoptFault>
+    requires settled { IsTrue (state S.Store conn.old).is_open → (state S.Store conn.old).now ≡ (state S.Store conn.old).committed }
+    ensures judgement { IsJudgement the_first result (state S.Store conn.old) (state S.Store conn.new) }
+    ensures moment { IfOk result (λ latest. latest.stamp ≤ℤ last_moment) }
+    ensures mode { conn.old.in_transaction ≡ false → conn.new.in_transaction ≡ false }
+{
+    match judge_first(alloc, conn) {
         Ok(latest) => Ok(latest),
         Err(fault) => Err(failed(conn, fault)),
     }

@@ -13,7 +13,7 @@ pub enum AdoptFault {
     Interval,
     /// 522: the register at some stamp is not sound, there is no stamp, or the next number falls.
     Unsound,
-    /// 523: the tables were made by another version of their shapes.
+    /// 523: the tables were made by another version of their shapes than the one that is asked for.
     Version,
     /// 501: there was no memory.
     NoMemory,

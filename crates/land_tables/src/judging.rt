@@ -1,7 +1,7 @@
 //! Whether what is found in tables is a register's.
 ghost use Rattle.std.specs.Prelude.{◌≡◌, ◌≤ℤ◌, true, Some, IfOk};
 ghost use Rattle.land_keep.specs.Moments.{last_moment};
-ghost use Rattle.land_tables.specs.Findings.{IsJudged, IsLatest, is_first_version, is_one_edition};
+ghost use Rattle.land_tables.specs.Findings.{IsEditionOf, IsJudged, IsLatest, is_one_edition, is_version};
 ghost use Rattle.land_tables_history.specs.Intervals.{has_intervals};
 ghost use Rattle.land_tables_history.specs.Moments.{last};
 
@@ -15,18 +15,25 @@ use land_tables_lawful::lawful::is_lawful;
 use land_tables_rows::edition::reading::Edition;
 use std::alloc::Global;
 
-/// Judges what was found by its tests, in their order, and answers the latest moment. 520: there is not one edition. 523: it is another
-/// version. 521: lifespans are not as they may be. 522: the history is not lawful. 501: there was no memory.
+/// Whether one edition was found, and it is of this version. 520: there is not one. 523: it is another.
+pub(crate) fn judge_edition(editions: &[Edition], version: u64) -> Result<(), AdoptFault>
+    ensures { IsEditionOf version editions.now result }
+{
+    if !is_one_edition(editions) {
+        return Err(AdoptFault::NotOurs);
+    }
+    if !is_version(editions, version) {
+        return Err(AdoptFault::Version);
+    }
+    Ok(())
+}
+
+/// Judges what was found by its other tests, in their order, and answers the latest moment. 521: lifespans are not as they may be. 522: the
+/// history is not lawful. 501: there was no memory.
 pub(crate) fn judge(alloc: Global, found: &Findings) -> Result<Moment, AdoptFault>
     ensures judged { IsJudged found.now result }
     ensures moment { IfOk result (λ latest. latest.stamp ≤ℤ last_moment) }
 {
-    if !is_one_edition(found.editions.as_slice()) {
-        return Err(AdoptFault::NotOurs);
-    }
-    if !is_first_version(found.editions.as_slice()) {
-        return Err(AdoptFault::Version);
-    }
     if !has_intervals(alloc, &found.history, found.moments.as_slice())? {
         return Err(AdoptFault::Interval);
     }
@@ -39,8 +46,6 @@ pub(crate) fn judge(alloc: Global, found: &Findings) -> Result<Moment, AdoptFaul
 /// Judges a history whose lifespans are as they may be, by the last test, and answers its latest moment. 522: it is not lawful. 501: there
 /// was no memory.
 fn judge_history(alloc: Global, found: &Findings, latest: Moment) -> Result<Moment, AdoptFault>
-    requires one { is_one_edition found.now.editions ≡ true }
-    requires first { is_first_version found.now.editions ≡ true }
     requires intervals { has_intervals found.now.moments found.now.history ≡ true }
     requires last { last found.now.moments ≡ Some latest }
     requires moment { latest.stamp ≤ℤ last_moment }
@@ -76,11 +81,11 @@ fn is_one_edition(editions: &[Edition]) -> bool
     }
 }
 
-fn is_first_version(editions: &[Edition]) -> bool
-    ensures { result ≡ is_first_version editions.now }
+fn is_version(editions: &[Edition], version: u64) -> bool
+    ensures { result ≡ is_version version editions.now }
 {
     match editions {
-        [edition, ..] => edition.version == 1,
+        [edition, ..] => edition.version == version,
         [] => false,
     }
 }

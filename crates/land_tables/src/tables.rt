@@ -1,5 +1,5 @@
 //! Tables that hold the register's timeline.
-ghost use Rattle.std.specs.Prelude.{◌≡◌, ◌≢◌, ◌≤ℤ◌, true, false, Err, IfErr, IfOk, OnErr, OnOk};
+ghost use Rattle.std.specs.Prelude.{◌≡◌, ◌≢◌, ◌≤ℤ◌, true, false, Err, IfErr, IfOk, IsTrue, OnErr, OnOk};
 ghost use Rattle.land_keep.specs.Keeping.{CanWrite, Closes, IsLive};
 ghost use Rattle.land_keep.specs.Machine.{written};
 ghost use Rattle.land_keep.specs.Moments.{last_moment};
@@ -7,7 +7,8 @@ ghost use Rattle.land_keep.specs.Timeline.{IsSoundTimeline, last_register, last_
 ghost use Rattle.land_keep.specs.declared.store_fault.StoreFault.TheVariants as store;
 ghost use Rattle.land_tables.specs.Adopting.{HoldsNone, IsAdopted, IsRefused};
 ghost use Rattle.land_tables.specs.Calls.{IsSame};
-ghost use Rattle.land_tables.specs.Registers.{IsRegister};
+ghost use Rattle.land_tables.specs.Migrating.{AreRaised, IsMigrated, LeavesOrRaises, StaysSame};
+ghost use Rattle.land_tables.specs.Registers.{IsRegister, the_first, the_second};
 ghost use Rattle.land_tables.specs.Standing.{HoldsTimeline};
 ghost use Rattle.land_tables.specs.declared.fault.AdoptFault.TheVariants as why;
 ghost use Rattle.land_tables_schema.specs.Land.{no_schema};
@@ -17,6 +18,7 @@ ghost use Rattle.sqlite.specs.State.{HasCleanDisk, Survives};
 use crate::adopting::adopt_store;
 use crate::creating::begin_register;
 use crate::fault::AdoptFault;
+use crate::migrating::migrate_store;
 use crate::register::register_in;
 use crate::timelines::laws::{order_does_not_matter, versions_stand_for_one};
 use crate::timelines::writing_laws::writes_stand;
@@ -96,18 +98,19 @@ impl<S: Alter> Tables<S> {
     }
 
     /// Takes a store for a register's, which it holds, and leaves it as it was. The first of these that holds is answered. 502: a transaction
-    /// is begun, or a call failed. 520: a table or a column is missing, a value cannot be read as its field, or there is not one edition.
-    /// 523: the tables were made by another version of their shapes. 521: two lifespans of one key overlap, an end is not after its
-    /// beginning, or a beginning or an end is no stamp. 522: the register at some stamp is not sound, there is no stamp, or the next number
-    /// falls. 501: there was no memory, in whichever of these. But for a fault 502 the store is open.
+    /// is begun, or a call failed. 520: a table or a column is missing, a value cannot be read as its field, or there is not one edition; of
+    /// the mandates this is asked where the second version made the tables. 523: another version of their shapes made them. 521: two
+    /// lifespans of one key overlap, an end is not after its beginning, or a beginning or an end is no stamp. 522: the register at some stamp
+    /// is not sound, there is no stamp, or the next number falls. 501: there was no memory, in whichever of these. But for a fault 502 the
+    /// store is open.
     pub fn adopt(
         alloc: Global,
         conn: Connection<S>,
     ) -> Result<Tables<S>, (Connection<S>, AdoptFault)>
         ensures begun { conn.in_transaction ≡ true → result ≡ Err (conn, why.Store) }
         ensures adopted { IfOk result (IsAdopted S.Store conn) }
-        ensures refused { IfErr result (λ e. HasCleanDisk (state S.Store e.0) → IsRefused e.1 (state S.Store conn).now) }
-        ensures none { IfErr result (λ e. HasCleanDisk (state S.Store e.0) → HoldsNone e.1 (state S.Store conn).now) }
+        ensures refused { IfErr result (λ e. HasCleanDisk (state S.Store e.0) → IsRefused the_second e.1 (state S.Store conn).now) }
+        ensures none { IfErr result (λ e. HasCleanDisk (state S.Store e.0) → HoldsNone the_second e.1 (state S.Store conn).now) }
         ensures same { IfErr result (λ e. HasCleanDisk (state S.Store e.0) → e.1 ≢ why.Store → IsSame (state S.Store conn) (state S.Store e.0)) }
         ensures crash_after { IfOk result (λ t. Survives (state S.Store conn) (state S.Store t.conn) (λ _. ⊥)) }
         ensures crash { IfErr result (λ e. Survives (state S.Store conn) (state S.Store e.0) (λ _. ⊥)) }
@@ -124,6 +127,42 @@ impl<S: Alter> Tables<S> {
                 is_closed: false,
             }),
             Err(fault) => Err((conn, fault)),
+        }
+    }
+
+    /// Makes of a register of the first version, in which nobody gives mandates, one of the second, in one transaction, and takes it. The
+    /// faults are those of `adopt`, of a store that the first version made: it has the tables of that version and no others, else 520, and
+    /// another version is 523. 502 too, where its next table would not get the tree of the mandates, as where it has indexes of its own. A
+    /// store that is open after a fault is as it was, and but for a fault 502 it is open.
+    pub fn migrate(
+        alloc: Global,
+        conn: Connection<S>,
+    ) -> Result<Tables<S>, (Connection<S>, AdoptFault)>
+        ensures begun { conn.in_transaction ≡ true → result ≡ Err (conn, why.Store) }
+        ensures migrated { IfOk result (IsMigrated S.Store conn) }
+        ensures refused { IfErr result (λ e. HasCleanDisk (state S.Store e.0) → IsRefused the_first e.1 (state S.Store conn).now) }
+        ensures none { IfErr result (λ e. HasCleanDisk (state S.Store e.0) → HoldsNone the_first e.1 (state S.Store conn).now) }
+        ensures same { IfErr result (λ e. HasCleanDisk (state S.Store e.0) → e.1 ≢ why.Store → StaysSame (state S.Store conn) (state S.Store e.0)) }
+        ensures kept { conn.in_transaction ≡ false
+            → IfErr result (λ e. HasCleanDisk (state S.Store e.0) → IsTrue (state S.Store e.0).is_open → StaysSame (state S.Store conn) (state S.Store e.0)) }
+        ensures crash_after { IfOk result (λ t. Survives (state S.Store conn) (state S.Store t.conn) (AreRaised (state S.Store conn).now)) }
+        ensures crash { IfErr result (λ e. Survives (state S.Store conn) (state S.Store e.0) (AreRaised (state S.Store conn).now)) }
+        ensures rests { IfOk result (Rests S.Store) }
+        ensures either { IfErr result (λ e. LeavesOrRaises (state S.Store conn) (state S.Store e.0)) }
+    {
+        let mut conn = conn;
+        if conn.is_autocommit() {
+            match migrate_store(alloc, &mut conn) {
+                Ok(moment) => Ok(Tables {
+                    conn,
+                    last: moment.stamp,
+                    next: moment.next,
+                    is_closed: false,
+                }),
+                Err(fault) => Err((conn, fault)),
+            }
+        } else {
+            Err((conn, AdoptFault::Store))
         }
     }
 
@@ -159,10 +198,10 @@ impl<S: Alter> Tables<S> {
         let _conn = &self.conn;
     }
 
-    /// What the tables hold between calls, while none has failed: a register that `adopt` takes, whose tables were made by the first version
+    /// What the tables hold between calls, while none has failed: a register that `adopt` takes, whose tables were made by the second version
     /// of their shapes, and whose lifespans are as they may be. It does nothing.
     pub fn holds_register(&self)
-        ensures { IsLive (IsHonest S.Store self.now) self.now.is_closed → IsRegister (state S.Store self.now.conn).now }
+        ensures { IsLive (IsHonest S.Store self.now) self.now.is_closed → IsRegister the_second (state S.Store self.now.conn).now }
     {
         let _conn = &self.conn;
     }

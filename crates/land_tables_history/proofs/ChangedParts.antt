@@ -1,23 +1,26 @@
--- The records and the roles that stand after a change.
+-- The records, the roles and the mandates that stand after a change.
 use Rattle.std.proofs.Common.{◌≡◌, ℕ, Bool, true, false, cond, not, ◌&&◌, ◌||◌, List, [], ◌∷◌, ◌++◌, filter, map as map_list, refl, sym, ap, subst, ◌∙◌, IsPermutation}
 use Rattle.std.proofs.lemmas.List.Sorted.{IsPermutation-append_right, IsPermutation-map, IsPermutation-trans}
-use Rattle.std.specs.Cmp.{nat_cmp_total, unsigned_tied}
+use Rattle.std.specs.Cmp.{IsTotalOrder, nat_cmp_total, unsigned_tied}
 use Rattle.std.specs.FinMap as map
-use Rattle.std.specs.FinMap.{FinMap, nat_cmp-IsAntisymmetric}
+use Rattle.std.specs.FinMap.{FinMap, IsAntisymmetric, nat_cmp-IsAntisymmetric}
 use Rattle.std.specs.List.{list_all, list_any}
 use Rattle.std.specs.Ordering.{eq_by_cmp, nat_cmp}
 use Rattle.std.specs.Prelude.{ℤ, ◌<ℤ◌, ◌≤ℤ◌, nat_eq}
+use Rattle.std.specs.declared.cmp.Ordering.{Ordering}
 use Rattle.land_core.proofs.Booleans.{both_of}
-use Rattle.land_core.proofs.FiniteSets.{exact_grants, grants_total, keys-marks}
+use Rattle.land_core.proofs.FiniteSets.{exact_grants, exact_mandates, grants_total, keys-marks, mandates_total}
 use Rattle.land_core.specs.Entries.{are_distinct, updated}
 use Rattle.land_core.specs.Grants.{Grants, grant_cmp, grants_in, marks}
+use Rattle.land_core.specs.Mandates.{Mandates, mandate_cmp, mandates_in}
+use Rattle.land_core.specs.declared.mandates.Mandate.{Mandate}
 use Rattle.land_core.specs.declared.roles.Grant.{Grant}
 use Rattle.land_tables_history.proofs.ChangedVersions.{changed_stand}
 use Rattle.land_tables_history.proofs.Made.{changed_entries}
 use Rattle.land_tables_history.proofs.Permutations.{filter_permuted}
-use Rattle.land_tables_history.specs.Changed.{changed_part, changed_roles, changed_versions, is_among, is_changed}
+use Rattle.land_tables_history.specs.Changed.{changed_mandates, changed_part, changed_roles, changed_versions, is_among, is_changed}
 use Rattle.land_tables_history.specs.Open.{has_ended, never}
-use Rattle.land_tables_history.specs.Standing.{AreRolesAt, IsPartAt, standing}
+use Rattle.land_tables_history.specs.Standing.{AreMandatesAt, AreRolesAt, IsPartAt, standing}
 use Rattle.land_tables_history.specs.declared.version.Version.{Version}
 
 -- numbers are compared alike by their order and by their test
@@ -62,39 +65,52 @@ module _ (last stamp t : ℤ) (less : last <ℤ stamp) (since : stamp ≤ℤ t) 
       IsPermutation-trans (standing t (changed_part put ended stamp versions)) (put ++ filter (λ e. not (is_changed put ended e.0)) (map.entries m)) (map.entries (updated m put ended))
       (stand_changed put (λ e. is_changed put ended e.0) versions (map.entries m) by_then p) (numbered_entries m put ended once)
 
+  -- keys of a set, as roles and mandates are
+  module _ {K : Type 0} {R : K → K → Ordering} (o : IsTotalOrder R) (exact : IsAntisymmetric R) where
+    keys_change : (put ended : List K) (versions : List (Version K)) (set : FinMap R (Unit {0}))
+        → list_all (has_ended last) versions ≡ true → are_distinct (eq_by_cmp R) (put ++ ended) ≡ true → IsPermutation (standing t versions) (map.keys set)
+        → IsPermutation (standing t (changed_versions put (λ key. is_among (eq_by_cmp R) (put ++ ended) key) stamp versions)) (map.keys (updated set (marks put) ended))
+    keys_change put ended versions set by_then once p =
+        let kept : List K = filter (λ key. not (is_among (eq_by_cmp R) (put ++ ended) key)) (map.keys set) in
+        IsPermutation-trans (standing t (changed_versions put (λ key. is_among (eq_by_cmp R) (put ++ ended) key) stamp versions)) (put ++ kept) (map.keys (updated set (marks put) ended))
+        (stand_changed put (λ key. is_among (eq_by_cmp R) (put ++ ended) key) versions (map.keys set) by_then p)
+        (subst (λ l. IsPermutation l (map.keys (updated set (marks put) ended))) (listed (put ++ ended) (map.entries set))
+        (IsPermutation-map (λ e. e.0) (marks put ++ filter (λ e. not (list_any (eq_by_cmp R e.0) (put ++ ended))) (map.entries set)) (map.entries (updated set (marks put) ended)) entries))
+      where
+        entries : IsPermutation (marks put ++ filter (λ e. not (list_any (eq_by_cmp R e.0) (put ++ ended))) (map.entries set)) (map.entries (updated set (marks put) ended))
+        entries =
+            subst (λ (ks : List K). IsPermutation (marks put ++ filter (λ e. not (list_any (eq_by_cmp R e.0) (ks ++ ended))) (map.entries set)) (map.entries (updated set (marks put) ended)))
+            (keys-marks put)
+            (changed_entries o exact set (marks put) ended
+            (subst (λ (ks : List K). are_distinct (eq_by_cmp R) ks ≡ true) (sym (keys-marks put)) (distinct_before (eq_by_cmp R) put ended once)))
+
+        keys_kept : (ks : List K) (es : List (K × Unit {0})) → map_list (λ e. e.0) (filter (λ e. not (list_any (eq_by_cmp R e.0) ks)) es)
+            ≡ filter (λ key. not (is_among (eq_by_cmp R) ks key)) (map_list (λ e. e.0) es)
+        keys_kept ks [] = refl
+        keys_kept ks (e ∷ es) = go (not (list_any (eq_by_cmp R e.0) ks)) (keys_kept ks es)
+          where
+            go : (b : Bool) → map_list (λ e. e.0) (filter (λ e. not (list_any (eq_by_cmp R e.0) ks)) es) ≡ filter (λ key. not (is_among (eq_by_cmp R) ks key)) (map_list (λ e. e.0) es)
+                → map_list (λ e. e.0) (cond b (e ∷ filter (λ e. not (list_any (eq_by_cmp R e.0) ks)) es) (filter (λ e. not (list_any (eq_by_cmp R e.0) ks)) es))
+                ≡ cond b (e.0 ∷ filter (λ key. not (is_among (eq_by_cmp R) ks key)) (map_list (λ e. e.0) es)) (filter (λ key. not (is_among (eq_by_cmp R) ks key)) (map_list (λ e. e.0) es))
+            go true h = ap (λ l. e.0 ∷ l) h
+            go false h = h
+
+        put_before : (gs : List K) (es : List (K × Unit {0})) → map_list (λ e. e.0) (marks gs ++ es) ≡ gs ++ map_list (λ e. e.0) es
+        put_before [] es = refl
+        put_before (g ∷ gs) es = ap (λ l. g ∷ l) (put_before gs es)
+
+        listed : (ks : List K) (es : List (K × Unit {0})) → map_list (λ e. e.0) (marks put ++ filter (λ e. not (list_any (eq_by_cmp R e.0) ks)) es)
+            ≡ put ++ filter (λ key. not (is_among (eq_by_cmp R) ks key)) (map_list (λ e. e.0) es)
+        listed ks es = put_before put (filter (λ e. not (list_any (eq_by_cmp R e.0) ks)) es) ∙ ap (λ l. put ++ l) (keys_kept ks es)
+
   pub roles_change : (put ended : List Grant) (versions : List (Version Grant)) (grants : Grants)
       → list_all (has_ended last) versions ≡ true → are_distinct (eq_by_cmp grant_cmp) (put ++ ended) ≡ true → AreRolesAt t versions grants
       → AreRolesAt t (changed_roles put ended stamp versions) (updated grants (marks put) ended)
   unfolding grants_in
-  roles_change put ended versions grants by_then once p =
-      let kept : List Grant = filter (λ grant. not (is_among (eq_by_cmp grant_cmp) (put ++ ended) grant)) (map.keys grants) in
-      IsPermutation-trans (standing t (changed_roles put ended stamp versions)) (put ++ kept) (map.keys (updated grants (marks put) ended))
-      (stand_changed put (λ grant. is_among (eq_by_cmp grant_cmp) (put ++ ended) grant) versions (map.keys grants) by_then p)
-      (subst (λ l. IsPermutation l (map.keys (updated grants (marks put) ended))) (listed (put ++ ended) (map.entries grants))
-      (IsPermutation-map (λ e. e.0) (marks put ++ filter (λ e. not (list_any (eq_by_cmp grant_cmp e.0) (put ++ ended))) (map.entries grants)) (map.entries (updated grants (marks put) ended)) entries))
-    where
-      entries : IsPermutation (marks put ++ filter (λ e. not (list_any (eq_by_cmp grant_cmp e.0) (put ++ ended))) (map.entries grants)) (map.entries (updated grants (marks put) ended))
-      entries =
-          subst (λ (ks : List Grant). IsPermutation (marks put ++ filter (λ e. not (list_any (eq_by_cmp grant_cmp e.0) (ks ++ ended))) (map.entries grants)) (map.entries (updated grants (marks put) ended)))
-          (keys-marks put)
-          (changed_entries grants_total exact_grants grants (marks put) ended
-          (subst (λ (ks : List Grant). are_distinct (eq_by_cmp grant_cmp) ks ≡ true) (sym (keys-marks put)) (distinct_before (eq_by_cmp grant_cmp) put ended once)))
+  roles_change put ended versions grants by_then once p = keys_change grants_total exact_grants put ended versions grants by_then once p
 
-      keys_kept : (ks : List Grant) (es : List (Grant × Unit {0})) → map_list (λ e. e.0) (filter (λ e. not (list_any (eq_by_cmp grant_cmp e.0) ks)) es)
-          ≡ filter (λ grant. not (is_among (eq_by_cmp grant_cmp) ks grant)) (map_list (λ e. e.0) es)
-      keys_kept ks [] = refl
-      keys_kept ks (e ∷ es) = go (not (list_any (eq_by_cmp grant_cmp e.0) ks)) (keys_kept ks es)
-        where
-          go : (b : Bool) → map_list (λ e. e.0) (filter (λ e. not (list_any (eq_by_cmp grant_cmp e.0) ks)) es) ≡ filter (λ grant. not (is_among (eq_by_cmp grant_cmp) ks grant)) (map_list (λ e. e.0) es)
-              → map_list (λ e. e.0) (cond b (e ∷ filter (λ e. not (list_any (eq_by_cmp grant_cmp e.0) ks)) es) (filter (λ e. not (list_any (eq_by_cmp grant_cmp e.0) ks)) es))
-              ≡ cond b (e.0 ∷ filter (λ grant. not (is_among (eq_by_cmp grant_cmp) ks grant)) (map_list (λ e. e.0) es)) (filter (λ grant. not (is_among (eq_by_cmp grant_cmp) ks grant)) (map_list (λ e. e.0) es))
-          go true h = ap (λ l. e.0 ∷ l) h
-          go false h = h
-
-      put_before : (gs : List Grant) (es : List (Grant × Unit {0})) → map_list (λ e. e.0) (marks gs ++ es) ≡ gs ++ map_list (λ e. e.0) es
-      put_before [] es = refl
-      put_before (g ∷ gs) es = ap (λ l. g ∷ l) (put_before gs es)
-
-      listed : (ks : List Grant) (es : List (Grant × Unit {0})) → map_list (λ e. e.0) (marks put ++ filter (λ e. not (list_any (eq_by_cmp grant_cmp e.0) ks)) es)
-          ≡ put ++ filter (λ grant. not (is_among (eq_by_cmp grant_cmp) ks grant)) (map_list (λ e. e.0) es)
-      listed ks es = put_before put (filter (λ e. not (list_any (eq_by_cmp grant_cmp e.0) ks)) es) ∙ ap (λ l. put ++ l) (keys_kept ks es)
+  pub mandates_change : (put ended : List Mandate) (versions : List (Version Mandate)) (mandates : Mandates)
+      → list_all (has_ended last) versions ≡ true → are_distinct (eq_by_cmp mandate_cmp) (put ++ ended) ≡ true → AreMandatesAt t versions mandates
+      → AreMandatesAt t (changed_mandates put ended stamp versions) (updated mandates (marks put) ended)
+  unfolding mandates_in
+  mandates_change put ended versions mandates by_then once p = keys_change mandates_total exact_mandates put ended versions mandates by_then once p

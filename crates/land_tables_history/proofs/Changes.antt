@@ -1,21 +1,17 @@
 -- What a change leaves of what stands, what stands from then on, and how lifespans end.
-use Rattle.std.proofs.Common.{◌≡◌, ℕ, ◌++◌, Bool, true, false, ◌&&◌, List, [], refl, sym, ap, ◌∙◌, subst, IsPermutation}
+use Rattle.std.proofs.Common.{◌≡◌, ℕ, ◌++◌, Bool, true, false, ◌&&◌, List, refl, sym, subst, IsPermutation}
 use Rattle.std.specs.Prelude.{ℤ, ◌<ℤ◌}
 use Rattle.std.specs.List.{list_all}
 use Rattle.std.specs.Ordering.{eq_by_cmp}
 use Rattle.land_core.proofs.Booleans.{both_of}
-use Rattle.land_core.specs.Changes.{after}
-use Rattle.land_core.specs.Entries.{updated}
-use Rattle.land_core.specs.Grants.{grant_cmp, marks}
-use Rattle.land_core.specs.declared.change.Change.{Change}
-use Rattle.land_core.specs.declared.mandates.Mandate.{Mandate}
-use Rattle.land_core.specs.declared.register.Register.{Register}
+use Rattle.land_core.specs.Grants.{grant_cmp}
+use Rattle.land_core.specs.Mandates.{mandate_cmp}
 use Rattle.land_tables_history.proofs.ChangedGroups.{members_change}
 use Rattle.land_tables_history.proofs.ChangedNamings.{namings_change}
-use Rattle.land_tables_history.proofs.ChangedParts.{part_changes, roles_change}
+use Rattle.land_tables_history.proofs.ChangedParts.{mandates_change, part_changes, roles_change}
 use Rattle.land_tables_history.proofs.ChangedVersions.{changed_end, past_versions}
 use Rattle.land_tables_history.specs.Changed.{changed_part, changed_versions, is_among, is_changed, listed_members, named_by, new_mutations}
-use Rattle.land_tables_history.specs.Laws.{ChangeStands, ChangedHaveEnded, LeavesMandates, PastStands}
+use Rattle.land_tables_history.specs.Laws.{ChangeStands, ChangedHaveEnded, PastStands}
 use Rattle.land_tables_history.specs.Open.{has_ended, have_ended, never}
 use Rattle.land_tables_history.specs.Standing.{standing}
 use Rattle.land_tables_history.specs.declared.history.History.{History}
@@ -37,7 +33,7 @@ past_stands next change stamp t h r less early stands = record {
   sources = still _ _ stamp t h.sources _ less early stands.sources;
   mutations = still _ _ stamp t h.mutations _ less early stands.mutations;
   namings = still (named_by (new_mutations next change.put.mutations)) (λ naming. false) stamp t h.namings _ less early stands.namings;
-  mandates = stands.mandates;
+  mandates = still _ _ stamp t h.mandates _ less early stands.mandates;
 }
 
 -- ---- each kind of versions
@@ -52,10 +48,12 @@ record HaveEnded (last : ℤ) (h : History) : Type 0 where
   sources : list_all (has_ended last) h.sources ≡ true
   mutations : list_all (has_ended last) h.mutations ≡ true
   namings : list_all (has_ended last) h.namings ≡ true
+  mandates : list_all (has_ended last) h.mandates ≡ true
 
 each_ended : (last : ℤ) (h : History) → have_ended last h ≡ true → HaveEnded last h
 each_ended last h all =
-    let eight = both_of _ (list_all (has_ended last) h.namings) all in
+    let nine = both_of _ (list_all (has_ended last) h.mandates) all in
+    let eight = both_of _ (list_all (has_ended last) h.namings) nine.0 in
     let seven = both_of _ (list_all (has_ended last) h.mutations) eight.0 in
     let six = both_of _ (list_all (has_ended last) h.sources) seven.0 in
     let five = both_of _ (list_all (has_ended last) h.rrrs) six.0 in
@@ -63,11 +61,11 @@ each_ended last h all =
     let three = both_of _ (list_all (has_ended last) h.units) four.0 in
     let two = both_of _ (list_all (has_ended last) h.members) three.0 in
     let one = both_of (list_all (has_ended last) h.parties) (list_all (has_ended last) h.roles) two.0 in
-    record { parties = one.0; roles = one.1; members = two.1; units = three.1; parcels = four.1; rrrs = five.1; sources = six.1; mutations = seven.1; namings = eight.1 }
+    record { parties = one.0; roles = one.1; members = two.1; units = three.1; parcels = four.1; rrrs = five.1; sources = six.1; mutations = seven.1; namings = eight.1; mandates = nine.1 }
 
-nine : (a b c d e f g h i : Bool) → a ≡ true → b ≡ true → c ≡ true → d ≡ true → e ≡ true → f ≡ true → g ≡ true → h ≡ true → i ≡ true
-    → (a && b && c && d && e && f && g && h && i) ≡ true
-nine a b c d e f g h i p q r s t u v w x = rw (p, q, r, s, t, u, v, w, x) refl
+ten : (a b c d e f g h i j : Bool) → a ≡ true → b ≡ true → c ≡ true → d ≡ true → e ≡ true → f ≡ true → g ≡ true → h ≡ true → i ≡ true → j ≡ true
+    → (a && b && c && d && e && f && g && h && i && j) ≡ true
+ten a b c d e f g h i j p q r s t u v w x y = rw (p, q, r, s, t, u, v, w, x, y) refl
 
 part_ends : {V : Type 0} (put : List (ℕ × V)) (ended : List ℕ) (last stamp : ℤ) → last <ℤ stamp → (versions : List (Version (ℕ × V))) → list_all (has_ended last) versions ≡ true
     → list_all (has_ended stamp) (changed_part put ended stamp versions) ≡ true
@@ -78,7 +76,7 @@ changed_have_ended next change last stamp h all less =
     let ended = each_ended last h all in
     let put = change.put in
     let over = change.ended in
-    nine _ _ _ _ _ _ _ _ _
+    ten _ _ _ _ _ _ _ _ _ _
     (part_ends put.parties over.parties last stamp less h.parties ended.parties)
     (changed_end put.roles (λ grant. is_among (eq_by_cmp grant_cmp) (put.roles ++ over.roles) grant) stamp last less h.roles ended.roles)
     (changed_end (listed_members put.members) (λ e. is_changed put.members over.members e.group) stamp last less h.members ended.members)
@@ -88,13 +86,9 @@ changed_have_ended next change last stamp h all less =
     (part_ends put.sources over.sources last stamp less h.sources ended.sources)
     (part_ends put.mutations over.mutations last stamp less h.mutations ended.mutations)
     (changed_end (named_by (new_mutations next put.mutations)) (λ naming. false) stamp last less h.namings ended.namings)
+    (changed_end put.mandates (λ mandate. is_among (eq_by_cmp mandate_cmp) (put.mandates ++ over.mandates) mandate) stamp last less h.mandates ended.mandates)
 
 -- ---- from the stamp on
-
--- a change that leaves mandates alone
-mandates_stay : (change : Change) (r : Register) → LeavesMandates change → (after change r).mandates ≡ r.mandates
-mandates_stay change r leaves =
-    ap (λ (given : List Mandate). updated r.mandates (marks given) change.ended.mandates) leaves.put ∙ ap (λ (ended : List Mandate). updated r.mandates [] ended) leaves.ended
 
 pub change_stands : ChangeStands
 change_stands change last stamp t h r all less since early once puts stands =
@@ -111,5 +105,5 @@ change_stands change last stamp t h r all less since early once puts stands =
       sources = part_changes last stamp t less since early put.sources over.sources h.sources r.sources ended.sources once.sources stands.sources;
       mutations = part_changes last stamp t less since early put.mutations over.mutations h.mutations r.mutations ended.mutations once.mutations stands.mutations;
       namings = namings_change last stamp t less since early r change h.namings ended.namings once.mutations puts stands.namings;
-      mandates = mandates_stay change r puts.mandates ∙ stands.mandates;
+      mandates = mandates_change last stamp t less since early put.mandates over.mandates h.mandates r.mandates ended.mandates once.mandates stands.mandates;
     }

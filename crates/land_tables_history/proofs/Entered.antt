@@ -12,11 +12,13 @@ use Rattle.std.specs.declared.cmp.Ordering.{Ordering}
 use Rattle.std.specs.declared.cmp.Ordering.TheVariants.{Less, Equal, Greater}
 use Rattle.land_core.proofs.Booleans.{both_of, not_true, or_false}
 use Rattle.land_core.proofs.FiniteMaps.{none_is_not_some, nothing_from_length}
-use Rattle.land_core.proofs.FiniteSets.{grants_total, keys-marks}
+use Rattle.land_core.proofs.FiniteSets.{grants_total, keys-marks, mandates_total}
 use Rattle.land_core.specs.Entries.{are_distinct, with_entries}
 use Rattle.land_core.specs.Grants.{grants_in, marks}
+use Rattle.land_core.specs.Mandates.{mandates_in}
+use Rattle.land_core.specs.declared.mandates.Mandate.{Mandate}
 use Rattle.land_core.specs.declared.roles.Grant.{Grant}
-use Rattle.land_tables_history.specs.Intervals.{is_same_grant, is_same_number}
+use Rattle.land_tables_history.specs.Intervals.{is_same_grant, is_same_mandate, is_same_number}
 
 pub no_entries : {K : Type 0} (R : K → K → Ordering) (V : Type 0) → map.entries (map.empty {X = V} {R = R}) ≡ []
 no_entries R V = nothing_from_length (map.entries (map.empty {X = V} {R = R})) (sym (map.len-entries (map.empty {X = V} {R = R})) ∙ map.len-empty R V)
@@ -103,10 +105,20 @@ same_numbers a b = grind (arith, nat_tests)
 pub made_part : {V : Type 0} (es : List (ℕ × V)) → are_distinct is_same_number es ≡ true → IsPermutation es (map.entries (with_entries (map.empty {X = V} {R = nat_cmp}) es))
 made_part es distinct = made nat_cmp_total es (distinct_alike (is_same_key nat_cmp_total) is_same_number (λ a b. same_numbers a.0 b.0) es ∙ distinct)
 
+-- keys that differ make a set that has them
+made_keys : {K : Type 0} {R : K → K → Ordering} (o : IsTotalOrder R) (ks : List K) → are_distinct (eq_by_cmp R) ks ≡ true
+    → IsPermutation ks (map.keys (with_entries (map.empty {X = Unit {0}} {R = R}) (marks ks)))
+made_keys {K} {R} o ks distinct =
+    subst (λ l. IsPermutation l (map.keys (with_entries (map.empty {X = Unit {0}} {R = R}) (marks ks)))) (keys-marks ks)
+    (IsPermutation-map (λ (e : K × Unit {0}). e.0) (marks ks) (map.entries (with_entries map.empty (marks ks)))
+    (made o (marks ks) (distinct-map {Y = K × Unit {0}} (is_same_key o) (λ k. (k, tt)) ks ∙ distinct)))
+
 -- grants that differ make roles that have them
 pub made_roles : (gs : List Grant) → are_distinct is_same_grant gs ≡ true → IsPermutation gs (grants_in (with_entries map.empty (marks gs)))
 unfolding grants_in
-made_roles gs distinct =
-    subst (λ l. IsPermutation l (grants_in (with_entries map.empty (marks gs)))) (keys-marks gs)
-    (IsPermutation-map (λ (e : Grant × Unit {0}). e.0) (marks gs) (map.entries (with_entries map.empty (marks gs)))
-    (made grants_total (marks gs) (distinct-map {Y = Grant × Unit {0}} (is_same_key grants_total) (λ k. (k, tt)) gs ∙ distinct)))
+made_roles gs distinct = made_keys grants_total gs distinct
+
+-- and mandates likewise
+pub made_mandates : (ms : List Mandate) → are_distinct is_same_mandate ms ≡ true → IsPermutation ms (mandates_in (with_entries map.empty (marks ms)))
+unfolding mandates_in
+made_mandates ms distinct = made_keys mandates_total ms distinct

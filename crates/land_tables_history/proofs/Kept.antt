@@ -8,19 +8,20 @@ use Rattle.std.proofs.lemmas.Int.{ints}
 use Rattle.land_core.specs.Changes.{NamesKeysOnce, after}
 use Rattle.land_core.specs.Entries.{are_distinct}
 use Rattle.land_core.specs.Grants.{grant_cmp}
+use Rattle.land_core.specs.Mandates.{mandate_cmp}
 use Rattle.land_core.specs.Soundness.{IsSound}
 use Rattle.land_core.specs.declared.change.Change.{Change}
 use Rattle.land_core.specs.declared.register.Register.{Register}
 use Rattle.land_tables_history.proofs.Changes.{change_stands}
 use Rattle.land_tables_history.proofs.Distinct.{distinct_permuted}
-use Rattle.land_tables_history.proofs.KeptKeys.{grants_once, members_once, numbers_once}
+use Rattle.land_tables_history.proofs.KeptKeys.{grants_once, mandates_once, members_once, numbers_once}
 use Rattle.land_tables_history.proofs.KeptVersions.{all_end_by, kept, standing_still}
-use Rattle.land_tables_history.proofs.Keys.{grants_flip, members_flip, namings_flip, numbers_flip}
+use Rattle.land_tables_history.proofs.Keys.{grants_flip, mandates_flip, members_flip, namings_flip, numbers_flip}
 use Rattle.land_tables_history.proofs.NamingLists.{namings_distinct}
 use Rattle.land_tables_history.proofs.Proper.{AllProper, Proper, all_proper}
 use Rattle.land_tables_history.specs.Changed.{changed, changed_part, changed_versions, is_among, is_changed, listed_members, named_by, new_mutations}
 use Rattle.land_tables_history.specs.History.{StandsAt}
-use Rattle.land_tables_history.specs.Intervals.{are_intervals, has_intervals, is_same_grant, is_same_member, is_same_naming, is_same_number}
+use Rattle.land_tables_history.specs.Intervals.{are_intervals, has_intervals, is_same_grant, is_same_mandate, is_same_member, is_same_naming, is_same_number}
 use Rattle.land_tables_history.specs.Laws.{ChangesKeepIntervals, PutsMutations}
 use Rattle.land_tables_history.specs.Open.{have_ended, never}
 use Rattle.land_tables_history.specs.Standing.{IsPartAt, standing}
@@ -28,9 +29,9 @@ use Rattle.land_tables_history.specs.declared.history.History.{History}
 use Rattle.land_tables_history.specs.declared.moment.Moment.{Moment}
 use Rattle.land_tables_history.specs.declared.version.Version.{Version}
 
-nine : (a b c d e f g h i : Bool) → a ≡ true → b ≡ true → c ≡ true → d ≡ true → e ≡ true → f ≡ true → g ≡ true → h ≡ true → i ≡ true
-    → (a && b && c && d && e && f && g && h && i) ≡ true
-nine a b c d e f g h i p q r s t u v w x = rw (p, q, r, s, t, u, v, w, x) refl
+ten : (a b c d e f g h i j : Bool) → a ≡ true → b ≡ true → c ≡ true → d ≡ true → e ≡ true → f ≡ true → g ≡ true → h ≡ true → i ≡ true → j ≡ true
+    → (a && b && c && d && e && f && g && h && i && j) ≡ true
+ten a b c d e f g h i j p q r s t u v w x y = rw (p, q, r, s, t, u, v, w, x, y) refl
 
 module _ (moments : List Moment) (last stamp : ℤ) (by : AllByRecursion (λ (m : Moment). m.stamp ≤ℤ last) moments)
     (less : last <ℤ stamp) (early : stamp <ℤ never) where
@@ -66,7 +67,7 @@ module _ (moments : List Moment) (last stamp : ℤ) (by : AllByRecursion (λ (m 
 
     all_ended : have_ended last h ≡ true
     all_ended =
-        nine _ _ _ _ _ _ _ _ _
+        ten _ _ _ _ _ _ _ _ _ _
         (all_end_by moments last by h.parties proper.parties.intervals)
         (all_end_by moments last by h.roles proper.roles.intervals)
         (all_end_by moments last by h.members proper.members.intervals)
@@ -76,6 +77,7 @@ module _ (moments : List Moment) (last stamp : ℤ) (by : AllByRecursion (λ (m 
         (all_end_by moments last by h.sources proper.sources.intervals)
         (all_end_by moments last by h.mutations proper.mutations.intervals)
         (all_end_by moments last by h.namings proper.namings.intervals)
+        (all_end_by moments last by h.mandates proper.mandates.intervals)
 
     stands_still : (r : Register) → StandsAt last h r → StandsAt stamp h r
     stands_still r stands = record {
@@ -88,7 +90,7 @@ module _ (moments : List Moment) (last stamp : ℤ) (by : AllByRecursion (λ (m 
       sources = still h.sources _ proper.sources stands.sources;
       mutations = still h.mutations _ proper.mutations stands.mutations;
       namings = still h.namings _ proper.namings stands.namings;
-      mandates = stands.mandates;
+      mandates = still h.mandates _ proper.mandates stands.mandates;
     }
 
     module _ (change : Change) (r : Register) (once : NamesKeysOnce change) (puts : PutsMutations r change)
@@ -101,7 +103,7 @@ module _ (moments : List Moment) (last stamp : ℤ) (by : AllByRecursion (λ (m 
           let now = after change r in
           let put = change.put in
           let over = change.ended in
-          nine _ _ _ _ _ _ _ _ _
+          ten _ _ _ _ _ _ _ _ _ _
           (part_kept change.next put.parties over.parties h.parties now.parties proper.parties stands_now.parties)
           (versions_kept change.next is_same_grant grants_flip put.roles (λ grant. is_among (eq_by_cmp grant_cmp) (put.roles ++ over.roles) grant)
           h.roles _ proper.roles stands_now.roles (grants_once now.roles))
@@ -114,6 +116,8 @@ module _ (moments : List Moment) (last stamp : ℤ) (by : AllByRecursion (λ (m 
           (part_kept change.next put.mutations over.mutations h.mutations now.mutations proper.mutations stands_now.mutations)
           (versions_kept change.next is_same_naming namings_flip (named_by (new_mutations r.next put.mutations)) (λ naming. false)
           h.namings _ proper.namings stands_now.namings (namings_distinct now sound))
+          (versions_kept change.next is_same_mandate mandates_flip put.mandates (λ mandate. is_among (eq_by_cmp mandate_cmp) (put.mandates ++ over.mandates) mandate)
+          h.mandates _ proper.mandates stands_now.mandates (mandates_once now.mandates))
 
 pub changes_keep_intervals : ChangesKeepIntervals
 changes_keep_intervals moments change last stamp h r intervals by less early once puts stands sound =

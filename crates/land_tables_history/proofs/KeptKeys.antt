@@ -1,4 +1,4 @@
--- No key stands twice among the records, the roles and the members of a register.
+-- No key stands twice among the records, the roles, the members and the mandates of a register.
 use Rattle.std.proofs.Common.{◌≡◌, ℕ, Bool, true, false, not, ◌&&◌, ◌||◌, List, [], ◌∷◌, ◌++◌, flat_map, map as map_list, refl, sym, ap, ap₂, ◌∙◌, arith}
 use Rattle.std.proofs.lemmas.Bool.{false≢true}
 use Rattle.std.proofs.lemmas.Bool.Decides.{nat_tests}
@@ -14,14 +14,16 @@ use Rattle.std.specs.declared.cmp.Ordering.TheVariants.{Less, Equal, Greater}
 use Rattle.land_core.proofs.Booleans.{T_true, both_of}
 use Rattle.land_core.specs.Entries.{are_distinct}
 use Rattle.land_core.specs.Grants.{Grants, grant_cmp, grants_in}
+use Rattle.land_core.specs.Mandates.{Mandates, mandate_cmp, mandates_in}
 use Rattle.land_core.specs.Members.{Members, member_of, members_in}
+use Rattle.land_core.specs.declared.mandates.Mandate.{Mandate}
 use Rattle.land_core.specs.declared.member.Member.{Member}
 use Rattle.land_core.specs.declared.roles.Grant.{Grant}
 use Rattle.land_fraction.specs.Ratio.{Ratio}
 use Rattle.land_tables_history.proofs.Entered.{distinct-map, distinct_alike, same_numbers}
 use Rattle.land_tables_history.proofs.KeptLists.{both, none_fewer}
 use Rattle.land_tables_history.specs.Groups.{group_members}
-use Rattle.land_tables_history.specs.Intervals.{is_same_grant, is_same_member, is_same_number}
+use Rattle.land_tables_history.specs.Intervals.{is_same_grant, is_same_mandate, is_same_member, is_same_number}
 use Rattle.land_tables_history.specs.declared.group_member.GroupMember.{GroupMember}
 
 -- ---- the keys of a map
@@ -58,6 +60,12 @@ unfolding grants_in
 grants_once grants =
     distinct-map is_same_grant (λ (e : Grant × Unit {0}). e.0) (map.entries grants)
     ∙ keys_once grant_cmp (map.entries grants) (in_order grant_cmp grants)
+
+pub mandates_once : (mandates : Mandates) → are_distinct is_same_mandate (mandates_in mandates) ≡ true
+unfolding mandates_in
+mandates_once mandates =
+    distinct-map is_same_mandate (λ (e : Mandate × Unit {0}). e.0) (map.entries mandates)
+    ∙ keys_once mandate_cmp (map.entries mandates) (in_order mandate_cmp mandates)
 
 -- ---- the members of groups
 

@@ -3,9 +3,10 @@ use Rattle.std.proofs.Common.{◌≡◌, ℕ, Bool, ◌&&◌, ap, ap₂, ◌∙�
 use Rattle.std.specs.Prelude.{int_lt, nat_eq}
 use Rattle.std.proofs.lemmas.Bool.Decides.{nat_tests}
 use Rattle.std.proofs.lemmas.Cmp.{eq_by_cmp_equiv}
-use Rattle.land_core.proofs.FiniteSets.{grants_total}
+use Rattle.land_core.proofs.FiniteSets.{grants_total, mandates_total}
+use Rattle.land_core.specs.declared.mandates.Mandate.{Mandate}
 use Rattle.land_core.specs.declared.roles.Grant.{Grant}
-use Rattle.land_tables_history.specs.Intervals.{is_same_grant, is_same_member, is_same_naming, is_same_number, overlap}
+use Rattle.land_tables_history.specs.Intervals.{is_same_grant, is_same_mandate, is_same_member, is_same_naming, is_same_number, overlap}
 use Rattle.land_tables_history.specs.declared.group_member.GroupMember.{GroupMember}
 use Rattle.land_tables_history.specs.declared.naming.Naming.{Naming}
 use Rattle.land_tables_history.specs.declared.version.Version.{Version}
@@ -24,6 +25,9 @@ members_flip a b = ap₂ (λ x y. x && y) (number_turned a.group b.group) (numbe
 
 pub namings_flip : (a b : Naming) → is_same_naming a b ≡ is_same_naming b a
 namings_flip a b = ap₂ (λ x y. x && y) (number_turned a.mutation b.mutation) (number_turned a.unit b.unit)
+
+pub mandates_flip : (a b : Mandate) → is_same_mandate a b ≡ is_same_mandate b a
+mandates_flip = (eq_by_cmp_equiv mandates_total).symm
 
 -- ---- lifespans
 

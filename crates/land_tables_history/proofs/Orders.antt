@@ -9,12 +9,14 @@ use Rattle.std.specs.Cmp.{IsTotalOrder, nat_cmp_total}
 use Rattle.std.specs.FinMap as map
 use Rattle.std.specs.FinMap.{FinMap, find, IsAntisymmetric, nat_cmp-IsAntisymmetric}
 use Rattle.std.specs.FinMap.Entries.{length_without, where_key}
-use Rattle.land_core.proofs.FiniteSets.{exact_grants, grants_total, marks-keys}
+use Rattle.land_core.proofs.FiniteSets.{exact_grants, exact_mandates, grants_total, mandates_total, marks-keys}
 use Rattle.land_core.specs.Entries.{with_entries}
 use Rattle.land_core.specs.Grants.{Grants, grants_in, marks}
+use Rattle.land_core.specs.Mandates.{Mandates, mandates_in}
+use Rattle.land_core.specs.declared.mandates.Mandate.{Mandate}
 use Rattle.land_core.specs.declared.roles.Grant.{Grant}
 use Rattle.land_tables_history.proofs.Permutations.{filter_permuted}
-use Rattle.land_tables_history.specs.Standing.{AreRolesAt, IsPartAt, part_at, roles_at, standing}
+use Rattle.land_tables_history.specs.Standing.{AreMandatesAt, AreRolesAt, IsPartAt, mandates_at, part_at, roles_at, standing}
 use Rattle.land_tables_history.specs.declared.version.Version.{Version}
 
 last_of : {K V : Type 0} → Option V → List (K × V) → Option V
@@ -99,3 +101,11 @@ granted t versions grants p =
     in_any_order grants_total exact_grants grants (marks (standing t versions))
     (subst (λ l. IsPermutation (marks (standing t versions)) l) (marks-keys (map.entries grants))
     (IsPermutation-map (λ k. (k, tt)) (standing t versions) (map.keys grants) p))
+
+-- versions that are the mandates at a moment give them
+pub mandated : (t : ℤ) (versions : List (Version Mandate)) (mandates : Mandates) → AreMandatesAt t versions mandates → mandates_at t versions ≡ mandates
+unfolding mandates_in
+mandated t versions mandates p =
+    in_any_order mandates_total exact_mandates mandates (marks (standing t versions))
+    (subst (λ l. IsPermutation (marks (standing t versions)) l) (marks-keys (map.entries mandates))
+    (IsPermutation-map (λ k. (k, tt)) (standing t versions) (map.keys mandates) p))

@@ -1,9 +1,9 @@
--- The nine lists of versions of a history whose lifespans are as they may be.
+-- The ten lists of versions of a history whose lifespans are as they may be.
 use Rattle.std.proofs.Common.{◌≡◌, Bool, true, ◌&&◌, List}
 use Rattle.std.specs.List.{list_all}
 use Rattle.land_core.proofs.Booleans.{both_of}
 use Rattle.land_core.specs.Entries.{are_distinct}
-use Rattle.land_tables_history.specs.Intervals.{AreAllApart, are_intervals, has_intervals, is_interval, is_same_grant, is_same_member, is_same_naming, is_same_number, overlap}
+use Rattle.land_tables_history.specs.Intervals.{AreAllApart, are_intervals, has_intervals, is_interval, is_same_grant, is_same_mandate, is_same_member, is_same_naming, is_same_number, overlap}
 use Rattle.land_tables_history.specs.declared.history.History.{History}
 use Rattle.land_tables_history.specs.declared.moment.Moment.{Moment}
 use Rattle.land_tables_history.specs.declared.version.Version.{Version}
@@ -26,8 +26,9 @@ pub record AllProper (moments : List Moment) (h : History) : Type 0 where
   pub sources : Proper is_same_number moments h.sources
   pub mutations : Proper is_same_number moments h.mutations
   pub namings : Proper is_same_naming moments h.namings
+  pub mandates : Proper is_same_mandate moments h.mandates
 
-record Nine (a b c d e f g h i : Bool) : Type 0 where
+record Ten (a b c d e f g h i j : Bool) : Type 0 where
   one : a ≡ true
   two : b ≡ true
   three : c ≡ true
@@ -37,10 +38,12 @@ record Nine (a b c d e f g h i : Bool) : Type 0 where
   seven : g ≡ true
   eight : h ≡ true
   nine : i ≡ true
+  ten : j ≡ true
 
-nine_of : (a b c d e f g h i : Bool) → (a && b && c && d && e && f && g && h && i) ≡ true → Nine a b c d e f g h i
-nine_of a b c d e f g h i all =
-    let p = both_of (a && b && c && d && e && f && g && h) i all in
+ten_of : (a b c d e f g h i j : Bool) → (a && b && c && d && e && f && g && h && i && j) ≡ true → Ten a b c d e f g h i j
+ten_of a b c d e f g h i j all =
+    let o = both_of (a && b && c && d && e && f && g && h && i) j all in
+    let p = both_of (a && b && c && d && e && f && g && h) i o.0 in
     let q = both_of (a && b && c && d && e && f && g) h p.0 in
     let r = both_of (a && b && c && d && e && f) g q.0 in
     let s = both_of (a && b && c && d && e) f r.0 in
@@ -48,13 +51,14 @@ nine_of a b c d e f g h i all =
     let u = both_of (a && b && c) d t.0 in
     let v = both_of (a && b) c u.0 in
     let w = both_of a b v.0 in
-    record { one = w.0; two = w.1; three = v.1; four = u.1; five = t.1; six = s.1; seven = r.1; eight = q.1; nine = p.1 }
+    record { one = w.0; two = w.1; three = v.1; four = u.1; five = t.1; six = s.1; seven = r.1; eight = q.1; nine = p.1; ten = o.1 }
 
 pub all_proper : (moments : List Moment) (h : History) → has_intervals moments h ≡ true → AllProper moments h
 all_proper moments h intervals =
-    let parts = nine_of (are_intervals is_same_number moments h.parties) (are_intervals is_same_grant moments h.roles) (are_intervals is_same_member moments h.members)
+    let parts = ten_of (are_intervals is_same_number moments h.parties) (are_intervals is_same_grant moments h.roles) (are_intervals is_same_member moments h.members)
     (are_intervals is_same_number moments h.units) (are_intervals is_same_number moments h.parcels) (are_intervals is_same_number moments h.rrrs)
-    (are_intervals is_same_number moments h.sources) (are_intervals is_same_number moments h.mutations) (are_intervals is_same_naming moments h.namings) intervals in
+    (are_intervals is_same_number moments h.sources) (are_intervals is_same_number moments h.mutations) (are_intervals is_same_naming moments h.namings)
+    (are_intervals is_same_mandate moments h.mandates) intervals in
     record {
       parties = proper is_same_number moments h.parties parts.one;
       roles = proper is_same_grant moments h.roles parts.two;
@@ -65,6 +69,7 @@ all_proper moments h intervals =
       sources = proper is_same_number moments h.sources parts.seven;
       mutations = proper is_same_number moments h.mutations parts.eight;
       namings = proper is_same_naming moments h.namings parts.nine;
+      mandates = proper is_same_mandate moments h.mandates parts.ten;
     }
 
 pub all_apart : (moments : List Moment) (h : History) → has_intervals moments h ≡ true → AreAllApart h
@@ -80,4 +85,5 @@ all_apart moments h intervals =
       sources = each.sources.apart;
       mutations = each.mutations.apart;
       namings = each.namings.apart;
+      mandates = each.mandates.apart;
     }

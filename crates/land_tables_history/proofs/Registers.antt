@@ -1,8 +1,8 @@
 -- The register that stands at a moment is the one for which the versions stand.
-use Rattle.std.proofs.Common.{◌≡◌, ◌∙◌, sym, ℕ, ℤ}
+use Rattle.std.proofs.Common.{◌≡◌, ◌∙◌, ℕ, ℤ}
 use Rattle.land_core.specs.declared.register.Register.{Register}
 use Rattle.land_tables_history.proofs.GroupOrders.{grouped}
-use Rattle.land_tables_history.proofs.Orders.{given, granted}
+use Rattle.land_tables_history.proofs.Orders.{given, granted, mandated}
 use Rattle.land_tables_history.specs.Groups.{HaveMembers}
 use Rattle.land_tables_history.specs.History.{StandsAt, register_at}
 use Rattle.land_tables_history.specs.Standing.{standing}
@@ -31,4 +31,4 @@ stood t history next r have stands = nine
     })
     (given t history.parties r.parties stands.parties) (granted t history.roles r.roles stands.roles) (grouped r.members (standing t history.members) have stands.members)
     (given t history.units r.units stands.units) (given t history.parcels r.parcels stands.parcels) (given t history.rrrs r.rrrs stands.rrrs)
-    (given t history.sources r.sources stands.sources) (given t history.mutations r.mutations stands.mutations) (sym stands.mandates)
+    (given t history.sources r.sources stands.sources) (given t history.mutations r.mutations stands.mutations) (mandated t history.mandates r.mandates stands.mandates)

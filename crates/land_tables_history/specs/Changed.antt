@@ -3,8 +3,10 @@ use Rattle.std.specs.Prelude.{ℕ, ℤ, Bool, false, ◌&&◌, nat_eq, nat_le, L
 use Rattle.std.specs.List.{list_any}
 use Rattle.std.specs.Ordering.{eq_by_cmp, int_eq}
 use Rattle.land_core.specs.Grants.{grant_cmp}
+use Rattle.land_core.specs.Mandates.{mandate_cmp}
 use Rattle.land_core.specs.Members.{Members, members_in}
 use Rattle.land_core.specs.declared.change.Change.{Change}
+use Rattle.land_core.specs.declared.mandates.Mandate.{Mandate}
 use Rattle.land_core.specs.declared.mutation.MutationRecord.{MutationRecord}
 use Rattle.land_core.specs.declared.roles.Grant.{Grant}
 use Rattle.land_tables_history.specs.History.{named_units}
@@ -42,6 +44,10 @@ changed_part put ended stamp versions = changed_versions put (λ e. is_changed p
 abbrev pub changed_roles : (put ended : List Grant) → (stamp : ℤ) → List (Version Grant) → List (Version Grant)
 changed_roles put ended stamp versions = changed_versions put (λ grant. is_among (eq_by_cmp grant_cmp) (put ++ ended) grant) stamp versions
 
+-- mandates: those that are given begin, and those that are given or withdrawn end, where they stood
+abbrev pub changed_mandates : (put ended : List Mandate) → (stamp : ℤ) → List (Version Mandate) → List (Version Mandate)
+changed_mandates put ended stamp versions = changed_versions put (λ mandate. is_among (eq_by_cmp mandate_cmp) (put ++ ended) mandate) stamp versions
+
 -- the members of some groups, each with the number of its group
 abbrev pub listed_members : List (ℕ × Members) → List GroupMember
 listed_members groups = flat_map (λ g. map_list (λ m. record { group = g.0; member = m }) (members_in g.1)) groups
@@ -74,4 +80,5 @@ changed next change stamp h = record {
   sources = changed_part change.put.sources change.ended.sources stamp h.sources;
   mutations = changed_part change.put.mutations change.ended.mutations stamp h.mutations;
   namings = changed_namings next change.put.mutations stamp h.namings;
+  mandates = changed_mandates change.put.mandates change.ended.mandates stamp h.mandates;
 }

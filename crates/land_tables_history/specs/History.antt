@@ -1,5 +1,5 @@
 -- What of the register's versions stands at a moment is a register.
-use Rattle.std.specs.Prelude.{◌≡◌, ℕ, ℤ, List, [], ◌∷◌, flat_map, map as map_list}
+use Rattle.std.specs.Prelude.{ℕ, ℤ, List, [], ◌∷◌, flat_map, map as map_list}
 use Rattle.std.specs.FinMap as map
 use Rattle.std.specs.FinMap.{FinMap}
 use Rattle.std.specs.List.Sorted.{IsPermutation}
@@ -9,7 +9,7 @@ use Rattle.land_core.specs.declared.content.Content.TheVariants as content
 use Rattle.land_core.specs.declared.mutation.MutationRecord.{MutationRecord}
 use Rattle.land_core.specs.declared.register.Register.{Register}
 use Rattle.land_tables_history.specs.Groups.{AreGroupsAt, groups_at}
-use Rattle.land_tables_history.specs.Standing.{AreRolesAt, IsPartAt, part_at, roles_at, standing}
+use Rattle.land_tables_history.specs.Standing.{AreMandatesAt, AreRolesAt, IsPartAt, mandates_at, part_at, roles_at, standing}
 use Rattle.land_tables_history.specs.declared.history.History.{History}
 use Rattle.land_tables_history.specs.declared.naming.Naming.{Naming}
 
@@ -25,8 +25,8 @@ named_units (content.Discharge it) = it.unit ∷ []
 abbrev pub namings_of : FinMap nat_cmp MutationRecord → List Naming
 namings_of mutations = flat_map (λ m. map_list (λ unit. record { mutation = m.0; unit = unit }) (named_units m.1.content)) (map.entries mutations)
 
--- the versions that stand at a moment are the register's records, roles and members, and the units that its mutations name, each once;
--- no versions are kept of mandates, and there are none
+-- the versions that stand at a moment are the register's records, roles, members and mandates, and the units that its mutations name,
+-- each once
 pub record StandsAt (t : ℤ) (history : History) (register : Register) : Type 0 where
   pub parties : IsPartAt t history.parties register.parties
   pub roles : AreRolesAt t history.roles register.roles
@@ -37,7 +37,7 @@ pub record StandsAt (t : ℤ) (history : History) (register : Register) : Type 0
   pub sources : IsPartAt t history.sources register.sources
   pub mutations : IsPartAt t history.mutations register.mutations
   pub namings : IsPermutation (standing t history.namings) (namings_of register.mutations)
-  pub mandates : register.mandates ≡ map.empty
+  pub mandates : AreMandatesAt t history.mandates register.mandates
 
 -- the register that stands at a moment, with the number that the next new object takes then
 abbrev pub register_at : ℤ → History → (next : ℕ) → Register
@@ -50,6 +50,6 @@ register_at t history next = record {
   rrrs = part_at t history.rrrs;
   sources = part_at t history.sources;
   mutations = part_at t history.mutations;
-  mandates = map.empty;
+  mandates = mandates_at t history.mandates;
   next = next;
 }

@@ -4,6 +4,8 @@ use Rattle.std.specs.List.{list_all, list_any}
 use Rattle.std.specs.Ordering.{eq_by_cmp, int_eq}
 use Rattle.land_core.specs.Entries.{are_distinct}
 use Rattle.land_core.specs.Grants.{grant_cmp}
+use Rattle.land_core.specs.Mandates.{mandate_cmp}
+use Rattle.land_core.specs.declared.mandates.Mandate.{Mandate}
 use Rattle.land_core.specs.declared.roles.Grant.{Grant}
 use Rattle.land_tables_history.specs.declared.group_member.GroupMember.{GroupMember}
 use Rattle.land_tables_history.specs.declared.history.History.{History}
@@ -24,6 +26,9 @@ is_same_member a b = (a.group == b.group) && (a.member.party == b.member.party)
 
 abbrev pub is_same_naming : Naming → Naming → Bool
 is_same_naming a b = (a.mutation == b.mutation) && (a.unit == b.unit)
+
+abbrev pub is_same_mandate : Mandate → Mandate → Bool
+is_same_mandate a b = eq_by_cmp mandate_cmp a b
 
 -- ---- lifespans
 
@@ -64,6 +69,7 @@ has_intervals moments h =
     are_intervals is_same_number moments h.parties && are_intervals is_same_grant moments h.roles && are_intervals is_same_member moments h.members
     && are_intervals is_same_number moments h.units && are_intervals is_same_number moments h.parcels && are_intervals is_same_number moments h.rrrs
     && are_intervals is_same_number moments h.sources && are_intervals is_same_number moments h.mutations && are_intervals is_same_naming moments h.namings
+    && are_intervals is_same_mandate moments h.mandates
 
 -- the same by stamps alone
 abbrev pub has_intervals_of : List ℤ → History → Bool
@@ -71,6 +77,7 @@ has_intervals_of stamps h =
     are_intervals_of is_same_number stamps h.parties && are_intervals_of is_same_grant stamps h.roles && are_intervals_of is_same_member stamps h.members
     && are_intervals_of is_same_number stamps h.units && are_intervals_of is_same_number stamps h.parcels && are_intervals_of is_same_number stamps h.rrrs
     && are_intervals_of is_same_number stamps h.sources && are_intervals_of is_same_number stamps h.mutations && are_intervals_of is_same_naming stamps h.namings
+    && are_intervals_of is_same_mandate stamps h.mandates
 
 -- in no list of versions two lifespans of one key have a moment in common
 pub record AreAllApart (h : History) : Type 0 where
@@ -83,3 +90,4 @@ pub record AreAllApart (h : History) : Type 0 where
   pub sources : AreApart is_same_number h.sources
   pub mutations : AreApart is_same_number h.mutations
   pub namings : AreApart is_same_naming h.namings
+  pub mandates : AreApart is_same_mandate h.mandates

@@ -20,17 +20,11 @@ pub record IsAsItWas (r : Register) (number : ℕ) (m : MutationRecord) : Type 0
   pub there : map.get r.mutations number ≡ Some old
   pub units : named_units m.content ≡ named_units old.content
 
--- a change that neither gives nor ends a mandate
-pub record LeavesMandates (change : Change) : Type 0 where
-  pub put : change.put.mandates ≡ []
-  pub ended : change.ended.mandates ≡ []
-
--- a change of a register puts mutations that are new, or are as they were but for their state, and ends none; it leaves mandates alone
+-- a change of a register puts mutations that are new, or are as they were but for their state, and ends none
 pub record PutsMutations (r : Register) (change : Change) : Type 0 where
   pub used : (number : ℕ) (m : MutationRecord) → map.get r.mutations number ≡ Some m → number < r.next
   pub put : AllByRecursion (λ e. (r.next ≤ e.0) ⊎ IsAsItWas r e.0 e.1) change.put.mutations
   pub ended : change.ended.mutations ≡ []
-  pub mandates : LeavesMandates change
 
 -- what stood before the stamp of a change stands there still
 abbrev pub PastStands : Type 0

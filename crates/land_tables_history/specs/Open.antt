@@ -19,3 +19,4 @@ have_ended last h =
     list_all (has_ended last) h.parties && list_all (has_ended last) h.roles && list_all (has_ended last) h.members
     && list_all (has_ended last) h.units && list_all (has_ended last) h.parcels && list_all (has_ended last) h.rrrs
     && list_all (has_ended last) h.sources && list_all (has_ended last) h.mutations && list_all (has_ended last) h.namings
+    && list_all (has_ended last) h.mandates

@@ -5,8 +5,9 @@ use Rattle.std.specs.Ordering.{eq_by_cmp, is_eq, nat_cmp, ordering_then}
 use Rattle.std.specs.declared.cmp.Ordering.{Ordering}
 use Rattle.std.specs.declared.cmp.Ordering.TheVariants.{Less, Equal, Greater}
 use Rattle.land_core.specs.Role.{place_of}
+use Rattle.land_core.specs.declared.mandates.Mandate.{Mandate}
 use Rattle.land_core.specs.declared.roles.Grant.{Grant}
-use Rattle.land_tables_history.specs.Intervals.{is_same_grant, is_same_member, is_same_naming, is_same_number}
+use Rattle.land_tables_history.specs.Intervals.{is_same_grant, is_same_mandate, is_same_member, is_same_naming, is_same_number}
 use Rattle.land_tables_history.specs.declared.group_member.GroupMember.{GroupMember}
 use Rattle.land_tables_history.specs.declared.naming.Naming.{Naming}
 
@@ -43,3 +44,6 @@ namings_by_pairs a b = refl
 -- and where no order tells them apart
 pub pairs_by_order : (a b : ℕ × ℕ) → eq_by_cmp (λ x y. ordering_then (nat_cmp x.0 y.0) (nat_cmp x.1 y.1)) a b ≡ is_same_pair a b
 pairs_by_order a b = eq_then (nat_cmp a.0 b.0) (nat_cmp a.1 b.1) ∙ ap₂ (λ x y. x && y) (same_test a.0 b.0) (same_test a.1 b.1)
+
+pub mandates_by_pairs : (a b : Mandate) → is_same_mandate a b ≡ is_same_pair (a.principal, a.agent) (b.principal, b.agent)
+mandates_by_pairs a b = pairs_by_order (a.principal, a.agent) (b.principal, b.agent)

@@ -6,6 +6,8 @@ use Rattle.std.specs.FinMap as map
 use Rattle.std.specs.FinMap.{FinMap}
 use Rattle.land_core.specs.Entries.{with_entries}
 use Rattle.land_core.specs.Grants.{Grants, grants_in, marks}
+use Rattle.land_core.specs.Mandates.{Mandates, mandates_in}
+use Rattle.land_core.specs.declared.mandates.Mandate.{Mandate}
 use Rattle.land_core.specs.declared.roles.Grant.{Grant}
 use Rattle.land_tables_history.specs.declared.version.Version.{Version}
 
@@ -32,3 +34,11 @@ AreRolesAt t versions grants = IsPermutation (standing t versions) (grants_in gr
 -- the grants that stand, one given after another
 abbrev pub roles_at : ℤ → List (Version Grant) → Grants
 roles_at t versions = with_entries map.empty (marks (standing t versions))
+
+-- the versions that stand at a moment are these mandates, each once
+abbrev pub AreMandatesAt : ℤ → List (Version Mandate) → Mandates → Type 0
+AreMandatesAt t versions mandates = IsPermutation (standing t versions) (mandates_in mandates)
+
+-- the mandates that stand, one given after another
+abbrev pub mandates_at : ℤ → List (Version Mandate) → Mandates
+mandates_at t versions = with_entries map.empty (marks (standing t versions))

@@ -39,7 +39,8 @@ fn has_intervals_of(alloc: Global, history: &History, stamps: &[i64]) -> Result<
             && are_intervals(alloc, history.rrrs.as_slice(), stamps)?
             && are_intervals(alloc, history.sources.as_slice(), stamps)?
             && are_intervals(alloc, history.mutations.as_slice(), stamps)?
-            && are_intervals(alloc, history.namings.as_slice(), stamps)?,
+            && are_intervals(alloc, history.namings.as_slice(), stamps)?
+            && are_intervals(alloc, history.mandates.as_slice(), stamps)?,
     )
 }
 

@@ -1,11 +1,12 @@
 //! What has a key, of which one version stands at a moment.
 ghost use Rattle.std.specs.Prelude.{◌≡◌, ℕ, Bool};
 ghost use Rattle.land_core.specs.Role.{place_of};
-ghost use Rattle.land_tables_history.specs.Intervals.{is_same_grant, is_same_member, is_same_naming, is_same_number};
-ghost use Rattle.land_tables_history.specs.Pairs.{grants_by_pairs, is_same_pair, members_by_pairs, namings_by_pairs, numbers_by_pairs};
+ghost use Rattle.land_tables_history.specs.Intervals.{is_same_grant, is_same_mandate, is_same_member, is_same_naming, is_same_number};
+ghost use Rattle.land_tables_history.specs.Pairs.{grants_by_pairs, is_same_pair, mandates_by_pairs, members_by_pairs, namings_by_pairs, numbers_by_pairs};
 
 use crate::group_member::GroupMember;
 use crate::naming::Naming;
+use land_core::mandates::Mandate;
 use land_core::roles::Grant;
 
 /// What has a key.
@@ -69,5 +70,17 @@ impl Keyed for Naming {
 
     fn key(&self) -> (u64, u64) {
         (self.mutation, self.unit)
+    }
+}
+
+impl Keyed for Mandate {
+    ghost same_key = { is_same_mandate };
+
+    ghost key_of = { λ a. (a.principal, a.agent) };
+
+    ghost by_pairs = { mandates_by_pairs };
+
+    fn key(&self) -> (u64, u64) {
+        (self.principal, self.agent)
     }
 }

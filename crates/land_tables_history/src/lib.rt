@@ -7,6 +7,7 @@ pub mod history;
 pub mod intervals;
 pub mod keyed;
 pub mod laws;
+pub mod mandates;
 pub mod moment;
 pub mod moments;
 pub mod naming;

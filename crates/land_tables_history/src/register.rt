@@ -6,6 +6,7 @@ ghost use Rattle.land_tables_history.specs.History.{StandsAt, register_at};
 
 use crate::groups::groups_at;
 use crate::history::History;
+use crate::mandates::mandates_at;
 use crate::part::part_at;
 use crate::roles::roles_at;
 use land_core::register::Register;
@@ -31,7 +32,7 @@ pub fn register_at(
         rrrs: part_at(alloc, history.rrrs.as_slice(), at)?,
         sources: part_at(alloc, history.sources.as_slice(), at)?,
         mutations: part_at(alloc, history.mutations.as_slice(), at)?,
+        mandates: mandates_at(alloc, history.mandates.as_slice(), at)?,
         next,
-        ..Register::nothing(alloc)
     })
 }

@@ -4,10 +4,8 @@ use Rattle.std.proofs.lemmas.Bool.{false≢true}
 use Rattle.std.proofs.lemmas.List.Elements.{All-from_recursion, recursion_from_All}
 use Rattle.std.specs.List.{All, AllByRecursion}
 use Rattle.land_core.proofs.Booleans.{both_of, or_false}
-use Rattle.land_core.proofs.LooseMandates.{no_mandates_are_tight}
 use Rattle.land_core.specs.Soundness.{IsSound, has_bare_unit, has_broken_group, has_clash, has_crowded_unit, has_loose_grant, has_loose_mandate, has_loose_members, has_loose_mutation, has_loose_parcel, has_loose_rank, has_loose_rrr, has_reused_reference, has_unit_in_parts, has_unused_number, is_past_the_numbers}
 use Rattle.land_core.specs.declared.register.Register.{Register}
-use Rattle.land_core.specs.declared.soundness.Unsound.{Unsound}
 use Rattle.land_core.specs.declared.soundness.Unsound.TheVariants.{Reference, Shares, Group, Bare, Crowded, Twice, Rank, Administrator, Reused, Memory}
 use Rattle.land_tables_history.specs.History.{namings_of, register_at}
 use Rattle.land_tables_history.specs.Lawful.{IsLawful, IsLawfulAt, are_moments, are_same_namings}
@@ -30,6 +28,10 @@ two a b p q = (
 pub five : {A B C D E : Type 0} (a b c d e : Bool) → (a ≡ true) ↔ A → (b ≡ true) ↔ B → (c ≡ true) ↔ C → (d ≡ true) ↔ D → (e ≡ true) ↔ E
     → ((a && b && c && d && e) ≡ true) ↔ ((((A × B) × C) × D) × E)
 five a b c d e p q r s t = two (a && b && c && d) e (two (a && b && c) d (two (a && b) c (two a b p q) r) s) t
+
+six : {A B C D E F : Type 0} (a b c d e f : Bool) → (a ≡ true) ↔ A → (b ≡ true) ↔ B → (c ≡ true) ↔ C → (d ≡ true) ↔ D → (e ≡ true) ↔ E → (f ≡ true) ↔ F
+    → ((a && b && c && d && e && f) ≡ true) ↔ (((((A × B) × C) × D) × E) × F)
+six a b c d e f p q r s t u = two (a && b && c && d && e) f (five a b c d e p q r s t) u
 
 -- ---- one register
 
@@ -116,6 +118,7 @@ module _ (h : History) where
     parcels : Free has_loose_parcel ms
     entries : Free has_loose_rrr ms
     mutations : Free has_loose_mutation ms
+    mandates : Free has_loose_mandate ms
     shares : Free has_unit_in_parts ms
     groups : Free has_broken_group ms
     bare : Free has_bare_unit ms
@@ -137,7 +140,7 @@ module _ (h : History) where
     parcels = f.parcels.0;
     entries = f.entries.0;
     mutations = f.mutations.0;
-    mandates = no_mandates_are_tight (register_at m.stamp h m.next) refl;
+    mandates = f.mandates.0;
     shares = f.shares.0;
     groups = f.groups.0;
     bare = f.bare.0;
@@ -157,6 +160,7 @@ module _ (h : History) where
     parcels = f.parcels.1;
     entries = f.entries.1;
     mutations = f.mutations.1;
+    mandates = f.mandates.1;
     shares = f.shares.1;
     groups = f.groups.1;
     bare = f.bare.1;
@@ -176,6 +180,7 @@ module _ (h : History) where
     parcels = (f.parcels, g.parcels);
     entries = (f.entries, g.entries);
     mutations = (f.mutations, g.mutations);
+    mandates = (f.mandates, g.mandates);
     shares = (f.shares, g.shares);
     groups = (f.groups, g.groups);
     bare = (f.bare, g.bare);
@@ -199,6 +204,7 @@ module _ (h : History) where
     parcels = tt;
     entries = tt;
     mutations = tt;
+    mandates = tt;
     shares = tt;
     groups = tt;
     bare = tt;
@@ -227,6 +233,7 @@ module _ (h : History) where
         parcels = from_never has_loose_parcel ms p.0.0.0.1.parcels;
         entries = from_never has_loose_rrr ms p.0.0.0.1.entries;
         mutations = from_never has_loose_mutation ms p.0.0.0.1.mutations;
+        mandates = from_never has_loose_mandate ms p.0.0.0.1.mandates;
         shares = from_never has_unit_in_parts ms p.0.0.1.shares;
         groups = from_never has_broken_group ms p.0.0.1.groups;
         bare = from_never has_bare_unit ms p.0.0.1.bare;
@@ -243,7 +250,7 @@ module _ (h : History) where
               (
                 (
                   record { past = never is_past_the_numbers ms f.past; unused = never has_unused_number ms f.unused; ranks = never has_loose_rank ms f.ranks },
-                  record { roles = never has_loose_grant ms f.grants; members = never has_loose_members ms f.members; parcels = never has_loose_parcel ms f.parcels; entries = never has_loose_rrr ms f.entries; mutations = never has_loose_mutation ms f.mutations },
+                  record { roles = never has_loose_grant ms f.grants; members = never has_loose_members ms f.members; parcels = never has_loose_parcel ms f.parcels; entries = never has_loose_rrr ms f.entries; mutations = never has_loose_mutation ms f.mutations; mandates = never has_loose_mandate ms f.mandates },
                 ),
                 record { shares = never has_unit_in_parts ms f.shares; crowds = never has_crowded_unit ms f.crowds; bare = never has_bare_unit ms f.bare; groups = never has_broken_group ms f.groups; administrator = never has_no_administrator ms f.administrator },
               ),
@@ -262,12 +269,13 @@ module _ (ms : List Moment) (h : History) where
     λ them. p.1 (them.past, them.unused, them.ranks),
   )
 
-  pub all_refer : (a b c d e : Bool) → (a ≡ true) ↔ Never has_loose_grant ms h → (b ≡ true) ↔ Never has_loose_members ms h → (c ≡ true) ↔ Never has_loose_parcel ms h
-      → (d ≡ true) ↔ Never has_loose_rrr ms h → (e ≡ true) ↔ Never has_loose_mutation ms h → ((a && b && c && d && e) ≡ true) ↔ DoRefer ms h
-  all_refer a b c d e p q r s t =
-      let it = five a b c d e p q r s t in (
-        λ yes. let all = it.0 yes in record { roles = all.0.0.0.0; members = all.0.0.0.1; parcels = all.0.0.1; entries = all.0.1; mutations = all.1 },
-        λ them. it.1 ((((them.roles, them.members), them.parcels), them.entries), them.mutations),
+  pub all_refer : (a b c d e f : Bool) → (a ≡ true) ↔ Never has_loose_grant ms h → (b ≡ true) ↔ Never has_loose_members ms h → (c ≡ true) ↔ Never has_loose_parcel ms h
+      → (d ≡ true) ↔ Never has_loose_rrr ms h → (e ≡ true) ↔ Never has_loose_mutation ms h → (f ≡ true) ↔ Never has_loose_mandate ms h
+      → ((a && b && c && d && e && f) ≡ true) ↔ DoRefer ms h
+  all_refer a b c d e f p q r s t u =
+      let it = six a b c d e f p q r s t u in (
+        λ yes. let all = it.0 yes in record { roles = all.0.0.0.0.0; members = all.0.0.0.0.1; parcels = all.0.0.0.1; entries = all.0.0.1; mutations = all.0.1; mandates = all.1 },
+        λ them. it.1 (((((them.roles, them.members), them.parcels), them.entries), them.mutations), them.mandates),
       )
 
   pub all_whole : (a b c d : Bool) → (a ≡ true) ↔ (Never has_unit_in_parts ms h × Never has_crowded_unit ms h) → (b ≡ true) ↔ Never has_bare_unit ms h

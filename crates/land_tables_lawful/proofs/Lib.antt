@@ -10,6 +10,7 @@ pub mod GroupMembers
 pub mod Latest
 pub mod LawfulHistories
 pub mod LodgingsApart
+pub mod MandateParties
 pub mod MomentOrders
 pub mod MutationReferences
 pub mod NamedUnits

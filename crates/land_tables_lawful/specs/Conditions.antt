@@ -1,6 +1,6 @@
 -- What is asked of a history at all of its moments, in four parts.
 use Rattle.std.specs.Prelude.{Bool, not, List}
-use Rattle.land_core.specs.Soundness.{has_administrator, has_bare_unit, has_broken_group, has_clash, has_crowded_unit, has_loose_grant, has_loose_members, has_loose_mutation, has_loose_parcel, has_loose_rank, has_loose_rrr, has_reused_reference, has_unit_in_parts, has_unused_number, is_past_the_numbers}
+use Rattle.land_core.specs.Soundness.{has_administrator, has_bare_unit, has_broken_group, has_clash, has_crowded_unit, has_loose_grant, has_loose_mandate, has_loose_members, has_loose_mutation, has_loose_parcel, has_loose_rank, has_loose_rrr, has_reused_reference, has_unit_in_parts, has_unused_number, is_past_the_numbers}
 use Rattle.land_core.specs.declared.register.Register.{Register}
 use Rattle.land_tables_history.specs.declared.history.History.{History}
 use Rattle.land_tables_history.specs.declared.moment.Moment.{Moment}
@@ -23,6 +23,7 @@ pub record DoRefer (moments : List Moment) (h : History) : Type 0 where
   pub parcels : Never has_loose_parcel moments h
   pub entries : Never has_loose_rrr moments h
   pub mutations : Never has_loose_mutation moments h
+  pub mandates : Never has_loose_mandate moments h
 
 -- units have what each unit has, shares make wholes, and somebody can administer the register
 pub record AreWhole (moments : List Moment) (h : History) : Type 0 where

@@ -11,6 +11,7 @@ use crate::clashes::do_not_clash;
 use crate::entries::do_entries_refer;
 use crate::groups::are_groups_whole;
 use crate::lodgings::are_references_once;
+use crate::mandates::do_mandates_refer;
 use crate::members::do_members_refer;
 use crate::moments::are_moments;
 use crate::mutations::do_mutations_refer;
@@ -56,7 +57,8 @@ fn do_refer(alloc: Global, history: &History, moments: &[Moment]) -> Result<bool
     let parcels = do_parcels_refer(alloc, history, moments)?;
     let entries = do_entries_refer(alloc, history, moments)?;
     let mutations = do_mutations_refer(alloc, history, moments)?;
-    Ok(are_all(roles, members, parcels, entries, mutations))
+    let mandates = do_mandates_refer(alloc, history, moments)?;
+    Ok(are_all(roles, members, parcels, entries, mutations, mandates))
 }
 
 /// Whether units have what each unit has, shares make wholes, and somebody can administer the register.
@@ -94,8 +96,8 @@ fn are_four(a: bool, b: bool, c: bool, d: bool) -> bool
     a && b && c && d
 }
 
-fn are_all(one: bool, two: bool, three: bool, four: bool, five: bool) -> bool
-    ensures { result ≡ (one && two && three && four && five) }
+fn are_all(one: bool, two: bool, three: bool, four: bool, five: bool, six: bool) -> bool
+    ensures { result ≡ (one && two && three && four && five && six) }
 {
-    one && two && three && four && five
+    one && two && three && four && five && six
 }

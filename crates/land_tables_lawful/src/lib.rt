@@ -10,6 +10,7 @@ mod holdings;
 pub mod lawful;
 mod lived;
 mod lodgings;
+mod mandates;
 mod members;
 mod moments;
 mod mutations;

@@ -6,7 +6,7 @@ use Rattle.land_tables_rows.specs.Edition.Reading.{edition_in}
 use Rattle.land_tables_rows.specs.Edition.Writing as edition
 use Rattle.land_tables_rows.specs.Reading.Cells.{natural_in}
 use Rattle.land_tables_rows.specs.declared.edition.reading.Edition as version
-use Rattle.land_tables_schema.specs.Rows.Edition.{Edition, edition_row, first_edition}
+use Rattle.land_tables_schema.specs.Rows.Edition.{Edition, current_edition, edition_row}
 use Rattle.land_tables_schema.specs.Rows.Looks.{numbered_cells}
 use Rattle.sqlite_value.specs.Order.{Row, column}
 use Rattle.sqlite_value.specs.declared.value.Value.{Value}
@@ -21,7 +21,7 @@ cells_are a b e h =
 pub found : (r : Row) (e : version.Edition) → edition_in (numbered_cells r) ≡ Ok e → (p : Edition) × (edition_row p ≡ numbered_cells r)
 found r e h = cells_are (column r 0) (column r 2) e h
 
--- the first edition is read as it is written
-pub reads : edition_in (edition_row first_edition) ≡ Ok edition.first_edition
+-- the present edition is read as it is written
+pub reads : edition_in (edition_row current_edition) ≡ Ok edition.current_edition
 unfolding edition_in natural_in
 reads = refl

@@ -3,6 +3,7 @@ use Rattle.std.proofs.Common.{◌≡◌, ◌≢◌, ◌∙◌, ℕ, ℤ, Bool, f
 use Rattle.std.specs.List.{list_any}
 use Rattle.land_core.specs.Members.{Members}
 use Rattle.land_core.specs.declared.change.Change.{Change}
+use Rattle.land_core.specs.declared.mandates.Mandate.{Mandate}
 use Rattle.land_core.specs.declared.mutation.MutationRecord.{MutationRecord}
 use Rattle.land_core.specs.declared.parcel.ParcelRecord.{ParcelRecord}
 use Rattle.land_core.specs.declared.party.PartyRecord.{PartyRecord}
@@ -10,14 +11,15 @@ use Rattle.land_core.specs.declared.roles.Grant.{Grant}
 use Rattle.land_core.specs.declared.rrr.RrrRecord.{RrrRecord}
 use Rattle.land_core.specs.declared.source.SourceRecord.{SourceRecord}
 use Rattle.land_core.specs.declared.unit.UnitRecord.{UnitRecord}
-use Rattle.land_tables_history.specs.Changed.{begun, changed, changed_members, changed_namings, changed_part, changed_roles, changed_versions, closed, is_changed, listed_members, named_by, new_mutations}
-use Rattle.land_tables_history.specs.Intervals.{is_same_grant}
+use Rattle.land_tables_history.specs.Changed.{begun, changed, changed_mandates, changed_members, changed_namings, changed_part, changed_roles, changed_versions, closed, is_changed, listed_members, named_by, new_mutations}
+use Rattle.land_tables_history.specs.Intervals.{is_same_grant, is_same_mandate}
 use Rattle.land_tables_history.specs.declared.history.History.{History}
 use Rattle.land_tables_history.specs.declared.moment.Moment.{Moment}
 use Rattle.land_tables_history.specs.declared.version.Version.{Version}
 use Rattle.land_tables_rows.proofs.Loops.{step_after}
 use Rattle.land_tables_rows.specs.Edition.Reading.{edition_in}
 use Rattle.land_tables_rows.specs.Edition.Writing.{KeepsEditions}
+use Rattle.land_tables_rows.specs.Mandate.Writing.{mandates}
 use Rattle.land_tables_rows.specs.Member.Writing.{members}
 use Rattle.land_tables_rows.specs.Moment.Writing.{AddsMoment}
 use Rattle.land_tables_rows.specs.Mutation.Writing.{mutations}
@@ -112,6 +114,13 @@ module _ (laws : ChangesAreHeld) (stamp : ℤ) (a b : Database) where
       subst (λ (keys : List Grant). Edits (λ h. record h { roles = changed_versions put (λ grant. list_any (is_same_grant grant) (keys ++ ended)) stamp h.roles }) a b) (all_same put)
       (kind_edits roles (λ vs h. record h { roles = vs }) (λ h. h.roles) laws.roles (λ db moments h holds. holds.the_roles) (λ e. absurd (omega arith)) put (λ grant. list_any (is_same_grant grant) (map (λ g. g) put ++ ended)) stamp a b done)
 
+  -- ---- so is each mandate
+
+  pub mandates_edit : (put ended : List Mandate) → Changes mandates put (λ mandate. list_any (is_same_mandate mandate) (map (λ m. m) put ++ ended)) stamp a b → Edits (λ h. record h { mandates = changed_mandates put ended stamp h.mandates }) a b
+  mandates_edit put ended done =
+      subst (λ (keys : List Mandate). Edits (λ h. record h { mandates = changed_versions put (λ mandate. list_any (is_same_mandate mandate) (keys ++ ended)) stamp h.mandates }) a b) (all_same put)
+      (kind_edits mandates (λ vs h. record h { mandates = vs }) (λ h. h.mandates) laws.mandates (λ db moments h holds. holds.the_mandates) (λ e. absurd (omega arith)) put (λ mandate. list_any (is_same_mandate mandate) (map (λ m. m) put ++ ended)) stamp a b done)
+
   -- ---- namings: none ends
 
   pub namings_edit : (next : ℕ) (put : List (ℕ × MutationRecord)) → BeginsAll namings (named_by (new_mutations next put)) stamp a b → Edits (λ h. record h { namings = changed_namings next put stamp h.namings }) a b
@@ -128,6 +137,21 @@ pub three_steps : {X Y Z E : Type 0} {x : X} {y : Y} {First Next Last : Database
 three_steps {E = E} f g k a b c d r first next last one two three =
     let so_far : IsStep {X = Unit {0}} {E = E} (Ok tt) (Edits (λ h. g (f h))) a c = step_then a b c first next (λ clean p q. edits_then f g a.now b.now c.now (one p) (two q)) in
     step_after a c d r so_far last (λ clean p q. edits_then (λ h. g (f h)) k a.now c.now d.now p (three q))
+
+-- two of them
+pub two_steps : {X Y E : Type 0} {x : X} {y : Y} {First Next : Database → Database → Type 0} (f g : History → History) (a b c : State)
+    → IsStep {X = X} {E = E} (Ok x) First a b → IsStep {X = Y} {E = E} (Ok y) Next b c
+    → (First a.now b.now → Edits f a.now b.now) → (Next b.now c.now → Edits g b.now c.now) → IsStep {X = Unit {0}} {E = E} (Ok tt) (Edits (λ h. g (f h))) a c
+two_steps f g a b c first next one two = step_then a b c first next (λ clean p q. edits_then f g a.now b.now c.now (one p) (two q))
+
+-- four of them
+pub four_steps : {W X Y Z E : Type 0} {w : W} {x : X} {y : Y} {First Next Third Last : Database → Database → Type 0} (f g k l : History → History) (a b c d e : State) (r : Result Z E)
+    → IsStep {X = W} {E = E} (Ok w) First a b → IsStep {X = X} {E = E} (Ok x) Next b c → IsStep {X = Y} {E = E} (Ok y) Third c d → IsStep r Last d e
+    → (First a.now b.now → Edits f a.now b.now) → (Next b.now c.now → Edits g b.now c.now) → (Third c.now d.now → Edits k c.now d.now) → (Last d.now e.now → Edits l d.now e.now)
+    → IsStep r (Edits (λ h. l (k (g (f h))))) a e
+four_steps {Y = Y} {E = E} {y = y} f g k l a b c d e r first next third last one two three four =
+    let so_far : IsStep {X = Y} {E = E} (Ok y) (Edits (λ h. k (g (f h)))) a d = three_steps f g k a b c d (Ok y) first next third one two three in
+    step_after a d e r so_far last (λ clean p q. edits_then (λ h. k (g (f h))) l a.now d.now e.now p (four q))
 
 -- the moment is written last
 pub recorded : (laws : ChangesAreHeld) (change : Change) (before : ℕ) (stamp : ℤ) (a b c : Database) → Edits (changed before change stamp) a b → AddsMoment (record { stamp = stamp; next = change.next }) b c → Records change before stamp a c

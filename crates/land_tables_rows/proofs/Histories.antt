@@ -3,6 +3,7 @@ use Rattle.std.proofs.Common.{◌≡◌, ◌≢◌, ℕ, List, arith}
 use Rattle.land_tables_history.specs.declared.history.History.{History}
 use Rattle.land_tables_history.specs.declared.moment.Moment.{Moment}
 use Rattle.land_tables_history.specs.declared.version.Version.{Version}
+use Rattle.land_tables_rows.specs.Mandate.Writing as mandate
 use Rattle.land_tables_rows.specs.Member.Writing as member
 use Rattle.land_tables_rows.specs.Moment.Writing.{KeepsMoments}
 use Rattle.land_tables_rows.specs.Mutation.Writing as mutation
@@ -34,6 +35,7 @@ data Part : Type 0 where
   Sources : Part
   Mutations : Part
   Namings : Part
+  Mandates : Part
 
 -- the tree of its table
 abbrev tree_of : Part → ℕ
@@ -47,6 +49,7 @@ tree_of Rrrs = 12
 tree_of Sources = 14
 tree_of Mutations = 16
 tree_of Namings = 18
+tree_of Mandates = 20
 
 -- what is held of it
 abbrev Holds : Part → Trees → List Moment → History → Type 0
@@ -60,6 +63,7 @@ Holds Rrrs db moments h = Keeps rrr.rrrs db h.rrrs
 Holds Sources db moments h = Keeps source.sources db h.sources
 Holds Mutations db moments h = Keeps mutation.mutations db h.mutations
 Holds Namings db moments h = Keeps naming.namings db h.namings
+Holds Mandates db moments h = Keeps mandate.mandates db h.mandates
 
 each_held : {db : Trees} {moments : List Moment} {h : History} → HoldsHistory db moments h → (part : Part) → Holds part db moments h
 each_held held Moments = held.the_moments
@@ -72,6 +76,7 @@ each_held held Rrrs = held.the_rrrs
 each_held held Sources = held.the_sources
 each_held held Mutations = held.the_mutations
 each_held held Namings = held.the_namings
+each_held held Mandates = held.the_mandates
 
 all_held : {db : Trees} {moments : List Moment} {h : History} → ((part : Part) → Holds part db moments h) → HoldsHistory db moments h
 all_held each = record {
@@ -85,10 +90,11 @@ all_held each = record {
   the_sources = each Sources;
   the_mutations = each Mutations;
   the_namings = each Namings;
+  the_mandates = each Mandates;
 }
 
 -- a table whose rows are as they were holds what it held
-still_keeps : {X : Type 0} (reading : Reading X) (old new : Trees) (versions : List (Version X)) → new reading.table.tree ≡ old reading.table.tree → Keeps reading old versions → Keeps reading new versions
+pub still_keeps : {X : Type 0} (reading : Reading X) (old new : Trees) (versions : List (Version X)) → new reading.table.tree ≡ old reading.table.tree → Keeps reading old versions → Keeps reading new versions
 still_keeps reading old new versions same keeps = record { said = rw same keeps.said; numbered = rw same keeps.numbered }
 
 still_holds : (old new : Trees) (moments : List Moment) (h : History) (part : Part) → new (tree_of part) ≡ old (tree_of part) → Holds part old moments h → Holds part new moments h
@@ -102,6 +108,7 @@ still_holds old new moments h Rrrs same held = still_keeps rrr.rrrs old new h.rr
 still_holds old new moments h Sources same held = still_keeps source.sources old new h.sources same held
 still_holds old new moments h Mutations same held = still_keeps mutation.mutations old new h.mutations same held
 still_holds old new moments h Namings same held = still_keeps naming.namings old new h.namings same held
+still_holds old new moments h Mandates same held = still_keeps mandate.mandates old new h.mandates same held
 
 others_kept : (one : Table) (old new : Trees) → KeepsOthers one old new → (part : Part) → one.tree ≢ tree_of part → new (tree_of part) ≡ old (tree_of part)
 others_kept one old new kept Moments = (are_kept one old new kept).moments
@@ -114,6 +121,7 @@ others_kept one old new kept Rrrs = (are_kept one old new kept).rrr
 others_kept one old new kept Sources = (are_kept one old new kept).source
 others_kept one old new kept Mutations = (are_kept one old new kept).mutation
 others_kept one old new kept Namings = (are_kept one old new kept).names
+others_kept one old new kept Mandates = (are_kept one old new kept).mandate
 
 -- what is held of a part whose table was left
 left : (one : Table) (old new : Trees) (moments : List Moment) (h : History) → HoldsHistory old moments h → KeepsOthers one old new → (part : Part) → one.tree ≢ tree_of part → Holds part new moments h
@@ -189,6 +197,13 @@ with_namings old new moments h vs held kept here = all_held each
     each Namings = here
     each part = left table.names old new moments h held kept part (λ e. absurd (omega arith))
 
+with_mandates : HoldsWith mandate.mandates (λ vs h. record h { mandates = vs })
+with_mandates old new moments h vs held kept here = all_held each
+  where
+    each : (part : Part) → Holds part new moments (record h { mandates = vs })
+    each Mandates = here
+    each part = left table.mandate old new moments h held kept part (λ e. absurd (omega arith))
+
 pub changes_are_held : ChangesAreHeld
 changes_are_held = record {
   moments = with_moments;
@@ -201,4 +216,5 @@ changes_are_held = record {
   sources = with_sources;
   mutations = with_mutations;
   namings = with_namings;
+  mandates = with_mandates;
 }

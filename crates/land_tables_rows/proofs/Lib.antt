@@ -10,6 +10,7 @@ pub mod Histories
 pub mod Keyed
 pub mod Lives
 pub mod Loops
+pub mod Mandates
 pub mod Members
 pub mod Moments
 pub mod MutationCells
@@ -18,6 +19,7 @@ pub mod NewRegisters
 pub mod Numbered
 pub mod ParcelCells
 pub mod Parties
+pub mod RaisedRegisters
 pub mod Readings
 pub mod Roles
 pub mod RowidOrders

@@ -17,7 +17,8 @@ use Rattle.land_tables_rows.proofs.Roles as role
 use Rattle.land_tables_rows.proofs.Tellings.{tells_from}
 use Rattle.land_tables_rows.proofs.Writes.{keeps_from}
 use Rattle.land_tables_rows.specs.Edition.Reading.{edition_in}
-use Rattle.land_tables_rows.specs.Edition.Writing.{first_edition}
+use Rattle.land_tables_rows.specs.Edition.Writing.{current_edition}
+use Rattle.land_tables_rows.specs.Mandate.Reading.{mandate_in}
 use Rattle.land_tables_rows.specs.Member.Reading.{member_in}
 use Rattle.land_tables_rows.specs.Moment.Reading.{change_in}
 use Rattle.land_tables_rows.specs.Mutation.Reading.{mutation_in}
@@ -34,6 +35,7 @@ use Rattle.land_tables_rows.specs.Writing.Laws.{NewRegistersAreHeld}
 use Rattle.land_tables_rows.specs.Writing.NewHistory.{new_history, new_moments}
 use Rattle.land_tables_schema.specs.Rows.Held.{HoldsRows, new_rows}
 use Rattle.land_tables_schema.specs.Rows.Edition as edition_rows
+use Rattle.land_tables_schema.specs.Rows.Mandate.{mandate_cells}
 use Rattle.land_tables_schema.specs.Rows.Member.{member_cells}
 use Rattle.land_tables_schema.specs.Rows.Moments.{moment_row}
 use Rattle.land_tables_schema.specs.Rows.Mutation.{mutation_cells}
@@ -79,10 +81,11 @@ history_held db held = record {
   the_sources = keeps_from table.source 3 source_cells source_in db [] [] refl held.the_sources;
   the_mutations = keeps_from table.mutation 8 mutation_cells mutation_in db [] [] refl held.the_mutations;
   the_namings = keeps_from table.names 2 names_cells naming_in db [] [] refl held.the_namings;
+  the_mandates = keeps_from table.mandate 2 mandate_cells mandate_in db [] [] refl held.the_mandates;
 }
 
 pub new_registers_are_held : NewRegistersAreHeld
 new_registers_are_held db held = record {
   history = history_held db held;
-  editions = tells_from table.edition edition_rows.edition_row edition_in db new_rows.editions (first_edition ∷ []) (ap (λ r. r ∷ []) edition.reads) held.the_editions;
+  editions = tells_from table.edition edition_rows.edition_row edition_in db new_rows.editions (current_edition ∷ []) (ap (λ r. r ∷ []) edition.reads) held.the_editions;
 }

@@ -109,12 +109,12 @@ same_roles CertifiedSurveyor CertifiedSurveyor = refl
 same_roles StateAdministrator StateAdministrator = refl
 same_roles r s = refl
 
-both_same : (a b : Ordering) → is_eq (ordering_then a b) ≡ (is_eq a && is_eq b)
+pub both_same : (a b : Ordering) → is_eq (ordering_then a b) ≡ (is_eq a && is_eq b)
 both_same Less b = refl
 both_same Equal b = refl
 both_same Greater b = refl
 
-same_parties : (m n : ℕ) → is_eq (nat_cmp m n) ≡ (m == n)
+pub same_parties : (m n : ℕ) → is_eq (nat_cmp m n) ≡ (m == n)
 same_parties m n = grind (arith, nat_tests)
 
 -- a grant is read as it is

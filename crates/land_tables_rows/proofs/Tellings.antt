@@ -3,6 +3,7 @@ use Rattle.std.proofs.Common.{◌≡◌, List, [], ◌∷◌, map, Ok, Result, r
 use Rattle.std.specs.List.{AllByRecursion}
 use Rattle.std.proofs.lemmas.List.Sorted.{IsPermutation-refl, IsPermutation-sym, IsPermutation-trans, IsPermutation-cons, IsPermutation-map}
 use Rattle.land_tables_rows.specs.Writing.Holding.{Tells, TellsMore}
+use Rattle.land_tables_schema.proofs.Raising.{only_one}
 use Rattle.land_tables_schema.specs.Rows.Forms.{Appends, Lists}
 use Rattle.land_tables_schema.specs.Rows.Looks.{numbered_cells}
 use Rattle.land_wire_json.specs.declared.bodies.wire_fault.WireFault.{WireFault}
@@ -54,3 +55,21 @@ module _ {P X : Type 0} (table : Table) (row : P → Row) (said : Row → Result
 
     pub tells_more : TellsMore table said x old new
     tells_more = record { schema = appends.schema; told = told; kept = appends.kept }
+
+  -- where one thing is told, and these are the only cells that say it, it is listed
+  module _ (p : P) (x : X) (only : (q : P) → said (row q) ≡ Ok x → q ≡ p) where
+    first_said : {s : Result X WireFault} {rest : List (Result X WireFault)} → s ∷ rest ≡ Ok x ∷ [] → s ≡ Ok x
+    first_said e = cc
+
+    cells_of : (rs : List Row) → map saying rs ≡ Ok x ∷ [] → map numbered_cells rs ≡ row p ∷ []
+    cells_of [] e = absurd (cc)
+    cells_of (r ∷ []) e =
+        let one = found r x (first_said e) in
+        ap (λ c. c ∷ []) (sym one.1 ∙ ap row (only one.0 (ap said one.1 ∙ first_said e)))
+    cells_of (r ∷ s ∷ rs) e = absurd (cc)
+
+    pub lists_one : (db : Trees) → Tells table said db (x ∷ []) → Lists table row db (p ∷ [])
+    lists_one db tells =
+        let rows = db table.tree in
+        let is : map saying rows ≡ Ok x ∷ [] = only_one (Ok x) (map saying rows) (IsPermutation-sym (map saying rows) (Ok x ∷ []) tells) in
+        subst (λ l. IsPermutation l (row p ∷ [])) (sym (cells_of rows is)) (IsPermutation-refl (row p ∷ []))

@@ -1,8 +1,10 @@
 -- What cannot be said by a part cannot be said by the whole.
-use Rattle.std.proofs.Common.{◌≡◌, Err, IfErr, IsErrAnd, Ok, Result, sym, subst, ◌∙◌}
+use Rattle.std.proofs.Common.{◌≡◌, List, [], Err, IfErr, IsErrAnd, Ok, Result, refl, sym, subst, ◌∙◌}
+use Rattle.land_core.specs.declared.mandates.Mandate.{Mandate}
 use Rattle.land_tables_history.specs.declared.history.History.{History}
+use Rattle.land_tables_history.specs.declared.version.Version.{Version}
 use Rattle.land_tables_rows.specs.Listing.Groups.{SaysHoldings, SaysPapers, SaysPersons}
-use Rattle.land_tables_rows.specs.Listing.Reading.{CannotSay, SaysHistory}
+use Rattle.land_tables_rows.specs.Listing.Reading.{CannotSay, Says, SaysFirst, SaysHistory, mandates}
 use Rattle.land_tables_rows.specs.declared.listing.fault.ReadFault.{ReadFault}
 use Rattle.land_tables_rows.specs.declared.listing.history.Holdings.{Holdings}
 use Rattle.land_tables_rows.specs.declared.listing.history.Papers.{Papers}
@@ -27,17 +29,43 @@ holdings_of h = record { units = h.units; parcels = h.parcels; rrrs = h.rrrs }
 papers_of : History → Papers
 papers_of h = record { sources = h.sources; mutations = h.mutations; namings = h.namings }
 
-pub persons_said : (db : Trees) (h : History) → SaysHistory db h → (it : Persons) × SaysPersons db it
+pub persons_said : (db : Trees) (h : History) → SaysFirst db h → (it : Persons) × SaysPersons db it
 unfolding persons_of
 persons_said db h said = (persons_of h, record { parties = said.parties; roles = said.roles; members = said.members })
 
-pub holdings_said : (db : Trees) (h : History) → SaysHistory db h → (it : Holdings) × SaysHoldings db it
+pub holdings_said : (db : Trees) (h : History) → SaysFirst db h → (it : Holdings) × SaysHoldings db it
 unfolding holdings_of
 holdings_said db h said = (holdings_of h, record { units = said.units; parcels = said.parcels; rrrs = said.rrrs })
 
-pub papers_said : (db : Trees) (h : History) → SaysHistory db h → (it : Papers) × SaysPapers db it
+pub papers_said : (db : Trees) (h : History) → SaysFirst db h → (it : Papers) × SaysPapers db it
 unfolding papers_of
 papers_said db h said = (papers_of h, record { sources = said.sources; mutations = said.mutations; namings = said.namings })
+
+-- what the first tables say, where all say a history
+first_of : History → History
+first_of h = record h { mandates = [] }
+
+pub first_said : (db : Trees) (h : History) → SaysHistory db h → (it : History) × SaysFirst db it
+unfolding first_of
+first_said db h said = (
+  first_of h,
+  record {
+    parties = said.parties;
+    roles = said.roles;
+    members = said.members;
+    units = said.units;
+    parcels = said.parcels;
+    rrrs = said.rrrs;
+    sources = said.sources;
+    mutations = said.mutations;
+    namings = said.namings;
+    none = refl;
+  },
+)
+
+-- and what the mandates' table says
+pub mandates_said : (db : Trees) (h : History) → SaysHistory db h → (it : List (Version Mandate)) × Says mandates db it
+mandates_said db h said = (h.mandates, said.mandates)
 
 -- what is said of a part after looks at others, which leave all as it was
 pub cannot_then : {X Y Z E : Type 0} {z : Z} {R : Z → Type 0} {Q : Y → Type 0} (P : Trees → X → Type 0) (a b : State) (r : Result Y ReadFault) (fault : ReadFault) → IsErrAnd r (λ f. f ≡ fault)

@@ -2,6 +2,7 @@
 pub mod Cells
 pub mod Edition
 pub mod Listing
+pub mod Mandate
 pub mod Member
 pub mod Moment
 pub mod Mutation

@@ -33,8 +33,8 @@ pub record ArePapersKeyed (db : Trees) : Type 0 where
   pub mutations : AreKeyed table.mutation db
   pub namings : AreKeyed table.names db
 
--- and in all tables of versions
-pub record AreAllKeyed (db : Trees) : Type 0 where
+-- and in all tables of versions that the first version has
+pub record AreFirstKeyed (db : Trees) : Type 0 where
   pub persons : ArePersonsKeyed db
   pub holdings : AreHoldingsKeyed db
   pub papers : ArePapersKeyed db

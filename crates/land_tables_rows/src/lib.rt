@@ -6,6 +6,7 @@
 pub mod cells;
 pub mod edition;
 pub mod listing;
+pub mod mandate;
 pub mod member;
 pub mod moment;
 pub mod mutation;

@@ -1,9 +1,9 @@
 -- What a text answers that lists a table whole.
 use Rattle.std.proofs.Common.{◌≡◌, ℕ, false, List, [], ◌∷◌, map, filter, IfErr, IfOk, OnErr, OnOk, Ok, Err, IsTrue, Result, inl, inr, refl, sym, ap, ap₂, subst, ◌∙◌, IsPermutation, arith}
 use Rattle.std.proofs.lemmas.Result.{IfOk-weaker}
-use Rattle.land_tables_schema.proofs.KnownSchemas.{but_for_indexes}
+use Rattle.land_tables_schema.proofs.KnownSchemas.{but_for_indexes, but_for_more}
 use Rattle.land_tables_schema.proofs.Updates.{answer_is, passes, plainly}
-use Rattle.land_tables_schema.specs.Land.{IsLand, land_with}
+use Rattle.land_tables_schema.specs.Land.{HasFirstTables, IsLand, first_with, land_with}
 use Rattle.land_tables_schema.specs.Rows.Looks.{IsLeft, IsLook}
 use Rattle.sqlite.proofs.Callers.{IsPlain, command_of, never_commits, reads_as}
 use Rattle.sqlite.proofs.StateLemmas.{survives_weaker}
@@ -18,6 +18,7 @@ use Rattle.sqlite.specs.declared.error.Error.{Error}
 use Rattle.sqlite.specs.declared.types.Value.TheVariants.{Null}
 use Rattle.sqlite_schema.specs.declared.schema.Index.{Index}
 use Rattle.sqlite_schema.specs.declared.schema.Schema.{Schema}
+use Rattle.sqlite_schema.specs.declared.schema.Table.{Table}
 use Rattle.sqlite_trees.specs.Tree.{Trees}
 use Rattle.sqlite_value.specs.Order.{Row}
 
@@ -28,17 +29,25 @@ pub record Asks (schema : Schema) (sql : List ℕ) (q : Query) : Type 0 where
   pub unlisted : reads_listing schema sql ≡ false
   pub plain : IsPlain (understood schema sql)
 
--- a text lists what is shown of each row of a table
-pub record IsListing (tree : ℕ) (text : List ℕ) (project : List Term) (shown : Row → Row) : Type 0 where
-  pub asks : (indexes : List Index) → Asks (land_with indexes) text (plainly tree [] project)
+-- a text lists what is shown of each row of a table, in all schemas of a kind
+pub record IsListing (Has : Schema → Type 0) (tree : ℕ) (text : List ℕ) (project : List Term) (shown : Row → Row) : Type 0 where
+  pub asks : (s : Schema) → Has s → Asks s text (plainly tree [] project)
   pub read : (db : Trees) → overlay db [] tree ≡ db tree
   pub shows : (r : Row) → eval_all project ([] ∷ r ∷ []) ≡ shown r
+
+-- a text that means the same whatever indexes the register has, and whatever tables follow those of the first version
+pub in_first : (sql : List ℕ) (q : Query) → ((more : List Table) (indexes : List Index) → Asks (first_with more indexes) sql q) → (s : Schema) → HasFirstTables s → Asks s sql q
+in_first sql q asks s has = subst (λ x. Asks x sql q) (sym (but_for_more s has)) (asks has.tables.0 s.indexes)
+
+-- a text that means the same whatever indexes the register has
+pub in_land : (sql : List ℕ) (q : Query) → ((indexes : List Index) → Asks (land_with indexes) sql q) → (s : Schema) → IsLand s → Asks s sql q
+in_land sql q asks s land = subst (λ x. Asks x sql q) (sym (but_for_indexes s land)) (asks s.indexes)
 
 -- a disk that is clean was clean before
 pub clean_before : {old new : State} {Commits : Trees → Type 0} → Survives old new Commits → HasCleanDisk new → HasCleanDisk old
 clean_before s clean = omega (arith, s.clean)
 
-module _ (tree : ℕ) (text : List ℕ) (project : List Term) (shown : Row → Row) (is : IsListing tree text project shown) (old new : State) where
+module _ (Has : Schema → Type 0) (tree : ℕ) (text : List ℕ) (project : List Term) (shown : Row → Row) (is : IsListing Has tree text project shown) (old new : State) where
   all_pass : (rows : List Row) → filter (passes [] []) rows ≡ rows
   all_pass [] = refl
   all_pass (r ∷ rs) = ap (λ l. r ∷ l) (all_pass rs)
@@ -47,20 +56,17 @@ module _ (tree : ℕ) (text : List ℕ) (project : List Term) (shown : Row → R
   each_shown [] = refl
   each_shown (r ∷ rs) = ap₂ (λ a b. a ∷ b) (is.shows r) (each_shown rs)
 
-  module _ (land : IsLand old.now.schema) where
-    abbrev schema : Schema
-    schema = land_with old.now.schema.indexes
-
-    asks_now : Asks schema text (plainly tree [] project)
-    asks_now = is.asks old.now.schema.indexes
+  module _ (has : Has old.now.schema) where
+    asks_now : Asks old.now.schema text (plainly tree [] project)
+    asks_now = is.asks old.now.schema has
 
     plain_now : IsPlain (understood old.now.schema text)
-    plain_now = subst (λ s. IsPlain (understood s text)) (sym (but_for_indexes old.now.schema land)) asks_now.plain
+    plain_now = asks_now.plain
 
     pub listed : (rows : List Row) → Shown text [] old new rows → IsPermutation (map shown (old.now.trees tree)) rows
     listed rows h =
         let answer : IsAnswer (plainly tree [] project) (overlay old.now.trees []) [] rows =
-        (reads_as text [] old new schema (but_for_indexes old.now.schema land) _ asks_now.command asks_now.plain asks_now.unlisted rows h).answer Null in
+        (reads_as text [] old new old.now.schema refl _ asks_now.command asks_now.plain asks_now.unlisted rows h).answer Null in
         subst (λ l. IsPermutation l rows) (ap (map (λ r. eval_all project ([] ∷ r ∷ []))) (all_pass (old.now.trees tree)) ∙ each_shown (old.now.trees tree))
         (subst (λ l. IsPermutation (map (λ r. eval_all project ([] ∷ r ∷ [])) (filter (passes [] []) l)) rows) (is.read old.now.trees) (answer_is tree [] project (overlay old.now.trees []) [] rows answer))
 
@@ -87,27 +93,27 @@ module _ (tree : ℕ) (text : List ℕ) (project : List Term) (shown : Row → R
     commits_nothing : Survives old new (CommitsShowing text [] old) → Survives old new (λ _. ⊥)
     commits_nothing = survives_weaker old new _ _ (λ _ db. never_commits text [] old db plain_now)
 
-  same_on_ok : {X : Type 0} (items : X → List Row) (r : Result X Error) → IsLand old.now.schema → IfOk r (λ x. Shown text [] old new (items x)) → OnOk r (IsUnchanged old new)
-  same_on_ok items (Ok x) land h = unchanged land (items x) h
-  same_on_ok items (Err e) land h = tt
+  same_on_ok : {X : Type 0} (items : X → List Row) (r : Result X Error) → Has old.now.schema → IfOk r (λ x. Shown text [] old new (items x)) → OnOk r (IsUnchanged old new)
+  same_on_ok items (Ok x) has h = unchanged has (items x) h
+  same_on_ok items (Err e) has h = tt
 
-  left_on_err : {X : Type 0} (r : Result X Error) → IsLand old.now.schema → IfErr r (FailsToQuery text [] old new) → OnErr r (IsTrue new.is_open → IsLeft old new)
-  left_on_err (Ok x) land h = tt
-  left_on_err (Err e) land h = left_by land e h
+  left_on_err : {X : Type 0} (r : Result X Error) → Has old.now.schema → IfErr r (FailsToQuery text [] old new) → OnErr r (IsTrue new.is_open → IsLeft old new)
+  left_on_err (Ok x) has h = tt
+  left_on_err (Err e) has h = left_by has e h
 
   -- a call that answers the text is a look that gives all rows
-  pub looks : {X : Type 0} (items : X → List Row) (r : Result X Error) → (HasCleanDisk old → IsLand old.now.schema) → (HasCleanDisk new → IfOk r (λ x. Shown text [] old new (items x)))
+  pub looks : {X : Type 0} (items : X → List Row) (r : Result X Error) → (HasCleanDisk old → Has old.now.schema) → (HasCleanDisk new → IfOk r (λ x. Shown text [] old new (items x)))
       → (HasCleanDisk new → IfErr r (FailsToQuery text [] old new)) → Survives old new (CommitsShowing text [] old) → IsLook r (λ x. IsPermutation (map shown (old.now.trees tree)) (items x)) old new
-  looks items r land answers refuses safe = record {
-    given = λ clean. IfOk-weaker r _ _ (λ x. listed (land (clean_before safe clean)) (items x)) (answers clean);
-    same = λ clean. same_on_ok items r (land (clean_before safe clean)) (answers clean);
-    left = λ clean. left_on_err r (land (clean_before safe clean)) (refuses clean);
+  looks items r has answers refuses safe = record {
+    given = λ clean. IfOk-weaker r _ _ (λ x. listed (has (clean_before safe clean)) (items x)) (answers clean);
+    same = λ clean. same_on_ok items r (has (clean_before safe clean)) (answers clean);
+    left = λ clean. left_on_err r (has (clean_before safe clean)) (refuses clean);
     survives = record {
       clean = safe.clean;
       shield = safe.shield;
       counts = safe.counts;
       limit = safe.limit;
       closes = safe.closes;
-      crash = λ clean. (commits_nothing (land (clean_before safe clean)) safe).crash clean;
+      crash = λ clean. (commits_nothing (has (clean_before safe clean)) safe).crash clean;
     };
   }

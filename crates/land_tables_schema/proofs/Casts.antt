@@ -1,5 +1,5 @@
 -- What cells become where they are written, and the tests of a statement on them.
-use Rattle.std.proofs.Common.{◌≡◌, ◌<◌, ◌^◌, ℕ, ℤ, pos, List, Option, Some, None, bytes_eq, Bool, true, false, ◌==◌, cond, of_z, to_z, refl, ap, ◌∙◌, arith}
+use Rattle.std.proofs.Common.{◌≡◌, ◌<◌, ◌^◌, ℕ, ℤ, pos, List, Option, Some, None, bytes_eq, Bool, true, false, ◌&&◌, ◌==◌, cond, of_z, to_z, refl, ap, ap₂, ◌∙◌, arith}
 use Rattle.std.specs.Int.{w64}
 use Rattle.std.specs.Ordering.{int_eq, is_eq}
 use Rattle.std.proofs.lemmas.Bool.Decides.{nat_tests}
@@ -56,3 +56,11 @@ as_signed z n is small = ap (λ y. to_z w64 (of_z w64 y)) is ∙ to_z_pos w64 n 
 
 pub same_text : (a b : List ℕ) → is_eq (bytes_cmp a b) ≡ bytes_eq a b
 same_text a b = is_eq-slice_cmp a b
+
+-- two tests and a third, one after another
+pub all_three : {a b c d : Bool} (e : Bool) → a ≡ b → c ≡ d → (a && (c && e)) ≡ ((b && d) && e)
+all_three {b = b} {d = d} e p q = ap₂ (λ x y. x && (y && e)) p q ∙ grouped b d e
+  where
+    grouped : (x y z : Bool) → (x && (y && z)) ≡ ((x && y) && z)
+    grouped true y z = refl
+    grouped false y z = refl

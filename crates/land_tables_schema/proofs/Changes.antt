@@ -4,6 +4,7 @@ use Rattle.land_tables_schema.proofs.Kept.{are_kept, still_holds, still_lists}
 use Rattle.land_tables_schema.specs.Rows.Held.{HoldsRows, Rows}
 use Rattle.land_tables_schema.specs.Rows.Edition.{Edition, edition_row}
 use Rattle.land_tables_schema.specs.Rows.Forms.{Holds, Lists, KeepsOthers}
+use Rattle.land_tables_schema.specs.Rows.Mandate.{MandateRow, mandates}
 use Rattle.land_tables_schema.specs.Rows.Member.{MemberRow, members}
 use Rattle.land_tables_schema.specs.Rows.Moments.{Moment, moment_row}
 use Rattle.land_tables_schema.specs.Rows.Mutation.{MutationRow, mutations}
@@ -34,6 +35,7 @@ module _ (old new : Trees) (rows : Rows) (held : HoldsRows old rows) where
         the_sources = still_holds sources old new rows.sources (k.source (λ e. absurd (omega arith))) held.the_sources;
         the_mutations = still_holds mutations old new rows.mutations (k.mutation (λ e. absurd (omega arith))) held.the_mutations;
         the_namings = still_holds namings old new rows.namings (k.names (λ e. absurd (omega arith))) held.the_namings;
+        the_mandates = still_holds mandates old new rows.mandates (k.mandate (λ e. absurd (omega arith))) held.the_mandates;
       }
 
   pub with_moments : (xs : List Moment) → KeepsOthers table.moments old new → Lists table.moments moment_row new xs → HoldsRows new (record rows { moments = xs })
@@ -51,6 +53,7 @@ module _ (old new : Trees) (rows : Rows) (held : HoldsRows old rows) where
         the_sources = still_holds sources old new rows.sources (k.source (λ e. absurd (omega arith))) held.the_sources;
         the_mutations = still_holds mutations old new rows.mutations (k.mutation (λ e. absurd (omega arith))) held.the_mutations;
         the_namings = still_holds namings old new rows.namings (k.names (λ e. absurd (omega arith))) held.the_namings;
+        the_mandates = still_holds mandates old new rows.mandates (k.mandate (λ e. absurd (omega arith))) held.the_mandates;
       }
 
   pub with_parties : (xs : List (Version PartyRow)) → KeepsOthers table.party old new → Holds parties new xs → HoldsRows new (record rows { parties = xs })
@@ -68,6 +71,7 @@ module _ (old new : Trees) (rows : Rows) (held : HoldsRows old rows) where
         the_sources = still_holds sources old new rows.sources (k.source (λ e. absurd (omega arith))) held.the_sources;
         the_mutations = still_holds mutations old new rows.mutations (k.mutation (λ e. absurd (omega arith))) held.the_mutations;
         the_namings = still_holds namings old new rows.namings (k.names (λ e. absurd (omega arith))) held.the_namings;
+        the_mandates = still_holds mandates old new rows.mandates (k.mandate (λ e. absurd (omega arith))) held.the_mandates;
       }
 
   pub with_roles : (xs : List (Version RoleRow)) → KeepsOthers table.role old new → Holds roles new xs → HoldsRows new (record rows { roles = xs })
@@ -85,6 +89,7 @@ module _ (old new : Trees) (rows : Rows) (held : HoldsRows old rows) where
         the_sources = still_holds sources old new rows.sources (k.source (λ e. absurd (omega arith))) held.the_sources;
         the_mutations = still_holds mutations old new rows.mutations (k.mutation (λ e. absurd (omega arith))) held.the_mutations;
         the_namings = still_holds namings old new rows.namings (k.names (λ e. absurd (omega arith))) held.the_namings;
+        the_mandates = still_holds mandates old new rows.mandates (k.mandate (λ e. absurd (omega arith))) held.the_mandates;
       }
 
   pub with_members : (xs : List (Version MemberRow)) → KeepsOthers table.member old new → Holds members new xs → HoldsRows new (record rows { members = xs })
@@ -102,6 +107,7 @@ module _ (old new : Trees) (rows : Rows) (held : HoldsRows old rows) where
         the_sources = still_holds sources old new rows.sources (k.source (λ e. absurd (omega arith))) held.the_sources;
         the_mutations = still_holds mutations old new rows.mutations (k.mutation (λ e. absurd (omega arith))) held.the_mutations;
         the_namings = still_holds namings old new rows.namings (k.names (λ e. absurd (omega arith))) held.the_namings;
+        the_mandates = still_holds mandates old new rows.mandates (k.mandate (λ e. absurd (omega arith))) held.the_mandates;
       }
 
   pub with_units : (xs : List (Version UnitRow)) → KeepsOthers table.unit old new → Holds units new xs → HoldsRows new (record rows { units = xs })
@@ -119,6 +125,7 @@ module _ (old new : Trees) (rows : Rows) (held : HoldsRows old rows) where
         the_sources = still_holds sources old new rows.sources (k.source (λ e. absurd (omega arith))) held.the_sources;
         the_mutations = still_holds mutations old new rows.mutations (k.mutation (λ e. absurd (omega arith))) held.the_mutations;
         the_namings = still_holds namings old new rows.namings (k.names (λ e. absurd (omega arith))) held.the_namings;
+        the_mandates = still_holds mandates old new rows.mandates (k.mandate (λ e. absurd (omega arith))) held.the_mandates;
       }
 
   pub with_parcels : (xs : List (Version ParcelRow)) → KeepsOthers table.parcel old new → Holds parcels new xs → HoldsRows new (record rows { parcels = xs })
@@ -136,6 +143,7 @@ module _ (old new : Trees) (rows : Rows) (held : HoldsRows old rows) where
         the_sources = still_holds sources old new rows.sources (k.source (λ e. absurd (omega arith))) held.the_sources;
         the_mutations = still_holds mutations old new rows.mutations (k.mutation (λ e. absurd (omega arith))) held.the_mutations;
         the_namings = still_holds namings old new rows.namings (k.names (λ e. absurd (omega arith))) held.the_namings;
+        the_mandates = still_holds mandates old new rows.mandates (k.mandate (λ e. absurd (omega arith))) held.the_mandates;
       }
 
   pub with_rrrs : (xs : List (Version RrrRow)) → KeepsOthers table.rrr old new → Holds rrrs new xs → HoldsRows new (record rows { rrrs = xs })
@@ -153,6 +161,7 @@ module _ (old new : Trees) (rows : Rows) (held : HoldsRows old rows) where
         the_sources = still_holds sources old new rows.sources (k.source (λ e. absurd (omega arith))) held.the_sources;
         the_mutations = still_holds mutations old new rows.mutations (k.mutation (λ e. absurd (omega arith))) held.the_mutations;
         the_namings = still_holds namings old new rows.namings (k.names (λ e. absurd (omega arith))) held.the_namings;
+        the_mandates = still_holds mandates old new rows.mandates (k.mandate (λ e. absurd (omega arith))) held.the_mandates;
       }
 
   pub with_sources : (xs : List (Version SourceRow)) → KeepsOthers table.source old new → Holds sources new xs → HoldsRows new (record rows { sources = xs })
@@ -170,6 +179,7 @@ module _ (old new : Trees) (rows : Rows) (held : HoldsRows old rows) where
         the_sources = here;
         the_mutations = still_holds mutations old new rows.mutations (k.mutation (λ e. absurd (omega arith))) held.the_mutations;
         the_namings = still_holds namings old new rows.namings (k.names (λ e. absurd (omega arith))) held.the_namings;
+        the_mandates = still_holds mandates old new rows.mandates (k.mandate (λ e. absurd (omega arith))) held.the_mandates;
       }
 
   pub with_mutations : (xs : List (Version MutationRow)) → KeepsOthers table.mutation old new → Holds mutations new xs → HoldsRows new (record rows { mutations = xs })
@@ -187,6 +197,7 @@ module _ (old new : Trees) (rows : Rows) (held : HoldsRows old rows) where
         the_sources = still_holds sources old new rows.sources (k.source (λ e. absurd (omega arith))) held.the_sources;
         the_mutations = here;
         the_namings = still_holds namings old new rows.namings (k.names (λ e. absurd (omega arith))) held.the_namings;
+        the_mandates = still_holds mandates old new rows.mandates (k.mandate (λ e. absurd (omega arith))) held.the_mandates;
       }
 
   pub with_namings : (xs : List (Version NamesRow)) → KeepsOthers table.names old new → Holds namings new xs → HoldsRows new (record rows { namings = xs })
@@ -204,4 +215,23 @@ module _ (old new : Trees) (rows : Rows) (held : HoldsRows old rows) where
         the_sources = still_holds sources old new rows.sources (k.source (λ e. absurd (omega arith))) held.the_sources;
         the_mutations = still_holds mutations old new rows.mutations (k.mutation (λ e. absurd (omega arith))) held.the_mutations;
         the_namings = here;
+        the_mandates = still_holds mandates old new rows.mandates (k.mandate (λ e. absurd (omega arith))) held.the_mandates;
+      }
+
+  pub with_mandates : (xs : List (Version MandateRow)) → KeepsOthers table.mandate old new → Holds mandates new xs → HoldsRows new (record rows { mandates = xs })
+  with_mandates xs kept here =
+      let k = are_kept table.mandate old new kept in
+      record {
+        the_editions = still_lists table.edition edition_row old new rows.editions (k.edition (λ e. absurd (omega arith))) held.the_editions;
+        the_moments = still_lists table.moments moment_row old new rows.moments (k.moments (λ e. absurd (omega arith))) held.the_moments;
+        the_parties = still_holds parties old new rows.parties (k.party (λ e. absurd (omega arith))) held.the_parties;
+        the_roles = still_holds roles old new rows.roles (k.role (λ e. absurd (omega arith))) held.the_roles;
+        the_members = still_holds members old new rows.members (k.member (λ e. absurd (omega arith))) held.the_members;
+        the_units = still_holds units old new rows.units (k.unit (λ e. absurd (omega arith))) held.the_units;
+        the_parcels = still_holds parcels old new rows.parcels (k.parcel (λ e. absurd (omega arith))) held.the_parcels;
+        the_rrrs = still_holds rrrs old new rows.rrrs (k.rrr (λ e. absurd (omega arith))) held.the_rrrs;
+        the_sources = still_holds sources old new rows.sources (k.source (λ e. absurd (omega arith))) held.the_sources;
+        the_mutations = still_holds mutations old new rows.mutations (k.mutation (λ e. absurd (omega arith))) held.the_mutations;
+        the_namings = still_holds namings old new rows.namings (k.names (λ e. absurd (omega arith))) held.the_namings;
+        the_mandates = here;
       }

@@ -1,30 +1,35 @@
--- What CREATEs do to a connection.
-use Rattle.std.proofs.Common.{◌≡◌, ◌⊎◌, inl, inr, ℕ, List, [], ◌∷◌, ◌++◌, map, false, None, Some, Ok, Err, Result, Option, slice_get, refl, sym, ap, ap₂, subst, ◌∙◌}
+-- What CREATEs and DROPs of indexes do to a connection.
+use Rattle.std.proofs.Common.{◌≡◌, ◌⊎◌, inl, inr, ℕ, List, [], ◌∷◌, ◌++◌, map, false, None, Some, Ok, Err, Result, Option, slice_get, refl, sym, ap, ap₂, subst, ◌∙◌, append-nil, append_assoc, is_ok}
 use Rattle.std.specs.List.{AllByRecursion}
 use Rattle.std.proofs.lemmas.List.{map-append}
-use Rattle.land_tables_schema.specs.Definitions.{made_by, made_as, table_made, index_made, index_on, IsDefining, made, IsDefinition, AreDefinitions}
+use Rattle.land_tables_schema.specs.Definitions.{made_by, made_as, table_made, index_made, index_on, index_dropped, IsDefining, IsChanging, made, AreDefinitions, IsReady, AreReady}
 use Rattle.land_tables_schema.specs.Land.{no_schema}
 use Rattle.land_tables_schema.specs.Laws.{TextsLaw, land_texts}
 use Rattle.land_tables_schema.specs.Making.{AreEmpty, Defines, DefinesAll, IsMade}
 use Rattle.sqlite.proofs.Callers.{command_of, runs_as}
 use Rattle.sqlite.specs.Command.{Command}
-use Rattle.sqlite.specs.Command.TheVariants.{CreateTable, CreateIndex}
+use Rattle.sqlite.specs.Command.TheVariants.{CreateTable, CreateIndex, DropIndex, Nothing}
 use Rattle.sqlite.specs.Does.{Tally, Does, lacks_sequence}
 use Rattle.sqlite.specs.Effect.{Database}
 use Rattle.sqlite.specs.Listing.{understood}
-use Rattle.sqlite.specs.State.{State, mode_of, Runs, Executes}
+use Rattle.sqlite.specs.State.{State, mode_of, Runs, Executes, ExecutesIn}
 use Rattle.sqlite.specs.Tree.{Trees}
-use Rattle.sqlite_catalog.specs.Change.{created, indexed, KeepsRows}
+use Rattle.sqlite_catalog.specs.Change.{created, indexed, next_tree, without_index, KeepsRows}
 use Rattle.sqlite_keyed.proofs.ListLemmas.{all-append}
+use Rattle.sqlite_resolve.specs.declared.compiled.Compiled.{Compiled}
+use Rattle.sqlite_resolve.specs.declared.error.CompileError.{CompileError}
+use Rattle.sqlite_resolve.specs.Compile.{index_defined_by}
+use Rattle.sqlite.specs.Compile.{table_defined_by}
+use Rattle.sqlite_schema.specs.declared.schema.Index.{Index}
 use Rattle.sqlite_schema.specs.declared.schema.Schema.{Schema}
 use Rattle.sqlite_schema.specs.declared.schema.Table.{Table}
 
 -- a part that gave a value did not stop on the way
-went : {B E R : Type 0} {b : B} {Stops : E → Type 0} → ((stop : E) × Stops stop × (Ok b ≡ Err stop)) ⊎ R → R
+pub went : {B E R : Type 0} {b : B} {Stops : E → Type 0} → ((stop : E) × Stops stop × (Ok b ≡ Err stop)) ⊎ R → R
 went (inl stopped) = absurd (let e = stopped.2 in cc)
 went (inr on) = on
 
-same_value : {B E : Type 0} {a b : B} → ◌≡◌ {A = Result B E} (Ok a) (Ok b) → a ≡ b
+pub same_value : {B E : Type 0} {a b : B} → ◌≡◌ {A = Result B E} (Ok a) (Ok b) → a ≡ b
 same_value e = cc
 
 -- the tables that keep their rows are as empty as they were
@@ -35,9 +40,78 @@ still_empty old new (t ∷ ts) kept none = (kept.0 ∙ none.0, still_empty old n
 moved : (now : Database) (s : Schema) (trees : Trees) → now.schema ≡ s → now.trees ≡ trees → AllByRecursion (λ (t : Table). trees t.tree ≡ []) s.tables → AreEmpty now
 moved now s trees is same none = rw (is, same) none
 
+-- ---- rows that stay
+
+all_kept : (ts : List Table) (trees : Trees) → KeepsRows ts trees trees
+all_kept [] trees = tt
+all_kept (t ∷ ts) trees = (refl, all_kept ts trees)
+
+kept_then : (ts : List Table) (a b c : Trees) → KeepsRows ts a b → KeepsRows ts b c → KeepsRows ts a c
+kept_then [] a b c one two = tt
+kept_then (t ∷ ts) a b c one two = (two.0 ∙ one.0, kept_then ts a b c one.1 two.1)
+
+kept_in_front : (ts more : List Table) (a b : Trees) → KeepsRows (ts ++ more) a b → KeepsRows ts a b
+kept_in_front [] more a b kept = tt
+kept_in_front (t ∷ ts) more a b kept = (kept.0, kept_in_front ts more a b kept.1)
+
+-- ---- no table goes
+
+-- the tables of one schema, and maybe more after them
+record HasMore (s t : Schema) : Type 0 where
+  more : List Table
+  is : t.tables ≡ s.tables ++ more
+
+same_tables : (s t : Schema) → t.tables ≡ s.tables → HasMore s t
+same_tables s t is = record { more = []; is = is ∙ sym (append-nil s.tables) }
+
+more_table : (s : Schema) (r : Result Table CompileError) → HasMore s (table_made s r)
+more_table s (Ok t) = record { more = (record t { tree = next_tree s }) ∷ []; is = refl }
+more_table s (Err e) = same_tables s s refl
+
+more_index : (s : Schema) (t : Table) (r : Result Index CompileError) → HasMore s (index_made s t r)
+more_index s t (Ok i) = same_tables s (indexed s t i) refl
+more_index s t (Err e) = same_tables s s refl
+
+more_on : (s : Schema) (text : List ℕ) (o : Option Table) → HasMore s (index_on s text o)
+more_on s text (Some t) = more_index s t (index_defined_by t text)
+more_on s text None = same_tables s s refl
+
+more_dropped : (s : Schema) (o : Option Index) → HasMore s (index_dropped s o)
+more_dropped s (Some i) = same_tables s (without_index s i.tree) refl
+more_dropped s None = same_tables s s refl
+
+more_as : (s : Schema) (text : List ℕ) (command : Command) → HasMore s (made_as s text command)
+more_as s text CreateTable = more_table s (table_defined_by text)
+more_as s text (CreateIndex at) = more_on s text (slice_get s.tables at)
+more_as s text (DropIndex at) = more_dropped s (slice_get s.indexes at)
+more_as s text _ = same_tables s s refl
+
+more_made : (texts : List (List ℕ)) (s : Schema) → HasMore s (made s texts)
+more_made [] s = same_tables s s refl
+more_made (text ∷ texts) s =
+    let one = more_as s text (command_of (understood s text)) in
+    let rest = more_made texts (made_by s text) in
+    record { more = one.more ++ rest.more; is = rest.is ∙ ap (λ ts. ts ++ rest.more) one.is ∙ append_assoc s.tables one.more rest.more }
+
+kept_before : (s t : Schema) (a b : Trees) → HasMore s t → KeepsRows t.tables a b → KeepsRows s.tables a b
+kept_before s t a b has kept = kept_in_front s.tables has.more a b (subst (λ ts. KeepsRows ts a b) has.is kept)
+
+-- ---- one text
+
+-- what was done by a text that is understood as this command
+record DoesAs (old new : Database) (text : List ℕ) (command : Command) : Type 0 where
+  schema : new.schema ≡ made_as old.schema text command
+  empty : AreEmpty old → AreEmpty new
+  kept : KeepsRows old.schema.tables old.trees new.trees
+
+-- what ran was understood
+pub ran : (sql : List ℕ) (old new : State) (count : ℕ) → Executes sql [] old new (Ok count) → (c : Compiled) × (understood old.now.schema sql ≡ Ok c)
+unfolding ExecutesIn
+ran sql old new count h = (h.0, h.1.is)
+
 module _ (old new : State) (text : List ℕ) (count : ℕ) where
-  defines_as : (command : Command) → command_of (understood old.now.schema text) ≡ command → IsDefining command (made_as old.now.schema text command) → Runs old new None command text [] count
-      → (new.now.schema ≡ made_as old.now.schema text command) × (AreEmpty old.now → AreEmpty new.now)
+  defines_as : (command : Command) → command_of (understood old.now.schema text) ≡ command → IsChanging command (made_as old.now.schema text command) → Runs old new None command text [] count
+      → DoesAs old.now new.now text command
   defines_as CreateTable is fine w =
       let all = went w.changed in
       let first = went all.1 in
@@ -47,19 +121,21 @@ module _ (old new : State) (text : List ℕ) (count : ℕ) where
       let plain : lacks_sequence first.0.schema ≡ false = ap lacks_sequence schema ∙ fine in
       let now : new.now ≡ first.0 = ap (λ (p : Tally × Database). p.1) (same_value all.2) ∙ same_value (rw plain at first.2) in
       let same : new.now.schema ≡ created old.now.schema made.table = ap (λ (d : Database). d.schema) now ∙ made.is in
-      let trees : new.now.trees ≡ first.0.trees = ap (λ (d : Database). d.trees) now in (
-        same ∙ sym by,
-        λ none.
+      let trees : new.now.trees ≡ first.0.trees = ap (λ (d : Database). d.trees) now in
+      record {
+        schema = same ∙ sym by;
+        empty = λ none.
             let rows = all-append (λ (t : Table). first.0.trees t.tree ≡ []) old.now.schema.tables _ (still_empty old.now.trees first.0.trees old.now.schema.tables made.others none) (made.empty, tt) in
-            moved new.now (created old.now.schema made.table) first.0.trees same trees rows,
-      )
+            moved new.now (created old.now.schema made.table) first.0.trees same trees rows;
+        kept = subst (λ (x : Trees). KeepsRows old.now.schema.tables old.now.trees x) (sym trees) made.others;
+      }
   defines_as (CreateIndex place) is fine w = go (slice_get old.now.schema.tables place) refl w.changed
     where
       schema : Schema
       schema = old.now.schema
 
       go : (table : Option Table) → slice_get schema.tables place ≡ table → Does old.step_limit (mode_of old) [] old.now text None (CreateIndex place) (Ok (w.tally, new.now))
-          → (new.now.schema ≡ index_on schema text (slice_get schema.tables place)) × (AreEmpty old.now → AreEmpty new.now)
+          → DoesAs old.now new.now text (CreateIndex place)
       go None place_is h = absurd (let e = rw place_is at h in cc)
       go (Some table) place_is h =
           let all = went (rw place_is at h) in
@@ -68,16 +144,45 @@ module _ (old new : State) (text : List ℕ) (count : ℕ) where
           let now : new.now ≡ all.0 = ap (λ (p : Tally × Database). p.1) (same_value all.2) in
           let same : new.now.schema ≡ indexed schema table made.index = ap (λ (d : Database). d.schema) now ∙ made.is in
           let trees : new.now.trees ≡ all.0.trees = ap (λ (d : Database). d.trees) now in
-          (same ∙ sym by, λ none. moved new.now (indexed schema table made.index) all.0.trees same trees (still_empty old.now.trees all.0.trees schema.tables made.rows none))
+          record {
+            schema = same ∙ sym by;
+            empty = λ none. moved new.now (indexed schema table made.index) all.0.trees same trees (still_empty old.now.trees all.0.trees schema.tables made.rows none);
+            kept = subst (λ (x : Trees). KeepsRows schema.tables old.now.trees x) (sym trees) made.rows;
+          }
+  defines_as (DropIndex place) is fine w = go (slice_get old.now.schema.indexes place) refl w.changed
+    where
+      schema : Schema
+      schema = old.now.schema
+
+      go : (index : Option Index) → slice_get schema.indexes place ≡ index → Does old.step_limit (mode_of old) [] old.now text None (DropIndex place) (Ok (w.tally, new.now))
+          → DoesAs old.now new.now text (DropIndex place)
+      go None place_is h = absurd (let e = rw place_is at h in cc)
+      go (Some index) place_is h =
+          let all = went (rw place_is at h) in
+          let left = all.1 in
+          let now : new.now ≡ all.0 = ap (λ (p : Tally × Database). p.1) (same_value all.2) in
+          let same : new.now.schema ≡ without_index schema index.tree = ap (λ (d : Database). d.schema) now ∙ left.0 in
+          let trees : new.now.trees ≡ all.0.trees = ap (λ (d : Database). d.trees) now in
+          record {
+            schema = same ∙ sym (ap (index_dropped schema) place_is);
+            empty = λ none. moved new.now (without_index schema index.tree) all.0.trees same trees (still_empty old.now.trees all.0.trees schema.tables left.1 none);
+            kept = subst (λ (x : Trees). KeepsRows schema.tables old.now.trees x) (sym trees) left.1;
+          }
+  defines_as Nothing is fine w = record {
+    schema = ap (λ (d : Database). d.schema) w.0.0.now_is;
+    empty = λ none. subst AreEmpty (sym w.0.0.now_is) none;
+    kept = subst (λ (d : Database). KeepsRows old.now.schema.tables old.now.trees d.trees) (sym w.0.0.now_is) (all_kept old.now.schema.tables old.now.trees);
+  }
   defines_as _ is fine w = absurd fine
 
-  -- a text that is one CREATE does as it says
-  pub defines : IsDefinition old.now.schema text → Executes text [] old new (Ok count) → Defines text old.now new.now
-  defines def h =
+  -- a text that is one CREATE or one DROP INDEX does as it says
+  pub defines : IsReady old.now.schema text → Executes text [] old new (Ok count) → Defines text old.now new.now
+  defines ready h =
+      let def = ready (ap is_ok (ran text old new count h).1) in
       let command = command_of (understood old.now.schema text) in
       let w = subst (λ t. Runs old new None command t [] count) def.whole (runs_as text [] old new old.now.schema refl command refl def.plain count h) in
-      let it = defines_as command refl def.defining w in
-      record { schema = it.0; empty = it.1 }
+      let it = defines_as command refl def.changing w in
+      record { schema = it.schema; empty = it.empty; kept = it.kept }
 
 made_last : (s : Schema) (texts : List (List ℕ)) (text : List ℕ) → made s (texts ++ text ∷ []) ≡ made_by (made s texts) text
 made_last s [] text = refl
@@ -86,33 +191,47 @@ made_last s (t ∷ texts) text = made_last (made_by s t) texts text
 -- what some texts have done, and what is still to be run
 pub record HasDefined (done left : List (List ℕ)) (old new : Database) : Type 0 where
   pub defined : DefinesAll done old new
-  pub definitions : AreDefinitions new.schema left
+  pub definitions : AreReady new.schema left
 
 -- no text was run
-pub none_defined : (texts : List (List ℕ)) (db : Database) → AreDefinitions db.schema texts → HasDefined [] texts db db
-none_defined texts db all = record { defined = record { schema = refl; empty = λ e. e }; definitions = all }
+pub none_defined : (texts : List (List ℕ)) (db : Database) → AreReady db.schema texts → HasDefined [] texts db db
+none_defined texts db all = record { defined = record { schema = refl; empty = λ e. e; kept = all_kept db.schema.tables db.trees }; definitions = all }
 
--- the next text is one CREATE
-pub next_defines : {X : Type 0} (f : X → List ℕ) (rest : List X) (x : X) {left : List X} (s : Schema) → left ≡ x ∷ rest → AreDefinitions s (map f left) → IsDefinition s (f x)
-next_defines f rest x s is all = (subst (λ l. AreDefinitions s (map f l)) is all).0
+-- the next text is one CREATE or one DROP INDEX
+pub next_defines : {X : Type 0} (f : X → List ℕ) (rest : List X) (x : X) {left : List X} (s : Schema) → left ≡ x ∷ rest → AreReady s (map f left) → IsReady s (f x)
+next_defines f rest x s is all = (subst (λ l. AreReady s (map f l)) is all).0
 
 -- one text more was run
 pub defined_more : {X : Type 0} (a b c : Database) (f : X → List ℕ) (before rest : List X) (x : X) {left done : List X} → left ≡ x ∷ rest → done ≡ before ++ x ∷ []
     → HasDefined (map f before) (map f left) a b → Defines (f x) b c → HasDefined (map f done) (map f rest) a c
 defined_more a b c f before rest x is more far one =
-    let next = subst (λ l. AreDefinitions b.schema (map f l)) is far.definitions in
+    let next = subst (λ l. AreReady b.schema (map f l)) is far.definitions in
+    let more_tables = subst (HasMore a.schema) (sym far.defined.schema) (more_made (map f before) a.schema) in
     let so : map f (before ++ x ∷ []) ≡ map f before ++ f x ∷ [] = map-append f before (x ∷ []) in
     record {
       defined = record {
         schema = one.schema ∙ ap (λ s. made_by s (f x)) far.defined.schema ∙ sym (made_last a.schema (map f before) (f x)) ∙ ap (made a.schema) (sym (ap (map f) more ∙ so));
         empty = λ e. one.empty (far.defined.empty e);
+        kept = kept_then a.schema.tables a.trees b.trees c.trees far.defined.kept (kept_before a.schema b.schema b.trees c.trees more_tables one.kept);
       };
-      definitions = subst (λ s. AreDefinitions s (map f rest)) (sym one.schema) next.1;
+      definitions = subst (λ s. AreReady s (map f rest)) (sym one.schema) next.1;
     }
 
+-- a CREATE is ready to be run
+changing : (command : Command) (s : Schema) → IsDefining command s → IsChanging command s
+changing CreateTable s h = h
+changing (CreateIndex at) s h = h
+changing _ s h = absurd h
+
+are_ready : (texts : List (List ℕ)) (s : Schema) → AreDefinitions s texts → AreReady s texts
+are_ready [] s all = tt
+are_ready (text ∷ texts) s all =
+    let one = all.0 in
+    (λ _. record { plain = one.plain; whole = one.whole; changing = changing (command_of (understood s text)) (made_by s text) one.defining }, are_ready texts (made_by s text) all.1)
+
 -- the texts of the register make its tables
-pub texts_define : (s : Schema) (texts : List (List ℕ)) → s ≡ no_schema → texts ≡ land_texts → TextsLaw → AreDefinitions s texts
-texts_define s texts s_is texts_is law = rw (s_is, texts_is) law.creates
+pub texts_define : (s : Schema) (texts : List (List ℕ)) → s ≡ no_schema → texts ≡ land_texts → TextsLaw → AreReady s texts
+texts_define s texts s_is texts_is law = rw (s_is, texts_is) (are_ready land_texts no_schema law.creates)
 
 none_there : (db : Database) (s : Schema) → db.schema ≡ s → s ≡ no_schema → AreEmpty db
 none_there db s db_is s_is = rw (db_is, s_is) tt

@@ -8,8 +8,9 @@ use Rattle.land_tables_schema.proofs.Steps.{step_then, was_clean}
 use Rattle.land_tables_schema.specs.Land.{IsLand, made_schema}
 use Rattle.land_tables_schema.specs.Making.{IsMade}
 use Rattle.land_tables_schema.specs.Rows.Held.{HoldsRows, IsNew, Rows}
-use Rattle.land_tables_schema.specs.Rows.Edition.{edition_row, first_edition}
+use Rattle.land_tables_schema.specs.Rows.Edition.{current_edition, edition_row}
 use Rattle.land_tables_schema.specs.Rows.Forms.{Form, Holds, Adds, Appends}
+use Rattle.land_tables_schema.specs.Rows.Mandate.{mandates}
 use Rattle.land_tables_schema.specs.Rows.Member.{members}
 use Rattle.land_tables_schema.specs.Rows.Moments.{moment_row}
 use Rattle.land_tables_schema.specs.Rows.Mutation.{mutations}
@@ -38,14 +39,14 @@ unfolding IsDistinct
 none_apart = tt
 
 -- an empty table holds nothing
-none_held : {X : Type 0} (form : Form X) (db : Trees) → db form.table.tree ≡ [] → Holds form db []
+pub none_held : {X : Type 0} (form : Form X) (db : Trees) → db form.table.tree ≡ [] → Holds form db []
 none_held form db none = record { rows = rw none (IsPermutation-refl []); numbered = rw none (record { whole = refl; apart = none_apart }) }
 
 none_in : (db : Database) (s : Schema) → s ≡ made_schema → AllByRecursion (λ (t : Table). db.trees t.tree ≡ []) s.tables → AllByRecursion (λ (t : Table). db.trees t.tree ≡ []) made_schema.tables
 none_in db s is none = subst (λ (s : Schema). AllByRecursion (λ (t : Table). db.trees t.tree ≡ []) s.tables) is none
 
 abbrev no_rows : Rows
-no_rows = record { editions = []; moments = []; parties = []; roles = []; members = []; units = []; parcels = []; rrrs = []; sources = []; mutations = []; namings = [] }
+no_rows = record { editions = []; moments = []; parties = []; roles = []; members = []; units = []; parcels = []; rrrs = []; sources = []; mutations = []; namings = []; mandates = [] }
 
 -- tables that were just made hold nothing
 nothing_held : (db : Database) → IsMade db → HoldsRows db.trees no_rows
@@ -63,14 +64,15 @@ nothing_held db made =
       the_sources = none_held sources db.trees none.1.1.1.1.1.1.1.1.0;
       the_mutations = none_held mutations db.trees none.1.1.1.1.1.1.1.1.1.0;
       the_namings = none_held namings db.trees none.1.1.1.1.1.1.1.1.1.1.0;
+      the_mandates = none_held mandates db.trees none.1.1.1.1.1.1.1.1.1.1.1.0;
     }
 
 -- the first rows, one after another
-pub first_rows : (made a b c d : Database) → IsMade made → Appends table.edition edition_row first_edition made a → Appends table.moments moment_row (record { stamp = pos 0; next = 2 }) a b
+pub first_rows : (made a b c d : Database) → IsMade made → Appends table.edition edition_row current_edition made a → Appends table.moments moment_row (record { stamp = pos 0; next = 2 }) a b
     → Adds parties (begun (record { number = 1; name = codes "Land Office"; kind = codes "nonNaturalPerson" }) (pos 0)) b c → Adds roles (begun (record { party = 1; role = codes "stateAdministrator" }) (pos 0)) c d → IsNew d
 first_rows made a b c d is edition moment party role =
     let none = nothing_held made is in
-    let one = with_editions made.trees a.trees no_rows none (first_edition ∷ []) edition.kept (edition.listed [] none.the_editions) in
+    let one = with_editions made.trees a.trees no_rows none (current_edition ∷ []) edition.kept (edition.listed [] none.the_editions) in
     let two = with_moments a.trees b.trees _ one (record { stamp = pos 0; next = 2 } ∷ []) moment.kept (moment.listed [] one.the_moments) in
     let three = with_parties b.trees c.trees _ two _ party.kept (party.held [] two.the_parties) in
     let four = with_roles c.trees d.trees _ three _ role.kept (role.held [] three.the_roles) in
@@ -81,7 +83,7 @@ Anything old new = Unit {0}
 
 -- the calls that put them in, one after another
 pub first_steps : {W X Y Z E : Type 0} {w : W} {x : X} {y : Y} {z : Z} (made a b c d : State) → (HasCleanDisk made → IsMade made.now)
-    → IsStep {X = W} {E = E} (Ok w) (Appends table.edition edition_row first_edition) made a
+    → IsStep {X = W} {E = E} (Ok w) (Appends table.edition edition_row current_edition) made a
     → IsStep {X = X} {E = E} (Ok x) (Appends table.moments moment_row (record { stamp = pos 0; next = 2 })) a b
     → IsStep {X = Y} {E = E} (Ok y) (Adds parties (begun (record { number = 1; name = codes "Land Office"; kind = codes "nonNaturalPerson" }) (pos 0))) b c
     → IsStep {X = Z} {E = E} (Ok z) (Adds roles (begun (record { party = 1; role = codes "stateAdministrator" }) (pos 0))) c d

@@ -25,6 +25,7 @@ pub record AreKept (t : ℕ) (old new : Trees) : Type 0 where
   pub source : t ≢ 14 → new 14 ≡ old 14
   pub mutation : t ≢ 16 → new 16 ≡ old 16
   pub names : t ≢ 18 → new 18 ≡ old 18
+  pub mandate : t ≢ 20 → new 20 ≡ old 20
 
 pub are_kept : (one : Table) (old new : Trees) → KeepsOthers one old new → AreKept one.tree old new
 are_kept one old new kept = record {
@@ -39,4 +40,5 @@ are_kept one old new kept = record {
   source = λ other. kept.1.1.1.1.1.1.1.1.0 (λ e. other (sym e));
   mutation = λ other. kept.1.1.1.1.1.1.1.1.1.0 (λ e. other (sym e));
   names = λ other. kept.1.1.1.1.1.1.1.1.1.1.0 (λ e. other (sym e));
+  mandate = λ other. kept.1.1.1.1.1.1.1.1.1.1.1.0 (λ e. other (sym e));
 }

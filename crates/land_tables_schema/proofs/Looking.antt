@@ -50,6 +50,11 @@ pub look_told : {X Y E F : Type 0} {x : X} {P : X → Type 0} {Q : Y → Type 0}
 look_told a b (Ok y) first told = record { given = λ clean. told clean (first.given clean); same = first.same; left = λ _. tt; survives = first.survives }
 look_told a b (Err f) first told = record { given = λ _. tt; same = λ _. tt; left = λ clean _. unchanged_left a b (first.same clean); survives = first.survives }
 
+-- after looks that succeeded something may fail that does not ask the store, as where there is no memory for what is made of them
+pub look_lost : {X Y E F : Type 0} {x : X} {P : X → Type 0} {Q : Y → Type 0} (a b : State) (r : Result Y F) → IsErr r → IsLook {X = X} {E = E} (Ok x) P a b → IsLook r Q a b
+look_lost a b (Err f) failed look = look_told a b (Err f) look (λ _ _. tt)
+look_lost a b (Ok y) failed look = absurd (let is = failed in cc)
+
 -- a look that fails, in other words
 pub look_failed : {X Y E F : Type 0} {e : E} {P : X → Type 0} {Q : Y → Type 0} (a b : State) (r : Result Y F) → IsErr r → IsLook {X = X} {E = E} (Err e) P a b → IsLook r Q a b
 look_failed a b (Err f) failed look = record { given = λ _. tt; same = λ _. tt; left = look.left; survives = look.survives }

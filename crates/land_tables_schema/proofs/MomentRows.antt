@@ -1,12 +1,12 @@
 -- The statement on `moments`.
 use Rattle.std.proofs.Common.{ℕ, List, [], ◌∷◌, Ok, refl, codes}
 use Rattle.land_tables_schema.proofs.Appends.{appends}
-use Rattle.land_tables_schema.proofs.Asks.{Asks, IsListing}
+use Rattle.land_tables_schema.proofs.Asks.{Asks, IsListing, in_first}
 use Rattle.land_tables_schema.proofs.Casts.{cast_null, cast_whole}
 use Rattle.land_tables_schema.proofs.KnownSchemas.{but_for_indexes}
 use Rattle.land_tables_schema.proofs.Statements.{IsInsertion, inserts}
 use Rattle.land_tables_schema.proofs.Updates.{plainly}
-use Rattle.land_tables_schema.specs.Land.{IsLand, land_with}
+use Rattle.land_tables_schema.specs.Land.{HasFirstTables, IsLand, first_with, land_with}
 use Rattle.land_tables_schema.specs.Rows.Forms.{Appends}
 use Rattle.land_tables_schema.specs.Rows.Moments.{Moment, moment_row}
 use Rattle.land_tables_schema.specs.Rows.Versions.{whole}
@@ -17,6 +17,7 @@ use Rattle.sqlite.specs.State.{State, Executes}
 use Rattle.sqlite.specs.Term.{Term, lit, col}
 use Rattle.sqlite.specs.declared.types.Value.TheVariants.{Int, Null}
 use Rattle.sqlite_schema.specs.declared.schema.Index.{Index}
+use Rattle.sqlite_schema.specs.declared.schema.Table.{Table}
 use Rattle.sqlite_tied.specs.Compute.{everything}
 use Rattle.sqlite_value.specs.Order.{column}
 
@@ -34,9 +35,9 @@ puts_in old new m count land h =
     appends table.moments moment_row m m.stamp (Null ∷ whole m.next ∷ []) refl indexes old.now new.now
     (inserts (land_with indexes) INSERT.now 1 table.moments terms 3 (inserts_one indexes) old new (Int m.stamp ∷ whole m.next ∷ []) count has h) has (simp (cast_null, cast_whole))
 
-asks_all : (indexes : List Index) → Asks (land_with indexes) ALL.now (plainly 1 [] (col 1 0 ∷ col 1 2 ∷ []))
+asks_all : (more : List Table) (indexes : List Index) → Asks (first_with more indexes) ALL.now (plainly 1 [] (col 1 0 ∷ col 1 2 ∷ []))
 unfolding understood everything
-asks_all indexes = record { names = codes "stamp" ∷ codes "next" ∷ []; command = refl; unlisted = refl; plain = (refl, refl) }
+asks_all more indexes = record { names = codes "stamp" ∷ codes "next" ∷ []; command = refl; unlisted = refl; plain = (refl, refl) }
 
-pub listing : IsListing 1 ALL.now (col 1 0 ∷ col 1 2 ∷ []) (λ r. column r 0 ∷ column r 2 ∷ [])
-listing = record { asks = asks_all; read = λ db. refl; shows = λ r. refl }
+pub listing : IsListing HasFirstTables 1 ALL.now (col 1 0 ∷ col 1 2 ∷ []) (λ r. column r 0 ∷ column r 2 ∷ [])
+listing = record { asks = in_first ALL.now (plainly 1 [] (col 1 0 ∷ col 1 2 ∷ [])) asks_all; read = λ db. refl; shows = λ r. refl }

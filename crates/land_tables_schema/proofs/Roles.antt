@@ -1,12 +1,12 @@
 -- The statements on `role`.
-use Rattle.std.proofs.Common.{◌≡◌, ◌&&◌, ℕ, pos, Bool, true, false, List, [], ◌∷◌, refl, ap₂, ◌∙◌, codes}
+use Rattle.std.proofs.Common.{ℕ, pos, false, List, [], ◌∷◌, refl, ◌∙◌, codes}
 use Rattle.std.specs.Ordering.{int_eq}
-use Rattle.land_tables_schema.proofs.Asks.{Asks, IsListing}
-use Rattle.land_tables_schema.proofs.Casts.{cast_null, cast_whole, same_number, same_text}
+use Rattle.land_tables_schema.proofs.Asks.{Asks, IsListing, in_first}
+use Rattle.land_tables_schema.proofs.Casts.{all_three, cast_null, cast_whole, same_number, same_text}
 use Rattle.land_tables_schema.proofs.Statements.{IsInsertion, IsUpdate}
 use Rattle.land_tables_schema.proofs.Updates.{plainly}
 use Rattle.land_tables_schema.proofs.Versions.{IsBeginning, IsClosing, begin_terms, close_terms, columns_of}
-use Rattle.land_tables_schema.specs.Land.{land_with}
+use Rattle.land_tables_schema.specs.Land.{HasFirstTables, first_with, land_with}
 use Rattle.land_tables_schema.specs.Rows.Looks.{columns_from}
 use Rattle.land_tables_schema.specs.Rows.Role.{is_grant, role_cells}
 use Rattle.land_tables_schema.specs.Rows.Versions.{never, whole}
@@ -16,6 +16,7 @@ use Rattle.sqlite.specs.Listing.{understood}
 use Rattle.sqlite.specs.Term.{Term, lit, col, op2}
 use Rattle.sqlite.specs.declared.types.Value.TheVariants.{Int, Text}
 use Rattle.sqlite_schema.specs.declared.schema.Index.{Index}
+use Rattle.sqlite_schema.specs.declared.schema.Table.{Table}
 use Rattle.sqlite_sql.specs.declared.ops.BinaryOp.TheVariants.{Compare}
 use Rattle.sqlite_sql.specs.declared.ops.CompareOp.TheVariants.{Eq}
 use Rattle.sqlite_tied.specs.Compute.{everything}
@@ -36,14 +37,6 @@ updates_it : (indexes : List Index) → IsUpdate (land_with indexes) CLOSE.now 3
 unfolding understood everything
 updates_it indexes = record { command = refl; plain = (refl, refl); table = refl; alone = λ _ _ _. refl }
 
--- two tests and a third, one after another
-all_three : {a b c d : Bool} (e : Bool) → a ≡ b → c ≡ d → (a && (c && e)) ≡ ((b && d) && e)
-all_three {b = b} {d = d} e p q = ap₂ (λ x y. x && (y && e)) p q ∙ grouped b d e
-  where
-    grouped : (x y z : Bool) → (x && (y && z)) ≡ ((x && y) && z)
-    grouped true y z = refl
-    grouped false y z = refl
-
 pub closing : (party : ℕ) (word : List ℕ) → IsClosing table.role 2 role_cells CLOSE.now 3 where_it_stands (close_terms 2 2) (whole party ∷ Text word ∷ []) (is_grant party word)
 closing party word = record {
   update = updates_it;
@@ -60,9 +53,9 @@ closing party word = record {
   };
 }
 
-asks_all : (indexes : List Index) → Asks (land_with indexes) ALL.now (plainly 4 [] (columns_of 1 1 4))
+asks_all : (more : List Table) (indexes : List Index) → Asks (first_with more indexes) ALL.now (plainly 4 [] (columns_of 1 1 4))
 unfolding understood everything
-asks_all indexes = record { names = codes "party" ∷ codes "role" ∷ codes "since" ∷ codes "until" ∷ []; command = refl; unlisted = refl; plain = (refl, refl) }
+asks_all more indexes = record { names = codes "party" ∷ codes "role" ∷ codes "since" ∷ codes "until" ∷ []; command = refl; unlisted = refl; plain = (refl, refl) }
 
-pub listing : IsListing 4 ALL.now (columns_of 1 1 4) (columns_from 1 4)
-listing = record { asks = asks_all; read = λ db. refl; shows = λ r. refl }
+pub listing : IsListing HasFirstTables 4 ALL.now (columns_of 1 1 4) (columns_from 1 4)
+listing = record { asks = in_first ALL.now (plainly 4 [] (columns_of 1 1 4)) asks_all; read = λ db. refl; shows = λ r. refl }

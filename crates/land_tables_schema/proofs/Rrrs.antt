@@ -1,12 +1,12 @@
 -- The statements on `rrr`.
 use Rattle.std.proofs.Common.{◌&&◌, ℕ, pos, false, List, [], ◌∷◌, refl, ap, ◌∙◌, codes}
 use Rattle.std.specs.Ordering.{int_eq}
-use Rattle.land_tables_schema.proofs.Asks.{Asks, IsListing}
+use Rattle.land_tables_schema.proofs.Asks.{Asks, IsListing, in_first}
 use Rattle.land_tables_schema.proofs.Casts.{cast_null, cast_text_or_null, cast_whole, cast_whole_or_null, same_number}
 use Rattle.land_tables_schema.proofs.Statements.{IsInsertion, IsUpdate}
 use Rattle.land_tables_schema.proofs.Updates.{plainly}
 use Rattle.land_tables_schema.proofs.Versions.{IsBeginning, IsClosing, begin_terms, close_terms, columns_of}
-use Rattle.land_tables_schema.specs.Land.{land_with}
+use Rattle.land_tables_schema.specs.Land.{HasFirstTables, first_with, land_with}
 use Rattle.land_tables_schema.specs.Rows.Looks.{columns_from}
 use Rattle.land_tables_schema.specs.Rows.Rrr.{is_rrr, rrr_cells}
 use Rattle.land_tables_schema.specs.Rows.Versions.{never, whole}
@@ -16,6 +16,7 @@ use Rattle.sqlite.specs.Listing.{understood}
 use Rattle.sqlite.specs.Term.{Term, lit, col, op2}
 use Rattle.sqlite.specs.declared.types.Value.TheVariants.{Int}
 use Rattle.sqlite_schema.specs.declared.schema.Index.{Index}
+use Rattle.sqlite_schema.specs.declared.schema.Table.{Table}
 use Rattle.sqlite_sql.specs.declared.ops.BinaryOp.TheVariants.{Compare}
 use Rattle.sqlite_sql.specs.declared.ops.CompareOp.TheVariants.{Eq}
 use Rattle.sqlite_tied.specs.Compute.{everything}
@@ -50,9 +51,9 @@ closing number = record {
   };
 }
 
-asks_all : (indexes : List Index) → Asks (land_with indexes) ALL.now (plainly 12 [] (columns_of 1 1 13))
+asks_all : (more : List Table) (indexes : List Index) → Asks (first_with more indexes) ALL.now (plainly 12 [] (columns_of 1 1 13))
 unfolding understood everything
-asks_all indexes = record { names = codes "number" ∷ codes "unit" ∷ codes "party" ∷ codes "class" ∷ codes "num" ∷ codes "den" ∷ codes "amount" ∷ codes "currency" ∷ codes "place" ∷ codes "words" ∷ codes "source" ∷ codes "since" ∷ codes "until" ∷ []; command = refl; unlisted = refl; plain = (refl, refl) }
+asks_all more indexes = record { names = codes "number" ∷ codes "unit" ∷ codes "party" ∷ codes "class" ∷ codes "num" ∷ codes "den" ∷ codes "amount" ∷ codes "currency" ∷ codes "place" ∷ codes "words" ∷ codes "source" ∷ codes "since" ∷ codes "until" ∷ []; command = refl; unlisted = refl; plain = (refl, refl) }
 
-pub listing : IsListing 12 ALL.now (columns_of 1 1 13) (columns_from 1 13)
-listing = record { asks = asks_all; read = λ db. refl; shows = λ r. refl }
+pub listing : IsListing HasFirstTables 12 ALL.now (columns_of 1 1 13) (columns_from 1 13)
+listing = record { asks = in_first ALL.now (plainly 12 [] (columns_of 1 1 13)) asks_all; read = λ db. refl; shows = λ r. refl }

@@ -1,10 +1,12 @@
 -- The texts make the schema of a new register, one after another.
 use Rattle.std.proofs.Common.{◌≡◌, ◌∙◌, ℕ, List, [], ◌∷◌, ◌++◌, ap, drop, refl, subst, sym, take}
+use Rattle.land_tables_schema.proofs.Dropping.{drops_ready, next_is}
 use Rattle.land_tables_schema.specs.Definitions.{AreDefinitions, IsDefinition, made, made_by}
-use Rattle.land_tables_schema.specs.Land.{join_indexes, key_indexes, made_schema, no_schema}
-use Rattle.land_tables_schema.specs.Laws.{TableTextsLaw, TextsLaw, land_texts}
+use Rattle.land_tables_schema.specs.Land.{first_indexes, first_schema, first_with, made_indexes, made_schema, no_schema, with_mandates, without_joins}
+use Rattle.land_tables_schema.specs.Laws.{TableTextsLaw, TextsLaw, VersionsLaw, first_texts, index_texts, land_texts}
 use Rattle.land_tables_schema.specs.Tables.{land_tables}
 use Rattle.land_tables_schema.specs.declared.tables.edition.TheConstants as edition
+use Rattle.land_tables_schema.specs.declared.tables.mandate.TheConstants as mandate
 use Rattle.land_tables_schema.specs.declared.tables.member.TheConstants as member
 use Rattle.land_tables_schema.specs.declared.tables.moments.TheConstants as moments
 use Rattle.land_tables_schema.specs.declared.tables.mutation.TheConstants as mutation
@@ -21,7 +23,11 @@ use Rattle.sqlite_tied.specs.Compute.{everything}
 
 -- the first tables, and the first of all indexes
 abbrev so_far : ℕ → ℕ → Schema
-so_far tables indexes = record { tables = take tables land_tables; indexes = take indexes (key_indexes ++ join_indexes); views = [] }
+so_far tables indexes = record { tables = take tables land_tables; indexes = take indexes made_indexes; views = [] }
+
+-- the tables of the first version, and the first of its indexes
+abbrev first_so_far : ℕ → Schema
+first_so_far indexes = first_with [] (take indexes first_indexes)
 
 -- a text is a CREATE that makes one schema of another
 record Makes (s : Schema) (text : List ℕ) (next : Schema) : Type 0 where
@@ -72,58 +78,114 @@ names_made : Makes (so_far 10 8) names.CREATE.now (so_far 11 9)
 unfolding understood everything
 names_made = record { made_is = refl; definition = record { plain = (refl, refl); whole = refl; defining = refl } }
 
-rrr_party_indexed : Makes (so_far 11 9) rrr.INDEX_PARTY.now (so_far 11 10)
+mandate_made : Makes (so_far 11 9) mandate.CREATE.now (so_far 12 10)
+unfolding understood everything
+mandate_made = record { made_is = refl; definition = record { plain = (refl, refl); whole = refl; defining = refl } }
+
+rrr_party_indexed : Makes (so_far 12 10) rrr.INDEX_PARTY.now (so_far 12 11)
 unfolding understood everything
 rrr_party_indexed = record { made_is = refl; definition = record { plain = (refl, refl); whole = refl; defining = tt } }
 
-rrr_unit_indexed : Makes (so_far 11 10) rrr.INDEX_UNIT.now (so_far 11 11)
+rrr_unit_indexed : Makes (so_far 12 11) rrr.INDEX_UNIT.now (so_far 12 12)
 unfolding understood everything
 rrr_unit_indexed = record { made_is = refl; definition = record { plain = (refl, refl); whole = refl; defining = tt } }
 
-parcel_unit_indexed : Makes (so_far 11 11) parcel.INDEX_UNIT.now (so_far 11 12)
+parcel_unit_indexed : Makes (so_far 12 12) parcel.INDEX_UNIT.now (so_far 12 13)
 unfolding understood everything
 parcel_unit_indexed = record { made_is = refl; definition = record { plain = (refl, refl); whole = refl; defining = tt } }
 
-member_party_indexed : Makes (so_far 11 12) member.INDEX_PARTY.now (so_far 11 13)
+member_party_indexed : Makes (so_far 12 13) member.INDEX_PARTY.now (so_far 12 14)
 unfolding understood everything
 member_party_indexed = record { made_is = refl; definition = record { plain = (refl, refl); whole = refl; defining = tt } }
 
-names_unit_indexed : Makes (so_far 11 13) names.INDEX_UNIT.now (so_far 11 14)
+names_unit_indexed : Makes (so_far 12 14) names.INDEX_UNIT.now (so_far 12 15)
 unfolding understood everything
 names_unit_indexed = record { made_is = refl; definition = record { plain = (refl, refl); whole = refl; defining = tt } }
 
-mutation_lodger_indexed : Makes (so_far 11 14) mutation.INDEX_LODGER.now (so_far 11 15)
+mutation_lodger_indexed : Makes (so_far 12 15) mutation.INDEX_LODGER.now (so_far 12 16)
 unfolding understood everything
 mutation_lodger_indexed = record { made_is = refl; definition = record { plain = (refl, refl); whole = refl; defining = tt } }
 
-role_role_indexed : Makes (so_far 11 15) role.INDEX_ROLE.now (so_far 11 16)
+role_role_indexed : Makes (so_far 12 16) role.INDEX_ROLE.now (so_far 12 17)
 unfolding understood everything
 role_role_indexed = record { made_is = refl; definition = record { plain = (refl, refl); whole = refl; defining = tt } }
 
--- from one schema on, texts are CREATEs that make the schema of a new register
-record Finish (s : Schema) (texts : List (List ℕ)) : Type 0 where
-  definitions : AreDefinitions s texts
-  made_is : made s texts ≡ made_schema
+mandate_agent_indexed : Makes (so_far 12 17) mandate.INDEX_AGENT.now (so_far 12 18)
+unfolding understood everything
+mandate_agent_indexed = record { made_is = refl; definition = record { plain = (refl, refl); whole = refl; defining = tt } }
 
-one_more : {s next : Schema} {text : List ℕ} {texts : List (List ℕ)} → Makes s text next → Finish next texts → Finish s (text ∷ texts)
-one_more {s} {next} {text} {texts} one rest = record {
+-- ---- the indexes of the first version
+
+first_rrr_party : Makes (first_so_far 9) rrr.INDEX_PARTY.now (first_so_far 10)
+unfolding understood everything
+first_rrr_party = record { made_is = refl; definition = record { plain = (refl, refl); whole = refl; defining = tt } }
+
+first_rrr_unit : Makes (first_so_far 10) rrr.INDEX_UNIT.now (first_so_far 11)
+unfolding understood everything
+first_rrr_unit = record { made_is = refl; definition = record { plain = (refl, refl); whole = refl; defining = tt } }
+
+first_parcel_unit : Makes (first_so_far 11) parcel.INDEX_UNIT.now (first_so_far 12)
+unfolding understood everything
+first_parcel_unit = record { made_is = refl; definition = record { plain = (refl, refl); whole = refl; defining = tt } }
+
+first_member_party : Makes (first_so_far 12) member.INDEX_PARTY.now (first_so_far 13)
+unfolding understood everything
+first_member_party = record { made_is = refl; definition = record { plain = (refl, refl); whole = refl; defining = tt } }
+
+first_names_unit : Makes (first_so_far 13) names.INDEX_UNIT.now (first_so_far 14)
+unfolding understood everything
+first_names_unit = record { made_is = refl; definition = record { plain = (refl, refl); whole = refl; defining = tt } }
+
+first_mutation_lodger : Makes (first_so_far 14) mutation.INDEX_LODGER.now (first_so_far 15)
+unfolding understood everything
+first_mutation_lodger = record { made_is = refl; definition = record { plain = (refl, refl); whole = refl; defining = tt } }
+
+first_role_role : Makes (first_so_far 15) role.INDEX_ROLE.now (first_so_far 16)
+unfolding understood everything
+first_role_role = record { made_is = refl; definition = record { plain = (refl, refl); whole = refl; defining = tt } }
+
+-- ---- all together
+
+-- from one schema on, texts are CREATEs that make another
+record Finish (last s : Schema) (texts : List (List ℕ)) : Type 0 where
+  definitions : AreDefinitions s texts
+  made_is : made s texts ≡ last
+
+one_more : {last s next : Schema} {text : List ℕ} {texts : List (List ℕ)} → Makes s text next → Finish last next texts → Finish last s (text ∷ texts)
+one_more {last} {s} {next} {text} {texts} one rest = record {
   definitions = (one.definition, subst (λ x. AreDefinitions x texts) (sym one.made_is) rest.definitions);
   made_is = ap (λ x. made x texts) one.made_is ∙ rest.made_is;
 }
 
-done : Finish (so_far 11 16) []
-done = record { definitions = tt; made_is = refl }
+done : (last : Schema) → Finish last last []
+done last = record { definitions = tt; made_is = refl }
 
-indexes_finish : Finish (so_far 11 9) (drop 11 land_texts)
+-- the plain indexes
+indexes_finish : Finish made_schema (so_far 12 10) index_texts
 indexes_finish =
     one_more rrr_party_indexed (one_more rrr_unit_indexed (one_more parcel_unit_indexed (one_more member_party_indexed
-    (one_more names_unit_indexed (one_more mutation_lodger_indexed (one_more role_role_indexed done))))))
+    (one_more names_unit_indexed (one_more mutation_lodger_indexed (one_more role_role_indexed (one_more mandate_agent_indexed (done made_schema))))))))
 
-finish : Finish no_schema land_texts
-finish =
+-- the tables of the first version, and then other texts
+tables_first : (last : Schema) (texts : List (List ℕ)) → Finish last (so_far 11 9) texts → Finish last no_schema (take 11 land_texts ++ texts)
+tables_first last texts rest =
     one_more edition_made (one_more moments_made (one_more party_made (one_more role_made (one_more member_made
     (one_more unit_made (one_more parcel_made (one_more rrr_made (one_more source_made (one_more mutation_made
-    (one_more names_made indexes_finish))))))))))
+    (one_more names_made rest))))))))))
+
+finish : Finish made_schema no_schema land_texts
+finish = tables_first made_schema (drop 11 land_texts) (one_more mandate_made indexes_finish)
+
+first_finish : Finish first_schema no_schema first_texts
+first_finish =
+    tables_first first_schema (take 7 index_texts)
+    (one_more first_rrr_party (one_more first_rrr_unit (one_more first_parcel_unit (one_more first_member_party
+    (one_more first_names_unit (one_more first_mutation_lodger (one_more first_role_role (done first_schema))))))))
+
+-- without the plain indexes, and with the mandates, the first version has what a new register has before its plain indexes
+first_with_mandates : with_mandates (without_joins first_schema) ≡ so_far 12 10
+unfolding everything
+first_with_mandates = refl
 
 pub texts_finish : TextsLaw
 texts_finish = record { creates = finish.definitions; makes = finish.made_is }
@@ -143,4 +205,16 @@ texts_define = record {
   the_source = refl;
   the_mutation = refl;
   the_names = refl;
+  the_mandate = refl;
+}
+
+-- the texts of the first version make its schema, which becomes that of a new register
+pub versions_differ : VersionsLaw
+unfolding everything
+versions_differ = record {
+  makes = first_finish.made_is;
+  raisable = record { first = record { tables = refl; indexes = refl; views = refl }; apart = refl; before = refl; last = refl };
+  raises = ap (λ s. made s index_texts) first_with_mandates ∙ indexes_finish.made_is;
+  drops = λ s able. (drops_ready s able).1;
+  next = next_is;
 }

@@ -62,7 +62,7 @@ answer_is tree filter project db params rows a =
     (subst (IsPermutation (map (λ (o : Output). o.1) a.kept)) (sym a.shown) moved)
 
 -- given rowids are left as they are
-numbered_given : (rows news : List Row) → numbered Given rows news ≡ news
+pub numbered_given : (rows news : List Row) → numbered Given rows news ≡ news
 numbered_given rows [] = refl
 numbered_given rows (n ∷ ns) = ap (λ l. n ∷ l) (numbered_given (put_row n rows) ns)
 

@@ -1,13 +1,13 @@
--- What CREATEs make of a schema, as sqlite understands their texts.
-use Rattle.std.specs.Prelude.{◌≡◌, ℕ, List, [], ◌∷◌, fold, false, Option, Some, None, Ok, Err, Result, slice_get, ⊤}
+-- What CREATEs and DROPs of indexes make of a schema, as sqlite understands their texts.
+use Rattle.std.specs.Prelude.{◌≡◌, ℕ, List, [], ◌∷◌, fold, false, true, is_ok, Option, Some, None, Ok, Err, Result, slice_get, ⊤}
 use Rattle.sqlite.proofs.Callers.{command_of, statement_of}
 use Rattle.sqlite.specs.Command.{Command}
-use Rattle.sqlite.specs.Command.TheVariants.{CreateTable, CreateIndex}
+use Rattle.sqlite.specs.Command.TheVariants.{CreateTable, CreateIndex, DropIndex, Nothing}
 use Rattle.sqlite.specs.Compile.{table_defined_by}
 use Rattle.sqlite.specs.Does.{lacks_sequence}
 use Rattle.sqlite.specs.Given.{IsPlain}
 use Rattle.sqlite.specs.Listing.{understood}
-use Rattle.sqlite_catalog.specs.Change.{created, indexed}
+use Rattle.sqlite_catalog.specs.Change.{created, indexed, without_index}
 use Rattle.sqlite_resolve.specs.Compile.{index_defined_by}
 use Rattle.sqlite_resolve.specs.declared.error.CompileError.{CompileError}
 use Rattle.sqlite_schema.specs.declared.schema.Index.{Index}
@@ -29,10 +29,16 @@ abbrev pub index_on : Schema → List ℕ → Option Table → Schema
 index_on s text (Some t) = index_made s t (index_defined_by t text)
 index_on s text None = s
 
+-- an index is dropped by its tree
+abbrev pub index_dropped : Schema → Option Index → Schema
+index_dropped s (Some i) = without_index s i.tree
+index_dropped s None = s
+
 -- the schema after a text that is understood as this command
 abbrev pub made_as : Schema → List ℕ → Command → Schema
 made_as s text CreateTable = table_made s (table_defined_by text)
 made_as s text (CreateIndex at) = index_on s text (slice_get s.tables at)
+made_as s text (DropIndex at) = index_dropped s (slice_get s.indexes at)
 made_as s text _ = s
 
 -- the schema after a text
@@ -59,3 +65,24 @@ pub record IsDefinition (s : Schema) (text : List ℕ) : Type 0 where
 abbrev pub AreDefinitions : Schema → List (List ℕ) → Type 0
 AreDefinitions s [] = ⊤
 AreDefinitions s (text ∷ texts) = IsDefinition s text × AreDefinitions (made_by s text) texts
+
+-- the command makes a table or an index, or drops an index, or has none to drop
+abbrev pub IsChanging : Command → Schema → Type 0
+IsChanging (DropIndex at) after = ⊤
+IsChanging Nothing after = ⊤
+IsChanging command after = IsDefining command after
+
+-- the text is one CREATE, or one DROP INDEX IF EXISTS, and nothing else
+pub record IsChange (s : Schema) (text : List ℕ) : Type 0 where
+  pub plain : IsPlain (understood s text)
+  pub whole : statement_of text (understood s text) ≡ text
+  pub changing : IsChanging (command_of (understood s text)) (made_by s text)
+
+-- the text is such a one, or is refused, as a CREATE is whose name is taken
+abbrev pub IsReady : Schema → List ℕ → Type 0
+IsReady s text = is_ok (understood s text) ≡ true → IsChange s text
+
+-- so is each text, after those before it
+abbrev pub AreReady : Schema → List (List ℕ) → Type 0
+AreReady s [] = ⊤
+AreReady s (text ∷ texts) = IsReady s text × AreReady (made_by s text) texts

@@ -4,21 +4,24 @@ use Rattle.std.specs.List.{AllByRecursion}
 use Rattle.land_tables_schema.specs.Definitions.{made, made_by}
 use Rattle.land_tables_schema.specs.Land.{made_schema}
 use Rattle.sqlite.specs.Effect.{Database}
+use Rattle.sqlite_catalog.specs.Change.{KeepsRows}
 use Rattle.sqlite_schema.specs.declared.schema.Table.{Table}
 
 -- no table has a row
 abbrev pub AreEmpty : Database → Type 0
 AreEmpty db = AllByRecursion (λ (t : Table). db.trees t.tree ≡ []) db.schema.tables
 
--- a text makes what it defines, and no row
+-- a text makes what it defines, and no row, and all rows stay
 pub record Defines (text : List ℕ) (old new : Database) : Type 0 where
   pub schema : new.schema ≡ made_by old.schema text
   pub empty : AreEmpty old → AreEmpty new
+  pub kept : KeepsRows old.schema.tables old.trees new.trees
 
 -- so do texts, one after another
 pub record DefinesAll (texts : List (List ℕ)) (old new : Database) : Type 0 where
   pub schema : new.schema ≡ made old.schema texts
   pub empty : AreEmpty old → AreEmpty new
+  pub kept : KeepsRows old.schema.tables old.trees new.trees
 
 -- the tables and indexes of a new register are there, and no row
 pub record IsMade (db : Database) : Type 0 where

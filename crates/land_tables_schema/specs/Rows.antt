@@ -3,12 +3,14 @@ pub mod Edition
 pub mod Forms
 pub mod Held
 pub mod Looks
+pub mod Mandate
 pub mod Member
 pub mod Moments
 pub mod Mutation
 pub mod Names
 pub mod Parcel
 pub mod Party
+pub mod Raising
 pub mod Role
 pub mod Rrr
 pub mod Source

@@ -1,5 +1,5 @@
 -- The tables of the register, each with the tree of its rows. Places of columns count from 1.
-use Rattle.std.specs.Prelude.{List, [], ◌∷◌, codes}
+use Rattle.std.specs.Prelude.{List, [], ◌∷◌, ◌++◌, codes}
 use Rattle.land_tables_schema.specs.Columns.{number, number_or_null, numbered, versioned, words, words_or_null}
 use Rattle.sqlite_schema.specs.declared.schema.Table.{Table}
 
@@ -56,6 +56,14 @@ mutation =
 abbrev pub names : Table
 names = versioned (codes "names") 18 (1 ∷ 2 ∷ []) (number (codes "mutation") ∷ number (codes "unit") ∷ [])
 
+-- the mandates, each with its principal and its agent: they are made after the tables of the first version, and before the plain indexes
+abbrev pub mandate : Table
+mandate = versioned (codes "mandate") 20 (1 ∷ 2 ∷ []) (number (codes "principal") ∷ number (codes "agent") ∷ [])
+
+-- those of the first version, in the order in which they are made
+abbrev pub first_tables : List Table
+first_tables = edition ∷ moments ∷ party ∷ role ∷ member ∷ unit ∷ parcel ∷ rrr ∷ source ∷ mutation ∷ names ∷ []
+
 -- all of them, in the order in which they are made
 abbrev pub land_tables : List Table
-land_tables = edition ∷ moments ∷ party ∷ role ∷ member ∷ unit ∷ parcel ∷ rrr ∷ source ∷ mutation ∷ names ∷ []
+land_tables = first_tables ++ mandate ∷ []

@@ -1,5 +1,5 @@
 //! Laws, each stated over the definitions alone.
-ghost use Rattle.land_tables_schema.specs.Laws.{IndexLaw, TableTextsLaw, TextsLaw};
+ghost use Rattle.land_tables_schema.specs.Laws.{IndexLaw, SchemasLaw, TableTextsLaw, TextsLaw, VersionsLaw};
 
 /// The CREATE TABLE of each table defines that table.
 pub fn texts_define_the_tables()
@@ -15,4 +15,15 @@ pub fn texts_make_the_tables()
 /// key alone.
 pub fn plain_indexes_do_not_count()
     ensures { IndexLaw }
+{}
+
+/// The texts of the first version make its schema. Raised, it is that of a new register. Where a schema can be raised, the texts that drop
+/// its plain indexes do so, and then the next tree is that of the mandates.
+pub fn versions_differ_by_the_mandates()
+    ensures { VersionsLaw }
+{}
+
+/// A schema of the register, in either version, may be one. What may be one has the tables of the first version.
+pub fn schemas_may_be_known()
+    ensures { SchemasLaw }
 {}

@@ -22,7 +22,7 @@ fn is_table(table: &Table, shape: &TableShape<'_>) -> bool
 }
 
 /// Whether tables are those of these shapes, one by one and no others.
-fn are_tables(tables: &[Table], shapes: &[TableShape<'_>]) -> bool
+pub(crate) fn are_tables(tables: &[Table], shapes: &[TableShape<'_>]) -> bool
     ensures { IsTrue result ↔ (tables.now ≡ map table_of shapes.now) }
 {
     if tables.len() != shapes.len() {

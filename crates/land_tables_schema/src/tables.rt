@@ -1,13 +1,15 @@
 //! The tables of the register, and the texts that make them.
 
 ghost use Rattle.std.specs.Prelude.{◌≡◌, map};
-ghost use Rattle.land_tables_schema.specs.Laws.{land_texts};
+ghost use Rattle.land_tables_schema.specs.Laws.{drop_texts, index_texts, land_texts};
+ghost use Rattle.land_tables_schema.specs.Land.{join_names};
 ghost use Rattle.land_tables_schema.specs.Shapes.{table_of};
-ghost use Rattle.land_tables_schema.specs.Tables.{land_tables};
+ghost use Rattle.land_tables_schema.specs.Tables.{first_tables, land_tables};
 
 use crate::shape::TableShape;
 
 pub mod edition;
+pub mod mandate;
 pub mod member;
 pub mod moments;
 pub mod mutation;
@@ -19,7 +21,8 @@ pub mod rrr;
 pub mod source;
 pub mod unit;
 
-/// The tables of the register, in the order in which they are made.
+/// The tables of the register, in the order in which they are made: those of the first version, and then the mandates. Sqlite numbers trees
+/// in this order, so a table that comes later is made after them, and before the plain indexes, as VACUUM and .dump write them too.
 const TABLES: &[TableShape<'static>] = &[
     edition::SHAPE,
     moments::SHAPE,
@@ -32,11 +35,12 @@ const TABLES: &[TableShape<'static>] = &[
     source::SHAPE,
     mutation::SHAPE,
     names::SHAPE,
+    mandate::SHAPE,
 ];
 
-/// The texts that make them, and then the plain indexes by which joins find rows. Run one after another over an empty store they make the
-/// whole schema.
-pub const TEXTS: [&str; 18] = [
+/// The texts that make the tables, those of the first version first, and then the plain indexes by which joins find rows, that of the
+/// mandates last. Run one after another over an empty store they make the whole schema.
+pub const TEXTS: [&str; 20] = [
     edition::CREATE,
     moments::CREATE,
     party::CREATE,
@@ -48,6 +52,7 @@ pub const TEXTS: [&str; 18] = [
     source::CREATE,
     mutation::CREATE,
     names::CREATE,
+    mandate::CREATE,
     rrr::INDEX_PARTY,
     rrr::INDEX_UNIT,
     parcel::INDEX_UNIT,
@@ -55,6 +60,29 @@ pub const TEXTS: [&str; 18] = [
     names::INDEX_UNIT,
     mutation::INDEX_LODGER,
     role::INDEX_ROLE,
+    mandate::INDEX_AGENT,
+];
+
+/// The texts that drop the plain indexes of the first version, those that a schema has.
+pub const DROPS: [&str; 7] = [
+    "DROP INDEX IF EXISTS rrr_party",
+    "DROP INDEX IF EXISTS rrr_unit",
+    "DROP INDEX IF EXISTS parcel_unit",
+    "DROP INDEX IF EXISTS member_party",
+    "DROP INDEX IF EXISTS names_unit",
+    "DROP INDEX IF EXISTS mutation_lodger",
+    "DROP INDEX IF EXISTS role_role",
+];
+
+/// The names of the plain indexes of the first version.
+pub const JOINS: [&str; 7] = [
+    "rrr_party",
+    "rrr_unit",
+    "parcel_unit",
+    "member_party",
+    "names_unit",
+    "mutation_lodger",
+    "role_role",
 ];
 
 /// The shapes of the tables, in the order in which they are made.
@@ -64,9 +92,37 @@ pub fn shapes() -> &'static [TableShape<'static>]
     TABLES
 }
 
-/// The texts that make the tables and then the indexes, in the order in which they are run.
+/// The shapes of the tables that the first version has, in the order in which they are made.
+pub fn first_shapes() -> &'static [TableShape<'static>]
+    ensures { map table_of result.now ≡ first_tables }
+{
+    &TABLES[..11]
+}
+
+/// The texts that make the tables and the indexes, in the order in which they are run.
 pub fn texts() -> &'static [&'static str]
     ensures { map (λ t. t.now) result.now ≡ land_texts }
 {
     &TEXTS
+}
+
+/// The texts that make the plain indexes, in the order in which they are run.
+pub fn index_texts() -> &'static [&'static str]
+    ensures { map (λ t. t.now) result.now ≡ index_texts }
+{
+    &TEXTS[12..]
+}
+
+/// The texts that drop the plain indexes of the first version.
+pub fn drop_texts() -> &'static [&'static str]
+    ensures { map (λ t. t.now) result.now ≡ drop_texts }
+{
+    &DROPS
+}
+
+/// The names of the plain indexes of the first version.
+pub fn join_names() -> &'static [&'static str]
+    ensures { map (λ t. t.now) result.now ≡ join_names }
+{
+    &JOINS
 }

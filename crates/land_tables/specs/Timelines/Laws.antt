@@ -28,6 +28,7 @@ pub record IsReordered (one other : History) : Type 0 where
   pub sources : IsPermutation one.sources other.sources
   pub mutations : IsPermutation one.mutations other.mutations
   pub namings : IsPermutation one.namings other.namings
+  pub mandates : IsPermutation one.mandates other.mandates
 
 -- versions stand for the same timeline in whatever order they lie
 abbrev pub OrderDoesNotMatter : Type 0

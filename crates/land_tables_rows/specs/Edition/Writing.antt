@@ -15,6 +15,10 @@ KeepsEditions db editions = Tells table.edition edition_in db editions
 abbrev pub AddsEdition : Edition → Database → Database → Type 0
 AddsEdition edition old new = TellsMore table.edition edition_in edition old new
 
--- the first version, and the only one
+-- the first version, which has no mandates
 abbrev pub first_edition : Edition
 first_edition = record { id = 1; version = 1 }
+
+-- the second version, which is the present one
+abbrev pub current_edition : Edition
+current_edition = record { id = 1; version = 2 }

@@ -1,5 +1,6 @@
 -- How versions are read from the rows of a table.
 use Rattle.std.specs.Prelude.{◌≡◌, ◌≢◌, ℕ, List, [], ◌∷◌, map, IsPermutation, Result, Ok, Err}
+use Rattle.land_core.specs.declared.mandates.Mandate.{Mandate}
 use Rattle.land_core.specs.declared.mutation.MutationRecord.{MutationRecord}
 use Rattle.land_core.specs.declared.parcel.ParcelRecord.{ParcelRecord}
 use Rattle.land_core.specs.declared.party.PartyRecord.{PartyRecord}
@@ -13,6 +14,7 @@ use Rattle.land_tables_history.specs.declared.moment.Moment.{Moment}
 use Rattle.land_tables_history.specs.declared.naming.Naming.{Naming}
 use Rattle.land_tables_history.specs.declared.version.Version.{Version}
 use Rattle.land_tables_rows.specs.Edition.Reading.{edition_in}
+use Rattle.land_tables_rows.specs.Mandate.Reading.{mandate_in}
 use Rattle.land_tables_rows.specs.Member.Reading.{member_in}
 use Rattle.land_tables_rows.specs.Moment.Reading.{change_in}
 use Rattle.land_tables_rows.specs.Mutation.Reading.{mutation_in}
@@ -75,11 +77,27 @@ mutations = record { table = table.mutation; shown = columns_from 1 10; said = m
 abbrev pub namings : Listing (Version Naming)
 namings = record { table = table.names; shown = columns_from 1 4; said = naming_in }
 
+abbrev pub mandates : Listing (Version Mandate)
+mandates = record { table = table.mandate; shown = columns_from 1 4; said = mandate_in }
+
 abbrev pub moments : Listing Moment
 moments = record { table = table.moments; shown = λ r. column r 0 ∷ column r 2 ∷ []; said = change_in }
 
 abbrev pub editions : Listing Edition
 editions = record { table = table.edition; shown = λ r. column r 0 ∷ column r 2 ∷ []; said = edition_in }
+
+-- the tables of versions that the first version has say this history, in which there are no mandates
+pub record SaysFirst (db : Trees) (history : History) : Type 0 where
+  pub parties : Says parties db history.parties
+  pub roles : Says roles db history.roles
+  pub members : Says members db history.members
+  pub units : Says units db history.units
+  pub parcels : Says parcels db history.parcels
+  pub rrrs : Says rrrs db history.rrrs
+  pub sources : Says sources db history.sources
+  pub mutations : Says mutations db history.mutations
+  pub namings : Says namings db history.namings
+  pub none : history.mandates ≡ []
 
 -- all tables of versions say this history
 pub record SaysHistory (db : Trees) (history : History) : Type 0 where
@@ -92,6 +110,7 @@ pub record SaysHistory (db : Trees) (history : History) : Type 0 where
   pub sources : Says sources db history.sources
   pub mutations : Says mutations db history.mutations
   pub namings : Says namings db history.namings
+  pub mandates : Says mandates db history.mandates
 
 -- what is read of the rows that a call of the store gave: what they say, or that they cannot be read; or why the call failed
 abbrev pub IsRead : {X : Type 0} → (Row → Result X WireFault) → (List Row) → Result (List X) ReadFault → Type 0

@@ -1,7 +1,7 @@
 -- What tables tell, where each row can be read.
 use Rattle.std.specs.Prelude.{List, [], map, Result, Ok, Err}
 use Rattle.land_tables_history.specs.declared.history.History.{History}
-use Rattle.land_tables_rows.specs.Listing.Reading.{Listing, members, mutations, namings, parcels, parties, roles, rrrs, sources, units}
+use Rattle.land_tables_rows.specs.Listing.Reading.{Listing, mandates, members, mutations, namings, parcels, parties, roles, rrrs, sources, units}
 use Rattle.land_tables_rows.specs.Reading.Readings.{each_of}
 use Rattle.land_wire_json.specs.declared.bodies.wire_fault.WireFault.{WireFault}
 use Rattle.sqlite_trees.specs.Tree.{Trees}
@@ -14,9 +14,9 @@ or_nothing (Err fault) = []
 abbrev pub told_by : {X : Type 0} → Listing X → Trees → List X
 told_by listing db = or_nothing (each_of listing.said (map listing.shown (db listing.table.tree)))
 
--- the history that tables hold
-abbrev pub history_in : Trees → History
-history_in db = record {
+-- the history that the tables of the first version hold
+abbrev pub first_history_in : Trees → History
+first_history_in db = record {
   parties = told_by parties db;
   roles = told_by roles db;
   members = told_by members db;
@@ -26,4 +26,9 @@ history_in db = record {
   sources = told_by sources db;
   mutations = told_by mutations db;
   namings = told_by namings db;
+  mandates = [];
 }
+
+-- the history that all tables hold
+abbrev pub history_in : Trees → History
+history_in db = record (first_history_in db) { mandates = told_by mandates db }

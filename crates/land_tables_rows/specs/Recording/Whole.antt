@@ -6,13 +6,14 @@ use Rattle.land_core.specs.Members.{Members, members_in}
 use Rattle.land_core.specs.Numbers.{is_number}
 use Rattle.land_core.specs.declared.change.Change.{Change}
 use Rattle.land_core.specs.declared.content.Content.{Content}
-use Rattle.land_tables_history.specs.Changed.{changed, changed_members, changed_namings, changed_part, changed_roles}
+use Rattle.land_tables_history.specs.Changed.{changed, changed_mandates, changed_members, changed_namings, changed_part, changed_roles}
 use Rattle.land_tables_history.specs.History.{named_units}
 use Rattle.land_tables_history.specs.declared.group_member.GroupMember.{GroupMember}
 use Rattle.land_tables_history.specs.declared.history.History.{History}
 use Rattle.land_tables_history.specs.declared.moment.Moment.{Moment}
 use Rattle.land_tables_history.specs.declared.naming.Naming.{Naming}
 use Rattle.land_tables_rows.specs.Edition.Writing.{KeepsEditions}
+use Rattle.land_tables_rows.specs.Mandate.Writing.{fits_mandate}
 use Rattle.land_tables_rows.specs.Mutation.Cells.{fits_mutation}
 use Rattle.land_tables_rows.specs.Parcel.Cells.{fits_parcel}
 use Rattle.land_tables_rows.specs.Party.Writing.{fits_party}
@@ -35,12 +36,13 @@ fits_kind fits fits_key put ended = list_all fits put && list_all fits_key ended
 abbrev pub fits_group : ℕ × Members → Bool
 fits_group g = is_number g.0 && list_all (λ e. is_number e.0) (map.entries g.1)
 
--- parties, their roles, and the members of groups
+-- parties, their roles, the members of groups, and mandates
 abbrev pub fits_people : Change → Bool
 fits_people change =
     fits_kind (λ e. fits_party e.0 e.1) is_number change.put.parties change.ended.parties
     && (fits_kind fits_grant fits_grant change.put.roles change.ended.roles
-    && fits_kind fits_group is_number change.put.members change.ended.members)
+    && (fits_kind fits_group is_number change.put.members change.ended.members
+    && fits_kind fits_mandate fits_mandate change.put.mandates change.ended.mandates))
 
 -- units, parcels, and the entries of units
 abbrev pub fits_estates : Change → Bool
@@ -80,12 +82,13 @@ pub record Edits (edit : History → History) (old new : Database) : Type 0 wher
   pub held : (moments : List Moment) (history : History) → HoldsHistory old.trees moments history → HoldsHistory new.trees moments (edit history)
   pub editions : (editions : List Edition) → KeepsEditions old.trees editions → KeepsEditions new.trees editions
 
--- the parties, roles and members that a change puts and ends
+-- the parties, roles, members and mandates that a change puts and ends
 abbrev pub changed_people : Change → (stamp : ℤ) → History → History
 changed_people change stamp h = record h {
   parties = changed_part change.put.parties change.ended.parties stamp h.parties;
   roles = changed_roles change.put.roles change.ended.roles stamp h.roles;
   members = changed_members change.put.members change.ended.members stamp h.members;
+  mandates = changed_mandates change.put.mandates change.ended.mandates stamp h.mandates;
 }
 
 -- the units, parcels and entries that it puts and ends

@@ -1,7 +1,8 @@
 -- All that the tables hold, by what their rows say.
-use Rattle.std.specs.Prelude.{List}
+use Rattle.std.specs.Prelude.{◌≡◌, List, []}
 use Rattle.land_tables_history.specs.declared.history.History.{History}
 use Rattle.land_tables_history.specs.declared.moment.Moment.{Moment}
+use Rattle.land_tables_rows.specs.Mandate.Writing.{mandates}
 use Rattle.land_tables_rows.specs.Member.Writing.{members}
 use Rattle.land_tables_rows.specs.Moment.Writing.{KeepsMoments}
 use Rattle.land_tables_rows.specs.Mutation.Writing.{mutations}
@@ -27,3 +28,18 @@ pub record HoldsHistory (db : Trees) (moments : List Moment) (history : History)
   pub the_sources : Keeps sources db history.sources
   pub the_mutations : Keeps mutations db history.mutations
   pub the_namings : Keeps namings db history.namings
+  pub the_mandates : Keeps mandates db history.mandates
+
+-- the tables of the first version hold these moments and the versions of this history, in which there are no mandates, and nothing else
+pub record HoldsFirst (db : Trees) (moments : List Moment) (history : History) : Type 0 where
+  pub the_moments : KeepsMoments db moments
+  pub the_parties : Keeps parties db history.parties
+  pub the_roles : Keeps roles db history.roles
+  pub the_members : Keeps members db history.members
+  pub the_units : Keeps units db history.units
+  pub the_parcels : Keeps parcels db history.parcels
+  pub the_rrrs : Keeps rrrs db history.rrrs
+  pub the_sources : Keeps sources db history.sources
+  pub the_mutations : Keeps mutations db history.mutations
+  pub the_namings : Keeps namings db history.namings
+  pub none : history.mandates ≡ []

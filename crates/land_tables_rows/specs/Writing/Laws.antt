@@ -3,7 +3,8 @@ use Rattle.std.specs.Prelude.{List, [], ◌∷◌}
 use Rattle.land_tables_history.specs.declared.history.History.{History}
 use Rattle.land_tables_history.specs.declared.moment.Moment.{Moment}
 use Rattle.land_tables_history.specs.declared.version.Version.{Version}
-use Rattle.land_tables_rows.specs.Edition.Writing.{KeepsEditions, first_edition}
+use Rattle.land_tables_rows.specs.Edition.Writing.{KeepsEditions, current_edition, first_edition}
+use Rattle.land_tables_rows.specs.Mandate.Writing as mandate
 use Rattle.land_tables_rows.specs.Member.Writing as member
 use Rattle.land_tables_rows.specs.Moment.Writing.{KeepsMoments}
 use Rattle.land_tables_rows.specs.Mutation.Writing as mutation
@@ -14,12 +15,14 @@ use Rattle.land_tables_rows.specs.Role.Writing as role
 use Rattle.land_tables_rows.specs.Rrr.Writing as rrr
 use Rattle.land_tables_rows.specs.Source.Writing as source
 use Rattle.land_tables_rows.specs.Unit.Writing as unit
-use Rattle.land_tables_rows.specs.Writing.History.{HoldsHistory}
+use Rattle.land_tables_rows.specs.Writing.History.{HoldsFirst, HoldsHistory}
 use Rattle.land_tables_rows.specs.Writing.Holding.{Keeps, Reading}
 use Rattle.land_tables_rows.specs.Writing.NewHistory.{new_history, new_moments}
 use Rattle.land_tables_schema.specs.Rows.Held.{HoldsRows, new_rows}
 use Rattle.land_tables_schema.specs.Rows.Forms.{KeepsOthers}
+use Rattle.land_tables_schema.specs.Rows.Raising.{Raises}
 use Rattle.land_tables_schema.specs.Tables as table
+use Rattle.sqlite.specs.Effect.{Database}
 use Rattle.sqlite_trees.specs.Tree.{Trees}
 
 -- where one table holds other versions, and all others are as they were, the history is the one with these versions
@@ -40,11 +43,22 @@ pub record ChangesAreHeld : Type 0 where
   pub sources : HoldsWith source.sources (λ vs h. record h { sources = vs })
   pub mutations : HoldsWith mutation.mutations (λ vs h. record h { mutations = vs })
   pub namings : HoldsWith naming.namings (λ vs h. record h { namings = vs })
+  pub mandates : HoldsWith mandate.mandates (λ vs h. record h { mandates = vs })
 
--- the rows of a new register are those of its history, and tell the first edition
+-- the rows of a new register are those of its history, and tell the present edition
 pub record NewRowsAreRead (db : Trees) : Type 0 where
   pub history : HoldsHistory db new_moments new_history
-  pub editions : KeepsEditions db (first_edition ∷ [])
+  pub editions : KeepsEditions db (current_edition ∷ [])
 
 abbrev pub NewRegistersAreHeld : Type 0
 NewRegistersAreHeld = (db : Trees) → HoldsRows db new_rows → NewRowsAreRead db
+
+-- tables of the second version hold what those of the first did, and tell the present edition
+pub record RaisedAreRead (db : Trees) (moments : List Moment) (held : History) : Type 0 where
+  pub history : HoldsHistory db moments held
+  pub editions : KeepsEditions db (current_edition ∷ [])
+
+-- so it is where those of the first version become those of the second
+abbrev pub RaisedRegistersAreHeld : Type 0
+RaisedRegistersAreHeld = (old new : Database) (moments : List Moment) (history : History)
+    → Raises old new → HoldsFirst old.trees moments history → KeepsEditions old.trees (first_edition ∷ []) → RaisedAreRead new.trees moments history

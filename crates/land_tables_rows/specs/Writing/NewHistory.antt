@@ -23,4 +23,5 @@ new_history = record {
   sources = [];
   mutations = [];
   namings = [];
+  mandates = [];
 }

@@ -1,8 +1,8 @@
 //! All versions that the tables hold.
 ghost use Rattle.std.specs.Prelude.{◌≡◌, false, IfErr};
 ghost use Rattle.land_tables_rows.specs.Listing.Groups.{SaysHoldings, SaysPapers, SaysPersons};
-ghost use Rattle.land_tables_rows.specs.Listing.Reading.{CannotSay, SaysHistory};
-ghost use Rattle.land_tables_schema.specs.Land.{IsLand};
+ghost use Rattle.land_tables_rows.specs.Listing.Reading.{CannotSay, SaysFirst, SaysHistory};
+ghost use Rattle.land_tables_schema.specs.Land.{HasFirstTables, IsLand};
 ghost use Rattle.land_tables_schema.specs.Rows.Looks.{IsLook};
 ghost use Rattle.sqlite.specs.Held.{state};
 ghost use Rattle.sqlite.specs.State.{HasCleanDisk};
@@ -49,7 +49,7 @@ struct Papers {
 }
 
 fn all_persons<S: Alter>(alloc: Global, conn: &mut Connection<S>) -> Result<Persons, ReadFault>
-    requires { HasCleanDisk (state S.Store conn.old) → IsLand (state S.Store conn.old).now.schema }
+    requires { HasCleanDisk (state S.Store conn.old) → HasFirstTables (state S.Store conn.old).now.schema }
     ensures look { IsLook result (λ it. SaysPersons (state S.Store conn.old).now.trees it) (state S.Store conn.old) (state S.Store conn.new) }
     ensures unreadable { HasCleanDisk (state S.Store conn.new) → IfErr result (CannotSay (SaysPersons (state S.Store conn.old).now.trees)) }
     ensures mode { conn.old.in_transaction ≡ false → conn.new.in_transaction ≡ false }
@@ -65,7 +65,7 @@ fn all_persons<S: Alter>(alloc: Global, conn: &mut Connection<S>) -> Result<Pers
 }
 
 fn all_holdings<S: Alter>(alloc: Global, conn: &mut Connection<S>) -> Result<Holdings, ReadFault>
-    requires { HasCleanDisk (state S.Store conn.old) → IsLand (state S.Store conn.old).now.schema }
+    requires { HasCleanDisk (state S.Store conn.old) → HasFirstTables (state S.Store conn.old).now.schema }
     ensures look { IsLook result (λ it. SaysHoldings (state S.Store conn.old).now.trees it) (state S.Store conn.old) (state S.Store conn.new) }
     ensures unreadable { HasCleanDisk (state S.Store conn.new) → IfErr result (CannotSay (SaysHoldings (state S.Store conn.old).now.trees)) }
     ensures mode { conn.old.in_transaction ≡ false → conn.new.in_transaction ≡ false }
@@ -81,7 +81,7 @@ fn all_holdings<S: Alter>(alloc: Global, conn: &mut Connection<S>) -> Result<Hol
 }
 
 fn all_papers<S: Alter>(alloc: Global, conn: &mut Connection<S>) -> Result<Papers, ReadFault>
-    requires { HasCleanDisk (state S.Store conn.old) → IsLand (state S.Store conn.old).now.schema }
+    requires { HasCleanDisk (state S.Store conn.old) → HasFirstTables (state S.Store conn.old).now.schema }
     ensures look { IsLook result (λ it. SaysPapers (state S.Store conn.old).now.trees it) (state S.Store conn.old) (state S.Store conn.new) }
     ensures unreadable { HasCleanDisk (state S.Store conn.new) → IfErr result (CannotSay (SaysPapers (state S.Store conn.old).now.trees)) }
     ensures mode { conn.old.in_transaction ≡ false → conn.new.in_transaction ≡ false }
@@ -96,11 +96,15 @@ fn all_papers<S: Alter>(alloc: Global, conn: &mut Connection<S>) -> Result<Paper
     })
 }
 
-/// All versions, of each kind in whatever order. 520: a value cannot be read as its field. 501, 502: as for each look.
-pub fn history<S: Alter>(alloc: Global, conn: &mut Connection<S>) -> Result<History, ReadFault>
-    requires { HasCleanDisk (state S.Store conn.old) → IsLand (state S.Store conn.old).now.schema }
-    ensures look { IsLook result (λ it. SaysHistory (state S.Store conn.old).now.trees it) (state S.Store conn.old) (state S.Store conn.new) }
-    ensures unreadable { HasCleanDisk (state S.Store conn.new) → IfErr result (CannotSay (SaysHistory (state S.Store conn.old).now.trees)) }
+/// All versions that the tables of the first version hold, of each kind in whatever order, and no mandates. 520: a value cannot be read as its
+/// field. 501, 502: as for each look.
+pub fn first_history<S: Alter>(
+    alloc: Global,
+    conn: &mut Connection<S>,
+) -> Result<History, ReadFault>
+    requires { HasCleanDisk (state S.Store conn.old) → HasFirstTables (state S.Store conn.old).now.schema }
+    ensures look { IsLook result (λ it. SaysFirst (state S.Store conn.old).now.trees it) (state S.Store conn.old) (state S.Store conn.new) }
+    ensures unreadable { HasCleanDisk (state S.Store conn.new) → IfErr result (CannotSay (SaysFirst (state S.Store conn.old).now.trees)) }
     ensures mode { conn.old.in_transaction ≡ false → conn.new.in_transaction ≡ false }
 {
     let persons = all_persons(alloc, conn)?;
@@ -116,5 +120,19 @@ pub fn history<S: Alter>(alloc: Global, conn: &mut Connection<S>) -> Result<Hist
         sources: papers.sources,
         mutations: papers.mutations,
         namings: papers.namings,
+        mandates: Sequence::new(alloc),
     })
+}
+
+/// All versions, of each kind in whatever order. 520: a value cannot be read as its field. 501, 502: as for each look.
+pub fn history<S: Alter>(alloc: Global, conn: &mut Connection<S>) -> Result<History, ReadFault>
+    requires { HasCleanDisk (state S.Store conn.old) → IsLand (state S.Store conn.old).now.schema }
+    ensures look { IsLook result (λ it. SaysHistory (state S.Store conn.old).now.trees it) (state S.Store conn.old) (state S.Store conn.new) }
+    ensures unreadable { HasCleanDisk (state S.Store conn.new) → IfErr result (CannotSay (SaysHistory (state S.Store conn.old).now.trees)) }
+    ensures mode { conn.old.in_transaction ≡ false → conn.new.in_transaction ≡ false }
+{
+    let mut history = first_history(alloc, conn)?;
+    let mandates = read_table(alloc, conn)?;
+    history.mandates = mandates;
+    Ok(history)
 }

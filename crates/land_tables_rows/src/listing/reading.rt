@@ -1,7 +1,7 @@
 //! The rows of the tables, read as versions.
 ghost use Rattle.std.specs.Prelude.{◌≡◌, false, IfErr};
 ghost use Rattle.land_tables_rows.specs.Listing.Reading.{IsRead, IsUnreadable, Says, editions, moments};
-ghost use Rattle.land_tables_schema.specs.Land.{IsLand};
+ghost use Rattle.land_tables_schema.specs.Land.{HasFirstTables};
 ghost use Rattle.land_tables_schema.specs.Rows.Looks.{IsLook};
 ghost use Rattle.sqlite.specs.Held.{state};
 ghost use Rattle.sqlite.specs.State.{HasCleanDisk};
@@ -27,7 +27,7 @@ pub fn read_table<S: Alter, X: Listed>(
     alloc: Global,
     conn: &mut Connection<S>,
 ) -> Result<Sequence<X>, ReadFault>
-    requires { HasCleanDisk (state S.Store conn.old) → IsLand (state S.Store conn.old).now.schema }
+    requires { HasCleanDisk (state S.Store conn.old) → X.has (state S.Store conn.old).now.schema }
     ensures look { IsLook result (λ it. Says X.listing (state S.Store conn.old).now.trees it) (state S.Store conn.old) (state S.Store conn.new) }
     ensures unreadable { HasCleanDisk (state S.Store conn.new) → IfErr result (IsUnreadable X.listing (state S.Store conn.old).now.trees) }
     ensures mode { conn.old.in_transaction ≡ false → conn.new.in_transaction ≡ false }
@@ -41,7 +41,7 @@ pub fn moments<S: Alter>(
     alloc: Global,
     conn: &mut Connection<S>,
 ) -> Result<Sequence<Moment>, ReadFault>
-    requires { HasCleanDisk (state S.Store conn.old) → IsLand (state S.Store conn.old).now.schema }
+    requires { HasCleanDisk (state S.Store conn.old) → HasFirstTables (state S.Store conn.old).now.schema }
     ensures look { IsLook result (λ it. Says moments (state S.Store conn.old).now.trees it) (state S.Store conn.old) (state S.Store conn.new) }
     ensures unreadable { HasCleanDisk (state S.Store conn.new) → IfErr result (IsUnreadable moments (state S.Store conn.old).now.trees) }
     ensures mode { conn.old.in_transaction ≡ false → conn.new.in_transaction ≡ false }
@@ -54,7 +54,7 @@ pub fn editions<S: Alter>(
     alloc: Global,
     conn: &mut Connection<S>,
 ) -> Result<Sequence<Edition>, ReadFault>
-    requires { HasCleanDisk (state S.Store conn.old) → IsLand (state S.Store conn.old).now.schema }
+    requires { HasCleanDisk (state S.Store conn.old) → HasFirstTables (state S.Store conn.old).now.schema }
     ensures look { IsLook result (λ it. Says editions (state S.Store conn.old).now.trees it) (state S.Store conn.old) (state S.Store conn.new) }
     ensures unreadable { HasCleanDisk (state S.Store conn.new) → IfErr result (IsUnreadable editions (state S.Store conn.old).now.trees) }
     ensures mode { conn.old.in_transaction ≡ false → conn.new.in_transaction ≡ false }

@@ -1,9 +1,11 @@
 //! Which table each thing is read from.
 ghost use Rattle.std.specs.Prelude.{refl};
 ghost use Rattle.land_tables_rows.specs.Listing.Reading as listing;
+ghost use Rattle.land_tables_schema.specs.Land.{HasFirstTables, IsLand};
 
 use crate::edition::reading::Edition;
 use crate::listing::listed::Listed;
+use land_core::mandates::Mandate;
 use land_core::mutation::MutationRecord;
 use land_core::parcel::ParcelRecord;
 use land_core::party::PartyRecord;
@@ -16,12 +18,14 @@ use land_tables_history::moment::Moment;
 use land_tables_history::naming::Naming;
 use land_tables_history::version::Version;
 use land_tables_schema::rows::tables::{
-    edition, member, moments, mutation, names, parcel, party, role, rrr, source, unit,
+    edition, mandate, member, moments, mutation, names, parcel, party, role, rrr, source, unit,
 };
 use sqlite::{Alter, Connection, Error, Row};
 
 impl Listed for Version<(u64, PartyRecord)> {
     ghost listing = { listing.parties };
+
+    ghost has = { HasFirstTables };
 
     fn all<S: Alter>(conn: &mut Connection<S>) -> Result<Vec<Row>, Error> {
         party::all(conn)
@@ -33,6 +37,8 @@ impl Listed for Version<(u64, PartyRecord)> {
 impl Listed for Version<Grant> {
     ghost listing = { listing.roles };
 
+    ghost has = { HasFirstTables };
+
     fn all<S: Alter>(conn: &mut Connection<S>) -> Result<Vec<Row>, Error> {
         role::all(conn)
     }
@@ -42,6 +48,8 @@ impl Listed for Version<Grant> {
 
 impl Listed for Version<GroupMember> {
     ghost listing = { listing.members };
+
+    ghost has = { HasFirstTables };
 
     fn all<S: Alter>(conn: &mut Connection<S>) -> Result<Vec<Row>, Error> {
         member::all(conn)
@@ -53,6 +61,8 @@ impl Listed for Version<GroupMember> {
 impl Listed for Version<(u64, UnitRecord)> {
     ghost listing = { listing.units };
 
+    ghost has = { HasFirstTables };
+
     fn all<S: Alter>(conn: &mut Connection<S>) -> Result<Vec<Row>, Error> {
         unit::all(conn)
     }
@@ -62,6 +72,8 @@ impl Listed for Version<(u64, UnitRecord)> {
 
 impl Listed for Version<(u64, ParcelRecord)> {
     ghost listing = { listing.parcels };
+
+    ghost has = { HasFirstTables };
 
     fn all<S: Alter>(conn: &mut Connection<S>) -> Result<Vec<Row>, Error> {
         parcel::all(conn)
@@ -73,6 +85,8 @@ impl Listed for Version<(u64, ParcelRecord)> {
 impl Listed for Version<(u64, RrrRecord)> {
     ghost listing = { listing.rrrs };
 
+    ghost has = { HasFirstTables };
+
     fn all<S: Alter>(conn: &mut Connection<S>) -> Result<Vec<Row>, Error> {
         rrr::all(conn)
     }
@@ -82,6 +96,8 @@ impl Listed for Version<(u64, RrrRecord)> {
 
 impl Listed for Version<(u64, SourceRecord)> {
     ghost listing = { listing.sources };
+
+    ghost has = { HasFirstTables };
 
     fn all<S: Alter>(conn: &mut Connection<S>) -> Result<Vec<Row>, Error> {
         source::all(conn)
@@ -93,6 +109,8 @@ impl Listed for Version<(u64, SourceRecord)> {
 impl Listed for Version<(u64, MutationRecord)> {
     ghost listing = { listing.mutations };
 
+    ghost has = { HasFirstTables };
+
     fn all<S: Alter>(conn: &mut Connection<S>) -> Result<Vec<Row>, Error> {
         mutation::all(conn)
     }
@@ -103,6 +121,8 @@ impl Listed for Version<(u64, MutationRecord)> {
 impl Listed for Version<Naming> {
     ghost listing = { listing.namings };
 
+    ghost has = { HasFirstTables };
+
     fn all<S: Alter>(conn: &mut Connection<S>) -> Result<Vec<Row>, Error> {
         names::all(conn)
     }
@@ -110,8 +130,22 @@ impl Listed for Version<Naming> {
     ghost says = { refl };
 }
 
+impl Listed for Version<Mandate> {
+    ghost listing = { listing.mandates };
+
+    ghost has = { IsLand };
+
+    fn all<S: Alter>(conn: &mut Connection<S>) -> Result<Vec<Row>, Error> {
+        mandate::all(conn)
+    }
+
+    ghost says = { refl };
+}
+
 impl Listed for Moment {
     ghost listing = { listing.moments };
+
+    ghost has = { HasFirstTables };
 
     fn all<S: Alter>(conn: &mut Connection<S>) -> Result<Vec<Row>, Error> {
         moments::all(conn)
@@ -122,6 +156,8 @@ impl Listed for Moment {
 
 impl Listed for Edition {
     ghost listing = { listing.editions };
+
+    ghost has = { HasFirstTables };
 
     fn all<S: Alter>(conn: &mut Connection<S>) -> Result<Vec<Row>, Error> {
         edition::all(conn)

@@ -26,13 +26,14 @@ pub fn fits(change: &Change) -> bool
     people_fit(change) && estates_fit(change) && papers_fit(change) && writing::fits(change.next)
 }
 
-/// Whether what a change says of parties, roles and members can be written.
+/// Whether what a change says of parties, roles, members and mandates can be written.
 fn people_fit(change: &Change) -> bool
     ensures { result ≡ fits_people change.now }
 {
     fit_kind(&change.put.parties, &change.ended.parties)
         && fit_kind(&change.put.roles, &change.ended.roles)
         && groups_fit(&change.put.members, &change.ended.members)
+        && fit_kind(&change.put.mandates, &change.ended.mandates)
 }
 
 /// Whether what it says of units, parcels and entries can be written.

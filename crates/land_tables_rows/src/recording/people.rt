@@ -1,4 +1,4 @@
-//! Parties, their roles, and the members of groups are written.
+//! Parties, their roles, the members of groups, and mandates are written.
 ghost use Rattle.std.specs.Prelude.{◌≡◌, IsTrue};
 ghost use Rattle.land_tables_rows.specs.Recording.Whole.{Edits, changed_people, fits_people};
 ghost use Rattle.land_tables_rows.specs.Writing.Holding.{IsMoment};
@@ -13,7 +13,7 @@ use land_core::change::Change;
 use sqlite::{Alter, Error, Transaction};
 use std::alloc::Global;
 
-/// Writes what a change says of parties, roles and members.
+/// Writes what a change says of parties, roles, members and mandates.
 pub(crate) fn record_people<S: Alter>(
     alloc: Global,
     tx: &mut Transaction<'_, S>,
@@ -29,5 +29,12 @@ pub(crate) fn record_people<S: Alter>(
     changes_are_held();
     change_kind(alloc, tx, &change.put.parties, &change.ended.parties, stamp)?;
     change_kind(alloc, tx, &change.put.roles, &change.ended.roles, stamp)?;
-    change_members(alloc, tx, &change.put.members, &change.ended.members, stamp)
+    change_members(alloc, tx, &change.put.members, &change.ended.members, stamp)?;
+    change_kind(
+        alloc,
+        tx,
+        &change.put.mandates,
+        &change.ended.mandates,
+        stamp,
+    )
 }

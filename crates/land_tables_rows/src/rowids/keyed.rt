@@ -1,7 +1,6 @@
 //! What lies under rowids in a table.
 ghost use Rattle.std.specs.Prelude.{◌≡◌, false};
 ghost use Rattle.land_tables_rows.specs.Rowids.{AreRowids};
-ghost use Rattle.land_tables_schema.specs.Land.{IsLand};
 ghost use Rattle.land_tables_schema.specs.Rows.Looks.{IsLook};
 ghost use Rattle.sqlite.specs.Held.{state};
 ghost use Rattle.sqlite.specs.State.{HasCleanDisk};
@@ -13,7 +12,7 @@ use sqlite::{Alter, Connection, Error, Row};
 pub(crate) trait Keyed: Listed {
     /// The rowids of the table, in whatever order.
     fn rowids<S: Alter>(conn: &mut Connection<S>) -> Result<Vec<Row>, Error>
-        requires { HasCleanDisk (state S.Store conn.old) → IsLand (state S.Store conn.old).now.schema }
+        requires { HasCleanDisk (state S.Store conn.old) → Self.has (state S.Store conn.old).now.schema }
         ensures look { IsLook result (λ rows. AreRowids Self.listing.table (state S.Store conn.old).now.trees rows.items) (state S.Store conn.old) (state S.Store conn.new) }
         ensures mode { conn.old.in_transaction ≡ false → conn.new.in_transaction ≡ false };
 }

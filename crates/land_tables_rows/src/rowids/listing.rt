@@ -1,6 +1,7 @@
 //! The rowids of each table of versions.
 
 use crate::rowids::keyed::Keyed;
+use land_core::mandates::Mandate;
 use land_core::mutation::MutationRecord;
 use land_core::parcel::ParcelRecord;
 use land_core::party::PartyRecord;
@@ -91,5 +92,14 @@ const NAMES: &str = "SELECT rowid FROM names";
 impl Keyed for Version<Naming> {
     fn rowids<S: Alter>(conn: &mut Connection<S>) -> Result<Vec<Row>, Error> {
         conn.query_all(NAMES, &[])
+    }
+}
+
+/// The text that lists the rowids of `mandate`.
+const MANDATE: &str = "SELECT rowid FROM mandate";
+
+impl Keyed for Version<Mandate> {
+    fn rowids<S: Alter>(conn: &mut Connection<S>) -> Result<Vec<Row>, Error> {
+        conn.query_all(MANDATE, &[])
     }
 }

@@ -1,13 +1,15 @@
 //! Whether the rows of each table of versions lie under rowids of their own.
 ghost use Rattle.std.specs.Prelude.{◌≡◌, false};
-ghost use Rattle.land_tables_rows.specs.Rowids.{AreAllKeyed, AreHoldingsKeyed, AreKeyed, ArePapersKeyed, ArePersonsKeyed};
-ghost use Rattle.land_tables_schema.specs.Land.{IsLand};
+ghost use Rattle.land_tables_rows.specs.Rowids.{AreFirstKeyed, AreHoldingsKeyed, AreKeyed, ArePapersKeyed, ArePersonsKeyed};
+ghost use Rattle.land_tables_schema.specs.Land.{HasFirstTables, IsLand};
 ghost use Rattle.land_tables_schema.specs.Rows.Looks.{IsLook};
+ghost use Rattle.land_tables_schema.specs.Tables as table;
 ghost use Rattle.sqlite.specs.Held.{state};
 ghost use Rattle.sqlite.specs.State.{HasCleanDisk};
 
 use crate::rowids::apart::are_numbered;
 use crate::rowids::keyed::Keyed;
+use land_core::mandates::Mandate;
 use land_core::mutation::MutationRecord;
 use land_core::parcel::ParcelRecord;
 use land_core::party::PartyRecord;
@@ -23,7 +25,7 @@ use std::alloc::Global;
 
 /// Refuses a table in which two rows lie under one rowid, or one under none.
 fn judge_table<S: Alter, X: Keyed>(alloc: Global, conn: &mut Connection<S>) -> Result<(), Error>
-    requires { HasCleanDisk (state S.Store conn.old) → IsLand (state S.Store conn.old).now.schema }
+    requires { HasCleanDisk (state S.Store conn.old) → X.has (state S.Store conn.old).now.schema }
     ensures look { IsLook result (λ _. AreKeyed X.listing.table (state S.Store conn.old).now.trees) (state S.Store conn.old) (state S.Store conn.new) }
     ensures mode { conn.old.in_transaction ≡ false → conn.new.in_transaction ≡ false }
 {
@@ -33,7 +35,7 @@ fn judge_table<S: Alter, X: Keyed>(alloc: Global, conn: &mut Connection<S>) -> R
 
 /// The tables of who there is.
 fn persons<S: Alter>(alloc: Global, conn: &mut Connection<S>) -> Result<(), Error>
-    requires { HasCleanDisk (state S.Store conn.old) → IsLand (state S.Store conn.old).now.schema }
+    requires { HasCleanDisk (state S.Store conn.old) → HasFirstTables (state S.Store conn.old).now.schema }
     ensures look { IsLook result (λ _. ArePersonsKeyed (state S.Store conn.old).now.trees) (state S.Store conn.old) (state S.Store conn.new) }
     ensures mode { conn.old.in_transaction ≡ false → conn.new.in_transaction ≡ false }
 {
@@ -44,7 +46,7 @@ fn persons<S: Alter>(alloc: Global, conn: &mut Connection<S>) -> Result<(), Erro
 
 /// The tables of what is held.
 fn holdings<S: Alter>(alloc: Global, conn: &mut Connection<S>) -> Result<(), Error>
-    requires { HasCleanDisk (state S.Store conn.old) → IsLand (state S.Store conn.old).now.schema }
+    requires { HasCleanDisk (state S.Store conn.old) → HasFirstTables (state S.Store conn.old).now.schema }
     ensures look { IsLook result (λ _. AreHoldingsKeyed (state S.Store conn.old).now.trees) (state S.Store conn.old) (state S.Store conn.new) }
     ensures mode { conn.old.in_transaction ≡ false → conn.new.in_transaction ≡ false }
 {
@@ -55,7 +57,7 @@ fn holdings<S: Alter>(alloc: Global, conn: &mut Connection<S>) -> Result<(), Err
 
 /// The tables of what was handed in.
 fn papers<S: Alter>(alloc: Global, conn: &mut Connection<S>) -> Result<(), Error>
-    requires { HasCleanDisk (state S.Store conn.old) → IsLand (state S.Store conn.old).now.schema }
+    requires { HasCleanDisk (state S.Store conn.old) → HasFirstTables (state S.Store conn.old).now.schema }
     ensures look { IsLook result (λ _. ArePapersKeyed (state S.Store conn.old).now.trees) (state S.Store conn.old) (state S.Store conn.new) }
     ensures mode { conn.old.in_transaction ≡ false → conn.new.in_transaction ≡ false }
 {
@@ -64,14 +66,23 @@ fn papers<S: Alter>(alloc: Global, conn: &mut Connection<S>) -> Result<(), Error
     judge_table::<S, Version<Naming>>(alloc, conn)
 }
 
-/// Refuses tables of versions in which two rows lie under one rowid, or one under none, as those of a damaged store. Other errors are the
-/// store's own. A store that it leaves open is as it was.
-pub fn are_keyed<S: Alter>(alloc: Global, conn: &mut Connection<S>) -> Result<(), Error>
-    requires { HasCleanDisk (state S.Store conn.old) → IsLand (state S.Store conn.old).now.schema }
-    ensures look { IsLook result (λ _. AreAllKeyed (state S.Store conn.old).now.trees) (state S.Store conn.old) (state S.Store conn.new) }
+/// Refuses tables of versions, of those that the first version has, in which two rows lie under one rowid, or one under none, as those of a
+/// damaged store. Other errors are the store's own. A store that it leaves open is as it was.
+pub fn are_first_keyed<S: Alter>(alloc: Global, conn: &mut Connection<S>) -> Result<(), Error>
+    requires { HasCleanDisk (state S.Store conn.old) → HasFirstTables (state S.Store conn.old).now.schema }
+    ensures look { IsLook result (λ _. AreFirstKeyed (state S.Store conn.old).now.trees) (state S.Store conn.old) (state S.Store conn.new) }
     ensures mode { conn.old.in_transaction ≡ false → conn.new.in_transaction ≡ false }
 {
     persons(alloc, conn)?;
     holdings(alloc, conn)?;
     papers(alloc, conn)
+}
+
+/// The same of the table of mandates.
+pub fn are_mandates_keyed<S: Alter>(alloc: Global, conn: &mut Connection<S>) -> Result<(), Error>
+    requires { HasCleanDisk (state S.Store conn.old) → IsLand (state S.Store conn.old).now.schema }
+    ensures look { IsLook result (λ _. AreKeyed table.mandate (state S.Store conn.old).now.trees) (state S.Store conn.old) (state S.Store conn.new) }
+    ensures mode { conn.old.in_transaction ≡ false → conn.new.in_transaction ≡ false }
+{
+    judge_table::<S, Version<Mandate>>(alloc, conn)
 }

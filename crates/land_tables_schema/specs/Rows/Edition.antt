@@ -12,6 +12,10 @@ pub record Edition : Type 0 where
 abbrev pub edition_row : Edition → Row
 edition_row e = whole e.id ∷ whole e.version ∷ []
 
--- the first version, and the only one
+-- the first version, which has no mandates
 abbrev pub first_edition : Edition
 first_edition = record { id = 1; version = 1 }
+
+-- the second version, which is the present one
+abbrev pub current_edition : Edition
+current_edition = record { id = 1; version = 2 }

@@ -1,8 +1,9 @@
 -- All that the tables of the register hold.
 use Rattle.std.specs.Prelude.{◌≡◌, pos, List, [], ◌∷◌, codes}
 use Rattle.land_tables_schema.specs.Land.{made_schema}
-use Rattle.land_tables_schema.specs.Rows.Edition.{Edition, edition_row, first_edition}
+use Rattle.land_tables_schema.specs.Rows.Edition.{Edition, current_edition, edition_row}
 use Rattle.land_tables_schema.specs.Rows.Forms.{Holds, Lists}
+use Rattle.land_tables_schema.specs.Rows.Mandate.{MandateRow, mandates}
 use Rattle.land_tables_schema.specs.Rows.Member.{MemberRow, members}
 use Rattle.land_tables_schema.specs.Rows.Moments.{Moment, moment_row}
 use Rattle.land_tables_schema.specs.Rows.Mutation.{MutationRow, mutations}
@@ -31,6 +32,7 @@ pub record Rows : Type 0 where
   pub sources : List (Version SourceRow)
   pub mutations : List (Version MutationRow)
   pub namings : List (Version NamesRow)
+  pub mandates : List (Version MandateRow)
 
 -- the tables hold these and nothing else
 pub record HoldsRows (db : Trees) (rows : Rows) : Type 0 where
@@ -45,11 +47,12 @@ pub record HoldsRows (db : Trees) (rows : Rows) : Type 0 where
   pub the_sources : Holds sources db rows.sources
   pub the_mutations : Holds mutations db rows.mutations
   pub the_namings : Holds namings db rows.namings
+  pub the_mandates : Holds mandates db rows.mandates
 
 -- a new register: from the first moment on party 1, the land office itself, is state administrator, and 2 is the next number
 abbrev pub new_rows : Rows
 new_rows = record {
-  editions = first_edition ∷ [];
+  editions = current_edition ∷ [];
   moments = record { stamp = pos 0; next = 2 } ∷ [];
   parties = begun (record { number = 1; name = codes "Land Office"; kind = codes "nonNaturalPerson" }) (pos 0) ∷ [];
   roles = begun (record { party = 1; role = codes "stateAdministrator" }) (pos 0) ∷ [];
@@ -60,6 +63,7 @@ new_rows = record {
   sources = [];
   mutations = [];
   namings = [];
+  mandates = [];
 }
 
 -- the database of a new register: the tables and indexes, and its rows

@@ -5,7 +5,7 @@ use crate::shape::{Rows, TableShape};
 /// The shape of the table. Its columns:
 ///
 /// - `id`: always 1
-/// - `version`: the version of the tables, counted from 1: 1
+/// - `version`: the version of the tables, counted from 1: 2, or 1 where there are no mandates
 pub const SHAPE: TableShape<'static> = TableShape {
     name: "edition",
     tree: 0,

@@ -6,4 +6,5 @@ use Rattle.land_tables_lawful.proofs.lawful.do_refer.Goals as goal
 pub returns : goal.returns
 returns c = subst (λ (b : Bool). (b ≡ true) ↔ DoRefer c.args.moments.now c.args.history.now) (sym c.are_all.ensures)
     (all_refer c.args.moments.now c.args.history.now c.in_ok-roles.roles c.in_ok-members.members c.in_ok-parcels.parcels c.in_ok-entries.entries c.in_ok-mutations.mutations
-    c.in_ok-roles.ensures c.in_ok-members.ensures c.in_ok-parcels.ensures c.in_ok-entries.ensures c.in_ok-mutations.ensures)
+    c.in_ok-mandates.mandates
+    c.in_ok-roles.ensures c.in_ok-members.ensures c.in_ok-parcels.ensures c.in_ok-entries.ensures c.in_ok-mutations.ensures c.in_ok-mandates.ensures)

@@ -1,6 +1,6 @@
 //! The rows of `moments`.
 ghost use Rattle.std.specs.Prelude.{◌≡◌, ◌<◌, ◌^◌, false};
-ghost use Rattle.land_tables_schema.specs.Land.{IsLand};
+ghost use Rattle.land_tables_schema.specs.Land.{HasFirstTables, IsLand};
 ghost use Rattle.land_tables_schema.specs.Rows.Forms.{Appends};
 ghost use Rattle.land_tables_schema.specs.Rows.Looks.{IsLook, AreAllNumbered};
 ghost use Rattle.land_tables_schema.specs.Rows.Moments.{moment_row};
@@ -31,7 +31,7 @@ pub fn insert<S: Alter>(tx: &mut Transaction<'_, S>, stamp: i64, next: u64) -> R
 
 /// All rows, as they are, in whatever order.
 pub fn all<S: Alter>(conn: &mut Connection<S>) -> Result<Vec<Row>, Error>
-    requires { HasCleanDisk (state S.Store conn.old) → IsLand (state S.Store conn.old).now.schema }
+    requires { HasCleanDisk (state S.Store conn.old) → HasFirstTables (state S.Store conn.old).now.schema }
     ensures look { IsLook result (λ rows. AreAllNumbered table.moments (state S.Store conn.old).now.trees rows.items)
         (state S.Store conn.old) (state S.Store conn.new) }
     ensures mode { conn.old.in_transaction ≡ false → conn.new.in_transaction ≡ false }

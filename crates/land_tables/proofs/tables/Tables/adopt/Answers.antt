@@ -5,6 +5,7 @@ use Rattle.land_tables.proofs.Adopted.{refused_holds_none}
 use Rattle.land_tables.proofs.Judgements.{same_office}
 use Rattle.land_tables.specs.Calls.{IsSame}
 use Rattle.land_tables.specs.Office.{IsOffice}
+use Rattle.land_tables.specs.Registers.{the_second}
 use Rattle.sqlite.specs.Held.{state}
 use Rattle.sqlite.specs.State.{HasCleanDisk}
 use Rattle.land_tables.proofs.tables.Tables.adopt.Goals as goal
@@ -25,7 +26,7 @@ returns-in-Ok-clause-adopted g c =
     }
 
 pub returns-in-Err-clause-none : goal.returns-in-Err-clause-none
-returns-in-Err-clause-none g c clean = refused_holds_none c.in-Err.fault (state g.S.Store c.args.conn).now (c.in-Err.ensures.judgement.refused clean)
+returns-in-Err-clause-none g c clean = refused_holds_none the_second c.in-Err.fault (state g.S.Store c.args.conn).now (c.in-Err.ensures.judgement.refused clean)
 
 pub invariant_of-result : goal.invariant_of-result
 invariant_of-result g c =

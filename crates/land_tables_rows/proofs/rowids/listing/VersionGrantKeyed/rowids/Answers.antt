@@ -2,6 +2,7 @@ use Rattle.std.proofs.Common.{◌∷◌, []}
 use Rattle.land_tables_rows.proofs.Texts.{roles}
 use Rattle.land_tables_rows.specs.declared.rowids.listing.TheConstants.{ROLE}
 use Rattle.land_tables_schema.proofs.Asks.{looks}
+use Rattle.land_tables_schema.specs.Land.{HasFirstTables}
 use Rattle.land_tables_schema.specs.Rows.Looks.{columns_from}
 use Rattle.sqlite.specs.Held.{state}
 use Rattle.sqlite.specs.Term.{col}
@@ -9,4 +10,4 @@ use Rattle.land_tables_rows.proofs.rowids.listing.VersionGrantKeyed.rowids.Goals
 
 pub returns-clause-look : goal.returns-clause-look
 returns-clause-look g c =
-    looks 4 ROLE.now (col 1 0 ∷ []) (columns_from 0 1) roles (state g.S.Store c.args.conn.now) (state g.S.Store c.query_all.new.self) (λ rows. rows.items) c.query_all.result c.requires c.query_all.ensures.ok c.query_all.ensures.err c.query_all.ensures.survives
+    looks HasFirstTables 4 ROLE.now (col 1 0 ∷ []) (columns_from 0 1) roles (state g.S.Store c.args.conn.now) (state g.S.Store c.query_all.new.self) (λ rows. rows.items) c.query_all.result c.requires c.query_all.ensures.ok c.query_all.ensures.err c.query_all.ensures.survives

@@ -1,0 +1,86 @@
+//! A register of the first version becomes one of the second.
+ghost use Rattle.std.specs.Prelude.{◌≡◌, ◌≢◌, ◌⊎◌, ◌≤ℤ◌, false, IfErr, IfOk, IsTrue, OnErr, OnOk};
+ghost use Rattle.land_keep.specs.Moments.{last_moment};
+ghost use Rattle.land_tables.specs.Migrating.{IsMigration};
+ghost use Rattle.land_tables.specs.declared.fault.AdoptFault.TheVariants as why;
+ghost use Rattle.land_tables_schema.specs.Land.{IsRaisable};
+ghost use Rattle.land_tables_schema.specs.Rows.Looks.{IsLeft};
+ghost use Rattle.land_tables_schema.specs.Rows.Raising.{MayRaise, Raises};
+ghost use Rattle.sqlite.specs.Held.{state};
+ghost use Rattle.sqlite.specs.State.{HasCleanDisk, IsUnchanged, Survives};
+
+use crate::adopting::first_store;
+use crate::failing::failed;
+use crate::fault::AdoptFault;
+use crate::timelines::laws::{order_does_not_matter, versions_stand_for_one};
+use land_keep::store_fault::StoreFault;
+use land_tables_history::moment::Moment;
+use land_tables_rows::listing::fault::ReadFault;
+use land_tables_rows::writing::laws::raised_registers_are_held;
+use land_tables_schema::first_version::can_raise;
+use land_tables_schema::rows::raising::raise_register;
+use sqlite::{Alter, Connection, Error};
+use std::alloc::Global;
+
+/// The fault of a store that did not become one of the second version: 501 where memory was wanting and it is still open, else 502.
+fn not_raised<S: Alter>(conn: &mut Connection<S>, error: Error) -> AdoptFault
+    ensures fault { (result ≡ why.NoMemory) ⊎ (result ≡ why.Store) }
+    ensures same { HasCleanDisk (state S.Store conn.new) → result ≢ why.Store → IsUnchanged (state S.Store conn.old) (state S.Store conn.new) }
+    ensures left { HasCleanDisk (state S.Store conn.new) → IsTrue (state S.Store conn.new).is_open → IsLeft (state S.Store conn.old) (state S.Store conn.new) }
+    ensures survives { Survives (state S.Store conn.old) (state S.Store conn.new) (λ _. ⊥) }
+    ensures mode { conn.old.in_transaction ≡ false → conn.new.in_transaction ≡ false }
+{
+    match failed(conn, ReadFault::from(error)) {
+        StoreFault::NoMemory => AdoptFault::NoMemory,
+        StoreFault::Store | StoreFault::Closed => AdoptFault::Store,
+    }
+}
+
+/// Makes of a store that has the tables of the first version one of the second, with no mandates, in one transaction whose last call of the
+/// store is the commit, and answers the moment of its last change. 502: its next table would not get the tree of the mandates, and then
+/// nothing is done; or a call failed. 501: there was no memory. A store that is open after a fault is as it was.
+fn raise_store<S: Alter>(conn: &mut Connection<S>, latest: Moment) -> Result<Moment, AdoptFault>
+    requires alone { conn.old.in_transaction ≡ false }
+    requires settled { HasCleanDisk (state S.Store conn.old) → (state S.Store conn.old).now ≡ (state S.Store conn.old).committed }
+    ensures latest { IfOk result (λ it. it ≡ latest) }
+    ensures raisable { OnOk result (IsRaisable (state S.Store conn.old).now.schema) }
+    ensures done { HasCleanDisk (state S.Store conn.new) → OnOk result (Raises (state S.Store conn.old).now (state S.Store conn.new).now) }
+    ensures committed { HasCleanDisk (state S.Store conn.new) → OnOk result ((state S.Store conn.new).committed ≡ (state S.Store conn.new).now) }
+    ensures open { HasCleanDisk (state S.Store conn.new) → OnOk result (IsTrue (state S.Store conn.new).is_open) }
+    ensures fault { IfErr result (λ fault. (fault ≡ why.NoMemory) ⊎ (fault ≡ why.Store)) }
+    ensures same { HasCleanDisk (state S.Store conn.new) → IfErr result (λ fault. fault ≢ why.Store → IsTrue (state S.Store conn.new).is_open) }
+    ensures undone { HasCleanDisk (state S.Store conn.new) → IsTrue (state S.Store conn.new).is_open
+        → OnErr result (((state S.Store conn.new).now ≡ (state S.Store conn.old).committed) × ((state S.Store conn.new).committed ≡ (state S.Store conn.old).committed)) }
+    ensures crash { Survives (state S.Store conn.old) (state S.Store conn.new) (MayRaise (state S.Store conn.old).now) }
+    ensures ended { conn.new.in_transaction ≡ false }
+{
+    if !can_raise(conn.schema()) {
+        return Err(AdoptFault::Store);
+    }
+    match raise_register(conn) {
+        Ok(()) => Ok(latest),
+        Err(error) => Err(not_raised(conn, error)),
+    }
+}
+
+/// Makes of a store with a register of the first version one of the second, with no mandates, and answers the moment of its last change. The
+/// faults are those of a store that is taken, by the first version, and then those of raising it. A store that is open after a fault is as
+/// it was.
+pub(crate) fn migrate_store<S: Alter>(
+    alloc: Global,
+    conn: &mut Connection<S>,
+) -> Result<Moment, AdoptFault>
+    requires alone { conn.old.in_transaction ≡ false }
+    requires settled { IsTrue (state S.Store conn.old).is_open → (state S.Store conn.old).now ≡ (state S.Store conn.old).committed }
+    ensures migration { IsMigration result (state S.Store conn.old) (state S.Store conn.new) }
+    ensures moment { IfOk result (λ latest. latest.stamp ≤ℤ last_moment) }
+    ensures ended { conn.new.in_transaction ≡ false }
+{
+    versions_stand_for_one();
+    order_does_not_matter();
+    raised_registers_are_held();
+    match first_store(alloc, conn) {
+        Ok(latest) => raise_store(conn, latest),
+        Err(fault) => Err(fault),
+    }
+}

@@ -1,0 +1,76 @@
+//! Whether mandates are between two single parties that stand, at each moment.
+ghost use Rattle.std.specs.Fn.{FnReturnsAt};
+ghost use Rattle.std.specs.List.{list_all};
+ghost use Rattle.std.specs.Prelude.{◌≡◌, ◌↔◌, ℕ, true, not, nat_eq, IfOk, int_lt};
+ghost use Rattle.land_core.specs.Soundness.{has_loose_mandate};
+ghost use Rattle.land_tables_history.specs.Intervals.{has_intervals};
+ghost use Rattle.land_tables_history.specs.Sweeps.Cover.{IsCovered};
+ghost use Rattle.land_tables_lawful.specs.Never.{Never};
+ghost use Rattle.land_tables_lawful.specs.Pieces.{are_in_time, pieces};
+ghost use Rattle.land_tables_lawful.specs.Roles.{single_parties};
+
+use crate::referred::ask_for;
+use crate::roles::offer_single_parties;
+use land_core::mandates::Mandate;
+use land_core::party::PartyRecord;
+use land_core::sequence::Sequence;
+use land_tables_history::history::History;
+use land_tables_history::moment::Moment;
+use land_tables_history::sweeps::cover::is_covered;
+use land_tables_history::version::Version;
+use std::alloc::{AllocError, Global};
+
+/// Whether the principal and the agent of each mandate are two single parties that stand, at each moment.
+pub(crate) fn do_mandates_refer(
+    alloc: Global,
+    history: &History,
+    moments: &[Moment],
+) -> Result<bool, AllocError>
+    requires intervals { has_intervals moments.now history.now ≡ true }
+    requires in_time { are_in_time moments.now ≡ true }
+    ensures { IfOk result (λ it. (it ≡ true) ↔ Never has_loose_mandate moments.now history.now) }
+{
+    let others = are_of_others(history.mandates.as_slice());
+    let principals = are_single_parties(
+        alloc,
+        &history.parties,
+        &history.mandates,
+        |mandate| mandate.principal,
+    )?;
+    let agents = are_single_parties(
+        alloc,
+        &history.parties,
+        &history.mandates,
+        |mandate| mandate.agent,
+    )?;
+    Ok(principals & agents & others)
+}
+
+/// Whether what versions refer to is a single party that stands, as long as they stand. The closure tells the number that a version refers
+/// to.
+fn are_single_parties<W, F: Fn(&W) -> u64>(
+    alloc: Global,
+    parties: &Sequence<Version<(u64, PartyRecord)>>,
+    versions: &Sequence<Version<W>>,
+    number: F,
+) -> Result<bool, AllocError>
+    ghost number_of: { W → ℕ }
+    requires callable { F.IsAlwaysCallable number }
+    requires told { (what : W) (n : ℕ) → FnReturnsAt F.Fn number what n → n ≡ number_of what }
+    requires begun { list_all (λ x. int_lt x.since x.until) (pieces (λ e. e.0) (single_parties parties.now) number_of versions.now) ≡ true }
+    ensures { IfOk result (λ it. (it ≡ true) ↔ IsCovered (pieces (λ e. e.0) (single_parties parties.now) number_of versions.now)) }
+{
+    let mut pieces = Vec::new(alloc);
+    offer_single_parties(&mut pieces, parties.as_slice())?;
+    ask_for(&mut pieces, versions.as_slice(), number)?;
+    Ok(is_covered(&mut pieces))
+}
+
+/// Whether the principal and the agent of each mandate differ.
+fn are_of_others(mandates: &[Version<Mandate>]) -> bool
+    ensures { result ≡ list_all (λ v. not (nat_eq v.what.principal v.what.agent)) mandates.now }
+{
+    mandates
+        .iter()
+        .all(|mandate| mandate.what.principal != mandate.what.agent)
+}

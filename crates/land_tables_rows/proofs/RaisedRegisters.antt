@@ -1,0 +1,74 @@
+-- A register of the first version that becomes one of the second holds what it held.
+use Rattle.std.proofs.Common.{◌≡◌, ◌≢◌, ◌∙◌, ℕ, List, [], ◌∷◌, map, Ok, Result, IsPermutation, refl, sym, ap, ap₂, subst, arith}
+use Rattle.std.proofs.lemmas.List.Sorted.{IsPermutation-refl}
+use Rattle.land_tables_history.specs.declared.history.History.{History}
+use Rattle.land_tables_history.specs.declared.moment.Moment.{Moment}
+use Rattle.land_tables_rows.proofs.Bounds.{same_ok}
+use Rattle.land_tables_rows.proofs.Editions as edition
+use Rattle.land_tables_rows.proofs.Histories.{still_keeps}
+use Rattle.land_tables_rows.proofs.Tellings.{lists_one, tells_from}
+use Rattle.land_tables_rows.proofs.Writes.{keeps_from}
+use Rattle.land_tables_rows.specs.Edition.Reading.{edition_in}
+use Rattle.land_tables_rows.specs.Edition.Writing.{KeepsEditions, current_edition, first_edition}
+use Rattle.land_tables_rows.specs.Mandate.Reading.{mandate_in}
+use Rattle.land_tables_rows.specs.Mandate.Writing as mandate
+use Rattle.land_tables_rows.specs.Member.Writing as member
+use Rattle.land_tables_rows.specs.Mutation.Writing as mutation
+use Rattle.land_tables_rows.specs.Naming.Writing as naming
+use Rattle.land_tables_rows.specs.Parcel.Writing as parcel
+use Rattle.land_tables_rows.specs.Party.Writing as party
+use Rattle.land_tables_rows.specs.Role.Writing as role
+use Rattle.land_tables_rows.specs.Rrr.Writing as rrr
+use Rattle.land_tables_rows.specs.Source.Writing as source
+use Rattle.land_tables_rows.specs.Unit.Writing as unit
+use Rattle.land_tables_rows.specs.Writing.History.{HoldsFirst, HoldsHistory}
+use Rattle.land_tables_rows.specs.Writing.Holding.{Keeps}
+use Rattle.land_tables_rows.specs.Writing.Laws.{RaisedRegistersAreHeld}
+use Rattle.land_tables_rows.specs.declared.edition.reading.Edition as told
+use Rattle.land_tables_rows.specs.Reading.Cells.{natural_in}
+use Rattle.land_tables_schema.proofs.First.{none_held}
+use Rattle.land_tables_schema.specs.Rows.Edition as rows
+use Rattle.land_tables_schema.specs.Rows.Mandate.{mandate_cells, mandates}
+use Rattle.land_tables_schema.specs.Rows.Raising.{Raises}
+use Rattle.land_tables_schema.specs.Tables as table
+use Rattle.sqlite.specs.Effect.{Database}
+use Rattle.sqlite_trees.specs.Tree.{Trees}
+
+-- a table with no rows holds no mandates
+none_kept : (db : Trees) (history : History) → db 20 ≡ [] → history.mandates ≡ [] → Keeps mandate.mandates db history.mandates
+none_kept db history empty none = subst (Keeps mandate.mandates db) (sym none) (keeps_from table.mandate 2 mandate_cells mandate_in db [] [] refl (none_held mandates db empty))
+
+raised_history : (old new : Database) (moments : List Moment) (history : History) → Raises old new → HoldsFirst old.trees moments history → HoldsHistory new.trees moments history
+raised_history old new moments history raises held =
+    let k = raises.kept in
+    record {
+      the_moments = rw (k.1.0 (λ e. absurd (omega arith))) held.the_moments;
+      the_parties = still_keeps party.parties old.trees new.trees history.parties (k.1.1.0 (λ e. absurd (omega arith))) held.the_parties;
+      the_roles = still_keeps role.roles old.trees new.trees history.roles (k.1.1.1.0 (λ e. absurd (omega arith))) held.the_roles;
+      the_members = still_keeps member.members old.trees new.trees history.members (k.1.1.1.1.0 (λ e. absurd (omega arith))) held.the_members;
+      the_units = still_keeps unit.units old.trees new.trees history.units (k.1.1.1.1.1.0 (λ e. absurd (omega arith))) held.the_units;
+      the_parcels = still_keeps parcel.parcels old.trees new.trees history.parcels (k.1.1.1.1.1.1.0 (λ e. absurd (omega arith))) held.the_parcels;
+      the_rrrs = still_keeps rrr.rrrs old.trees new.trees history.rrrs (k.1.1.1.1.1.1.1.0 (λ e. absurd (omega arith))) held.the_rrrs;
+      the_sources = still_keeps source.sources old.trees new.trees history.sources (k.1.1.1.1.1.1.1.1.0 (λ e. absurd (omega arith))) held.the_sources;
+      the_mutations = still_keeps mutation.mutations old.trees new.trees history.mutations (k.1.1.1.1.1.1.1.1.1.0 (λ e. absurd (omega arith))) held.the_mutations;
+      the_namings = still_keeps naming.namings old.trees new.trees history.namings (k.1.1.1.1.1.1.1.1.1.1.0 (λ e. absurd (omega arith))) held.the_namings;
+      the_mandates = none_kept new.trees history raises.mandates held.none;
+    }
+
+abbrev edition_of : (id version : ℕ) → rows.Edition
+edition_of id version = record { id = id; version = version }
+
+-- the cells of the first edition are read as no other
+first_is : (p : rows.Edition) → edition_in (rows.edition_row p) ≡ Ok first_edition → p ≡ rows.first_edition
+unfolding edition_in natural_in
+first_is p h =
+    let is = same_ok h in
+    ap₂ edition_of (ap (λ (e : told.Edition). e.id) is) (ap (λ (e : told.Edition). e.version) is)
+
+raised_editions : (old new : Database) → Raises old new → KeepsEditions old.trees (first_edition ∷ []) → KeepsEditions new.trees (current_edition ∷ [])
+raised_editions old new raises tells =
+    tells_from table.edition rows.edition_row edition_in new.trees (rows.current_edition ∷ []) (current_edition ∷ []) (ap (λ r. r ∷ []) edition.reads)
+    (raises.edition (lists_one table.edition rows.edition_row edition_in edition.found rows.first_edition first_edition first_is old.trees tells))
+
+pub raised_registers_are_held : RaisedRegistersAreHeld
+raised_registers_are_held old new moments history raises held tells = record { history = raised_history old new moments history raises held; editions = raised_editions old new raises tells }

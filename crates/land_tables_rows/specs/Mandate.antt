@@ -1,0 +1,3 @@
+-- The mandates that parties have given.
+pub mod Reading
+pub mod Writing

@@ -1,0 +1,5 @@
+//! The mandates that parties have given.
+
+pub mod reading;
+pub mod recording;
+pub mod writing;

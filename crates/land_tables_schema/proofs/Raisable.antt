@@ -1,0 +1,60 @@
+-- A schema of the first version becomes one of the second.
+use Rattle.std.proofs.Common.{◌≡◌, ◌+◌, ◌||◌, ℕ, List, [], ◌∷◌, ◌++◌, Bool, true, false, not, refl, sym, ap, ap₂, subst}
+use Rattle.std.specs.List.{list_all, list_any}
+use Rattle.std.proofs.lemmas.Bool.{and_from, and_parts, false≢true}
+use Rattle.std.proofs.lemmas.List.Folds.{list_any-append}
+use Rattle.land_tables_schema.specs.Land.{IsFirst, IsLand, first_with, is_key_of, land_with, mandate_keys, refuses_no_more, with_mandates}
+use Rattle.land_tables_schema.specs.Tables.{first_tables, land_tables, mandate}
+use Rattle.sqlite_catalog.specs.Change.{automatics, created, next_tree}
+use Rattle.sqlite_keyed.proofs.ListLemmas.{list_all_push}
+use Rattle.sqlite_schema.specs.declared.schema.Index.{Index}
+use Rattle.sqlite_schema.specs.declared.schema.Schema.{Schema}
+use Rattle.sqlite_schema.specs.declared.schema.Table.{Table}
+use Rattle.sqlite_tied.specs.Compute.{everything}
+
+-- ---- what is known of a schema
+
+pub but_for_indexes : (s : Schema) → IsLand s → s ≡ land_with s.indexes
+but_for_indexes s land = ap₂ (λ tables views. record { tables = tables; indexes = s.indexes; views = views }) land.tables land.views
+
+-- one of the first version is known but for its indexes alone
+pub first_but_for_indexes : (s : Schema) → IsFirst s → s ≡ first_with [] s.indexes
+first_but_for_indexes s first = ap₂ (λ tables views. record { tables = tables; indexes = s.indexes; views = views }) first.tables first.views
+
+-- ---- whose indexes refuse no more than keys do
+
+-- with one table more they refuse no more still
+still_no_more : (i : Index) → refuses_no_more first_tables i ≡ true → refuses_no_more land_tables i ≡ true
+still_no_more i h =
+    more (not i.is_unique) (list_any (is_key_of i) first_tables) (list_any (is_key_of i) land_tables) (list_any (is_key_of i) (mandate ∷ [])) (list_any-append (is_key_of i) first_tables (mandate ∷ [])) h
+  where
+    more : (a b c d : Bool) → c ≡ (b || d) → (a || b) ≡ true → (a || c) ≡ true
+    more true b c d is h = refl
+    more false true c d is h = is
+    more false false c d is h = absurd (false≢true h)
+
+all_still : (is : List Index) → list_all (refuses_no_more first_tables) is ≡ true → list_all (refuses_no_more land_tables) is ≡ true
+all_still [] h = refl
+all_still (i ∷ is) h =
+    let parts = and_parts (refuses_no_more first_tables i) (list_all (refuses_no_more first_tables) is) h in
+    and_from (refuses_no_more land_tables i) (list_all (refuses_no_more land_tables) is) (still_no_more i parts.0) (all_still is parts.1)
+
+pub mandates_are_land : (s : Schema) → IsFirst s → IsLand (with_mandates s)
+mandates_are_land s first =
+    let tables : s.tables ++ mandate ∷ [] ≡ land_tables = ap (λ ts. ts ++ mandate ∷ []) first.tables in
+    let indexes : list_all (refuses_no_more first_tables) s.indexes ≡ true = subst (λ (ts : List Table). list_all (refuses_no_more ts) s.indexes ≡ true) first.tables first.indexes in
+    record {
+      tables = tables;
+      indexes = subst (λ (ts : List Table). list_all (refuses_no_more ts) (s.indexes ++ mandate_keys ∷ []) ≡ true) (sym tables) (list_all_push (refuses_no_more land_tables) s.indexes mandate_keys (all_still s.indexes indexes) refl);
+      views = first.views;
+    }
+
+-- ---- what the CREATE makes
+
+-- what is made where this is the next tree
+abbrev made_in : Schema → ℕ → Table → Schema
+made_in s n t = record s { tables = s.tables ++ (record t { tree = n }) ∷ []; indexes = s.indexes ++ automatics (record t { tree = n }) 0 (n + 1) t.uniques }
+
+pub created_is : (s : Schema) (t : Table) → next_tree s ≡ 20 → t ≡ record mandate { tree = 0 } → created s t ≡ with_mandates s
+unfolding everything
+created_is s t next is = ap₂ (made_in s) next is
