@@ -14,7 +14,7 @@ use Rattle.land_rules.specs.Denials.Sight.{SightTellsVerdicts, is_unit_of_convey
 use Rattle.land_rules.specs.Denials.Standing.{EvidenceIsEnough, LookedUpIsEnough, decided, discharged}
 use Rattle.land_rules.specs.Laws.{IsSoundOrNothing, is_itself, rule_of_role}
 use Rattle.land_rules.specs.Relations.{is_lodger_on}
-use Rattle.land_rules.specs.Rules.{Rules, first_denial, is_allowed, sees, sight_rules, standing_rules, verdict_of, view_rules}
+use Rattle.land_rules.specs.Rules.{Rules, first_denial, sees, sight_rules, standing_rules, verdict_of, view_rules}
 use Rattle.land_rules.specs.declared.verdict.Verdict.{Verdict}
 use Rattle.land_rules.specs.declared.verdict.Verdict.TheVariants.{Allowed, Denied}
 use Rattle.land_select.specs.Verdicts.{evidence_in, record_at, roles_in}

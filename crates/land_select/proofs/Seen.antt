@@ -1,13 +1,9 @@
 -- What the joins select is what the register's rules let a caller see.
-use Rattle.std.proofs.Common.{◌≡◌, ◌∙◌, ap, refl, sym, inl, inr, Bool, true, false, cond, [], ◌∷◌, Option, Some, None, List, ℕ, Result, Ok, Err, IfOk, arith, subst}
+use Rattle.std.proofs.Common.{◌≡◌, ◌∙◌, ap, refl, sym, Bool, true, false, List, ℕ, Result, Ok, Err, IfOk, arith, subst}
 use Rattle.std.proofs.lemmas.Int.{ints}
-use Rattle.std.specs.Prelude.{ℤ, pos, ◌≤ℤ◌, int_le, int_lt, fold, unwrap_or, if◌then◌else◌}
-use Rattle.std.specs.List.{AllByRecursion}
-use Rattle.std.specs.Option.{option_map}
+use Rattle.std.specs.Prelude.{ℤ, int_lt}
 use Rattle.land_acts.specs.Slices.{slice_of}
 use Rattle.land_core.specs.Laws.{SoundnessByLookUps}
-use Rattle.land_core.specs.Register.{nothing}
-use Rattle.land_core.specs.Soundness.{IsSound}
 use Rattle.land_core.specs.declared.act.Act.{Act}
 use Rattle.land_core.specs.declared.ask.Ask.{Ask}
 use Rattle.land_core.specs.declared.caller.Caller.{Caller}
@@ -17,9 +13,8 @@ use Rattle.land_keep.proofs.Timelines.{last_is_moment, sound_or_nothing}
 use Rattle.land_keep.specs.Keeping.{Closes}
 use Rattle.land_keep.specs.Machine.{moment_of, verdict_at}
 use Rattle.land_keep.specs.Moments.{IsMoment, last_moment}
-use Rattle.land_keep.specs.Timeline.{IsSoundTimeline, Timeline, last_register, register_at}
+use Rattle.land_keep.specs.Timeline.{last_register, register_at}
 use Rattle.land_keep.specs.declared.store_fault.StoreFault.{StoreFault}
-use Rattle.land_keep.specs.declared.timeline.Version.{Version}
 use Rattle.land_rules.specs.Rules.{seen_of, verdict_of}
 use Rattle.land_rules.specs.declared.verdict.Verdict.{Verdict}
 use Rattle.land_select.specs.Asking.{IsAnswer}

@@ -1,70 +1,73 @@
 -- What a citizen or a bank is shown by its interest in a unit.
-use Rattle.std.proofs.Common.{◌≡◌, ◌↔◌, ◌&&◌, ◌||◌, ◌++◌, ◌∙◌, ℕ, ℤ, Bool, true, false, nat_eq, List, [], ◌∷◌, filter, refl, sym, ap}
-use Rattle.std.specs.Cmp.{nat_cmp_total, nat_eq_equiv}
+use Rattle.std.proofs.Common.{◌≡◌, ◌⊎◌, ◌↔◌, inl, inr, ◌&&◌, ◌++◌, ◌∙◌, ℕ, ℤ, Bool, true, false, nat_eq, List, [], ◌∷◌, filter, refl, sym, ap, subst}
+use Rattle.std.specs.Bool.{Decides}
+use Rattle.std.specs.Cmp.{nat_cmp_total}
 use Rattle.std.specs.FinMap as map
 use Rattle.std.specs.FinMap.{nat_cmp-IsAntisymmetric}
-use Rattle.std.specs.List.{Contains, list_any}
+use Rattle.std.specs.List.{Contains}
 use Rattle.std.specs.Option.{option_map_or}
 use Rattle.std.specs.Ordering.{nat_cmp}
-use Rattle.std.proofs.lemmas.Bool.{eqb-true}
-use Rattle.std.proofs.lemmas.Bool.Decides.{Decides-eqb}
-use Rattle.std.proofs.lemmas.List.Folds.{list_any-append}
-use Rattle.std.proofs.lemmas.Map.Views.{Contains-from_any, list_any-from_Contains}
+use Rattle.std.proofs.lemmas.Bool.Decides.{Decides-eqb, Decides-or}
 use Rattle.land_core.proofs.Reflection.{entries-only}
 use Rattle.land_core.specs.Entries.{with_entries}
 use Rattle.land_core.specs.declared.caller.Caller.{Caller}
 use Rattle.land_core.specs.declared.kind.Kind.TheVariants.{Rrr}
 use Rattle.land_core.specs.declared.register.Register.{Register}
 use Rattle.land_core.specs.declared.rrr.RrrRecord.{RrrRecord}
-use Rattle.land_rules.proofs.Alone.{name_alone}
-use Rattle.land_rules.proofs.Booleans.{same_tests}
-use Rattle.land_rules.specs.Circles.{circle_of, is_name_of}
+use Rattle.land_rules.specs.Circles.{circle_of, is_group_of, is_name_of}
 use Rattle.land_rules.specs.Denials.Interests.{InterestsTellSight, entries_of, interest_at, sees_by_interest, shows_entry}
 use Rattle.land_rules.specs.Laws.{IsSoundOrNothing}
-use Rattle.land_rules.specs.Relations.{is_member_of}
+use Rattle.land_rules.specs.Relations.{holds_as, is_member_of}
 use Rattle.land_rules.specs.Rules.{sees}
 use Rattle.land_select.proofs.Viewed.{agreed, twice}
 use Rattle.land_select.specs.Views.{in_sight, shown_of}
-use Rattle.land_select_joins.proofs.Naming.{member_decides}
+use Rattle.land_select_joins.proofs.Containing.{any_decides}
+use Rattle.land_select_joins.proofs.Naming.{Joins, member_decides}
 use Rattle.land_select_joins.proofs.Standing.{entry_there}
-use Rattle.land_select_joins.specs.Joins.Running.{AreAll}
-use Rattle.land_select_joins.specs.Sights.Selections.{selects}
+use Rattle.land_select_joins.proofs.United.{contains_both, given_by, given_to}
+use Rattle.land_select_joins.proofs.Views.{plain}
+use Rattle.land_select_joins.specs.Joins.Running.{AnyGiven, AreAll}
+use Rattle.land_select_joins.specs.Sights.{AnySelects}
 use Rattle.land_select_joins.specs.declared.sights.selection.Selection.TheVariants.{ItsGroups}
 use Rattle.land_tables_history.specs.History.{StandsAt}
 use Rattle.land_tables_history.specs.declared.history.History.{History}
 
--- the groups that are selected are those of which the party is a member
-pub groups_are : (r : Register) (t : ℤ) (h : History) → StandsAt t h r → (party : ℕ) (groups : List ℕ) → AreAll groups (selects ItsGroups t h party)
-    → (group : ℕ) → Contains groups group ↔ (is_member_of r party group ≡ true)
-groups_are r t h is party groups all group =
-    let joins = member_decides r t h is group party in (
-      (λ among. let it = (all group).0 among in joins.1 (it.0, it.1, it.3, it.2)),
-      (λ member. let it = joins.0 member in (all group).1 (it.0, it.1, it.3, it.2)),
-    )
-
-turned : (a b : Bool) → (a || (b || false)) ≡ (b || a)
-turned true true = refl
-turned true false = refl
-turned false true = refl
-turned false false = refl
-
--- with its own number they are the names in which the party holds, where there are no mandates
-pub names_are : (r : Register) → r.mandates ≡ map.empty → (party : ℕ) (groups : List ℕ) → ((group : ℕ) → Contains groups group ↔ (is_member_of r party group ≡ true))
-    → (named : ℕ) → Contains (groups ++ party ∷ []) named ↔ (is_name_of r (circle_of r party) named ≡ true)
-names_are r none party groups are named = (
-  (λ among. sym same ∙ list_any-from_Contains nat_eq_equiv named (groups ++ party ∷ []) among),
-  (λ holds. Contains-from_any eqb-true named (groups ++ party ∷ []) (same ∙ holds)),
+-- the groups that are selected for some parties are those of which one of them is a member
+pub groups_are : (r : Register) (t : ℤ) (h : History) → StandsAt t h r → (callers groups : List ℕ) → AreAll groups (AnyGiven (ItsGroups ∷ []) t h callers)
+    → (group : ℕ) → Contains groups group ↔ (is_group_of r callers group ≡ true)
+groups_are r t h is callers groups all group = (
+  (λ among. let it = given_to (ItsGroups ∷ []) t h group callers ((all group).0 among) in decided.1 (it.0, it.1, joined it.0 it.2)),
+  (λ some. let it = decided.0 some in let joins = it.2 in (all group).1 (given_by (ItsGroups ∷ []) t h group callers it.0 it.1 (inl (joins.0, joins.1, joins.3, joins.2)))),
 )
   where
-    grouped : list_any (nat_eq named) groups ≡ is_member_of r party named
-    grouped =
-        same_tests (list_any (nat_eq named) groups) (is_member_of r party named) (λ h. (are named).0 (Contains-from_any eqb-true named groups h))
-        (λ h. list_any-from_Contains nat_eq_equiv named groups ((are named).1 h))
+    decided : Decides (is_group_of r callers group) ((party : ℕ) × Contains callers party × Joins t h group party)
+    decided = any_decides (λ party. is_member_of r party group) (λ party. Joins t h group party) callers (λ party among. member_decides r t h is group party)
 
-    same : list_any (nat_eq named) (groups ++ party ∷ []) ≡ is_name_of r (circle_of r party) named
-    same =
-        list_any-append (nat_eq named) groups (party ∷ []) ∙ ap (λ b. b || (nat_eq named party || false)) grouped ∙ turned (is_member_of r party named) (nat_eq named party)
-        ∙ sym (name_alone r none party named)
+    joined : (party : ℕ) → AnySelects (ItsGroups ∷ []) t h party group → Joins t h group party
+    joined party (inl it) = (it.0, it.1, it.3, it.2)
+    joined party (inr none) = absurd none
+
+-- with the circle itself they are the names in which the circle holds
+pub names_are : (r : Register) (party : ℕ) (callers groups : List ℕ) → ((number : ℕ) → Contains callers number ↔ Contains (circle_of r party) number)
+    → ((group : ℕ) → Contains groups group ↔ (is_group_of r callers group ≡ true)) → (named : ℕ) → Contains (groups ++ callers) named ↔ (is_name_of r (circle_of r party) named ≡ true)
+names_are r party callers groups are grouped named = (
+  (λ among. elim ((contains_both groups callers named).0 among) [
+    | inl group ↦ let it = members.0 ((grouped named).0 group) in names.1 (it.0, (are it.0).0 it.1, inr it.2)
+    | inr own ↦ names.1 (named, (are named).0 own, inl refl)
+  ]),
+  (λ holds. let it = names.0 holds in (contains_both groups callers named).1 (elim it.2 [
+    | inl same ↦ inr (subst (Contains callers) (sym same) ((are it.0).1 it.1))
+    | inr member ↦ inl ((grouped named).1 (members.1 (it.0, (are it.0).1 it.1, member)))
+  ])),
+)
+  where
+    members : Decides (is_group_of r callers named) ((one : ℕ) × Contains callers one × (is_member_of r one named ≡ true))
+    members = any_decides (λ one. is_member_of r one named) (λ one. is_member_of r one named ≡ true) callers (λ one among. plain (is_member_of r one named))
+
+    names : Decides (is_name_of r (circle_of r party) named) ((one : ℕ) × Contains (circle_of r party) one × ((named ≡ one) ⊎ (is_member_of r one named ≡ true)))
+    names =
+        any_decides (λ one. holds_as r one named) (λ one. (named ≡ one) ⊎ (is_member_of r one named ≡ true)) (circle_of r party)
+        (λ one among. Decides-or (nat_eq named one) (is_member_of r one named) (Decides-eqb named one) (plain (is_member_of r one named)))
 
 -- a test that is asked for only where another passes
 pub only_where : (a b c : Bool) → (a ≡ true → b ≡ c) → (a && b) ≡ (a && c)

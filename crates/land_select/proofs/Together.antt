@@ -1,4 +1,4 @@
--- What the texts of a role's sight give together is what the rules let the caller see.
+-- What the texts of a role's sight give together is what the rules let the caller see without mandates.
 use Rattle.std.proofs.Common.{inl, inr, List, [], ◌∷◌, map, sym, subst}
 use Rattle.land_keep.proofs.Timelines.{sound_or_nothing}
 use Rattle.land_keep.specs.Timeline.{register_at}

@@ -1,5 +1,5 @@
 -- What look-ups and joins show of a unit is what its view has.
-use Rattle.std.proofs.Common.{◌≡◌, ◌++◌, ◌&&◌, ◌∙◌, ℕ, ℤ, Bool, true, false, nat_eq, cond, List, [], ◌∷◌, filter, map as map_list, None, Some, Option, is_some, Ok, Err, IsErr, Result, refl, sym, ap, ap₂, append_assoc, inl, inr}
+use Rattle.std.proofs.Common.{◌≡◌, ◌++◌, ◌&&◌, ◌∙◌, ℕ, ℤ, Bool, true, false, nat_eq, cond, List, [], ◌∷◌, filter, map as map_list, None, Some, Option, is_some, refl, sym, ap, ap₂, append_assoc, inl, inr}
 use Rattle.std.specs.Cmp.{nat_cmp_total}
 use Rattle.std.specs.FinMap as map
 use Rattle.std.specs.FinMap.{FinMap, nat_cmp-IsAntisymmetric}
@@ -32,9 +32,6 @@ use Rattle.land_select_joins.specs.Lookups.Parts.{IsPart}
 use Rattle.land_tables.proofs.Members.{no_members, sound_members}
 use Rattle.land_tables_history.specs.Groups.{HaveMembers}
 use Rattle.land_tables_history.specs.History.{StandsAt}
-use Rattle.land_tables_schema.proofs.Looking.{look_told}
-use Rattle.land_tables_schema.specs.Rows.Looks.{IsLook}
-use Rattle.sqlite.specs.State.{State}
 use Rattle.sqlite_trees.specs.Tree.{Trees}
 
 -- where a register is sound or holds nothing, no group is without members
@@ -130,8 +127,3 @@ renamed r caller unit t u = go (unit_at r unit)
         ≡ option_map (λ w. record { unit = w; parcels = parcels_at r unit; rrrs = entries_seen r caller unit; at = t }) o
     go None = refl
     go (Some w) = refl
-
--- after looks that succeeded there may be no memory for what is made of them
-pub look_lost : {X Y E F : Type 0} {x : X} {P : X → Type 0} {Q : Y → Type 0} (a b : State) (r : Result Y F) → IsErr r → IsLook {X = X} {E = E} (Ok x) P a b → IsLook r Q a b
-look_lost a b (Err f) failed look = look_told a b (Err f) look (λ _ _. tt)
-look_lost a b (Ok y) failed look = absurd (let is = failed in cc)

@@ -1,4 +1,4 @@
--- Laws over the definitions alone: what the texts of a role's sight give is what the rules let the caller see.
+-- Laws over the definitions alone: what the texts of a role's sight give is what the rules let the caller see without mandates.
 use Rattle.std.specs.Prelude.{◌≡◌, ℕ, ℤ, pos, List, [], ◌∷◌, map}
 use Rattle.std.specs.List.{Contains}
 use Rattle.land_core.specs.declared.caller.Caller.{Caller}
@@ -6,6 +6,7 @@ use Rattle.land_core.specs.declared.kind.Kind.{Kind}
 use Rattle.land_core.specs.declared.role.Role.{Role}
 use Rattle.land_keep.specs.Moments.{IsMoment}
 use Rattle.land_keep.specs.Timeline.{IsSoundTimeline, Timeline, register_at}
+use Rattle.land_rules.specs.CircleLaws.{without_mandates}
 use Rattle.land_rules.specs.Rules.{seen_of}
 use Rattle.land_select_joins.specs.Joins.Meaning.{command_in, given}
 use Rattle.land_select_joins.specs.Joins.Texts.{text_of}
@@ -44,7 +45,7 @@ pub record GiveTogether (texts : List (List ℕ)) (it : Asked) (Wanted : ℕ →
   pub none_missing : (n : ℕ) → Wanted n → (text : List ℕ) × Contains texts text × ((rows : List Row) → AreAnswer it text rows → Has rows (Int (pos n) ∷ []))
 
 -- Over tables that stand for a sound timeline, whatever indexes they have, the texts of a role's sight of a kind together give at each moment
--- the numbers that the rules let the caller see in the register at that moment: none is missing, and none is more.
+-- the numbers that the rules let the caller see, without mandates, in the register at that moment: none is missing, and none is more.
 abbrev pub SightTextsAreTheRules : Type 0
 SightTextsAreTheRules = (indexes : List Index) (db : Trees) (tl : Timeline) → HoldsTimeline db tl → IsSoundTimeline tl → (t : ℤ) → IsMoment t → (caller : Caller) (k : Kind)
-    → GiveTogether (sight_texts caller.role k) (record { indexes = indexes; db = db; caller = caller.party; moment = t }) (Contains (seen_of (register_at tl t) caller k))
+    → GiveTogether (sight_texts caller.role k) (record { indexes = indexes; db = db; caller = caller.party; moment = t }) (Contains (seen_of (without_mandates (register_at tl t)) caller k))

@@ -15,10 +15,10 @@ use Rattle.land_core.specs.declared.unit.UnitRecord.{UnitRecord}
 use Rattle.land_keep.specs.Sheets.{entries_seen, named_rrr, parcels_at}
 use Rattle.land_keep.specs.declared.view.NamedRrr.{NamedRrr}
 use Rattle.land_keep.specs.declared.view.View.{View}
-use Rattle.land_rules.specs.Circles.{circle_of, is_name_of}
+use Rattle.land_rules.specs.Circles.{circle_of, is_group_of, is_name_of}
 use Rattle.land_rules.specs.Denials.Interests.{AreNamesOf, Entries, interest_of, shows_entry}
 use Rattle.land_rules.specs.Laws.{IsSoundOrNothing}
-use Rattle.land_rules.specs.Relations.{is_lodger_on, is_member_of}
+use Rattle.land_rules.specs.Relations.{is_lodger_on}
 use Rattle.land_rules.specs.Rules.{sees}
 use Rattle.land_select_joins.specs.Joins.Running.{OfHeld}
 use Rattle.land_tables_history.specs.History.{StandsAt}
@@ -43,9 +43,10 @@ with_name n e party = record {
 abbrev pub in_sight : Register → Caller → (unit : ℕ) → FinMap nat_cmp RrrRecord
 in_sight r caller unit = only (λ n e. nat_eq e.unit unit && sees r caller Rrr n) r.rrrs
 
--- where the tables hold a history that at the moment stands for a register, these are the groups of which a party is a member in it
-abbrev pub AreGroupsAt : (party : ℕ) → (t : ℤ) → Trees → List ℕ → Type 0
-AreGroupsAt party t db groups = OfHeld db (λ h. (r : Register) → StandsAt t h r → (group : ℕ) → Contains groups group ↔ (is_member_of r party group ≡ true))
+-- where the tables hold a history that at the moment stands for a register, these are the groups of which one of some parties is a member in
+-- it
+abbrev pub AreGroupsAt : (callers : List ℕ) → (t : ℤ) → Trees → List ℕ → Type 0
+AreGroupsAt callers t db groups = OfHeld db (λ h. (r : Register) → StandsAt t h r → (group : ℕ) → Contains groups group ↔ (is_group_of r callers group ≡ true))
 
 -- and these the names in which a citizen holds in it
 abbrev pub AreNamesAt : Caller → (t : ℤ) → Trees → List ℕ → Type 0

@@ -1,5 +1,5 @@
 //! The interest of a citizen or a bank in a unit at a moment, and what it is shown by that, by look-ups.
-ghost use Rattle.std.specs.Prelude.{◌≡◌, false, IfOk, IsTrue};
+ghost use Rattle.std.specs.Prelude.{◌≡◌, ◌++◌, false, IfOk, IsTrue};
 ghost use Rattle.land_core.specs.Entries.{only};
 ghost use Rattle.land_core.specs.Role.{is_role};
 ghost use Rattle.land_core.specs.declared.kind.Kind.TheVariants as kinds;
@@ -21,7 +21,8 @@ use land_core::rrr::RrrRecord;
 use land_core::sequence::{NumberList, Sequence};
 use land_rules::denials::interests::{Interest, interest_of};
 use land_rules::denials::laws::names_tell_interests;
-use land_select_joins::joins::running::numbers;
+use land_select_joins::joins::running::unite_for;
+use land_select_joins::lookups::of_agent::circle;
 use land_select_joins::lookups::{by_number, of_unit};
 use land_select_joins::sights::selection::Selection;
 use land_tables_rows::listing::fault::ReadFault;
@@ -34,22 +35,32 @@ fn is_citizen(role: Role) -> bool
     role == Role::Citizen
 }
 
-/// The groups of which a party is a member at a moment, in whatever order.
+/// The groups of which one of some parties is a member at a moment.
 fn groups_of<S: Alter>(
     alloc: Global,
     conn: &mut Connection<S>,
-    party: u64,
+    callers: &[u64],
     at: i64,
 ) -> Result<NumberList, ReadFault>
     requires open { HasCleanDisk (state S.Store conn.old) → IsTrue (state S.Store conn.old).is_open }
     requires land { HasCleanDisk (state S.Store conn.old) → IsLand (state S.Store conn.old).now.schema }
-    ensures look { IsLook result (λ it. AreGroupsAt party at (state S.Store conn.old).now.trees it) (state S.Store conn.old) (state S.Store conn.new) }
+    ensures look { IsLook result (λ it. AreGroupsAt callers.now at (state S.Store conn.old).now.trees it) (state S.Store conn.old) (state S.Store conn.new) }
     ensures mode { conn.old.in_transaction ≡ false → conn.new.in_transaction ≡ false }
 {
-    numbers(alloc, conn, Selection::ItsGroups, party, at)
+    unite_for(alloc, conn, &[Selection::ItsGroups], callers, at)
 }
 
-/// The names in which a citizen holds at a moment, in whatever order: its own and those of its groups. For another role none is looked for.
+/// The names of some groups and those of a circle.
+fn together(groups: NumberList, circle: &[u64]) -> Result<NumberList, AllocError>
+    ensures { IfOk result (λ it. it ≡ groups ++ circle.now) }
+{
+    let mut names = groups.into_vec();
+    names.extend_from_slice(circle)?;
+    Ok(Sequence::from_vec(names))
+}
+
+/// The names in which a citizen holds at a moment, in whatever order: those of its circle at that moment, and of the groups of which one of it
+/// is a member. For another role none is looked for.
 fn names_of<S: Alter>(
     alloc: Global,
     conn: &mut Connection<S>,
@@ -64,9 +75,9 @@ fn names_of<S: Alter>(
     if !is_citizen(caller.role) {
         return Ok(Sequence::new(alloc));
     }
-    let mut names = groups_of(alloc, conn, caller.party, at)?;
-    names.push(caller.party)?;
-    Ok(names)
+    let callers = circle(alloc, conn, caller.party, at)?;
+    let groups = groups_of(alloc, conn, callers.as_slice(), at)?;
+    Ok(together(groups, callers.as_slice())?)
 }
 
 /// The interest of a caller at a moment in the unit of which these are the entries.

@@ -1,4 +1,4 @@
--- What a role sees of a kind is what its selections give.
+-- What a role sees of a kind without mandates is what its selections give.
 use Rattle.std.proofs.Common.{◌≡◌, ◌⊎◌, inl, inr, ℕ, ℤ, Bool, true, false, cond, not, ◌&&◌, ◌||◌, nat_eq, List, refl, sym, ap, ap₂, subst, ◌∙◌}
 use Rattle.std.proofs.lemmas.Bool.{false≢true}
 use Rattle.std.proofs.lemmas.Bool.Decides.{Decides-and, Decides-at, Decides-eqb, Decides-like, Decides-or}
@@ -16,6 +16,7 @@ use Rattle.land_core.specs.declared.role.Role.{Role}
 use Rattle.land_core.specs.declared.role.Role.TheVariants.{Citizen, Conveyancer, Notary, Bank, CertifiedSurveyor, StateAdministrator}
 use Rattle.land_core.specs.declared.rrr.RrrRecord.{RrrRecord}
 use Rattle.land_rules.proofs.Alone.{group_alone, held_alone, in_circle_alone, told_alone}
+use Rattle.land_rules.specs.CircleLaws.{without_mandates}
 use Rattle.land_rules.specs.Circles.{circle_of, is_held_by, is_told_to_circle, names_held_by}
 use Rattle.land_rules.specs.Relations.{has_lodged, is_creditor_on, is_holder, is_lodger_on, is_lodger_of, is_member_of, is_right, is_told_to_holder}
 use Rattle.land_rules.specs.Rules.{is_allowed, is_party_in_sight, is_rrr_in_sight, is_told_to_bank, is_told_to_conveyancer, sees}
@@ -69,6 +70,10 @@ all_decides t versions m is n = one_decides _ (Decides-at _ (has m n) (passes (h
     passes false = refl
 
 module _ (r : Register) (t : ℤ) (h : History) (is : StandsAt t h r) (refers : Refers r) (p : ℕ) where
+  -- the register as it is, but that no mandates stand: there the circle of a citizen is the citizen alone
+  abbrev pub single : Register
+  single = without_mandates r
+
   -- ---- units
 
   pub held_units : (n : ℕ) → Decides (is_holder r p n && has r.units n) (AnySelects (selections_of Citizen kind.Unit) t h p n)
@@ -134,11 +139,11 @@ module _ (r : Register) (t : ℤ) (h : History) (is : StandsAt t h r) (refers : 
   holder_stands e (inl it) = it.stands
   holder_stands e (inr it) = it.stands
 
-  pub entries_of_holder : (n : ℕ) → Decides (is_rrr_in_sight r citizen n) (EntryOf ToHolder n)
-  entries_of_holder n = both_pass _ (has r.rrrs n) 12 (entries (is_told_to_circle r (circle_of r p)) ToHolder holder_stands told n)
+  pub entries_of_holder : (n : ℕ) → Decides (is_rrr_in_sight single citizen n) (EntryOf ToHolder n)
+  entries_of_holder n = both_pass _ (has r.rrrs n) 12 (entries (is_told_to_circle single (circle_of single p)) ToHolder holder_stands told n)
     where
-      told : (e : Entry) → Stands t h.rrrs e → Decides (is_told_to_circle r (circle_of r p) e.1) (ToHolder e)
-      told e stands = Decides-at _ (is_told_to_holder r p e.1) (told_alone r is.mandates p e.1) (told_to_holder_decides r t h is refers p e stands)
+      told : (e : Entry) → Stands t h.rrrs e → Decides (is_told_to_circle single (circle_of single p) e.1) (ToHolder e)
+      told e stands = Decides-at _ (is_told_to_holder r p e.1) (told_alone single refl p e.1) (told_to_holder_decides r t h is refers p e stands)
 
   -- ---- what a bank is told
 
@@ -196,10 +201,10 @@ module _ (r : Register) (t : ℤ) (h : History) (is : StandsAt t h r) (refers : 
       ])
       (Decides-and _ _ (Decides-or _ _ (Decides-eqb n p) seen) (has_decides t h.parties r.parties is.parties n))
 
-  pub parties_of_citizen : (n : ℕ) → Decides ((nat_eq n p || is_member_of r p n || is_party_in_sight r citizen n) && has r.parties n) (AnySelects (selections_of Citizen kind.Party) t h p n)
+  pub parties_of_citizen : (n : ℕ) → Decides ((nat_eq n p || is_member_of r p n || is_party_in_sight single citizen n) && has r.parties n) (AnySelects (selections_of Citizen kind.Party) t h p n)
   parties_of_citizen n =
-      Decides-like ((nat_eq n p || is_member_of r p n || is_party_in_sight r citizen n) && has r.parties n) forth back
-      (Decides-and _ _ (Decides-or _ _ (Decides-or _ _ (Decides-eqb n p) (member_decides r t h is n p)) (parties (is_rrr_in_sight r citizen) ToHolder holder_stands entries_of_holder n))
+      Decides-like ((nat_eq n p || is_member_of r p n || is_party_in_sight single citizen n) && has r.parties n) forth back
+      (Decides-and _ _ (Decides-or _ _ (Decides-or _ _ (Decides-eqb n p) (member_decides r t h is n p)) (parties (is_rrr_in_sight single citizen) ToHolder holder_stands entries_of_holder n))
       (has_decides t h.parties r.parties is.parties n))
     where
       forth : (((n ≡ p) ⊎ Joins t h n p) ⊎ PartyOf ToHolder n) × StandsUnder t h.parties n → AnySelects (selections_of Citizen kind.Party) t h p n
@@ -233,9 +238,9 @@ module _ (r : Register) (t : ℤ) (h : History) (is : StandsAt t h r) (refers : 
   abbrev NamedByHolding : Naming → Type 0
   NamedByHolding n = IsNamed t h (HoldsItself t h p) n ⊎ IsNamed t h (HoldsThrough t h p) n
 
-  named_mutations : (n : ℕ) → Decides (option_map_or (names_held_by r (circle_of r p)) (map.get r.mutations n) false && has r.mutations n) (AnySelects (selections_of Citizen kind.Mutation) t h p n)
+  named_mutations : (n : ℕ) → Decides (option_map_or (names_held_by single (circle_of single p)) (map.get r.mutations n) false && has r.mutations n) (AnySelects (selections_of Citizen kind.Mutation) t h p n)
   named_mutations n =
-      Decides-like (option_map_or (names_held_by r (circle_of r p)) (map.get r.mutations n) false && has r.mutations n)
+      Decides-like (option_map_or (names_held_by single (circle_of single p)) (map.get r.mutations n) false && has r.mutations n)
       (λ it.
       let naming = it.0.1.1 in
       apart (IsNamed t h (HoldsItself t h p)) (IsNamed t h (HoldsThrough t h p)) (λ k. k.mutation ≡ n) naming.0
@@ -246,11 +251,11 @@ module _ (r : Register) (t : ℤ) (h : History) (is : StandsAt t h r) (refers : 
       let by = named_by r t h is it.0 stands in
       let number : by.0.0 ≡ n = sym by.2 ∙ it.2 in
       ((by.0, (by.1, (it.0, (stands, by.2), named_held it.0 it.1)), number), (by.0, by.1, number)))
-      (Decides-and _ _ (at_decides t h.mutations r.mutations is.mutations (names_held_by r (circle_of r p)) (λ e. Names t h e (HeldAs t h p is_right))
-      (names_decides r t h is (is_held_by r (circle_of r p)) (HeldAs t h p is_right) held) n) (has_decides t h.mutations r.mutations is.mutations n))
+      (Decides-and _ _ (at_decides t h.mutations r.mutations is.mutations (names_held_by single (circle_of single p)) (λ e. Names t h e (HeldAs t h p is_right))
+      (names_decides r t h is (is_held_by single (circle_of single p)) (HeldAs t h p is_right) held) n) (has_decides t h.mutations r.mutations is.mutations n))
     where
-      held : (unit : ℕ) → Decides (is_held_by r (circle_of r p) unit) (HeldAs t h p is_right unit)
-      held unit = Decides-at _ (is_holder r p unit) (held_alone r is.mandates p unit) (holder_decides r t h is refers p unit)
+      held : (unit : ℕ) → Decides (is_held_by single (circle_of single p) unit) (HeldAs t h p is_right unit)
+      held unit = Decides-at _ (is_holder r p unit) (held_alone single refl p unit) (holder_decides r t h is refers p unit)
 
       name : (k : Naming) → Stands t h.namings k → (held : Entry) → Holds t h p held → held.1.unit ≡ k.unit → NamedByHolding k
       name k stands held (inl interest) unit = inl (record { held = held; interest = interest; stands = stands; unit = sym unit })
@@ -264,18 +269,18 @@ module _ (r : Register) (t : ℤ) (h : History) (is : StandsAt t h r) (refers : 
       named_held k (inl it) = (it.held, inl it.interest, it.interest.class, sym it.unit)
       named_held k (inr it) = (it.held, inr it.interest, it.interest.class, sym it.unit)
 
-  -- ---- all roles and kinds
+  -- ---- all roles and kinds, where no mandates stand
 
-  pub sight : (role : Role) (k : Kind) (n : ℕ) → Decides (sees r (record { party = p; role = role }) k n) (AnySelects (selections_of role k) t h p n)
+  pub sight : (role : Role) (k : Kind) (n : ℕ) → Decides (sees single (record { party = p; role = role }) k n) (AnySelects (selections_of role k) t h p n)
   sight Citizen kind.Party n =
       both_pass _ (has r.parties n) 13
-      (Decides-at _ ((nat_eq n p || is_member_of r p n || is_party_in_sight r citizen n) && has r.parties n)
-      (ap₂ (λ a b. (a || b || is_party_in_sight r citizen n) && has r.parties n) (in_circle_alone r is.mandates p n) (group_alone r is.mandates p n)) (parties_of_citizen n))
+      (Decides-at _ ((nat_eq n p || is_member_of r p n || is_party_in_sight single citizen n) && has r.parties n)
+      (ap₂ (λ a b. (a || b || is_party_in_sight single citizen n) && has r.parties n) (in_circle_alone single refl p n) (group_alone single refl p n)) (parties_of_citizen n))
   sight Citizen kind.Unit n =
-      both_pass _ (has r.units n) 11 (Decides-at _ (is_holder r p n && has r.units n) (ap (λ b. b && has r.units n) (held_alone r is.mandates p n)) (held_units n))
+      both_pass _ (has r.units n) 11 (Decides-at _ (is_holder r p n && has r.units n) (ap (λ b. b && has r.units n) (held_alone single refl p n)) (held_units n))
   sight Citizen kind.Parcel n = all_decides t h.parcels r.parcels is.parcels n
   sight Citizen kind.Rrr n =
-      Decides-like (is_rrr_in_sight r citizen n)
+      Decides-like (is_rrr_in_sight single citizen n)
       (λ it. apart (IsTold t h (HoldsItself t h p) IsToldToHolder) (IsTold t h (HoldsThrough t h p) IsToldToHolder) (λ e. e.0 ≡ n) it.0 it.1 it.2)
       (together (IsTold t h (HoldsItself t h p) IsToldToHolder) (IsTold t h (HoldsThrough t h p) IsToldToHolder) (λ e. e.0 ≡ n)) (entries_of_holder n)
   sight Citizen kind.Source n = none_decides

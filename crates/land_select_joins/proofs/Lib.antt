@@ -2,6 +2,7 @@
 pub mod Ascending
 pub mod Asked
 pub mod Chains
+pub mod Circles
 pub mod Containing
 pub mod Counted
 pub mod Deciding
@@ -17,6 +18,7 @@ pub mod Parts
 pub mod Passing
 pub mod Persons
 pub mod Places
+pub mod Principals
 pub mod Queries
 pub mod Records
 pub mod References

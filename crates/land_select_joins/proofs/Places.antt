@@ -3,6 +3,7 @@ use Rattle.std.proofs.Common.{◌≡◌, ℕ, List, [], ◌∷◌, map, true, Re
 use Rattle.std.proofs.lemmas.List.Sorted.{Contains-permutation, IsPermutation-sym}
 use Rattle.land_core.specs.Numbers.{is_number}
 use Rattle.land_core.specs.Words.{role_word, state_word}
+use Rattle.land_core.specs.declared.mandates.Mandate.{Mandate}
 use Rattle.land_core.specs.declared.mutation.MutationRecord.{MutationRecord}
 use Rattle.land_core.specs.declared.parcel.ParcelRecord.{ParcelRecord}
 use Rattle.land_core.specs.declared.party.PartyRecord.{PartyRecord}
@@ -19,6 +20,8 @@ use Rattle.land_tables_history.specs.declared.naming.Naming.{Naming}
 use Rattle.land_tables_history.specs.declared.version.Version.{Version}
 use Rattle.land_tables_rows.proofs.CellReadings.{end_is, moment_is, number_is}
 use Rattle.land_tables_rows.proofs.Stepping.{same_value, stepped}
+use Rattle.land_tables_rows.specs.Mandate.Reading.{mandate_in}
+use Rattle.land_tables_rows.specs.Mandate.Writing as mandate
 use Rattle.land_tables_rows.specs.Member.Reading.{member_in}
 use Rattle.land_tables_rows.specs.Member.Writing as member
 use Rattle.land_tables_rows.specs.Mutation.Reading.{mutation_in}
@@ -64,6 +67,7 @@ pub data Place : Type 0 where
   sources : Place
   mutations : Place
   names : Place
+  mandates : Place
 
 -- what the versions of a table are of
 abbrev pub What : Place → Type 0
@@ -76,6 +80,7 @@ What rrrs = ℕ × RrrRecord
 What sources = ℕ × SourceRecord
 What mutations = ℕ × MutationRecord
 What names = Naming
+What mandates = Mandate
 
 -- how they are read
 abbrev pub reading : (p : Place) → Reading (What p)
@@ -88,6 +93,7 @@ reading rrrs = rrr.rrrs
 reading sources = source.sources
 reading mutations = mutation.mutations
 reading names = naming.namings
+reading mandates = mandate.mandates
 
 abbrev pub tree : Place → ℕ
 tree p = (reading p).table.tree
@@ -102,6 +108,7 @@ versions rrrs h = h.rrrs
 versions sources h = h.sources
 versions mutations h = h.mutations
 versions names h = h.namings
+versions mandates h = h.mandates
 
 keeps : (db : Trees) (moments : List Moment) (h : History) → HoldsHistory db moments h → (p : Place) → Keeps (reading p) db (versions p h)
 keeps db moments h held parties = held.the_parties
@@ -113,6 +120,7 @@ keeps db moments h held rrrs = held.the_rrrs
 keeps db moments h held sources = held.the_sources
 keeps db moments h held mutations = held.the_mutations
 keeps db moments h held names = held.the_namings
+keeps db moments h held mandates = held.the_mandates
 
 -- a statement reads the rows of the tables
 pub as_stored : (db : Trees) (p : Place) → overlay db [] (tree p) ≡ db (tree p)
@@ -125,6 +133,7 @@ as_stored db rrrs = refl
 as_stored db sources = refl
 as_stored db mutations = refl
 as_stored db names = refl
+as_stored db mandates = refl
 
 -- the columns that joins look at, of a row that says a version
 abbrev pub shape : (p : Place) → Version (What p) → Row
@@ -141,6 +150,7 @@ shape mutations v =
     Null ∷ whole v.what.0 ∷ whole v.what.1.lodger ∷ Null ∷ Null ∷ Null ∷ Null ∷ Null ∷ Text (state_word v.what.1.state) ∷ Int v.since
     ∷ Int v.until ∷ []
 shape names v = Null ∷ whole v.what.mutation ∷ whole v.what.unit ∷ Int v.since ∷ Int v.until ∷ []
+shape mandates v = Null ∷ whole v.what.principal ∷ whole v.what.agent ∷ Int v.since ∷ Int v.until ∷ []
 
 -- a number is one that an object can have
 abbrev pub IsNumber : ℕ → Type 0
@@ -157,6 +167,7 @@ IsWithin rrrs v = IsNumber v.what.1.party × IsNumber v.what.0 × IsNumber v.wha
 IsWithin sources v = IsNumber v.what.0
 IsWithin mutations v = IsNumber v.what.1.lodger × IsNumber v.what.0
 IsWithin names v = IsNumber v.what.mutation × IsNumber v.what.unit
+IsWithin mandates v = IsNumber v.what.principal × IsNumber v.what.agent
 
 -- what is known of a row that says a version
 abbrev pub IsOf : (p : Place) → Version (What p) → Row → Type 0
@@ -355,6 +366,20 @@ a_naming r v e =
     let until = f.is ∙ ap (λ (w : Version Naming). Ok w.until) all in
     ((tt, (number_is (column r 1) v.what.mutation mutation, (number_is (column r 2) v.what.unit unit, (moment_is (column r 3) v.since since, (end_is (column r 4) v.until until, tt))))), (in_range (column r 1) v.what.mutation mutation, in_range (column r 2) v.what.unit unit))
 
+a_mandate : Shows mandates
+unfolding mandate_in
+a_mandate r v e =
+    let a = stepped (number_in (column r 1)) _ v e in
+    let b = stepped (number_in (column r 2)) _ v a.rest in
+    let d = stepped (moment_in (column r 3)) _ v b.rest in
+    let f = stepped (end_in (column r 4)) _ v d.rest in
+    let all = same_value _ v f.rest in
+    let principal = a.is ∙ ap (λ (w : Version Mandate). Ok w.what.principal) all in
+    let agent = b.is ∙ ap (λ (w : Version Mandate). Ok w.what.agent) all in
+    let since = d.is ∙ ap (λ (w : Version Mandate). Ok w.since) all in
+    let until = f.is ∙ ap (λ (w : Version Mandate). Ok w.until) all in
+    ((tt, (number_is (column r 1) v.what.principal principal, (number_is (column r 2) v.what.agent agent, (moment_is (column r 3) v.since since, (end_is (column r 4) v.until until, tt))))), (in_range (column r 1) v.what.principal principal, in_range (column r 2) v.what.agent agent))
+
 pub shows : (p : Place) → Shows p
 shows parties = a_party
 shows roles = a_grant
@@ -365,6 +390,7 @@ shows rrrs = an_entry
 shows sources = a_source
 shows mutations = a_mutation
 shows names = a_naming
+shows mandates = a_mandate
 
 -- ---- rows and versions
 

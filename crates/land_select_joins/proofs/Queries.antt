@@ -2,7 +2,7 @@
 use Rattle.std.proofs.Common.{◌≡◌, ◌&&◌, ℕ, ℤ, List, [], ◌∷◌, codes, Ok, refl}
 use Rattle.land_select_joins.proofs.Joined.{Asks}
 use Rattle.land_select_joins.proofs.Known.{caller, same, still, word}
-use Rattle.land_select_joins.proofs.Places.{members, mutations, names, parcels, parties, roles, rrrs, shows, sources, units}
+use Rattle.land_select_joins.proofs.Places.{mandates, members, mutations, names, parcels, parties, roles, rrrs, shows, sources, units}
 use Rattle.land_select_joins.proofs.Tested.{by_number, by_role, decides}
 use Rattle.land_select_joins.specs.Joins.Meaning.{given}
 use Rattle.land_select_joins.specs.Joins.Running.{asked_for}
@@ -37,6 +37,7 @@ filter_of look_up.EntriesOfUnit = same (col 1 2) caller ∷ still 1 12
 filter_of look_up.NamingsOfUnit = same (col 1 2) caller ∷ still 1 3
 filter_of look_up.RolesOfParty = same (col 1 1) caller ∷ still 1 3
 filter_of look_up.MembersOfGroup = same (col 1 1) caller ∷ still 1 5
+filter_of look_up.MandatesOfAgent = same (col 1 2) caller ∷ still 1 3
 filter_of look_up.Administrators = word (col 1 2) (codes "stateAdministrator") ∷ still 1 3
 
 -- the columns that are shown
@@ -52,6 +53,7 @@ project_of look_up.EntriesOfUnit = columns_of 1 1 13
 project_of look_up.NamingsOfUnit = columns_of 1 1 4
 project_of look_up.RolesOfParty = columns_of 1 1 4
 project_of look_up.MembersOfGroup = columns_of 1 1 6
+project_of look_up.MandatesOfAgent = columns_of 1 1 4
 project_of look_up.Administrators = columns_of 1 1 4
 
 abbrev pub query_of : LookUp → Query
@@ -71,6 +73,7 @@ asks look_up.EntriesOfUnit indexes = record { names = codes "number" ∷ codes "
 asks look_up.NamingsOfUnit indexes = record { names = codes "mutation" ∷ codes "unit" ∷ codes "since" ∷ codes "until" ∷ []; command = refl; unlisted = refl; plain = (refl, refl) }
 asks look_up.RolesOfParty indexes = record { names = codes "party" ∷ codes "role" ∷ codes "since" ∷ codes "until" ∷ []; command = refl; unlisted = refl; plain = (refl, refl) }
 asks look_up.MembersOfGroup indexes = record { names = codes "grp" ∷ codes "party" ∷ codes "num" ∷ codes "den" ∷ codes "since" ∷ codes "until" ∷ []; command = refl; unlisted = refl; plain = (refl, refl) }
+asks look_up.MandatesOfAgent indexes = record { names = codes "principal" ∷ codes "agent" ∷ codes "since" ∷ codes "until" ∷ []; command = refl; unlisted = refl; plain = (refl, refl) }
 asks look_up.Administrators indexes = record { names = codes "party" ∷ codes "role" ∷ codes "since" ∷ codes "until" ∷ []; command = refl; unlisted = refl; plain = (refl, refl) }
 
 -- a query reads the rows of its table
@@ -86,6 +89,7 @@ stored look_up.EntriesOfUnit db = refl
 stored look_up.NamingsOfUnit db = refl
 stored look_up.RolesOfParty db = refl
 stored look_up.MembersOfGroup db = refl
+stored look_up.MandatesOfAgent db = refl
 stored look_up.Administrators db = refl
 
 -- and shows the columns of a row that are read
@@ -101,6 +105,7 @@ shown look_up.EntriesOfUnit params r = refl
 shown look_up.NamingsOfUnit params r = refl
 shown look_up.RolesOfParty params r = refl
 shown look_up.MembersOfGroup params r = refl
+shown look_up.MandatesOfAgent params r = refl
 shown look_up.Administrators params r = refl
 
 -- a row that says a version passes where the version stands and is meant
@@ -128,5 +133,7 @@ tests look_up.RolesOfParty r v e number t =
     by_number (passes (filter_of look_up.RolesOfParty) (given (asked_for number) t) r) v.what.party number t v.since v.until (shows roles r v e).1 (decides roles r v e (asked_for number) t (filter_of look_up.RolesOfParty) refl)
 tests look_up.MembersOfGroup r v e number t =
     by_number (passes (filter_of look_up.MembersOfGroup) (given (asked_for number) t) r) v.what.group number t v.since v.until (shows members r v e).1.1 (decides members r v e (asked_for number) t (filter_of look_up.MembersOfGroup) refl)
+tests look_up.MandatesOfAgent r v e number t =
+    by_number (passes (filter_of look_up.MandatesOfAgent) (given (asked_for number) t) r) v.what.agent number t v.since v.until (shows mandates r v e).1.1 (decides mandates r v e (asked_for number) t (filter_of look_up.MandatesOfAgent) refl)
 tests look_up.Administrators r v e number t =
     by_role (passes (filter_of look_up.Administrators) (given (asked_for number) t) r) v.what.role t v.since v.until (decides roles r v e (asked_for number) t (filter_of look_up.Administrators) refl)

@@ -1,4 +1,4 @@
--- What the selections of a role give is what the rules let it see.
+-- What the selections of a role give is what the rules let it see without mandates.
 use Rattle.std.proofs.Common.{◌≡◌, inl, inr, ℕ, Bool, true, nat_lt, List, [], ◌∷◌, sym, subst, ◌∙◌}
 use Rattle.std.proofs.lemmas.Bool.{eqb-true, ltb-true}
 use Rattle.std.proofs.lemmas.Map.Views.{Contains-from_any, list_any-from_Contains}
@@ -6,6 +6,7 @@ use Rattle.std.specs.Cmp.{nat_eq_equiv}
 use Rattle.std.specs.List.{Contains, list_all}
 use Rattle.land_core.proofs.Booleans.{both_of}
 use Rattle.land_core.specs.Laws.{SoundnessByLookUps}
+use Rattle.land_rules.specs.CircleLaws.{without_mandates}
 use Rattle.land_rules.specs.Laws.{SeenIsExactly}
 use Rattle.land_rules.specs.Rules.{ascends}
 use Rattle.land_select_joins.proofs.Ascending.{Ascends, ascend, same_list}
@@ -19,7 +20,7 @@ use Rattle.land_select_joins.specs.Sights.Laws.{SelectedIsSeen, SelectionsAreThe
 pub the_rules : SeenIsExactly → SoundnessByLookUps → SelectionsAreTheRules
 the_rules seen look_ups r h t premise stands caller k n =
     let decided = sight r t h stands (refers look_ups r premise) caller.party caller.role k n in
-    let exact = (seen r caller k).exact n in
+    let exact = (seen (without_mandates r) caller k).exact n in
     ((λ some. Contains-from_any eqb-true n _ (exact ∙ decided.1 some)), (λ among. decided.0 (sym exact ∙ list_any-from_Contains nat_eq_equiv n _ among)))
 
 -- what is seen ascends
@@ -29,7 +30,7 @@ all_pass p (x ∷ xs) h y among =
     let both = both_of (p x) (list_all p xs) h in
     elim (first_or_later x xs y among) [ inl same ↦ subst (λ z. p z ≡ true) same both.0 | inr more ↦ all_pass p xs both.1 y more ]
 
-ascending : (xs : List ℕ) → ascends xs ≡ true → Ascends xs
+pub ascending : (xs : List ℕ) → ascends xs ≡ true → Ascends xs
 ascending [] h = tt
 ascending (x ∷ xs) h =
     let both = both_of (list_all (nat_lt x) xs) (ascends xs) h in
@@ -37,5 +38,5 @@ ascending (x ∷ xs) h =
 
 pub one_seen : SelectionsAreTheRules → SeenIsExactly → SelectedIsSeen
 one_seen law seen r h t premise stands caller k listed rising same =
-    same_list listed _ (ascend listed rising) (ascending _ (seen r caller k).ascending)
+    same_list listed _ (ascend listed rising) (ascending _ (seen (without_mandates r) caller k).ascending)
     (λ n. let rules = law r h t premise stands caller k n in ((λ among. rules.0 ((same n).0 among)), (λ among. (same n).1 (rules.1 among))))

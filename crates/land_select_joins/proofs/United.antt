@@ -1,7 +1,8 @@
 -- Looks one after another, whose numbers are put together.
-use Rattle.std.proofs.Common.{◌⊎◌, ◌↔◌, inl, inr, ℕ, ℤ, List, [], ◌∷◌, ◌++◌, Ok, Err, Result, IfOk}
+use Rattle.std.proofs.Common.{◌⊎◌, ◌↔◌, inl, inr, ℕ, ℤ, List, [], ◌∷◌, ◌++◌, Ok, Err, Result, IfOk, subst, sym}
 use Rattle.std.specs.List.{Contains}
-use Rattle.land_select_joins.specs.Joins.Running.{AreAll, AreNumbersOf, AreNumbersOfAny}
+use Rattle.land_select_joins.proofs.Containing.{first, first_or_later, in_nothing, later}
+use Rattle.land_select_joins.specs.Joins.Running.{AnyGiven, AreAll, AreNumbersForAny, AreNumbersOf, AreNumbersOfAny}
 use Rattle.land_select_joins.specs.Sights.{AnySelects}
 use Rattle.land_select_joins.specs.declared.sights.selection.Selection.{Selection}
 use Rattle.land_tables_history.specs.declared.history.History.{History}
@@ -25,7 +26,7 @@ module _ (t : ℤ) (h : History) (caller n : ℕ) where
   any_either (s ∷ ss) us (inl x) = inl (inl x)
   any_either (s ∷ ss) us (inr x) = elim (any_either ss us x) [ inl a ↦ inl (inr a) | inr b ↦ inr b ]
 
-contains_both : (xs ys : List ℕ) (n : ℕ) → Contains (xs ++ ys) n ↔ (Contains xs n ⊎ Contains ys n)
+pub contains_both : (xs ys : List ℕ) (n : ℕ) → Contains (xs ++ ys) n ↔ (Contains xs n ⊎ Contains ys n)
 contains_both xs ys n = (
   (λ h. elim (has_either xs ys n (has_contained (xs ++ ys) n h)) [ inl a ↦ inl (contains_had xs n a) | inr b ↦ inr (contains_had ys n b) ]),
   (λ h. elim h [ inl a ↦ contains_had (xs ++ ys) n (has_left xs ys n (has_contained xs n a)) | inr b ↦ contains_had (xs ++ ys) n (has_right xs ys n (has_contained ys n b)) ]),
@@ -54,7 +55,62 @@ one_more ss s t caller db xs ys all more moments h held n =
 pub all_through : (ss : List Selection) (t : ℤ) (caller : ℕ) (db : Trees) (it found : List ℕ) → AreAll it (λ n. Contains found n) → AreNumbersOfAny ss t caller db found → AreNumbersOfAny ss t caller db it
 all_through ss t caller db it found same all moments h held n = ((λ x. (all moments h held n).0 ((same n).0 x)), (λ w. (same n).1 ((all moments h held n).1 w)))
 
+-- ---- one caller after another
+
+module _ (ss : List Selection) (t : ℤ) (h : History) (n : ℕ) where
+  given_left : (cs ds : List ℕ) → AnyGiven ss t h cs n → AnyGiven ss t h (cs ++ ds) n
+  given_left [] ds x = absurd x
+  given_left (c ∷ cs) ds (inl x) = inl x
+  given_left (c ∷ cs) ds (inr x) = inr (given_left cs ds x)
+
+  given_right : (cs ds : List ℕ) → AnyGiven ss t h ds n → AnyGiven ss t h (cs ++ ds) n
+  given_right [] ds x = x
+  given_right (c ∷ cs) ds x = inr (given_right cs ds x)
+
+  given_either : (cs ds : List ℕ) → AnyGiven ss t h (cs ++ ds) n → AnyGiven ss t h cs n ⊎ AnyGiven ss t h ds n
+  given_either [] ds x = inr x
+  given_either (c ∷ cs) ds (inl x) = inl (inl x)
+  given_either (c ∷ cs) ds (inr x) = elim (given_either cs ds x) [ inl a ↦ inl (inr a) | inr b ↦ inr b ]
+
+  -- what is given is given to one of them
+  pub given_to : (cs : List ℕ) → AnyGiven ss t h cs n → (c : ℕ) × Contains cs c × AnySelects ss t h c n
+  given_to [] x = absurd x
+  given_to (c ∷ cs) (inl x) = (c, first c cs, x)
+  given_to (c ∷ cs) (inr x) = let it = given_to cs x in (it.0, later c cs it.0 it.1, it.2)
+
+  pub given_by : (cs : List ℕ) (c : ℕ) → Contains cs c → AnySelects ss t h c n → AnyGiven ss t h cs n
+  given_by [] c among x = absurd (in_nothing c among)
+  given_by (d ∷ ds) c among x = elim (first_or_later d ds c among) [
+    | inl same ↦ inl (subst (λ m. AnySelects ss t h m n) (sym same) x)
+    | inr more ↦ inr (given_by ds c more x)
+  ]
+
+-- the numbers of one caller more
+pub one_caller_more : (ss : List Selection) (cs : List ℕ) (c : ℕ) (t : ℤ) (db : Trees) (xs ys : List ℕ) → AreNumbersForAny ss t cs db xs → AreNumbersOfAny ss t c db ys
+    → AreNumbersForAny ss t (cs ++ c ∷ []) db (xs ++ ys)
+one_caller_more ss cs c t db xs ys all more moments h held n =
+    let these = all moments h held n in
+    let those = more moments h held n in (
+      (λ has. elim ((contains_both xs ys n).0 has) [
+        | inl a ↦ given_left ss t h n cs (c ∷ []) (these.0 a)
+        | inr b ↦ given_right ss t h n cs (c ∷ []) (inl (those.0 b))
+      ]),
+      (λ x. (contains_both xs ys n).1 (elim (given_either ss t h n cs (c ∷ []) x) [
+        | inl a ↦ inl (these.1 a)
+        | inr b ↦ inr (those.1 (elim b [ inl y ↦ y | inr none ↦ absurd none ]))
+      ])),
+    )
+
+-- the same numbers, in another order
+pub given_through : (ss : List Selection) (t : ℤ) (cs : List ℕ) (db : Trees) (it found : List ℕ) → AreAll it (λ n. Contains found n) → AreNumbersForAny ss t cs db found → AreNumbersForAny ss t cs db it
+given_through ss t cs db it found same all moments h held n = ((λ x. (all moments h held n).0 ((same n).0 x)), (λ w. (same n).1 ((all moments h held n).1 w)))
+
 -- a look that gives a value gives what is known of it besides, and what follows from both
 pub look_known : {X E : Type 0} {P K Q : X → Type 0} (a b : State) (r : Result X E) → IsLook r P a b → IfOk r K → ((x : X) → HasCleanDisk b → P x → K x → Q x) → IsLook r Q a b
 look_known a b (Ok x) look known so = record { given = λ clean. so x clean (look.given clean) known; same = look.same; left = look.left; survives = look.survives }
 look_known a b (Err e) look known so = record { given = λ _. tt; same = look.same; left = look.left; survives = look.survives }
+
+-- a look, by what it means
+pub look_means : {X E : Type 0} {P Q : X → Type 0} (a b : State) (r : Result X E) → IsLook r P a b → ((x : X) → P x → Q x) → IsLook r Q a b
+look_means a b (Ok x) look means = record { given = λ clean. means x (look.given clean); same = look.same; left = look.left; survives = look.survives }
+look_means a b (Err e) look means = record { given = λ _. tt; same = look.same; left = look.left; survives = look.survives }

@@ -5,6 +5,7 @@ pub mod finding;
 pub mod look_up;
 pub mod numbered;
 pub mod objects;
+pub mod of_agent;
 pub mod of_group;
 pub mod of_lodger;
 pub mod of_party;

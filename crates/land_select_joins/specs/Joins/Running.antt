@@ -1,5 +1,5 @@
 -- What running the texts of selections gives.
-use Rattle.std.specs.Prelude.{◌≡◌, ◌↔◌, ℕ, ℤ, List, if◌then◌else◌}
+use Rattle.std.specs.Prelude.{◌≡◌, ◌⊎◌, ◌↔◌, ℕ, ℤ, List, [], ◌∷◌, if◌then◌else◌}
 use Rattle.std.specs.List.{Contains}
 use Rattle.land_core.specs.Numbers.{is_number}
 use Rattle.land_select_joins.specs.Joins.Meaning.{AreNumberRows}
@@ -37,6 +37,15 @@ AreNumbersOf s t caller db numbers = OfHeld db (λ h. AreAll numbers (selects s 
 -- the numbers that some of these selections gives to a caller at a moment
 abbrev pub AreNumbersOfAny : List Selection → (t : ℤ) → (caller : ℕ) → Trees → List ℕ → Type 0
 AreNumbersOfAny ss t caller db numbers = OfHeld db (λ h. AreAll numbers (AnySelects ss t h caller))
+
+-- some of these selections gives a number to one of some callers
+abbrev pub AnyGiven : List Selection → (t : ℤ) → History → (callers : List ℕ) → (number : ℕ) → Type 0
+AnyGiven ss t h [] number = ⊥
+AnyGiven ss t h (caller ∷ callers) number = AnySelects ss t h caller number ⊎ AnyGiven ss t h callers number
+
+-- the numbers that some of these selections gives at a moment to one of some callers
+abbrev pub AreNumbersForAny : List Selection → (t : ℤ) → (callers : List ℕ) → Trees → List ℕ → Type 0
+AreNumbersForAny ss t callers db numbers = OfHeld db (λ h. AreAll numbers (AnyGiven ss t h callers))
 
 -- a fault that says that rows cannot be read is right: the tables hold no history
 abbrev pub HoldsNone : Trees → ReadFault → Type 0

@@ -3,6 +3,7 @@ use Rattle.std.specs.Prelude.{◌≡◌, ℕ, ℤ, List}
 use Rattle.land_core.specs.declared.caller.Caller.{Caller}
 use Rattle.land_core.specs.declared.kind.Kind.{Kind}
 use Rattle.land_core.specs.declared.register.Register.{Register}
+use Rattle.land_rules.specs.CircleLaws.{without_mandates}
 use Rattle.land_rules.specs.Laws.{IsSoundOrNothing}
 use Rattle.land_rules.specs.Rules.{seen_of}
 use Rattle.land_select_joins.specs.Joins.Running.{OfHeld}
@@ -13,3 +14,7 @@ use Rattle.sqlite_trees.specs.Tree.{Trees}
 -- that the rules let the caller see in that register: none is missing, none is more, each stands once, and they ascend.
 abbrev pub IsSight : Caller → Kind → (t : ℤ) → Trees → List ℕ → Type 0
 IsSight caller kind t db numbers = OfHeld db (λ h. (r : Register) → IsSoundOrNothing r → StandsAt t h r → numbers ≡ seen_of r caller kind)
+
+-- And these are those that the rules would let the caller see if no mandates stood in that register.
+abbrev pub IsSightAlone : Caller → Kind → (t : ℤ) → Trees → List ℕ → Type 0
+IsSightAlone caller kind t db numbers = OfHeld db (λ h. (r : Register) → IsSoundOrNothing r → StandsAt t h r → numbers ≡ seen_of (without_mandates r) caller kind)

@@ -3,6 +3,7 @@ use Rattle.std.specs.List.{Contains}
 use Rattle.std.specs.Prelude.{◌≡◌, ◌≢◌, ℕ, ℤ, Bool, ◌&&◌, nat_eq, List, [], filter, map, IsPermutation, Option, Some, None, Result, Ok}
 use Rattle.land_core.specs.Mutations.{is_lodged_as}
 use Rattle.land_core.specs.Role.{is_role}
+use Rattle.land_core.specs.declared.mandates.Mandate.{Mandate}
 use Rattle.land_core.specs.declared.mutation.MutationRecord.{MutationRecord}
 use Rattle.land_core.specs.declared.parcel.ParcelRecord.{ParcelRecord}
 use Rattle.land_core.specs.declared.party.PartyRecord.{PartyRecord}
@@ -17,7 +18,7 @@ use Rattle.land_tables_history.specs.Standing.{stands}
 use Rattle.land_tables_history.specs.declared.group_member.GroupMember.{GroupMember}
 use Rattle.land_tables_history.specs.declared.naming.Naming.{Naming}
 use Rattle.land_tables_history.specs.declared.version.Version.{Version}
-use Rattle.land_tables_rows.specs.Listing.Reading.{Listing, Says, members, mutations, namings, parcels, parties, roles, rrrs, sources, units}
+use Rattle.land_tables_rows.specs.Listing.Reading.{Listing, Says, mandates, members, mutations, namings, parcels, parties, roles, rrrs, sources, units}
 use Rattle.land_tables_rows.specs.Reading.Readings.{each_of}
 use Rattle.land_tables_rows.specs.declared.listing.fault.ReadFault.{ReadFault}
 use Rattle.land_tables_rows.specs.declared.listing.fault.ReadFault.TheVariants.{Unreadable}
@@ -38,6 +39,7 @@ Found look_up.EntriesOfUnit = ℕ × RrrRecord
 Found look_up.NamingsOfUnit = Naming
 Found look_up.RolesOfParty = Grant
 Found look_up.MembersOfGroup = GroupMember
+Found look_up.MandatesOfAgent = Mandate
 Found look_up.Administrators = Grant
 
 -- the table, and how its rows are read
@@ -53,6 +55,7 @@ listing_of look_up.EntriesOfUnit = rrrs
 listing_of look_up.NamingsOfUnit = namings
 listing_of look_up.RolesOfParty = roles
 listing_of look_up.MembersOfGroup = members
+listing_of look_up.MandatesOfAgent = mandates
 listing_of look_up.Administrators = roles
 
 -- which of them are looked for, by the number that is given
@@ -68,6 +71,7 @@ is_meant look_up.EntriesOfUnit number entry = nat_eq entry.1.unit number
 is_meant look_up.NamingsOfUnit number naming = nat_eq naming.unit number
 is_meant look_up.RolesOfParty number grant = nat_eq grant.party number
 is_meant look_up.MembersOfGroup number joined = nat_eq joined.group number
+is_meant look_up.MandatesOfAgent number mandate = nat_eq mandate.agent number
 is_meant look_up.Administrators number grant = is_role grant.role StateAdministrator
 
 -- of some versions, those that stand at a moment and are meant

@@ -2,9 +2,10 @@
 use Rattle.std.specs.FinMap as map
 use Rattle.std.specs.List.{Contains}
 use Rattle.std.specs.Option.{option_map_or}
-use Rattle.std.specs.Prelude.{◌≡◌, ◌↔◌, ℕ, ℤ, false, true, List}
+use Rattle.std.specs.Prelude.{◌≡◌, ◌↔◌, ℕ, ℤ, false, true, List, IsPermutation}
 use Rattle.land_core.specs.Contents.{names_unit}
 use Rattle.land_core.specs.declared.register.Register.{Register}
+use Rattle.land_rules.specs.Circles.{circle_of, principals_of}
 use Rattle.land_select_joins.specs.Joins.Running.{OfHeld}
 use Rattle.land_tables_history.specs.Groups.{HaveMembers}
 use Rattle.land_tables_history.specs.History.{StandsAt}
@@ -18,3 +19,11 @@ IsPart part t db it = OfHeld db (λ h. (r : Register) → HaveMembers r.members 
 abbrev pub AreNamersOf : (unit : ℕ) → (t : ℤ) → Trees → List ℕ → Type 0
 AreNamersOf unit t db numbers = OfHeld db (λ h. (r : Register) → StandsAt t h r
     → (number : ℕ) → Contains numbers number ↔ (option_map_or (λ m. names_unit unit m.content) (map.get r.mutations number) false ≡ true))
+
+-- where the tables hold a history that at the moment stands for a register, these are those whose mandate a party holds in it, each once
+abbrev pub ArePrincipalsOf : (agent : ℕ) → (t : ℤ) → Trees → List ℕ → Type 0
+ArePrincipalsOf agent t db numbers = OfHeld db (λ h. (r : Register) → StandsAt t h r → IsPermutation numbers (principals_of r agent))
+
+-- and these the circle of the party in it
+abbrev pub IsCircleOf : (party : ℕ) → (t : ℤ) → Trees → List ℕ → Type 0
+IsCircleOf party t db numbers = OfHeld db (λ h. (r : Register) → StandsAt t h r → (number : ℕ) → Contains numbers number ↔ Contains (circle_of r party) number)

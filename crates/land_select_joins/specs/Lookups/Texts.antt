@@ -16,4 +16,5 @@ text_of look_up.EntriesOfUnit = texts.ENTRIES_OF_UNIT.now
 text_of look_up.NamingsOfUnit = texts.NAMINGS_OF_UNIT.now
 text_of look_up.RolesOfParty = texts.ROLES_OF_PARTY.now
 text_of look_up.MembersOfGroup = texts.MEMBERS_OF_GROUP.now
+text_of look_up.MandatesOfAgent = texts.MANDATES_OF_AGENT.now
 text_of look_up.Administrators = texts.ADMINISTRATORS.now

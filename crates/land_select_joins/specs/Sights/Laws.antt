@@ -1,4 +1,4 @@
--- Laws over the definitions alone: what the selections of a role give is what the rules let it see.
+-- Laws over the definitions alone: what the selections of a role give is what the rules let it see without mandates.
 use Rattle.std.specs.Prelude.{◌≡◌, ◌⊎◌, ◌↔◌, ◌<◌, ℕ, ℤ, List}
 use Rattle.std.specs.List.{Contains}
 use Rattle.std.specs.List.Sorted.{IsStrictlyIncreasing}
@@ -7,6 +7,7 @@ use Rattle.land_core.specs.declared.kind.Kind.{Kind}
 use Rattle.land_core.specs.declared.mutation.MutationRecord.{MutationRecord}
 use Rattle.land_core.specs.declared.register.Register.{Register}
 use Rattle.land_core.specs.declared.role.Role.{Role}
+use Rattle.land_rules.specs.CircleLaws.{without_mandates}
 use Rattle.land_rules.specs.Laws.{IsSoundOrNothing}
 use Rattle.land_rules.specs.Rules.{seen_of}
 use Rattle.land_select_joins.specs.Sights.{AnySelects, selections_of}
@@ -16,11 +17,11 @@ use Rattle.land_tables_history.specs.History.{StandsAt}
 use Rattle.land_tables_history.specs.declared.group_member.GroupMember.{GroupMember}
 use Rattle.land_tables_history.specs.declared.history.History.{History}
 
--- the selections of a role and a kind give exactly the numbers that the rules let the caller see in the register at the moment:
--- none is missing, and none is more
+-- the selections of a role and a kind give exactly the numbers that the rules let the caller see, without mandates, in the register at
+-- the moment: none is missing, and none is more
 abbrev pub SelectionsAreTheRules : Type 0
 SelectionsAreTheRules = (r : Register) (h : History) (t : ℤ) → IsSoundOrNothing r → StandsAt t h r → (caller : Caller) (k : Kind) (number : ℕ)
-    → AnySelects (selections_of caller.role k) t h caller.party number ↔ Contains (seen_of r caller k) number
+    → AnySelects (selections_of caller.role k) t h caller.party number ↔ Contains (seen_of (without_mandates r) caller k) number
 
 -- a party is a member of a group, the party of an entry, or the lodger of a mutation that stands
 abbrev pub IsMemberAt : (t : ℤ) → History → (party : ℕ) → Type 0
@@ -54,7 +55,7 @@ NobodiesSeeAlike = (r : Register) (h : History) (t : ℤ) → IsSoundOrNothing r
 abbrev pub AscendingListsAreOne : Type 0
 AscendingListsAreOne = (xs ys : List ℕ) → IsStrictlyIncreasing xs → IsStrictlyIncreasing ys → ((n : ℕ) → Contains xs n ↔ Contains ys n) → xs ≡ ys
 
--- what the selections give, ascending and each number once, is the list of what is seen
+-- what the selections give, ascending and each number once, is the list of what is seen without mandates
 abbrev pub SelectedIsSeen : Type 0
 SelectedIsSeen = (r : Register) (h : History) (t : ℤ) → IsSoundOrNothing r → StandsAt t h r → (caller : Caller) (k : Kind) (listed : List ℕ)
-    → IsStrictlyIncreasing listed → ((n : ℕ) → Contains listed n ↔ AnySelects (selections_of caller.role k) t h caller.party n) → listed ≡ seen_of r caller k
+    → IsStrictlyIncreasing listed → ((n : ℕ) → Contains listed n ↔ AnySelects (selections_of caller.role k) t h caller.party n) → listed ≡ seen_of (without_mandates r) caller k

@@ -2,7 +2,7 @@
 ghost use Rattle.std.specs.Prelude.{◌≡◌, false, IfErr, IfOk, IsTrue};
 ghost use Rattle.std.specs.List.{Contains};
 ghost use Rattle.std.specs.List.Sorted.{IsStrictlyIncreasing};
-ghost use Rattle.land_select_joins.specs.Joins.Running.{AreAll, AreNumbersOf, AreNumbersOfAny, AreRowsOf, HoldsNone, asked_for};
+ghost use Rattle.land_select_joins.specs.Joins.Running.{AreAll, AreNumbersForAny, AreNumbersOf, AreNumbersOfAny, AreRowsOf, HoldsNone, asked_for};
 ghost use Rattle.land_tables_rows.specs.Listing.Reading.{IsRead};
 ghost use Rattle.land_tables_rows.specs.Reading.Cells.{natural_in};
 ghost use Rattle.land_tables_rows.specs.Reading.Readings.{each_of};
@@ -107,6 +107,28 @@ fn gather<S: Alter>(
     Ok(found)
 }
 
+/// The numbers that some of the selections gives to one of some callers, in whatever order, and a number as often as it is given.
+fn gather_for<S: Alter>(
+    alloc: Global,
+    conn: &mut Connection<S>,
+    selections: &[Selection],
+    callers: &[u64],
+    at: i64,
+) -> Result<Vec<u64>, ReadFault>
+    requires open { HasCleanDisk (state S.Store conn.old) → IsTrue (state S.Store conn.old).is_open }
+    requires land { HasCleanDisk (state S.Store conn.old) → IsLand (state S.Store conn.old).now.schema }
+    ensures look { IsLook result (λ it. AreNumbersForAny selections.now at callers.now (state S.Store conn.old).now.trees it.items) (state S.Store conn.old) (state S.Store conn.new) }
+    ensures unreadable { HasCleanDisk (state S.Store conn.new) → IfErr result (HoldsNone (state S.Store conn.old).now.trees) }
+    ensures mode { conn.old.in_transaction ≡ false → conn.new.in_transaction ≡ false }
+{
+    let mut found = Vec::new(alloc);
+    for caller in callers {
+        let given = gather(alloc, conn, selections, *caller, at)?;
+        found.extend_from_slice(given.as_slice())?;
+    }
+    Ok(found)
+}
+
 /// Numbers in ascending order, each once.
 fn each_once(mut numbers: Vec<u64>) -> Result<NumberList, ReadFault>
     ensures ascending { IfOk result IsStrictlyIncreasing }
@@ -135,4 +157,23 @@ pub fn unite<S: Alter>(
     ensures mode { conn.old.in_transaction ≡ false → conn.new.in_transaction ≡ false }
 {
     each_once(gather(alloc, conn, selections, caller, at)?)
+}
+
+/// The numbers that some of the selections gives at a moment, in milliseconds since 1970 UTC, to one of some callers, in ascending order and
+/// each once. 520: the tables hold no history. 501: there was no memory.
+pub fn unite_for<S: Alter>(
+    alloc: Global,
+    conn: &mut Connection<S>,
+    selections: &[Selection],
+    callers: &[u64],
+    at: i64,
+) -> Result<NumberList, ReadFault>
+    requires open { HasCleanDisk (state S.Store conn.old) → IsTrue (state S.Store conn.old).is_open }
+    requires land { HasCleanDisk (state S.Store conn.old) → IsLand (state S.Store conn.old).now.schema }
+    ensures ascending { IfOk result IsStrictlyIncreasing }
+    ensures look { IsLook result (λ it. AreNumbersForAny selections.now at callers.now (state S.Store conn.old).now.trees it) (state S.Store conn.old) (state S.Store conn.new) }
+    ensures unreadable { HasCleanDisk (state S.Store conn.new) → IfErr result (HoldsNone (state S.Store conn.old).now.trees) }
+    ensures mode { conn.old.in_transaction ≡ false → conn.new.in_transaction ≡ false }
+{
+    each_once(gather_for(alloc, conn, selections, callers, at)?)
 }

@@ -1,24 +1,83 @@
 //! What a caller sees of a kind at a moment.
 ghost use Rattle.std.specs.Prelude.{◌≡◌, false, IfErr, IsTrue};
+ghost use Rattle.land_core.specs.Role.{is_role};
+ghost use Rattle.land_core.specs.declared.role.Role.TheVariants as roles;
+ghost use Rattle.land_rules.specs.Laws.{citizen};
 ghost use Rattle.land_select_joins.specs.Joins.Running.{HoldsNone};
-ghost use Rattle.land_select_joins.specs.Joins.Sight.{IsSight};
+ghost use Rattle.land_select_joins.specs.Joins.Sight.{IsSight, IsSightAlone};
 ghost use Rattle.land_tables_schema.specs.Land.{IsLand};
 ghost use Rattle.land_tables_schema.specs.Rows.Looks.{IsLook};
 ghost use Rattle.sqlite.specs.Held.{state};
 ghost use Rattle.sqlite.specs.State.{HasCleanDisk};
 
-use crate::joins::running::unite;
-use crate::sights::laws::selected_is_seen;
+use crate::joins::running::{unite, unite_for};
+use crate::lookups::of_agent::circle;
+use crate::sights::laws::{selected_is_seen, selections_are_the_rules};
 use crate::sights::sight::selections;
 use land_core::caller::Caller;
 use land_core::kind::Kind;
+use land_core::role::Role;
 use land_core::sequence::NumberList;
+use land_rules::laws::{circles_see_together, seen_is_exact};
 use land_tables_rows::listing::fault::ReadFault;
 use sqlite::{Alter, Connection};
 use std::alloc::Global;
 
-/// The numbers of a kind that the rules let a caller see at a moment, in milliseconds since 1970 UTC, in ascending order and each once. 520:
-/// the tables hold no history. 501: there was no memory.
+fn is_citizen(role: Role) -> bool
+    ensures { result ≡ is_role role roles.Citizen }
+{
+    role == Role::Citizen
+}
+
+/// The numbers of a kind that the rules would let a caller see at a moment if no mandates stood, in ascending order and each once.
+fn sight_alone<S: Alter>(
+    alloc: Global,
+    conn: &mut Connection<S>,
+    caller: Caller,
+    kind: Kind,
+    at: i64,
+) -> Result<NumberList, ReadFault>
+    requires open { HasCleanDisk (state S.Store conn.old) → IsTrue (state S.Store conn.old).is_open }
+    requires land { HasCleanDisk (state S.Store conn.old) → IsLand (state S.Store conn.old).now.schema }
+    ensures look { IsLook result (λ it. IsSightAlone caller kind at (state S.Store conn.old).now.trees it) (state S.Store conn.old) (state S.Store conn.new) }
+    ensures unreadable { HasCleanDisk (state S.Store conn.new) → IfErr result (HoldsNone (state S.Store conn.old).now.trees) }
+    ensures mode { conn.old.in_transaction ≡ false → conn.new.in_transaction ≡ false }
+{
+    selected_is_seen();
+    unite(alloc, conn, selections(caller.role, kind), caller.party, at)
+}
+
+/// The numbers of a kind that the rules let a citizen see at a moment, in ascending order and each once: what is given to one of its circle
+/// at that moment.
+fn sight_of_circle<S: Alter>(
+    alloc: Global,
+    conn: &mut Connection<S>,
+    party: u64,
+    kind: Kind,
+    at: i64,
+) -> Result<NumberList, ReadFault>
+    requires open { HasCleanDisk (state S.Store conn.old) → IsTrue (state S.Store conn.old).is_open }
+    requires land { HasCleanDisk (state S.Store conn.old) → IsLand (state S.Store conn.old).now.schema }
+    ensures look { IsLook result (λ it. IsSight (citizen party) kind at (state S.Store conn.old).now.trees it) (state S.Store conn.old) (state S.Store conn.new) }
+    ensures unreadable { HasCleanDisk (state S.Store conn.new) → IfErr result (HoldsNone (state S.Store conn.old).now.trees) }
+    ensures mode { conn.old.in_transaction ≡ false → conn.new.in_transaction ≡ false }
+{
+    selections_are_the_rules();
+    seen_is_exact();
+    circles_see_together();
+    let callers = circle(alloc, conn, party, at)?;
+    unite_for(
+        alloc,
+        conn,
+        selections(Role::Citizen, kind),
+        callers.as_slice(),
+        at,
+    )
+}
+
+/// The numbers of a kind that the rules let a caller see at a moment, in milliseconds since 1970 UTC, in ascending order and each once; to a
+/// citizen is given what is given to itself and to those whose mandate it holds at that moment. 520: the tables hold no history. 501: there
+/// was no memory.
 pub fn sight<S: Alter>(
     alloc: Global,
     conn: &mut Connection<S>,
@@ -32,6 +91,8 @@ pub fn sight<S: Alter>(
     ensures unreadable { HasCleanDisk (state S.Store conn.new) → IfErr result (HoldsNone (state S.Store conn.old).now.trees) }
     ensures mode { conn.old.in_transaction ≡ false → conn.new.in_transaction ≡ false }
 {
-    selected_is_seen();
-    unite(alloc, conn, selections(caller.role, kind), caller.party, at)
+    if is_citizen(caller.role) {
+        return sight_of_circle(alloc, conn, caller.party, kind, at);
+    }
+    sight_alone(alloc, conn, caller, kind, at)
 }

@@ -29,6 +29,8 @@ pub enum LookUp {
     RolesOfParty,
     /// The members of a group.
     MembersOfGroup,
+    /// The mandates that a party holds.
+    MandatesOfAgent,
     /// The state administrators, whatever number is given.
     Administrators,
 }
@@ -49,6 +51,7 @@ pub fn text_of(look_up: LookUp) -> &'static str
         LookUp::NamingsOfUnit => texts::NAMINGS_OF_UNIT,
         LookUp::RolesOfParty => texts::ROLES_OF_PARTY,
         LookUp::MembersOfGroup => texts::MEMBERS_OF_GROUP,
+        LookUp::MandatesOfAgent => texts::MANDATES_OF_AGENT,
         LookUp::Administrators => texts::ADMINISTRATORS,
     }
 }

@@ -47,6 +47,10 @@ pub const ROLES_OF_PARTY: &str =
 pub const MEMBERS_OF_GROUP: &str =
     "SELECT grp, party, num, den, since, until FROM member WHERE grp = ?1 AND since <= ?2 AND ?2 < until";
 
+/// The mandates that a party holds.
+pub const MANDATES_OF_AGENT: &str =
+    "SELECT principal, agent, since, until FROM mandate WHERE agent = ?1 AND since <= ?2 AND ?2 < until";
+
 /// The mutation that a party lodged under a reference.
 pub const MUTATION_LODGED_AS: &str =
     "SELECT number, lodger, reference, source, lodged, act, content, state, since, until FROM mutation WHERE lodger = ?1 AND reference = ?3 AND since <= ?2 AND ?2 < until";

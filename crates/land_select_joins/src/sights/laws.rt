@@ -4,7 +4,7 @@ ghost use Rattle.land_select_joins.specs.Sights.Laws.{AscendingListsAreOne, Nobo
 use land_core::laws::soundness_by_look_ups;
 use land_rules::laws::seen_is_exact;
 
-/// The selections of a role and a kind give exactly the numbers that the rules let the caller see, both ways.
+/// The selections of a role and a kind give exactly the numbers that the rules let the caller see without mandates, both ways.
 pub fn selections_are_the_rules()
     ensures { SelectionsAreTheRules }
 {
@@ -17,7 +17,7 @@ pub fn ascending_lists_are_one()
     ensures { AscendingListsAreOne }
 {}
 
-/// What the selections give, ascending and each number once, is the list of what is seen.
+/// What the selections give, ascending and each number once, is the list of what is seen without mandates.
 pub fn selected_is_seen()
     ensures { SelectedIsSeen }
 {

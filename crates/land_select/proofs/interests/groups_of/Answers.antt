@@ -7,6 +7,6 @@ use Rattle.land_select.proofs.interests.groups_of.Goals as goal
 pub returns-clause-look : goal.returns-clause-look
 returns-clause-look g c =
     let when : to_z w64 (of_z w64 c.args.at) ≡ c.args.at = search rules in
-    let look = rw when at c.numbers.ensures.look in
-    look_means (state g.S.Store c.args.conn.now) (state g.S.Store c.numbers.new.conn) c.numbers.result look
-    (λ it all moments h held r stands. groups_are r c.args.at h stands c.args.party it (all moments h held))
+    let look = rw when at c.unite_for.ensures.look in
+    look_means (state g.S.Store c.args.conn.now) (state g.S.Store c.unite_for.new.conn) c.unite_for.result look
+    (λ it all moments h held r stands. groups_are r c.args.at h stands c.args.callers.now it (all moments h held))

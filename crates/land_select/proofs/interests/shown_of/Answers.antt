@@ -1,8 +1,7 @@
 use Rattle.std.proofs.Common.{rules, ◌≡◌, ap, to_z, of_z, w64, ◌∙◌}
 use Rattle.land_core.specs.Entries.{only}
 use Rattle.land_rules.specs.Denials.Interests.{shows_entry}
-use Rattle.land_select.proofs.Viewed.{look_lost}
-use Rattle.land_tables_schema.proofs.Looking.{look_told}
+use Rattle.land_tables_schema.proofs.Looking.{look_lost, look_told}
 use Rattle.sqlite.specs.Held.{state}
 use Rattle.land_select.proofs.interests.shown_of.Goals as goal
 

@@ -1,11 +1,10 @@
 use Rattle.std.proofs.Common.{rules, ◌≡◌, ap₂, subst, to_z, of_z, w64, Ok, ◌∙◌}
 use Rattle.std.specs.FinMap as map
 use Rattle.land_rules.specs.Denials.Standing.{decided, discharged, evidence_of}
-use Rattle.land_select.proofs.Viewed.{look_lost}
 use Rattle.land_select.specs.Verdicts.{record_at, roles_in}
 use Rattle.land_select_joins.specs.Lookups.Parts.{IsPart}
 use Rattle.land_tables_rows.specs.declared.listing.fault.ReadFault.{ReadFault}
-use Rattle.land_tables_schema.proofs.Looking.{look_fails, look_then, look_told}
+use Rattle.land_tables_schema.proofs.Looking.{look_fails, look_lost, look_then, look_told}
 use Rattle.land_tables_schema.specs.Rows.Looks.{IsLook}
 use Rattle.sqlite.specs.Effect.{Database}
 use Rattle.sqlite.specs.Held.{state}

@@ -4,13 +4,13 @@ use Rattle.land_core.specs.Entries.{only}
 use Rattle.land_core.specs.declared.kind.Kind.TheVariants.{Rrr}
 use Rattle.land_select.proofs.Awaiting.{awaited_in_sight}
 use Rattle.land_select.proofs.ShownByInterest.{shown_in_sight}
-use Rattle.land_select.proofs.Viewed.{AreListed, all_in_sight, have_members, listed_in_sight, look_lost}
+use Rattle.land_select.proofs.Viewed.{AreListed, all_in_sight, have_members, listed_in_sight}
 use Rattle.land_select.specs.Views.{awaited_of, shown_of}
 use Rattle.land_select_joins.proofs.Chains.{look_after}
 use Rattle.land_select_joins.specs.Joins.Sight.{IsSight}
 use Rattle.land_select_joins.specs.Lookups.Parts.{IsPart}
 use Rattle.land_tables_rows.specs.declared.listing.fault.ReadFault.{ReadFault}
-use Rattle.land_tables_schema.proofs.Looking.{look_fails, look_then, look_told}
+use Rattle.land_tables_schema.proofs.Looking.{look_fails, look_lost, look_then, look_told}
 use Rattle.land_tables_schema.specs.Rows.Looks.{IsLook}
 use Rattle.sqlite.specs.Effect.{Database}
 use Rattle.sqlite.specs.Held.{state}

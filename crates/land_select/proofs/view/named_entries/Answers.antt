@@ -1,10 +1,10 @@
 use Rattle.std.proofs.Common.{rules, ◌≡◌, append-nil, subst, sym, to_z, of_z, w64, Ok, ◌∙◌}
 use Rattle.std.specs.FinMap as map
 use Rattle.land_keep.specs.Sheets.{named_rrr}
-use Rattle.land_select.proofs.Viewed.{look_lost, one_named}
+use Rattle.land_select.proofs.Viewed.{one_named}
 use Rattle.land_select_joins.specs.Lookups.Parts.{IsPart}
 use Rattle.land_tables_rows.specs.declared.listing.fault.ReadFault.{ReadFault}
-use Rattle.land_tables_schema.proofs.Looking.{look_fails, look_then, look_told}
+use Rattle.land_tables_schema.proofs.Looking.{look_fails, look_lost, look_then, look_told}
 use Rattle.land_tables_schema.specs.Rows.Looks.{IsLook}
 use Rattle.sqlite.specs.Effect.{Database}
 use Rattle.sqlite.specs.Held.{state}

@@ -1,0 +1,63 @@
+//! Those whose mandate a party holds, and the circle that they make with it.
+ghost use Rattle.std.specs.Prelude.{◌≡◌, false, map, IfErr, IfOk};
+ghost use Rattle.land_select_joins.specs.Joins.Running.{HoldsNone};
+ghost use Rattle.land_select_joins.specs.Lookups.Parts.{ArePrincipalsOf, IsCircleOf};
+ghost use Rattle.land_tables_schema.specs.Land.{IsLand};
+ghost use Rattle.land_tables_schema.specs.Rows.Looks.{IsLook};
+ghost use Rattle.sqlite.specs.Held.{state};
+ghost use Rattle.sqlite.specs.State.{HasCleanDisk};
+
+use crate::lookups::finding::find;
+use crate::lookups::look_up::LookUp;
+use land_core::mandates::Mandate;
+use land_core::sequence::{NumberList, Sequence};
+use land_tables_history::version::Version;
+use land_tables_rows::listing::fault::ReadFault;
+use sqlite::{Alter, Connection};
+use std::alloc::{AllocError, Global};
+
+/// Those whose mandate a party holds at a moment, in milliseconds since 1970 UTC, in whatever order and each once; the principals of these
+/// are not looked for. 520: the tables hold no history. 501: there was no memory.
+pub fn principals<S: Alter>(
+    alloc: Global,
+    conn: &mut Connection<S>,
+    agent: u64,
+    at: i64,
+) -> Result<NumberList, ReadFault>
+    requires land { HasCleanDisk (state S.Store conn.old) → IsLand (state S.Store conn.old).now.schema }
+    ensures look { IsLook result (λ it. ArePrincipalsOf agent at (state S.Store conn.old).now.trees it) (state S.Store conn.old) (state S.Store conn.new) }
+    ensures unreadable { HasCleanDisk (state S.Store conn.new) → IfErr result (HoldsNone (state S.Store conn.old).now.trees) }
+    ensures mode { conn.old.in_transaction ≡ false → conn.new.in_transaction ≡ false }
+{
+    let found = find(alloc, conn, LookUp::MandatesOfAgent, agent, at)?;
+    Ok(principals_of(alloc, found.as_slice())?)
+}
+
+/// The principals of some mandates, in the order of these.
+fn principals_of(alloc: Global, mandates: &[Version<Mandate>]) -> Result<NumberList, AllocError>
+    ensures { IfOk result (λ it. it ≡ map (λ v. v.what.principal) mandates.now) }
+{
+    let mut numbers = Sequence::new(alloc);
+    for version in mandates {
+        numbers.push(version.what.principal)?;
+    }
+    Ok(numbers)
+}
+
+/// The circle of a party at a moment, in milliseconds since 1970 UTC, in whatever order: the party, and those whose mandate it holds. 520:
+/// the tables hold no history. 501: there was no memory.
+pub fn circle<S: Alter>(
+    alloc: Global,
+    conn: &mut Connection<S>,
+    party: u64,
+    at: i64,
+) -> Result<NumberList, ReadFault>
+    requires land { HasCleanDisk (state S.Store conn.old) → IsLand (state S.Store conn.old).now.schema }
+    ensures look { IsLook result (λ it. IsCircleOf party at (state S.Store conn.old).now.trees it) (state S.Store conn.old) (state S.Store conn.new) }
+    ensures unreadable { HasCleanDisk (state S.Store conn.new) → IfErr result (HoldsNone (state S.Store conn.old).now.trees) }
+    ensures mode { conn.old.in_transaction ≡ false → conn.new.in_transaction ≡ false }
+{
+    let mut numbers = principals(alloc, conn, party, at)?;
+    numbers.push(party)?;
+    Ok(numbers)
+}
