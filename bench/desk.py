@@ -94,9 +94,13 @@ class Register:
         if not any(row[1] == role for row in roles):
             raise Denied(2)
 
+    def circle(self, party, role, at):
+        """The caller, and of a citizen those whose mandate it holds."""
+        return [party, *(row[0] for row in self.ask(LOOK["MANDATES_OF_AGENT"], party, at))] if role == "citizen" else [party]
+
     def sight(self, party, role, kind, at):
         found = SIGHT.get((role, kind), [EVERY[ALL[kind]]])
-        return sorted({number for text in found for number, in self.ask(text, party, at)})
+        return sorted({number for one in self.circle(party, role, at) for text in found for number, in self.ask(text, one, at)})
 
     @staticmethod
     def sees_all(role, kind):

@@ -28,7 +28,7 @@ def opened(path):
     """A new file with the tables and the first row of each register."""
     base = sqlite3.connect(path)
     base.executescript(schema())
-    base.execute("INSERT INTO edition VALUES (1, 1)")
+    base.execute("INSERT INTO edition VALUES (1, 2)")
     base.execute("INSERT INTO moments VALUES (0, 2)")
     base.execute("INSERT INTO party VALUES (1, 'Land Office', 'nonNaturalPerson', 0, ?)", (OPEN,))
     base.execute("INSERT INTO role VALUES (1, 'stateAdministrator', 0, ?)", (OPEN,))

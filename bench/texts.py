@@ -22,7 +22,8 @@ for folder, names in (("land_select_joins/src/joins", SELECTIONS), ("land_tables
 # Parts of requests, each with the function of land_select that runs it. $1 is the caller, $2 the number in the path, $3 the unit that a mutation
 # names, which stands in the JSON of the mutation.
 CALLER = [f"PARTY $1 {LAST}", f"ROLES_OF_PARTY $1 {LAST}"]                                          # standing::person
-GROUPS = ["own/GROUPS $1 now"]                                                                      # interests::names_of, of a citizen
+CIRCLE = ["MANDATES_OF_AGENT $1 now"]                                                               # of_agent::circle, of a citizen
+GROUPS = [*CIRCLE, "own/GROUPS $1 now"]                                                             # interests::names_of, of a citizen
 UNIT = ["ENTRIES_OF_UNIT $2 now"]                                                                   # interests::is_unit_shown
 ENTRY = ["ENTRY $2 now", "ENTRIES_OF_UNIT ENTRY.unit now"]                                          # interests::is_number_shown
 NAMING = ["MUTATION $2 now", "ENTRIES_OF_UNIT $3 now"]                                              # naming::is_mutation_shown
@@ -31,13 +32,14 @@ VIEW = ["UNIT $2 now", "PARCELS_OF_UNIT $2 now", "ENTRIES_OF_UNIT $2 now"]      
 NAMES = ["each ENTRIES_OF_UNIT PARTY ENTRIES_OF_UNIT.party now"]                                    # view::named_entries: all are in sight
 
 # Of each read what follows on CALLER, and the functions that run it: whether it is seen is told first, by viewing::is_in_sight, and a denial
-# ends there; then it is looked up. A list is sight::Sight: each selection of the role and the kind. An object is object::ObjectAt, a sheet
-# view::UnitSeen; ObjectAt's look-up tells of what a role sees all of whether it is there, and has_lodged of a mutation who lodged it.
+# ends there; then it is looked up. A list is sight::Sight: each selection of the role and the kind, for a citizen after its circle, which here
+# is itself alone. An object is object::ObjectAt, a sheet view::UnitSeen; ObjectAt's look-up tells of what a role sees all of whether it is
+# there, and has_lodged of a mutation who lodged it.
 READS = {
-    ("citizen", "its units"): ["holder/UNITS $1 now", "group/UNITS $1 now"],                   # Sight
-    ("citizen", "the entries in its sight"): ["holder/ENTRIES $1 now", "group/ENTRIES $1 now"],  # Sight
+    ("citizen", "its units"): [*CIRCLE, "holder/UNITS $1 now", "group/UNITS $1 now"],          # Sight
+    ("citizen", "the entries in its sight"): [*CIRCLE, "holder/ENTRIES $1 now", "group/ENTRIES $1 now"],  # Sight
     ("citizen", "the parties in its sight"): [                                                 # Sight
-        "own/ITSELF $1 now", "own/GROUPS $1 now", "holder/PARTIES $1 now", "group/PARTIES $1 now"],
+        *CIRCLE, "own/ITSELF $1 now", "own/GROUPS $1 now", "holder/PARTIES $1 now", "group/PARTIES $1 now"],
     ("citizen", "an entry in its sight"): [*ENTRY, *GROUPS, "ENTRY $2 now"],                   # interests::is_number_shown, ObjectAt
     ("citizen", "an entry that is denied"): [*ENTRY, *GROUPS],                                 # interests::is_number_shown
     ("citizen", "a parcel"): ["PARCEL $2 now", "PARCEL $2 now"],                               # ObjectAt's look-up, ObjectAt
@@ -58,7 +60,7 @@ READS = {
     ("notary", "an entry that is not there"): ["ENTRY $2 now"],                                # ObjectAt's look-up
     ("notary", "a title sheet"): ["UNIT $2 now", *VIEW, *NAMES],                               # ObjectAt's look-up, UnitSeen
     ("notary", "all units"): ["all/UNITS $1 now"],                                             # Sight
-    ("citizen", "all parcels"): ["all/PARCELS $1 now"],                                        # Sight
+    ("citizen", "all parcels"): [*CIRCLE, "all/PARCELS $1 now"],                               # Sight
 }
 
 

@@ -81,7 +81,7 @@ class Ledger:
     def rows(self):
         """All rows, as tuples that begin with the name of their table."""
         stand = {(table, *(row[name] for name in COLUMNS[table]), row["since"], OPEN) for table in COLUMNS for row in self.standing[table]}
-        return stand | set(self.ended) | {("moments", *it) for it in self.moments} | {("edition", 1, 1)}
+        return stand | set(self.ended) | {("moments", *it) for it in self.moments} | {("edition", 1, 2)}
 
     # ---- acts
 

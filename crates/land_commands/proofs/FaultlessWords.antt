@@ -15,7 +15,7 @@ use Rattle.land_commands.specs.Words.Choices.{AreSpelled}
 use Rattle.land_commands.specs.Words.Commands.{land_app}
 use Rattle.land_commands.specs.Words.Names.{IsFoundAs, NamesBy}
 use Rattle.land_commands.specs.Words.Options.{counts, moments, ports}
-use Rattle.land_commands.specs.Words.Orders.{Order, to_talk, to_make, to_serve, to_check}
+use Rattle.land_commands.specs.Words.Orders.{Order, to_talk, to_make, to_serve, to_check, to_migrate}
 use Rattle.land_commands.specs.declared.words.choices.Choices.{Choices}
 
 -- words of `talk` without a fault have a moment for its clock
@@ -88,26 +88,30 @@ module _ (choices : Choices) (spelled : AreSpelled choices) where
   command_wanted rows false e = cc
 
   -- the command whose word this is
-  abbrev picked : (talk make serve check extract : Bool) → Option Shape
-  picked talk make serve check extract =
+  abbrev picked : (talk make serve check migrate extract : Bool) → Option Shape
+  picked talk make serve check migrate extract =
       cond talk (Some talk_built)
       (cond make (Some (file_built (codes "new")))
-      (cond serve (Some serve_built) (cond check (Some (file_built (codes "check"))) (cond extract (Some (extract_built choices)) None))))
+      (cond serve (Some serve_built)
+      (cond check (Some (file_built (codes "check"))) (cond migrate (Some (file_built (codes "migrate"))) (cond extract (Some (extract_built choices)) None)))))
 
-  picked_named : (words : List Text) (talk make serve check extract : Bool)
-      → is_some (option_map (λ s. rows_at s words) (picked talk make serve check extract)) ≡ true
-      → option_map_or (λ s. level_fault s [] nothing_held words false []) (picked talk make serve check extract) [] ≡ []
-      → (order : Order) × IsFoundAs (option_map (λ s. rows_at s words) (picked talk make serve check extract)) order
-  picked_named words true make serve check extract has e = talk_named words e
-  picked_named words false true serve check extract has e =
+  picked_named : (words : List Text) (talk make serve check migrate extract : Bool)
+      → is_some (option_map (λ s. rows_at s words) (picked talk make serve check migrate extract)) ≡ true
+      → option_map_or (λ s. level_fault s [] nothing_held words false []) (picked talk make serve check migrate extract) [] ≡ []
+      → (order : Order) × IsFoundAs (option_map (λ s. rows_at s words) (picked talk make serve check migrate extract)) order
+  picked_named words true make serve check migrate extract has e = talk_named words e
+  picked_named words false true serve check migrate extract has e =
       let file = file_named (codes "new") words e in
       (to_make file.0, (rows_after (file_built (codes "new")).rules [] words, refl, file.1))
-  picked_named words false false true check extract has e = serve_named words e
-  picked_named words false false false true extract has e =
+  picked_named words false false true check migrate extract has e = serve_named words e
+  picked_named words false false false true migrate extract has e =
       let file = file_named (codes "check") words e in
       (to_check file.0, (rows_after (file_built (codes "check")).rules [] words, refl, file.1))
-  picked_named words false false false false true has e = extract_named choices spelled words e
-  picked_named words false false false false false has e = cc
+  picked_named words false false false false true extract has e =
+      let file = file_named (codes "migrate") words e in
+      (to_migrate file.0, (rows_after (file_built (codes "migrate")).rules [] words, refl, file.1))
+  picked_named words false false false false false true has e = extract_named choices spelled words e
+  picked_named words false false false false false false has e = cc
 
   -- the command at which the walk over the words stops
   command_named : (stop : Option (Text × List Text)) → is_some (entered (built (land_app choices)) stop) ≡ true
@@ -116,7 +120,7 @@ module _ (choices : Choices) (spelled : AreSpelled choices) where
   command_named (Some q) has e =
       picked_named q.1 (answers_to q.0 (label_of talk_built)) (answers_to q.0 (label_of (file_built (codes "new"))))
       (answers_to q.0 (label_of serve_built)) (answers_to q.0 (label_of (file_built (codes "check"))))
-      (answers_to q.0 (label_of (extract_built choices))) has e
+      (answers_to q.0 (label_of (file_built (codes "migrate")))) (answers_to q.0 (label_of (extract_built choices))) has e
 
   -- words without a fault name a command
   pub named_by_words : (words : List Text) → fault_of (land_app choices) words ≡ [] → (order : Order) × NamesBy choices words order

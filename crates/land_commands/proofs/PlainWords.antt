@@ -21,7 +21,7 @@ use Rattle.land_commands.specs.Words.Commands.{land_app}
 use Rattle.land_commands.specs.Words.Laws.{IsPlainText, Writes}
 use Rattle.land_commands.specs.Words.Names.{NamesBy}
 use Rattle.land_commands.specs.Words.Options.{counts, moments, ports}
-use Rattle.land_commands.specs.Words.Orders.{to_talk, to_make, to_serve, to_check}
+use Rattle.land_commands.specs.Words.Orders.{to_talk, to_make, to_serve, to_check, to_migrate}
 use Rattle.land_commands.specs.declared.words.choices.Choices.{Choices}
 
 pub none_of_both : (a b : Kinds) → a ≡ [] → b ≡ [] → or_else a b ≡ []
@@ -252,6 +252,16 @@ check_rows_below : (choices : Choices) (program file : Text) → subcommand_of (
 unfolding clap_on_literals
 check_rows_below choices program file = refl
 
+migrate_fault_below : (choices : Choices) (program file : Text) → fault_of (land_app choices) (program ∷ codes "migrate" ∷ codes "--file" ∷ file ∷ [])
+    ≡ or_else (level_fault (file_built (codes "migrate")) [] nothing_held (codes "--file" ∷ file ∷ []) false []) []
+unfolding clap_on_literals
+migrate_fault_below choices program file = refl
+
+migrate_rows_below : (choices : Choices) (program file : Text) → subcommand_of (land_app choices) (program ∷ codes "migrate" ∷ codes "--file" ∷ file ∷ [])
+    ≡ Some (codes "migrate", rows_after (file_built (codes "migrate")).rules [] (codes "--file" ∷ file ∷ []))
+unfolding clap_on_literals
+migrate_rows_below choices program file = refl
+
 plain_make : (choices : Choices) (program : Text) (x : ℕ) (xs : Text) → (x == 45) ≡ false → NamesBy choices (program ∷ codes "new" ∷ codes "--file" ∷ (x ∷ xs) ∷ []) (to_make (x ∷ xs))
 plain_make choices program x xs sign =
     let leads = file_leads (codes "new") x xs sign in
@@ -276,11 +286,26 @@ plain_check choices program x xs sign =
       );
     }
 
+plain_migrate : (choices : Choices) (program : Text) (x : ℕ) (xs : Text) → (x == 45) ≡ false → NamesBy choices (program ∷ codes "migrate" ∷ codes "--file" ∷ (x ∷ xs) ∷ []) (to_migrate (x ∷ xs))
+plain_migrate choices program x xs sign =
+    let leads = file_leads (codes "migrate") x xs sign in
+    record {
+      faultless = migrate_fault_below choices program (x ∷ xs) ∙ none_of_both _ _ (level_well (file_built (codes "migrate")) _ _ leads (file_ends (codes "migrate") (x ∷ xs))) refl;
+      found = (
+        file_row (x ∷ xs) ∷ [],
+        migrate_rows_below choices program (x ∷ xs) ∙ ap (λ (rows : List Row). Some (codes "migrate", rows)) (rows_well (file_built (codes "migrate")) _ _ leads),
+        refl,
+      );
+    }
+
 pub plain_files : (choices : Choices) (program file : Text) → IsPlainText file
     → NamesBy choices (program ∷ codes "new" ∷ codes "--file" ∷ file ∷ []) (to_make file)
     × NamesBy choices (program ∷ codes "check" ∷ codes "--file" ∷ file ∷ []) (to_check file)
+    × NamesBy choices (program ∷ codes "migrate" ∷ codes "--file" ∷ file ∷ []) (to_migrate file)
 plain_files choices program [] plain = absurd plain
-plain_files choices program (x ∷ xs) plain = let sign = no_hyphen x plain in (plain_make choices program x xs sign, plain_check choices program x xs sign)
+plain_files choices program (x ∷ xs) plain =
+    let sign = no_hyphen x plain in
+    (plain_make choices program x xs sign, plain_check choices program x xs sign, plain_migrate choices program x xs sign)
 
 -- ---- `serve`
 

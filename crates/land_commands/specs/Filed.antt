@@ -13,6 +13,7 @@ use Rattle.land_keep.specs.declared.store_fault.StoreFault.{StoreFault}
 use Rattle.land_tables.specs.Adopting.{IsAdopted, IsRefused}
 use Rattle.land_tables.specs.Calls.{IsSame}
 use Rattle.land_tables.specs.Office.{IsCreated, IsHonest, IsKept, Office, held}
+use Rattle.land_tables.specs.Registers.{the_second}
 use Rattle.land_tables.specs.Standing.{HoldsTimeline}
 use Rattle.land_tables.specs.declared.fault.AdoptFault.{AdoptFault}
 use Rattle.land_tables.specs.declared.fault.AdoptFault.TheVariants as adopt
@@ -62,7 +63,7 @@ pub record IsNotTaken {S : Type 0} (g : Ghosts S) (holds : State → Type 0) (fa
   pub left : Held S
   pub why : AdoptFault
   pub shows : Shows g holds was
-  pub refused : HasCleanDisk (state g left) → IsRefused why (state g was).now
+  pub refused : HasCleanDisk (state g left) → IsRefused the_second why (state g was).now
   pub same : HasCleanDisk (state g left) → why ≢ adopt.Store → IsSame (state g was) (state g left)
   pub told : fault ≡ fault_of_adopting why
 

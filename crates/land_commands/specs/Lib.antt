@@ -1,6 +1,7 @@
 -- Definitions of the program.
 pub mod Extracting
 pub mod Filed
+pub mod Migrating
 pub mod Program
 pub mod ProgramFaults
 pub mod Refusals

@@ -3,10 +3,11 @@ use Rattle.std.specs.Prelude.{◌≡◌, ◌⊎◌, ℕ, ℤ, false, List, [], t
 use Rattle.std.specs.Io.KnownBytes.{Appends}
 use Rattle.land_commands.specs.Extracting.{IsExtracting, wanted_of}
 use Rattle.land_commands.specs.Filed.{IsChecking, IsFileService, IsMaking}
+use Rattle.land_commands.specs.Migrating.{IsMigrating}
 use Rattle.land_commands.specs.ProgramFaults.{fault_of, line_of, status_of}
 use Rattle.land_commands.specs.Refusals.{denied_text}
 use Rattle.land_commands.specs.Words.Names.{IsReading}
-use Rattle.land_commands.specs.Words.Orders.{Order, to_talk, to_make, to_serve, to_check, to_extract, order_of}
+use Rattle.land_commands.specs.Words.Orders.{Order, to_talk, to_make, to_serve, to_check, to_migrate, to_extract, order_of}
 use Rattle.land_commands.specs.declared.program_fault.ProgramFault.{ProgramFault}
 use Rattle.land_commands.specs.declared.program_fault.ProgramFault.TheVariants.{NoMemory}
 use Rattle.land_commands.specs.declared.refusal.Refusal.{Refusal}
@@ -73,6 +74,8 @@ module _ {S C : Type 0} (g : Ghosts S) (holds : List ℕ → State → Type 0) (
       × IsSettled done old_errors new_errors status
   IsRun (to_check file) input clock clock_after old new old_errors new_errors status =
       (done : Result (Unit {0}) ProgramFault) × IsChecking g (holds file) old new done × IsSettled done old_errors new_errors status
+  IsRun (to_migrate file) input clock clock_after old new old_errors new_errors status =
+      (done : Result (Unit {0}) ProgramFault) × IsMigrating g (holds file) old new done × IsSettled done old_errors new_errors status
   IsRun (to_extract file reading party role kind at) input clock clock_after old new old_errors new_errors status =
       (done : Result (Unit {0}) Refusal) × IsExtracting g (holds file) (wanted_of reading party role kind at) old new done
       × IsTold done old_errors new_errors status

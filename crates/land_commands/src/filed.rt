@@ -27,7 +27,7 @@ pub fn make<H: Host>(host: &mut H, file: &str) -> Result<(), ProgramFault>
 }
 
 /// Closes a file, in which all that was committed stands then.
-fn close<H: Host>(conn: Connection<H::Store>) -> Result<(), ProgramFault>
+pub(crate) fn close<H: Host>(conn: Connection<H::Store>) -> Result<(), ProgramFault>
     ensures { IfErr result IsFaultOfClosing }
 {
     let mut left = Some(conn);

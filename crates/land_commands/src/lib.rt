@@ -6,6 +6,7 @@ pub mod filed;
 pub mod host;
 pub mod local;
 pub mod local_host;
+pub mod migrating;
 pub mod obey;
 pub mod program_fault;
 pub mod refusal;

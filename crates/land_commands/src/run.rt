@@ -11,6 +11,7 @@ ghost use Rattle.sqlite.specs.Steps.{over_memory};
 use crate::extracting::{Wanted, extract};
 use crate::filed::{check, make, serve_file};
 use crate::host::Host;
+use crate::migrating::migrate;
 use crate::program_fault::ProgramFault;
 use crate::refusal::Refusal;
 use crate::set_clock::SetClock;
@@ -49,6 +50,7 @@ pub fn run_command<H: Host, I: Read, O: Write, E: Write, C: Clock>(
             connections,
         } => settle(errors, serve_file(host, file, port, connections, clock)),
         Command::Check { file } => settle(errors, check(host, file, output)),
+        Command::Migrate { file } => settle(errors, migrate(host, file, output)),
         Command::Extract {
             file,
             clock,

@@ -29,6 +29,8 @@ enum Deed {
     New,
     /// The register is checked.
     Check,
+    /// The register is migrated.
+    Migrate,
     /// A connection is served on this port.
     Serve(u16),
     /// The entries are extracted that this party sees in this role at a moment, or now.
@@ -52,11 +54,15 @@ const HAS_TABLES: &str = "land: fault 502\n";
 /// Said of what has not the tables of a register.
 const NOT_OURS: &str = "land: fault 520\n";
 
+/// Said of a register of another version.
+const OTHER_VERSION: &str = "land: fault 523\n";
+
 /// The words that ask for a deed.
 fn command(deed: Deed, file: &'static str) -> Command<'static> {
     match deed {
         Deed::New => Command::New { file },
         Deed::Check => Command::Check { file },
+        Deed::Migrate => Command::Migrate { file },
         Deed::Serve(port) => Command::Serve {
             file,
             port,
@@ -152,6 +158,7 @@ fn expect_untouched(rt: &HostRuntime, place: Place, bytes: &[u8]) -> Result<(), 
 enum Case {
     New,
     Played,
+    Old,
     Missing,
     NoFile,
     Empty,
@@ -175,6 +182,7 @@ impl Work for Trial<'_> {
         match self.case {
             Case::New => new_is_sound(self.rt, host),
             Case::Played => played_is_sound(self.rt, host),
+            Case::Old => old_is_migrated(self.rt, host),
             Case::Missing => missing_is_not_made(self.rt, host),
             Case::NoFile => no_file_is_opened(host),
             Case::Empty => empty_stays_empty(self.rt, host),
@@ -243,10 +251,21 @@ fn made<H: Host>(rt: &HostRuntime, host: &mut H, place: Place) -> Result<Tables<
     }
 }
 
+/// The store of a new register in a file over which the scenario is played.
+fn played<H: Host>(
+    rt: &HostRuntime,
+    host: &mut H,
+    place: Place,
+) -> Result<Connection<H::Store>, Stop> {
+    let mut keeper = SqlKeeper::new(made(rt, host, place)?);
+    play_steps(host.alloc(), &mut keeper)?;
+    Ok(keeper.into_tables().into_connection())
+}
+
 /// Plays the scenario over a new register in a file.
 fn play<H: Host>(rt: &HostRuntime, host: &mut H, place: Place) -> Result<(), Stop> {
-    let mut keeper = SqlKeeper::new(made(rt, host, place)?);
-    play_steps(host.alloc(), &mut keeper)
+    played(rt, host, place)?;
+    Ok(())
 }
 
 const PLAYED: Place = Place("land_played.land", "land_played.land-wal");
@@ -301,11 +320,46 @@ pub fn the_scenario_leaves_a_sound_register(rt: &HostRuntime) -> Result<(), Stop
     tried(rt, Case::Played)
 }
 
+const OLD: Place = Place("land_old.land", "land_old.land-wal");
+
+/// Plays the scenario over a new register in a file, and makes one of the first version of it.
+fn play_old<H: Host>(rt: &HostRuntime, host: &mut H) -> Result<(), Stop> {
+    let mut conn = played(rt, host, OLD)?;
+    run(
+        &mut conn,
+        "DROP TABLE mandate; UPDATE edition SET version = 1",
+    )
+}
+
+/// A register of the first version is migrated once, and is then one of the second.
+const MIGRATED: &[Step] = &[
+    Step(Deed::Check, 1, "", OTHER_VERSION),
+    Step(Deed::Migrate, 0, "migrated: last 1017, next 30\n", ""),
+    Step(Deed::Check, 0, "sound: last 1017, next 30\n", ""),
+    Step(Deed::Migrate, 1, "", OTHER_VERSION),
+    Step(Deed::Check, 0, "sound: last 1017, next 30\n", ""),
+    Step(Deed::Extract(3, Role::Citizen, None), 0, ENTRIES, ""),
+];
+
+/// A register of the first version is migrated, and no other.
+fn old_is_migrated<H: Host>(rt: &HostRuntime, host: &mut H) -> Result<(), Stop> {
+    play_old(rt, host)?;
+    take_all(host, OLD.0, MIGRATED)?;
+    clear(rt, OLD);
+    Ok(())
+}
+
+/// A register of the first version is migrated once.
+pub fn a_register_of_the_first_version_is_migrated_once(rt: &HostRuntime) -> Result<(), Stop> {
+    tried(rt, Case::Old)
+}
+
 const MISSING: Place = Place("land_missing.land", "land_missing.land-wal");
 
 /// No register can be found, for the file cannot be opened.
 const UNOPENED: &[Step] = &[
     Step(Deed::Check, 1, "", CANNOT_OPEN),
+    Step(Deed::Migrate, 1, "", CANNOT_OPEN),
     Step(Deed::Serve(1), 1, "", CANNOT_OPEN),
     Step(Deed::Extract(1, Role::Citizen, None), 1, "", CANNOT_OPEN),
 ];
@@ -349,6 +403,7 @@ const EMPTY: Place = Place("land_empty.land", "land_empty.land-wal");
 /// A file has no tables of a register.
 const UNOWNED: &[Step] = &[
     Step(Deed::Check, 1, "", NOT_OURS),
+    Step(Deed::Migrate, 1, "", NOT_OURS),
     Step(Deed::Serve(1), 1, "", NOT_OURS),
 ];
 

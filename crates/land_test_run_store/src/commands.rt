@@ -14,6 +14,14 @@ fn the_scenario_leaves_a_sound_register(rt: HostRuntime) -> Result<(), Fail> {
 }
 
 #[test]
+fn a_register_of_the_first_version_is_migrated_once(rt: HostRuntime) -> Result<(), Fail> {
+    conclude(
+        &rt,
+        commands::a_register_of_the_first_version_is_migrated_once(&rt),
+    )
+}
+
+#[test]
 fn what_is_not_there_is_not_made(rt: HostRuntime) -> Result<(), Fail> {
     conclude(&rt, commands::what_is_not_there_is_not_made(&rt))
 }

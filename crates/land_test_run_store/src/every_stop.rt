@@ -1,6 +1,6 @@
-//! Changes over files whose disks stop, after each of their calls.
+//! Changes and migrations over files whose disks stop, after each of their calls.
 use crate::conclusion::conclude;
-use land_test_tables::every_stop::changes;
+use land_test_commands::every_stop::{changes, migrations};
 use std::test::Fail;
 
 #[test]
@@ -41,4 +41,14 @@ fn a_merger_over_tables(rt: HostRuntime) -> Result<(), Fail> {
 #[test]
 fn a_merger_over_joins(rt: HostRuntime) -> Result<(), Fail> {
     conclude(&rt, changes::a_merger_over_joins(rt.alloc()))
+}
+
+#[test]
+fn migrate_every_stop(rt: HostRuntime) -> Result<(), Fail> {
+    conclude(&rt, migrations::a_migration(rt.alloc()))
+}
+
+#[test]
+fn migrate_every_stop_in_little_room(rt: HostRuntime) -> Result<(), Fail> {
+    conclude(&rt, migrations::a_migration_in_little_room(rt.alloc()))
 }

@@ -68,6 +68,10 @@ const WORDS: &[Words] = &[
         command: Command::Check { file: "/tmp/é" },
     },
     Words {
+        words: &["land", "migrate", "--file", "old.land"],
+        command: Command::Migrate { file: "old.land" },
+    },
+    Words {
         words: &[
             "land",
             "serve",
@@ -232,6 +236,10 @@ const REFUSED: &[Refused] = &[
         text: "error: the argument '--file <FILE>' cannot be used multiple times\n",
     },
     Refused {
+        words: &["land", "migrate"],
+        text: "error: the following required arguments were not provided:\n  --file <FILE>\n",
+    },
+    Refused {
         words: &["land", "serve", "--file", "x"],
         text: "error: the following required arguments were not provided:\n  --port <PORT>\n  --connections <COUNT>\n",
     },
@@ -342,6 +350,14 @@ const HELP: &[Refused] = &[
     Refused {
         words: &["land", "check", "--help"],
         text: "Usage: land check --file <FILE>\n",
+    },
+    Refused {
+        words: &["land", "migrate", "--help"],
+        text: "Usage: land migrate --file <FILE>\n",
+    },
+    Refused {
+        words: &["land", "--help"],
+        text: "  migrate  --file <FILE>\n",
     },
 ];
 

@@ -8,7 +8,7 @@ use std::alloc::Global;
 pub struct Look(pub &'static str, pub &'static str);
 
 const LOOKS: &[Look] = &[
-    Look("SELECT id, version FROM edition", "1|1|\n"),
+    Look("SELECT id, version FROM edition", "1|2|\n"),
     Look(
         "SELECT stamp, next FROM moments ORDER BY stamp",
         "0|2|\n\

@@ -1,6 +1,6 @@
 //! Stores that are taken for a register's, and damaged ones that are not.
 use crate::cases::playing::played;
-use crate::cases::stores::{expect_fault, run, store};
+use crate::cases::stores::{expect_fault, run_on, store};
 use land_tables::tables::Tables;
 use land_test_scenario::looks::look_at_steps;
 use land_test_scenario::stop::Stop;
@@ -10,11 +10,22 @@ use std::alloc::Global;
 /// Statements on the tables after the scenario, others that undo them, and the fault that `adopt` has between, 0 where it takes the tables.
 struct Damage(&'static str, &'static str, u16);
 
+/// What makes the table of the mandates again where it is gone, in its place after the other tables and before all indexes that are no keys',
+/// and the second version.
+const MANDATES_AGAIN: &str =
+    "DROP TABLE IF EXISTS other; UPDATE edition SET version = 2; DROP INDEX rrr_party; DROP INDEX rrr_unit; DROP INDEX parcel_unit; \
+    DROP INDEX member_party; DROP INDEX names_unit; DROP INDEX mutation_lodger; DROP INDEX role_role; \
+    CREATE TABLE mandate (principal INTEGER NOT NULL, agent INTEGER NOT NULL, since INTEGER NOT NULL, until INTEGER NOT NULL, \
+    PRIMARY KEY (principal, agent, since), CHECK (since < until)) STRICT; CREATE INDEX rrr_party ON rrr (party); \
+    CREATE INDEX rrr_unit ON rrr (unit); CREATE INDEX parcel_unit ON parcel (unit); CREATE INDEX member_party ON member (party); \
+    CREATE INDEX names_unit ON names (unit); CREATE INDEX mutation_lodger ON mutation (lodger, reference); \
+    CREATE INDEX role_role ON role (role); CREATE INDEX mandate_agent ON mandate (agent)";
+
 /// What cannot be read: a value of each table, an edition that is not the one row of id 1, another schema.
 const UNREADABLE: &[Damage] = &[
     Damage(
         "UPDATE edition SET version = -1",
-        "UPDATE edition SET version = 1",
+        "UPDATE edition SET version = 2",
         520,
     ),
     Damage(
@@ -23,13 +34,13 @@ const UNREADABLE: &[Damage] = &[
         520,
     ),
     Damage(
-        "INSERT INTO edition VALUES (2, 1)",
+        "INSERT INTO edition VALUES (2, 2)",
         "DELETE FROM edition WHERE id = 2",
         520,
     ),
     Damage(
         "DELETE FROM edition",
-        "INSERT INTO edition VALUES (1, 1)",
+        "INSERT INTO edition VALUES (1, 2)",
         520,
     ),
     Damage(
@@ -87,7 +98,18 @@ const UNREADABLE: &[Damage] = &[
         "UPDATE names SET unit = 9 WHERE mutation = 15",
         520,
     ),
+    Damage(
+        "INSERT INTO mandate VALUES (0, 3, 1008, 4102444800000)",
+        "DELETE FROM mandate",
+        520,
+    ),
     Damage("CREATE TABLE other (x INTEGER)", "DROP TABLE other", 520),
+    Damage(
+        "DROP TABLE mandate; CREATE TABLE other (x INTEGER)",
+        MANDATES_AGAIN,
+        520,
+    ),
+    Damage("DROP TABLE mandate", MANDATES_AGAIN, 520),
     Damage("CREATE VIEW other AS SELECT 1", "DROP VIEW other", 520),
 ];
 
@@ -95,17 +117,43 @@ const UNREADABLE: &[Damage] = &[
 const VERSIONS: &[Damage] = &[
     Damage(
         "UPDATE edition SET version = 7",
-        "UPDATE edition SET version = 1",
+        "UPDATE edition SET version = 2",
         523,
     ),
     Damage(
         "UPDATE edition SET version = 7; UPDATE party SET name = '' WHERE number = 2",
-        "UPDATE edition SET version = 1; UPDATE party SET name = 'Anna' WHERE number = 2",
+        "UPDATE edition SET version = 2; UPDATE party SET name = 'Anna' WHERE number = 2",
         520,
     ),
     Damage(
         "UPDATE edition SET version = 7; UPDATE unit SET since = 1 WHERE number = 9",
-        "UPDATE edition SET version = 1; UPDATE unit SET since = 1009 WHERE number = 9",
+        "UPDATE edition SET version = 2; UPDATE unit SET since = 1009 WHERE number = 9",
+        523,
+    ),
+    // the mandates are looked at in the second version alone
+    Damage(
+        "UPDATE edition SET version = 1",
+        "UPDATE edition SET version = 2",
+        523,
+    ),
+    Damage(
+        "UPDATE edition SET version = 1; INSERT INTO mandate VALUES (0, 3, 1008, 4102444800000)",
+        "UPDATE edition SET version = 2; DELETE FROM mandate",
+        523,
+    ),
+    Damage(
+        "UPDATE edition SET version = 1; DROP TABLE mandate; CREATE TABLE other (x INTEGER)",
+        MANDATES_AGAIN,
+        523,
+    ),
+    Damage(
+        "UPDATE edition SET version = 1; DROP TABLE mandate",
+        MANDATES_AGAIN,
+        523,
+    ),
+    Damage(
+        "UPDATE edition SET version = 3",
+        "UPDATE edition SET version = 2",
         523,
     ),
 ];
@@ -140,6 +188,16 @@ const LIFESPANS: &[Damage] = &[
     Damage(
         "DELETE FROM moments WHERE stamp = 1003",
         "INSERT INTO moments VALUES (1003, 5)",
+        521,
+    ),
+    Damage(
+        "INSERT INTO mandate VALUES (2, 3, 999, 4102444800000)",
+        "DELETE FROM mandate",
+        521,
+    ),
+    Damage(
+        "INSERT INTO mandate VALUES (2, 3, 1008, 1012), (2, 3, 1011, 4102444800000)",
+        "DELETE FROM mandate",
         521,
     ),
     // before an unsound register
@@ -191,6 +249,35 @@ const UNSOUND: &[Damage] = &[
         "INSERT INTO names VALUES (15, 25, 1017, 4102444800000)",
         "DELETE FROM names WHERE mutation = 15 AND unit = 25",
         522,
+    ),
+];
+
+/// Mandates of what is no single party, or of one to itself.
+const MANDATES: &[Damage] = &[
+    Damage(
+        "INSERT INTO mandate VALUES (2, 7, 1008, 4102444800000)",
+        "DELETE FROM mandate",
+        522,
+    ),
+    Damage(
+        "INSERT INTO mandate VALUES (2, 9, 1009, 4102444800000)",
+        "DELETE FROM mandate",
+        522,
+    ),
+    Damage(
+        "INSERT INTO mandate VALUES (5, 2, 1003, 4102444800000)",
+        "DELETE FROM mandate",
+        522,
+    ),
+    Damage(
+        "INSERT INTO mandate VALUES (2, 2, 1008, 4102444800000)",
+        "DELETE FROM mandate",
+        522,
+    ),
+    Damage(
+        "INSERT INTO mandate VALUES (2, 3, 1008, 1012), (3, 2, 1008, 4102444800000)",
+        "DELETE FROM mandate",
+        0,
     ),
 ];
 
@@ -253,14 +340,6 @@ fn adopt_back(alloc: Global, left: &mut Option<Connection<MemStore>>) -> Result<
     }
 }
 
-/// Runs a text on the store that is left.
-fn run_on(left: &mut Option<Connection<MemStore>>, text: &str) -> Result<(), Stop> {
-    match left.as_mut() {
-        Some(conn) => run(conn, text),
-        None => Err(Stop::Call),
-    }
-}
-
 /// Damages the tables, takes them, and undoes the damage: the fault that they had.
 fn undone(
     alloc: Global,
@@ -291,6 +370,7 @@ const DAMAGES: &[(&str, &[Damage])] = &[
     ("version", VERSIONS),
     ("lifespan", LIFESPANS),
     ("unsound", UNSOUND),
+    ("mandate", MANDATES),
     ("harmless", HARMLESS),
     ("begun", BEGUN),
 ];

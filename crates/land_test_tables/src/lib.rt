@@ -1,9 +1,8 @@
-//! Trials of the register in tables: what is made, written and read (`tables`), stores that are taken and damaged ones that are not
-//! (`damage`), disks that stop at each call (`every_stop`). A trial is a public function that answers why it stops, if it does; the tests
-//! that call them are in `land_test_run_store`. Nothing here has a contract: it is for tests alone.
+//! Trials of the register in tables: what is made, written, read and migrated (`tables`), stores that are taken and damaged ones that are
+//! not (`damage`). A trial is a public function that answers why it stops, if it does; the tests that call them are in
+//! `land_test_run_store`. Nothing here has a contract: it is for tests alone.
 #![tactic(auto)]
 
 pub mod cases;
 pub mod damage;
-pub mod every_stop;
 pub mod tables;

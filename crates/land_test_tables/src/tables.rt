@@ -5,6 +5,7 @@
 pub mod again;
 pub mod creating;
 pub mod going_on;
+pub mod migrating;
 pub mod replies;
 pub mod rows;
 pub mod stamps;

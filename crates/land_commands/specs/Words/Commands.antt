@@ -28,6 +28,10 @@ serve_app = with_rule (with_rule (with_rule (new_app (codes "serve")) file_rule)
 abbrev pub check_app : App
 check_app = with_rule (new_app (codes "check")) file_rule
 
+-- `migrate --file FILE`
+abbrev pub migrate_app : App
+migrate_app = with_rule (new_app (codes "migrate")) file_rule
+
 -- a command over a file, at what a clock reads
 abbrev pub with_clock : App → App
 with_clock app = with_rule (with_rule app file_rule) clock_rule
@@ -45,8 +49,10 @@ extract_app choices =
 abbrev pub plain_app : App
 plain_app =
     with_subcommand
+    (with_subcommand
     (with_subcommand (with_subcommand (with_subcommand (of_commands (new_app (codes "land"))) talk_app.top) make_app.top) serve_app.top)
-    check_app.top
+    check_app.top)
+    migrate_app.top
 
 -- the program with all its commands, where roles and kinds are chosen from these words
 abbrev pub land_app : Choices → App

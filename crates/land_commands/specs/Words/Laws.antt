@@ -5,7 +5,7 @@ use Rattle.clap.specs.Words.{Text, fault_of}
 use Rattle.land_commands.specs.Words.Choices.{AreSpelled, kind_word, role_word}
 use Rattle.land_commands.specs.Words.Commands.{land_app}
 use Rattle.land_commands.specs.Words.Names.{NamesBy}
-use Rattle.land_commands.specs.Words.Orders.{Order, to_talk, to_make, to_serve, to_check, to_extract}
+use Rattle.land_commands.specs.Words.Orders.{Order, to_talk, to_make, to_serve, to_check, to_migrate, to_extract}
 use Rattle.land_commands.specs.declared.words.choices.Choices.{Choices}
 use Rattle.land_core.specs.declared.kind.Kind.{Kind}
 use Rattle.land_core.specs.declared.role.Role.{Role}
@@ -33,11 +33,12 @@ abbrev pub PlainTalkLaw : Type 0
 PlainTalkLaw = (choices : Choices) (program digits : Text) (moment : ℕ) → Writes digits 0 4102444799999 moment
     → NamesBy choices (program ∷ codes "talk" ∷ codes "--clock" ∷ digits ∷ []) (to_talk (pos moment))
 
--- `new --file FILE` and `check --file FILE` name these commands with that file
+-- `new --file FILE`, `check --file FILE` and `migrate --file FILE` name these commands with that file
 abbrev pub PlainFileLaw : Type 0
 PlainFileLaw = (choices : Choices) (program file : Text) → IsPlainText file
     → NamesBy choices (program ∷ codes "new" ∷ codes "--file" ∷ file ∷ []) (to_make file)
     × NamesBy choices (program ∷ codes "check" ∷ codes "--file" ∷ file ∷ []) (to_check file)
+    × NamesBy choices (program ∷ codes "migrate" ∷ codes "--file" ∷ file ∷ []) (to_migrate file)
 
 -- `serve --file FILE --port PORT --connections COUNT` names that service, where PORT and COUNT are decimal digits
 abbrev pub PlainServiceLaw : Type 0

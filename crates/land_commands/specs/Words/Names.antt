@@ -6,7 +6,7 @@ use Rattle.clap.specs.declared.error.Error.{Error}
 use Rattle.clap.specs.declared.error.kind.ErrorKind.TheVariants as kind
 use Rattle.land_commands.specs.Words.Choices.{AreSpelled, kind_word, role_word}
 use Rattle.land_commands.specs.Words.Commands.{land_app}
-use Rattle.land_commands.specs.Words.Orders.{Order, to_talk, to_make, to_serve, to_check, to_extract, order_of}
+use Rattle.land_commands.specs.Words.Orders.{Order, to_talk, to_make, to_serve, to_check, to_migrate, to_extract, order_of}
 use Rattle.land_commands.specs.declared.words.choices.Choices.{Choices}
 use Rattle.land_commands.specs.declared.words.command.Command.{Command}
 use Rattle.land_commands.specs.declared.words.words_fault.WordsFault.{WordsFault}
@@ -58,6 +58,7 @@ word_of (to_talk clock) = codes "talk"
 word_of (to_make file) = codes "new"
 word_of (to_serve file port connections) = codes "serve"
 word_of (to_check file) = codes "check"
+word_of (to_migrate file) = codes "migrate"
 word_of (to_extract file clock party role kind at) = codes "extract"
 
 -- a command's options are what `clap` found, each number in its range: moments go from 0 to the end of the year 2099,
@@ -69,6 +70,7 @@ HasOptions rows (to_serve file port connections) =
     (first_of (codes "file") rows ≡ Some file) × HasNumber rows (codes "port") (pos 1) (pos 65535) (pos port)
     × HasNumber rows (codes "connections") (pos 1) (pos 1000000) (pos connections)
 HasOptions rows (to_check file) = first_of (codes "file") rows ≡ Some file
+HasOptions rows (to_migrate file) = first_of (codes "file") rows ≡ Some file
 HasOptions rows (to_extract file clock party role kind at) =
     (first_of (codes "file") rows ≡ Some file) × HasNumber rows (codes "clock") (pos 0) (pos 4102444799999) clock × HasCaller rows party role
     × (first_of (codes "kind") rows ≡ Some (kind_word kind)) × HasMaybe rows (codes "at") (pos 0) (pos 4102444799999) at

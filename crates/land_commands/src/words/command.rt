@@ -30,6 +30,11 @@ pub enum Command<'a> {
         /// The file's name.
         file: &'a str,
     },
+    /// `migrate`: to make of a register of the first version in a file one of the second.
+    Migrate {
+        /// The file's name.
+        file: &'a str,
+    },
     /// `extract`: to print, as a table, what a caller sees of a kind in the register in a file.
     Extract {
         /// The file's name.

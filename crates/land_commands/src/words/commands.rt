@@ -2,8 +2,8 @@
 //! no proof has more than one of them in sight.
 ghost use Rattle.std.specs.Prelude.{IfOk};
 ghost use Rattle.clap.specs.Words.{App, Rule, new_app, with_rule, with_subcommand};
-ghost use Rattle.land_commands.specs.Words.Commands.{IsCommand, check_app, extract_app, land_app, make_app, of_commands, serve_app, talk_app};
-ghost use Rattle.land_commands.specs.Words.Commands.{with_caller, with_clock};
+ghost use Rattle.land_commands.specs.Words.Commands.{IsCommand, check_app, extract_app, land_app, make_app, migrate_app};
+ghost use Rattle.land_commands.specs.Words.Commands.{of_commands, serve_app, talk_app, with_caller, with_clock};
 ghost use Rattle.land_commands.specs.Words.Options.{IsOption};
 
 use crate::words::choices::Choices;
@@ -20,6 +20,7 @@ const MORE: &str = "Options of the commands, of which --at alone may be left out
   new      --file <FILE>
   serve    --file <FILE> --port <PORT> --connections <COUNT>
   check    --file <FILE>
+  migrate  --file <FILE>
   extract  --file <FILE> --clock <MS> --party <NUMBER> --role <ROLE> --kind <KIND> [--at <MS>]
 
 MS counts milliseconds since 1970 UTC, 0 to 4102444799999. A fault is told on standard error, with status 1; so are this
@@ -112,6 +113,17 @@ fn check<'a>(alloc: Global) -> Result<Command<'a>, AllocError>
     with_option(check, file)
 }
 
+fn migrate<'a>(alloc: Global) -> Result<Command<'a>, AllocError>
+    ensures { IfOk result (IsCommand migrate_app) }
+{
+    let about =
+        "Makes of a register of version 1 in a file, which has no mandates, one of version 2";
+    let example = "Example: land migrate --file town.land";
+    let migrate = named(alloc, "migrate", about, example);
+    let file = file_option(alloc, "The file of the register");
+    with_option(migrate, file)
+}
+
 /// A command over a file, at what a clock reads.
 fn with_clock<'a>(alloc: Global, command: Command<'a>) -> Result<Command<'a>, AllocError>
     ensures { (app : App) → IsCommand app command.entry → IfOk result (IsCommand (with_clock app)) }
@@ -157,5 +169,6 @@ pub fn land<'a>(alloc: Global, choices: Choices<'a>) -> Result<Command<'a>, Allo
     let making = with_command(talking, make(alloc)?)?;
     let serving = with_command(making, serve(alloc)?)?;
     let checking = with_command(serving, check(alloc)?)?;
-    with_command(checking, extract(alloc, choices)?)
+    let migrating = with_command(checking, migrate(alloc)?)?;
+    with_command(migrating, extract(alloc, choices)?)
 }

@@ -17,7 +17,7 @@ pub fn plain_words_are_read()
     ensures { PlainTalkLaw }
 {}
 
-/// `new --file FILE` and `check --file FILE` name these commands with that file.
+/// `new --file FILE`, `check --file FILE` and `migrate --file FILE` name these commands with that file.
 pub fn plain_files_are_read()
     ensures { PlainFileLaw }
 {}

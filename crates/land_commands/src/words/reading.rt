@@ -51,6 +51,7 @@ fn named_command<'a>(found: &ArgMatches<'a>) -> Option<Command<'a>>
         ("new", options) => new_of(options),
         ("serve", options) => serve_of(options),
         ("check", options) => check_of(options),
+        ("migrate", options) => migrate_of(options),
         ("extract", options) => extract_of(options),
         _ => None,
     }
@@ -88,6 +89,13 @@ fn check_of<'a>(found: &ArgMatches<'a>) -> Option<Command<'a>>
 {
     let file = text_of(found, "file")?;
     Some(Command::Check { file })
+}
+
+fn migrate_of<'a>(found: &ArgMatches<'a>) -> Option<Command<'a>>
+    ensures { IsOrderOf (codes "migrate") (rows_of (found_of found.now)) (option_map order_of result) }
+{
+    let file = text_of(found, "file")?;
+    Some(Command::Migrate { file })
 }
 
 fn extract_of<'a>(found: &ArgMatches<'a>) -> Option<Command<'a>>

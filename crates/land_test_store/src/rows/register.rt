@@ -18,7 +18,7 @@ pub fn new_register(alloc: Global) -> Result<Connection<MemStore>, Error> {
 
 /// The tables of a new register that have rows.
 const FIRST: &[(Table, &str)] = &[
-    (Table::Edition, "1|1|\n"),
+    (Table::Edition, "1|2|\n"),
     (Table::Moments, "0|2|\n"),
     (
         Table::Party,
@@ -32,6 +32,7 @@ const FIRST: &[(Table, &str)] = &[
     (Table::Source, ""),
     (Table::Mutation, ""),
     (Table::Names, ""),
+    (Table::Mandate, ""),
 ];
 
 /// A new register has the tables of one, and its first rows.

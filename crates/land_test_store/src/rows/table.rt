@@ -1,6 +1,6 @@
 //! A table as lines of text, a line for each row.
 use land_tables_schema::rows::tables::{
-    edition, member, moments, mutation, names, parcel, party, role, rrr, source, unit,
+    edition, mandate, member, moments, mutation, names, parcel, party, role, rrr, source, unit,
 };
 use land_tables_schema::schema::is_land;
 use land_test_scenario::stop::{Stop, expect};
@@ -22,6 +22,7 @@ pub enum Table {
     Source,
     Mutation,
     Names,
+    Mandate,
 }
 
 /// What a store that is not as it should be is told as.
@@ -46,6 +47,7 @@ fn rows<S: Alter>(conn: &mut Connection<S>, table: Table) -> Result<Vec<Row>, Er
         Table::Source => source::all(conn),
         Table::Mutation => mutation::all(conn),
         Table::Names => names::all(conn),
+        Table::Mandate => mandate::all(conn),
     }
 }
 

@@ -8,7 +8,7 @@ use crate::rows::table::{Table, expect_tables, unlike};
 use land_tables_schema::rows::tables::mutation::MutationCells;
 use land_tables_schema::rows::tables::rrr::RrrCells;
 use land_tables_schema::rows::tables::{
-    member, moments, mutation, names, parcel, party, role, rrr, source, unit,
+    mandate, member, moments, mutation, names, parcel, party, role, rrr, source, unit,
 };
 use land_tables_schema::schema::is_land;
 use land_test_scenario::stop::{Stop, expect};
@@ -95,9 +95,11 @@ enum Write {
     Mutation(i64),
     EndMutation(u32, i64),
     Name(u32, u32, i64),
+    Mandate(u32, u32, i64),
+    EndMandate(u32, u32, i64),
 }
 
-/// A write of a party, a role or a member.
+/// A write of a party, a role, a member or a mandate.
 fn write_party<S: Alter>(tx: &mut Transaction<'_, S>, write: Write) -> Result<usize, Error>
     requires { HasCleanDisk (state S.Store tx.old.conn.now) → IsLand (state S.Store tx.old.conn.now).now.schema }
 {
@@ -112,6 +114,12 @@ fn write_party<S: Alter>(tx: &mut Transaction<'_, S>, write: Write) -> Result<us
             member::begin(tx, u64::from(group), u64::from(party), 1, 2, since)
         }
         Write::EndMembers(group, stamp) => member::close(tx, u64::from(group), stamp),
+        Write::Mandate(principal, agent, since) => {
+            mandate::begin(tx, u64::from(principal), u64::from(agent), since)
+        }
+        Write::EndMandate(principal, agent, stamp) => {
+            mandate::close(tx, u64::from(principal), u64::from(agent), stamp)
+        }
         _ => Ok(0),
     }
 }
@@ -175,6 +183,7 @@ fn write_one<S: Alter>(conn: &mut Connection<S>, write: Write) -> Result<usize, 
         Write::EndRole(..) | Write::Member(..) | Write::EndMembers(..) => {
             write_party(&mut tx, write)?
         }
+        Write::Mandate(..) | Write::EndMandate(..) => write_party(&mut tx, write)?,
         Write::Moment(..) | Write::Source(..) | Write::EndSource(..) => {
             write_source(&mut tx, write)?
         }
@@ -223,6 +232,13 @@ const WRITES: &[(Write, usize)] = &[
     (Write::EndMutation(15, 1012), 0),
     (Write::Name(15, 9, 1010), 1),
     (Write::Name(15, 10, 1010), 1),
+    (Write::Mandate(2, 3, 1000), 1),
+    (Write::Mandate(2, 5, 1000), 1),
+    (Write::Mandate(3, 2, 1000), 1),
+    (Write::EndMandate(2, 3, 1004), 1),
+    (Write::EndMandate(2, 3, 1005), 0),
+    (Write::EndMandate(5, 2, 1005), 0),
+    (Write::Mandate(2, 3, 1006), 1),
 ];
 
 /// What each table has then.
@@ -277,6 +293,13 @@ const FOUND: &[(Table, &str)] = &[
         Table::Names,
         "15|9|1010|4102444800000|\n\
         15|10|1010|4102444800000|\n",
+    ),
+    (
+        Table::Mandate,
+        "2|3|1000|1004|\n\
+        2|5|1000|4102444800000|\n\
+        3|2|1000|4102444800000|\n\
+        2|3|1006|4102444800000|\n",
     ),
 ];
 

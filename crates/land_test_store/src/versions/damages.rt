@@ -64,6 +64,7 @@ const TABLES: &[Table] = &[
     Table::Source,
     Table::Mutation,
     Table::Names,
+    Table::Mandate,
 ];
 
 /// Each value of each column is read, or has its fault. What is unlike is told by its table, column and value, in hundreds.

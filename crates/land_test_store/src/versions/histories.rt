@@ -28,6 +28,7 @@ pub fn nothing(alloc: Global) -> History {
         sources: Sequence::new(alloc),
         mutations: Sequence::new(alloc),
         namings: Sequence::new(alloc),
+        mandates: Sequence::new(alloc),
     }
 }
 
@@ -63,6 +64,7 @@ fn push_to(alloc: Global, history: &mut History, table: Table, row: &Row) -> Res
         Table::Source => push(alloc, &mut history.sources, row),
         Table::Mutation => push(alloc, &mut history.mutations, row),
         Table::Names => push(alloc, &mut history.namings, row),
+        Table::Mandate => push(alloc, &mut history.mandates, row),
         Table::Edition | Table::Moments => Err(Error::SqliteFailure(ErrorCode::TransactionState)),
     }
 }

@@ -267,6 +267,58 @@ const CASES: &[Case] = &[
         ],
         false,
     ),
+    // a mandate is between two single parties that stand and differ
+    Case(
+        &[
+            Moment { stamp: 0, next: 2 },
+            Moment {
+                stamp: 1000,
+                next: 19,
+            },
+        ],
+        &[
+            Span(Table::Party, OFFICE, 0, OPEN),
+            Span(Table::Role, ADMINISTRATOR, 0, OPEN),
+            Span(Table::Party, &[], 1000, OPEN),
+            Span(Table::Party, &[(0, Cell::Number(4))], 1000, OPEN),
+            Span(Table::Mandate, &[(1, Cell::Number(4))], 1000, OPEN),
+        ],
+        true,
+    ),
+    Case(
+        &[
+            Moment { stamp: 0, next: 2 },
+            Moment {
+                stamp: 1000,
+                next: 19,
+            },
+        ],
+        &[
+            Span(Table::Party, OFFICE, 0, OPEN),
+            Span(Table::Role, ADMINISTRATOR, 0, OPEN),
+            Span(Table::Party, &[], 1000, OPEN),
+            Span(Table::Party, &[(0, Cell::Number(4))], 1000, OPEN),
+            Span(Table::Mandate, &[], 1000, OPEN),
+        ],
+        false,
+    ),
+    Case(
+        &[
+            Moment { stamp: 0, next: 2 },
+            Moment {
+                stamp: 1000,
+                next: 19,
+            },
+        ],
+        &[
+            Span(Table::Party, OFFICE, 0, OPEN),
+            Span(Table::Role, ADMINISTRATOR, 0, OPEN),
+            Span(Table::Party, &[], 1000, OPEN),
+            Span(Table::Party, &[(0, Cell::Number(4))], 1000, OPEN),
+            Span(Table::Mandate, &[(1, Cell::Number(2))], 1000, OPEN),
+        ],
+        false,
+    ),
 ];
 
 /// Whether all moments are before the end of what stands.

@@ -2,6 +2,7 @@
 use crate::versions::cell::Cell;
 use crate::versions::histories::{OPEN, Span, add, history_of, nothing};
 use crate::versions::table::Table;
+use land_core::mandates::Mandate;
 use land_core::member::Members;
 use land_core::register::Register;
 use land_core::role::Role;
@@ -27,6 +28,7 @@ const SPANS: &[Span] = &[
     Span(Table::Mortgage, &[], 1000, 1005),
     Span(Table::Source, &[], 1000, 1005),
     Span(Table::Mutation, &[], 1000, 1005),
+    Span(Table::Mandate, &[], 1000, 1005),
 ];
 
 fn are_two(members: &Members) -> bool {
@@ -36,6 +38,11 @@ fn are_two(members: &Members) -> bool {
 const NOTARY: Grant = Grant {
     party: 5,
     role: Role::Notary,
+};
+
+const MANDATE: Mandate = Mandate {
+    principal: 2,
+    agent: 5,
 };
 
 /// How many of the samples stand in a register, its party and the members of its group aside.
@@ -48,6 +55,7 @@ fn count(register: &Register) -> usize {
         + usize::from(register.rrrs.get(16).is_some())
         + usize::from(register.sources.get(8).is_some())
         + usize::from(register.mutations.get(18).is_some())
+        + usize::from(register.mandates.contains(MANDATE))
 }
 
 /// Whether a party of that name stands under the sample's number, or none does.
@@ -80,7 +88,7 @@ const AT: &[At] = &[
 ];
 
 fn is_as_said(register: &Register, at: &At) -> bool {
-    let samples = if at.2 { 8 } else { 0 };
+    let samples = if at.2 { 9 } else { 0 };
     is_called(register, at.1)
         && is_group(register, at.2)
         && count(register) == samples
@@ -131,6 +139,7 @@ const VERSIONED: &[Table] = &[
     Table::Source,
     Table::Mutation,
     Table::Names,
+    Table::Mandate,
 ];
 
 /// Lifespans of one key, and whether a history may have them.
@@ -206,6 +215,8 @@ const BESIDE: &[Beside] = &[
     Beside(Table::Mutation, &[(7, Cell::Words("approved"))], false),
     Beside(Table::Names, &[(0, Cell::Number(19))], true),
     Beside(Table::Names, &[(1, Cell::Number(10))], true),
+    Beside(Table::Mandate, &[(0, Cell::Number(3))], true),
+    Beside(Table::Mandate, &[(1, Cell::Number(4))], true),
 ];
 
 /// Whether a sample and another version may stand together.

@@ -256,6 +256,16 @@ const NAMING: Sample = Sample {
     fields: &[Field::Number, Field::Number, Field::Moment, Field::End],
 };
 
+const MANDATE: Sample = Sample {
+    cells: &[
+        Cell::Number(2),
+        Cell::Number(5),
+        Cell::Number(1000),
+        Cell::Number(1005),
+    ],
+    fields: &[Field::Number, Field::Number, Field::Moment, Field::End],
+};
+
 /// The row of a table.
 pub fn sample_of(table: Table) -> &'static Sample {
     match table {
@@ -272,5 +282,6 @@ pub fn sample_of(table: Table) -> &'static Sample {
         Table::Source => &SOURCE,
         Table::Mutation => &MUTATION,
         Table::Names => &NAMING,
+        Table::Mandate => &MANDATE,
     }
 }

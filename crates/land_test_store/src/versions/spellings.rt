@@ -4,6 +4,7 @@ use crate::versions::sample::sample_of;
 use crate::versions::table::Table;
 use land_core::content::Content;
 use land_core::kind::PartyKind;
+use land_core::mandates::Mandate;
 use land_core::mutation::{MutationRecord, MutationState};
 use land_core::parcel::ParcelRecord;
 use land_core::party::PartyRecord;
@@ -185,6 +186,12 @@ impl Expected for Version<Naming> {
     }
 }
 
+impl Expected for Version<Mandate> {
+    fn is_expected(&self) -> bool {
+        lasts(self) && self.what.principal == 2 && self.what.agent == 5
+    }
+}
+
 /// Whether a row says, as `X`, what the sample says.
 fn says<X: Expected>(alloc: Global, row: &Row) -> Result<bool, AllocError> {
     match X::from_row(alloc, row) {
@@ -210,6 +217,7 @@ fn says_sample(alloc: Global, table: Table, row: &Row) -> Result<bool, AllocErro
         Table::Source => says::<Version<(u64, SourceRecord)>>(alloc, row),
         Table::Mutation => says::<Version<(u64, MutationRecord)>>(alloc, row),
         Table::Names => says::<Version<Naming>>(alloc, row),
+        Table::Mandate => says::<Version<Mandate>>(alloc, row),
     }
 }
 
@@ -230,6 +238,7 @@ const SPELLINGS: &[Spelling] = &[
     Spelling(Table::Source, &[]),
     Spelling(Table::Mutation, &[]),
     Spelling(Table::Names, &[]),
+    Spelling(Table::Mandate, &[]),
     // 2/4, and a half whose numerator and denominator are both above the bound
     Spelling(Table::Member, &[(2, Cell::Number(2)), (3, Cell::Number(4))]),
     Spelling(Table::Right, &[(4, Cell::Number(2)), (5, Cell::Number(4))]),

@@ -1,4 +1,5 @@
 //! The tables, and how their rows are read.
+use land_core::mandates::Mandate;
 use land_core::mutation::MutationRecord;
 use land_core::parcel::ParcelRecord;
 use land_core::party::PartyRecord;
@@ -32,6 +33,7 @@ pub enum Table {
     Source,
     Mutation,
     Names,
+    Mandate,
 }
 
 /// The number of the fault that a row has as `X`, 0 where it is read.
@@ -59,5 +61,6 @@ pub fn fault_of(alloc: Global, table: Table, row: &Row) -> Result<u16, AllocErro
         Table::Source => fault_as::<Version<(u64, SourceRecord)>>(alloc, row),
         Table::Mutation => fault_as::<Version<(u64, MutationRecord)>>(alloc, row),
         Table::Names => fault_as::<Version<Naming>>(alloc, row),
+        Table::Mandate => fault_as::<Version<Mandate>>(alloc, row),
     }
 }

@@ -21,6 +21,14 @@ pub fn run(conn: &mut Connection<MemStore>, text: &str) -> Result<(), Stop> {
     Ok(())
 }
 
+/// Runs a text on the store that is left.
+pub fn run_on(left: &mut Option<Connection<MemStore>>, text: &str) -> Result<(), Stop> {
+    match left.as_mut() {
+        Some(conn) => run(conn, text),
+        None => Err(Stop::Call),
+    }
+}
+
 /// A store on which a text was run.
 pub fn store(alloc: Global, text: &str) -> Result<Connection<MemStore>, Stop> {
     let mut conn = Connection::open_in_memory(alloc)?;

@@ -15,7 +15,7 @@ use std::alloc::Global;
 
 /// What the tables have once Anna is enrolled, whatever had to be done again.
 const ONCE: &[Look] = &[
-    Look("SELECT * FROM edition", "1|1|\n"),
+    Look("SELECT * FROM edition", "1|2|\n"),
     Look("SELECT * FROM moments ORDER BY stamp", "0|2|\n1000|3|\n"),
     Look(
         "SELECT * FROM party ORDER BY number",

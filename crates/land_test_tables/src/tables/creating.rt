@@ -7,7 +7,7 @@ use std::alloc::Global;
 
 /// What the tables of a new register have.
 const NEW: &[Look] = &[
-    Look("SELECT * FROM edition", "1|1|\n"),
+    Look("SELECT * FROM edition", "1|2|\n"),
     Look("SELECT * FROM moments", "0|2|\n"),
     Look(
         "SELECT * FROM party",
@@ -24,6 +24,7 @@ const NEW: &[Look] = &[
     Look("SELECT * FROM source", ""),
     Look("SELECT * FROM mutation", ""),
     Look("SELECT * FROM names", ""),
+    Look("SELECT * FROM mandate", ""),
 ];
 
 /// A text that is run on an empty store, and the fault that `create` has then, 0 where it makes a register.

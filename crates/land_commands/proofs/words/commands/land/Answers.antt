@@ -6,4 +6,5 @@ returns c =
     let making = c.in_ok-making.ensures _ _ talking c.in_ok-make.ensures in
     let serving = c.in_ok-serving.ensures _ _ making c.in_ok-serve.ensures in
     let checking = c.in_ok-checking.ensures _ _ serving c.in_ok-check.ensures in
-    c.with_command-5.ensures _ _ checking c.in_ok-extract.ensures
+    let migrating = c.in_ok-migrating.ensures _ _ checking c.in_ok-migrate.ensures in
+    c.with_command-6.ensures _ _ migrating c.in_ok-extract.ensures

@@ -1,7 +1,7 @@
-use Rattle.std.proofs.Common.{◌≡◌, ℕ, ℤ, pos, List, Option, Some, None, codes, option_map, rules}
-use Rattle.clap.specs.Words.{Row}
+use Rattle.std.proofs.Common.{◌≡◌, ap, arith, refl, ℕ, ℤ, pos, List, [], ◌∷◌, Option, Some, None, codes, option_map, rules}
+use Rattle.clap.specs.Words.{Row, Text}
 use Rattle.land_commands.specs.Words.Names.{HasOptions, IsCallerOf, IsNumberOf, IsOrderOf}
-use Rattle.land_commands.specs.Words.Orders.{to_talk, to_make, to_serve, to_check, to_extract, order_of}
+use Rattle.land_commands.specs.Words.Orders.{to_talk, to_make, to_serve, to_check, to_migrate, to_extract, order_of}
 use Rattle.land_commands.specs.declared.words.command.Command.{Command}
 use Rattle.land_core.specs.declared.caller.Caller.{Caller}
 use Rattle.land_core.specs.declared.kind.Kind.{Kind}
@@ -12,12 +12,20 @@ use Rattle.land_commands.proofs.words.reading.extract_of.Goals as goal
 abbrev Lacks : List Row → Type 0
 Lacks rows = (file : List ℕ) (clock : ℤ) (party : ℕ) (role : Role) (kind : Kind) (at : Option ℤ) → HasOptions rows (to_extract file clock party role kind at) → ⊥
 
+abbrev first_code : Text → ℕ
+first_code [] = 0
+first_code (x ∷ xs) = x
+
+unlike : (code : ℕ) → code ≡ 109 → code ≡ 101 → ⊥
+unlike code e f = absurd (omega (arith, e, f))
+
 -- then no extract is named
 none_lacking : (rows : List Row) → Lacks rows → IsOrderOf (codes "extract") rows None
 none_lacking rows lacks (to_talk clock) word has = cc
 none_lacking rows lacks (to_make file) word has = cc
 none_lacking rows lacks (to_serve file port connections) word has = cc
 none_lacking rows lacks (to_check file) word has = cc
+none_lacking rows lacks (to_migrate file) word has = unlike 109 refl (ap first_code word)
 none_lacking rows lacks (to_extract file clock party role kind at) word has = lacks file clock party role kind at has
 
 clockless : (rows : List Row) (clock : Option ℤ) → IsNumberOf rows (codes "clock") (pos 0) (pos 4102444799999) clock → clock ≡ None → Lacks rows

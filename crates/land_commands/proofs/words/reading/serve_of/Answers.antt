@@ -1,7 +1,7 @@
 use Rattle.std.proofs.Common.{◌≡◌, ap, arith, refl, ℕ, pos, List, [], ◌∷◌, Option, Some, None, codes, option_map, rules}
 use Rattle.clap.specs.Words.{Row, Text}
 use Rattle.land_commands.specs.Words.Names.{IsNumberOf, IsOrderOf}
-use Rattle.land_commands.specs.Words.Orders.{to_talk, to_make, to_serve, to_check, to_extract, order_of}
+use Rattle.land_commands.specs.Words.Orders.{to_talk, to_make, to_serve, to_check, to_migrate, to_extract, order_of}
 use Rattle.land_commands.specs.declared.words.command.Command.{Command}
 use Rattle.land_commands.proofs.words.reading.serve_of.Goals as goal
 
@@ -19,6 +19,7 @@ portless rows None none e (to_serve file port connections) word has = none (pos 
 portless rows None none e (to_talk clock) word has = cc
 portless rows None none e (to_make file) word has = cc
 portless rows None none e (to_check file) word has = unlike 99 refl (ap first_code word)
+portless rows None none e (to_migrate file) word has = cc
 portless rows None none e (to_extract file clock party role kind at) word has = cc
 portless rows (Some port) some e order word has = cc
 
@@ -29,6 +30,7 @@ countless rows None none e (to_serve file port connections) word has = none (pos
 countless rows None none e (to_talk clock) word has = cc
 countless rows None none e (to_make file) word has = cc
 countless rows None none e (to_check file) word has = unlike 99 refl (ap first_code word)
+countless rows None none e (to_migrate file) word has = cc
 countless rows None none e (to_extract file clock party role kind at) word has = cc
 countless rows (Some count) some e order word has = cc
 

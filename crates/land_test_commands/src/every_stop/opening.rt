@@ -32,7 +32,8 @@ pub enum Room {
     Tight,
 }
 
-fn options(room: Room) -> Options {
+/// How a store with this room is opened.
+pub fn options(room: Room) -> Options {
     let ample = Options::new(1);
     match room {
         Room::Ample => ample,

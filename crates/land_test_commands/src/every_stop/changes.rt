@@ -11,17 +11,17 @@ use land_test_scenario::stop::{Stop, expect};
 use std::alloc::Global;
 
 /// A run ends with no stop at the latest after so many calls of a file.
-const MOST: u64 = 100000;
+pub(crate) const MOST: u64 = 100000;
 
 /// Which file stops.
 #[derive(Clone, Copy)]
-enum Which {
+pub(crate) enum Which {
     Log,
     Database,
 }
 
 /// It stops after so many calls, the other one does not.
-fn stopping(which: Which, calls: u64) -> Fuses {
+pub(crate) fn stopping(which: Which, calls: u64) -> Fuses {
     match which {
         Which::Log => Fuses {
             log: calls,

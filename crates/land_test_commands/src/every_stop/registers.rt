@@ -1,5 +1,4 @@
 //! Registers before a change, in files, and the rows that stand before it and after it.
-use crate::cases::playing::{created, played, taken};
 use crate::every_stop::disks::{Disks, ENDLESS, Image};
 use crate::every_stop::opening::{Room, Store, files_of, opened};
 use crate::every_stop::rows::rows_at;
@@ -10,6 +9,8 @@ use land_test_scenario::playing::{play, play_more};
 use land_test_scenario::scenario::{MORE, STEPS};
 use land_test_scenario::stop::Stop;
 use land_test_scenario::talk::{OFFICE, Row, Talk, Told};
+use land_test_tables::cases::playing::{created, played, taken};
+use land_test_tables::tables::migrating::TO_FIRST;
 use sqlite::{Connection, MemStore};
 use std::alloc::{AllocError, Global};
 
@@ -45,6 +46,13 @@ pub const MERGER: Change = Change {
     steps: 19,
     before: 1018,
     after: 1019,
+};
+
+/// What comes after the scenario.
+const PLAYED: Change = Change {
+    steps: 18,
+    before: 1017,
+    after: 1018,
 };
 
 /// What is asked after each change: the parties.
@@ -110,6 +118,14 @@ fn played_files(alloc: Global, change: &Change) -> Result<Disks, Stop> {
 fn image_before(alloc: Global, change: &Change) -> Result<Image, Stop> {
     let files = played_files(alloc, change)?;
     Ok(Image::of(alloc, &files)?)
+}
+
+/// Files of the first version in which the scenario is played. Their log holds what made them so.
+pub fn first_files(alloc: Global) -> Result<Image, Stop> {
+    let files = played_files(alloc, &PLAYED)?;
+    let mut conn = opened(alloc, files, Room::Ample)?;
+    conn.execute_batch(TO_FIRST)?;
+    Ok(Image::of(alloc, &files_of(conn))?)
 }
 
 /// A store in memory after the scenario: it has the rows that are known.

@@ -1,0 +1,182 @@
+//! Stores of the first version, which has no mandates: what becomes of them, and which are left as they are.
+use crate::cases::playing::played;
+use crate::cases::stores::{expect_fault, run, run_on};
+use land_tables::tables::Tables;
+use land_test_scenario::looks::{Look, look_at, look_at_steps};
+use land_test_scenario::stop::Stop;
+use sqlite::{Connection, MemStore};
+use std::alloc::Global;
+
+/// What makes a store of the first version of one of the second that has no mandates.
+pub const TO_FIRST: &str = "DROP TABLE mandate; UPDATE edition SET version = 1";
+
+/// Statements on the tables of the first version, others that undo them, and the fault that `migrate` has between.
+struct Change(&'static str, &'static str, u16);
+
+const CHANGES: &[Change] = &[
+    Change("BEGIN", "ROLLBACK", 502),
+    // other tables, or values that cannot be read
+    Change("CREATE TABLE other (x INTEGER)", "DROP TABLE other", 520),
+    Change(
+        "CREATE TABLE mandate (principal INTEGER NOT NULL, agent INTEGER NOT NULL, since INTEGER NOT NULL, \
+        until INTEGER NOT NULL, PRIMARY KEY (principal, agent, since), CHECK (since < until)) STRICT",
+        "DROP TABLE mandate",
+        520,
+    ),
+    Change(
+        "CREATE UNIQUE INDEX more ON party (name, since)",
+        "DROP INDEX more",
+        520,
+    ),
+    Change(
+        "UPDATE edition SET id = 2",
+        "UPDATE edition SET id = 1",
+        520,
+    ),
+    Change(
+        "UPDATE edition SET version = 2; UPDATE party SET name = '' WHERE number = 2",
+        "UPDATE edition SET version = 1; UPDATE party SET name = 'Anna' WHERE number = 2",
+        520,
+    ),
+    // another version, with its mandates or without
+    Change(
+        "UPDATE edition SET version = 2",
+        "UPDATE edition SET version = 1",
+        523,
+    ),
+    Change(
+        "CREATE TABLE mandate (principal INTEGER NOT NULL, agent INTEGER NOT NULL, since INTEGER NOT NULL, \
+        until INTEGER NOT NULL, PRIMARY KEY (principal, agent, since), CHECK (since < until)) STRICT; UPDATE edition SET version = 2",
+        "DROP TABLE mandate; UPDATE edition SET version = 1",
+        523,
+    ),
+    Change(
+        "UPDATE edition SET version = 7; UPDATE unit SET since = 1 WHERE number = 9",
+        "UPDATE edition SET version = 1; UPDATE unit SET since = 1009 WHERE number = 9",
+        523,
+    ),
+    // lifespans, and then registers that are not sound
+    Change(
+        "UPDATE unit SET since = 1 WHERE number = 9; UPDATE rrr SET unit = 999 WHERE number = 13",
+        "UPDATE unit SET since = 1009 WHERE number = 9; UPDATE rrr SET unit = 9 WHERE number = 13",
+        521,
+    ),
+    Change(
+        "UPDATE rrr SET unit = 999 WHERE number = 13",
+        "UPDATE rrr SET unit = 9 WHERE number = 13",
+        522,
+    ),
+    // an index that is not the register's would lie before the mandates
+    Change("CREATE INDEX more ON party (name)", "DROP INDEX more", 502),
+    Change(
+        "CREATE UNIQUE INDEX more ON party (number, since)",
+        "DROP INDEX more",
+        502,
+    ),
+];
+
+/// What the tables of the first version have, and those of the second, that differ.
+pub const BEFORE: &[Look] = &[Look("SELECT id, version FROM edition", "1|1|\n")];
+
+pub const AFTER: &[Look] = &[Look("SELECT * FROM mandate", "")];
+
+/// The number of the fault with which a store is given back, 0 where it is migrated and has the register of the scenario.
+fn migrated(alloc: Global, conn: Connection<MemStore>) -> (u16, Connection<MemStore>) {
+    match Tables::migrate(alloc, conn) {
+        Ok(tables) => {
+            let is_last = tables.last() == 1017 && tables.next() == 30 && !tables.is_closed();
+            (if is_last { 0 } else { 1 }, tables.into_connection())
+        }
+        Err((conn, fault)) => (fault.number(), conn),
+    }
+}
+
+/// Migrates the store that is left, and leaves it again.
+fn migrate_back(alloc: Global, left: &mut Option<Connection<MemStore>>) -> Result<u16, Stop> {
+    match left.take() {
+        Some(conn) => {
+            let (fault, back) = migrated(alloc, conn);
+            *left = Some(back);
+            Ok(fault)
+        }
+        None => Err(Stop::Call),
+    }
+}
+
+/// Changes the store that is left, migrates it, and undoes the change: the fault that it had.
+fn undone(
+    alloc: Global,
+    left: &mut Option<Connection<MemStore>>,
+    change: &Change,
+) -> Result<u16, Stop> {
+    run_on(left, change.0)?;
+    let fault = migrate_back(alloc, left)?;
+    run_on(left, change.1)?;
+    Ok(fault)
+}
+
+/// Each change has its fault.
+fn are_refused(alloc: Global, left: &mut Option<Connection<MemStore>>) -> Result<(), Stop> {
+    for (place, change) in CHANGES.iter().enumerate() {
+        expect_fault(undone(alloc, left, change)?, change.2, "change", place)?;
+    }
+    Ok(())
+}
+
+/// The store that is left is of the first version.
+fn look_before(alloc: Global, left: &mut Option<Connection<MemStore>>) -> Result<(), Stop> {
+    match left.as_mut() {
+        Some(conn) => look_at(alloc, conn, BEFORE),
+        None => Err(Stop::Call),
+    }
+}
+
+/// It is of the second, with the rows of the scenario, and no mandates.
+fn look_after(alloc: Global, left: &mut Option<Connection<MemStore>>) -> Result<(), Stop> {
+    match left.as_mut() {
+        Some(conn) => {
+            look_at(alloc, conn, AFTER)?;
+            look_at_steps(alloc, conn)
+        }
+        None => Err(Stop::Call),
+    }
+}
+
+/// The store that is left is migrated, and not again.
+fn is_migrated(alloc: Global, left: &mut Option<Connection<MemStore>>) -> Result<(), Stop> {
+    expect_fault(migrate_back(alloc, left)?, 0, "migrated", 0)?;
+    look_after(alloc, left)?;
+    expect_fault(migrate_back(alloc, left)?, 523, "migrated again", 0)?;
+    look_after(alloc, left)
+}
+
+/// A store of the first version after the scenario.
+fn old_store(alloc: Global) -> Result<Option<Connection<MemStore>>, Stop> {
+    let mut conn = played(alloc)?.into_connection();
+    run(&mut conn, TO_FIRST)?;
+    Ok(Some(conn))
+}
+
+/// Each change is refused, and the store is as it was.
+fn stays(alloc: Global, left: &mut Option<Connection<MemStore>>) -> Result<(), Stop> {
+    look_before(alloc, left)?;
+    are_refused(alloc, left)?;
+    look_before(alloc, left)
+}
+
+/// Stores that are not migrated stay as they are, and one that is has the rows that it had; it is not migrated again.
+pub fn a_register_of_the_first_version_is_migrated_once(alloc: Global) -> Result<(), Stop> {
+    let mut left = old_store(alloc)?;
+    stays(alloc, &mut left)?;
+    is_migrated(alloc, &mut left)
+}
+
+/// A store that has lost indexes of the first version is migrated as one that has them.
+pub fn a_register_without_its_indexes_is_migrated(alloc: Global) -> Result<(), Stop> {
+    let mut left = old_store(alloc)?;
+    run_on(
+        &mut left,
+        "DROP INDEX rrr_party; DROP INDEX names_unit; DROP INDEX role_role",
+    )?;
+    is_migrated(alloc, &mut left)
+}
