@@ -1,5 +1,5 @@
 -- What is given to one of a circle is what a citizen sees; in other roles mandates give nothing to see.
-use Rattle.std.proofs.Common.{◌≡◌, ◌↔◌, ℕ, ℤ, Bool, true, false, nat_eq, List, refl, sym, ◌∙◌}
+use Rattle.std.proofs.Common.{◌≡◌, ◌↔◌, ℕ, ℤ, Bool, true, false, ◌&&◌, not, nat_eq, List, refl, sym, ◌∙◌}
 use Rattle.std.proofs.lemmas.Bool.{eqb-true, false≢true}
 use Rattle.std.proofs.lemmas.Map.Views.{Contains-from_any, list_any-from_Contains}
 use Rattle.std.specs.Bool.{Decides}
@@ -15,6 +15,7 @@ use Rattle.land_core.specs.declared.role.Role.{Role}
 use Rattle.land_core.specs.declared.role.Role.TheVariants.{Citizen, Conveyancer, Notary, Bank, CertifiedSurveyor, StateAdministrator}
 use Rattle.land_rules.specs.CircleLaws.{CirclesSeeTogether, without_mandates}
 use Rattle.land_rules.specs.Circles.{circle_of}
+use Rattle.land_rules.specs.Denials.Sight.{sees_all}
 use Rattle.land_rules.specs.Laws.{IsSoundOrNothing, SeenIsExactly, citizen}
 use Rattle.land_rules.specs.Rules.{seen_of}
 use Rattle.land_select_joins.proofs.Ascending.{ascend, same_list}
@@ -69,37 +70,51 @@ citizen_is party Bank is = absurd (false≢true is)
 citizen_is party CertifiedSurveyor is = absurd (false≢true is)
 citizen_is party StateAdministrator is = absurd (false≢true is)
 
--- in another role a caller sees the same, whatever mandates stand
-pub seen_alike : (at : Register) (party : ℕ) (role : Role) → is_role role Citizen ≡ false → (k : Kind)
+-- where mandates give a caller more to see, it asks in the role of a citizen
+pub is_of_citizen : (role : Role) (k : Kind) → (is_role role Citizen && not (sees_all role k)) ≡ true → is_role role Citizen ≡ true
+is_of_citizen Citizen k is = refl
+is_of_citizen Conveyancer k is = absurd (false≢true is)
+is_of_citizen Notary k is = absurd (false≢true is)
+is_of_citizen Bank k is = absurd (false≢true is)
+is_of_citizen CertifiedSurveyor k is = absurd (false≢true is)
+is_of_citizen StateAdministrator k is = absurd (false≢true is)
+
+-- in another role, and of what is seen by all, a caller sees the same, whatever mandates stand
+pub seen_alike : (at : Register) (party : ℕ) (role : Role) (k : Kind) → (is_role role Citizen && not (sees_all role k)) ≡ false
     → seen_of (without_mandates at) (record { party = party; role = role }) k ≡ seen_of at (record { party = party; role = role }) k
-seen_alike at party Citizen h k = absurd (false≢true (sym h))
-seen_alike at party Conveyancer h kind.Party = refl
-seen_alike at party Conveyancer h kind.Unit = refl
-seen_alike at party Conveyancer h kind.Parcel = refl
-seen_alike at party Conveyancer h kind.Rrr = refl
-seen_alike at party Conveyancer h kind.Source = refl
-seen_alike at party Conveyancer h kind.Mutation = refl
-seen_alike at party Notary h kind.Party = refl
-seen_alike at party Notary h kind.Unit = refl
-seen_alike at party Notary h kind.Parcel = refl
-seen_alike at party Notary h kind.Rrr = refl
-seen_alike at party Notary h kind.Source = refl
-seen_alike at party Notary h kind.Mutation = refl
-seen_alike at party Bank h kind.Party = refl
-seen_alike at party Bank h kind.Unit = refl
-seen_alike at party Bank h kind.Parcel = refl
-seen_alike at party Bank h kind.Rrr = refl
-seen_alike at party Bank h kind.Source = refl
-seen_alike at party Bank h kind.Mutation = refl
-seen_alike at party CertifiedSurveyor h kind.Party = refl
-seen_alike at party CertifiedSurveyor h kind.Unit = refl
-seen_alike at party CertifiedSurveyor h kind.Parcel = refl
-seen_alike at party CertifiedSurveyor h kind.Rrr = refl
-seen_alike at party CertifiedSurveyor h kind.Source = refl
-seen_alike at party CertifiedSurveyor h kind.Mutation = refl
-seen_alike at party StateAdministrator h kind.Party = refl
-seen_alike at party StateAdministrator h kind.Unit = refl
-seen_alike at party StateAdministrator h kind.Parcel = refl
-seen_alike at party StateAdministrator h kind.Rrr = refl
-seen_alike at party StateAdministrator h kind.Source = refl
-seen_alike at party StateAdministrator h kind.Mutation = refl
+seen_alike at party Citizen kind.Party is = absurd (false≢true (sym is))
+seen_alike at party Citizen kind.Unit is = absurd (false≢true (sym is))
+seen_alike at party Citizen kind.Parcel is = refl
+seen_alike at party Citizen kind.Rrr is = absurd (false≢true (sym is))
+seen_alike at party Citizen kind.Source is = absurd (false≢true (sym is))
+seen_alike at party Citizen kind.Mutation is = absurd (false≢true (sym is))
+seen_alike at party Conveyancer kind.Party is = refl
+seen_alike at party Conveyancer kind.Unit is = refl
+seen_alike at party Conveyancer kind.Parcel is = refl
+seen_alike at party Conveyancer kind.Rrr is = refl
+seen_alike at party Conveyancer kind.Source is = refl
+seen_alike at party Conveyancer kind.Mutation is = refl
+seen_alike at party Notary kind.Party is = refl
+seen_alike at party Notary kind.Unit is = refl
+seen_alike at party Notary kind.Parcel is = refl
+seen_alike at party Notary kind.Rrr is = refl
+seen_alike at party Notary kind.Source is = refl
+seen_alike at party Notary kind.Mutation is = refl
+seen_alike at party Bank kind.Party is = refl
+seen_alike at party Bank kind.Unit is = refl
+seen_alike at party Bank kind.Parcel is = refl
+seen_alike at party Bank kind.Rrr is = refl
+seen_alike at party Bank kind.Source is = refl
+seen_alike at party Bank kind.Mutation is = refl
+seen_alike at party CertifiedSurveyor kind.Party is = refl
+seen_alike at party CertifiedSurveyor kind.Unit is = refl
+seen_alike at party CertifiedSurveyor kind.Parcel is = refl
+seen_alike at party CertifiedSurveyor kind.Rrr is = refl
+seen_alike at party CertifiedSurveyor kind.Source is = refl
+seen_alike at party CertifiedSurveyor kind.Mutation is = refl
+seen_alike at party StateAdministrator kind.Party is = refl
+seen_alike at party StateAdministrator kind.Unit is = refl
+seen_alike at party StateAdministrator kind.Parcel is = refl
+seen_alike at party StateAdministrator kind.Rrr is = refl
+seen_alike at party StateAdministrator kind.Source is = refl
+seen_alike at party StateAdministrator kind.Mutation is = refl

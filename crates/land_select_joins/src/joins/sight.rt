@@ -1,7 +1,8 @@
 //! What a caller sees of a kind at a moment.
-ghost use Rattle.std.specs.Prelude.{◌≡◌, false, IfErr, IsTrue};
+ghost use Rattle.std.specs.Prelude.{◌≡◌, ◌&&◌, false, not, IfErr, IsTrue};
 ghost use Rattle.land_core.specs.Role.{is_role};
 ghost use Rattle.land_core.specs.declared.role.Role.TheVariants as roles;
+ghost use Rattle.land_rules.specs.Denials.Sight.{sees_all};
 ghost use Rattle.land_rules.specs.Laws.{citizen};
 ghost use Rattle.land_select_joins.specs.Joins.Running.{HoldsNone};
 ghost use Rattle.land_select_joins.specs.Joins.Sight.{IsSight, IsSightAlone};
@@ -18,15 +19,17 @@ use land_core::caller::Caller;
 use land_core::kind::Kind;
 use land_core::role::Role;
 use land_core::sequence::NumberList;
+use land_rules::denials::sight::sees_all;
 use land_rules::laws::{circles_see_together, seen_is_exact};
 use land_tables_rows::listing::fault::ReadFault;
 use sqlite::{Alter, Connection};
 use std::alloc::Global;
 
-fn is_citizen(role: Role) -> bool
-    ensures { result ≡ is_role role roles.Citizen }
+/// Whether mandates give a caller more to see of a kind: to a citizen, and not of parcels, which everybody sees.
+fn has_circle(role: Role, kind: Kind) -> bool
+    ensures { result ≡ is_role role roles.Citizen && not (sees_all role kind) }
 {
-    role == Role::Citizen
+    role == Role::Citizen && !sees_all(role, kind)
 }
 
 /// The numbers of a kind that the rules would let a caller see at a moment if no mandates stood, in ascending order and each once.
@@ -91,7 +94,7 @@ pub fn sight<S: Alter>(
     ensures unreadable { HasCleanDisk (state S.Store conn.new) → IfErr result (HoldsNone (state S.Store conn.old).now.trees) }
     ensures mode { conn.old.in_transaction ≡ false → conn.new.in_transaction ≡ false }
 {
-    if is_citizen(caller.role) {
+    if has_circle(caller.role, kind) {
         return sight_of_circle(alloc, conn, caller.party, kind, at);
     }
     sight_alone(alloc, conn, caller, kind, at)

@@ -1,20 +1,20 @@
 use Rattle.std.proofs.Common.{rules, ◌≡◌, subst, sym, to_z, of_z, w64, ◌∙◌}
 use Rattle.land_core.specs.declared.caller.Caller.{Caller}
-use Rattle.land_select_joins.proofs.Circles.{citizen_is, seen_alike}
+use Rattle.land_select_joins.proofs.Circles.{is_of_citizen, citizen_is, seen_alike}
 use Rattle.land_select_joins.proofs.United.{look_means}
 use Rattle.land_select_joins.specs.Joins.Sight.{IsSight}
 use Rattle.sqlite.specs.Held.{state}
 use Rattle.land_select_joins.proofs.joins.sight.sight.Goals as goal
 
-pub returns-then-is_citizen-clause-look : goal.returns-then-is_citizen-clause-look
-returns-then-is_citizen-clause-look g c =
+pub returns-then-has_circle-clause-look : goal.returns-then-has_circle-clause-look
+returns-then-has_circle-clause-look g c =
     let a = state g.S.Store c.args.conn.now in
     let t = c.args.at in
     let caller = c.args.caller in
     let when : to_z w64 (of_z w64 t) ≡ t = search rules in
     let look = rw when at c.sight_of_circle.ensures.look in
     look_means a (state g.S.Store c.sight_of_circle.new.conn) c.sight_of_circle.result look
-    (λ it is. subst (λ (who : Caller). IsSight who c.args.kind t a.now.trees it) (citizen_is caller.party caller.role (sym c.is_citizen.ensures ∙ c.if-is_citizen.true)) is)
+    (λ it is. subst (λ (who : Caller). IsSight who c.args.kind t a.now.trees it) (citizen_is caller.party caller.role (is_of_citizen caller.role c.args.kind (sym c.has_circle.ensures ∙ c.if-has_circle.true))) is)
 
 pub returns-clause-look : goal.returns-clause-look
 returns-clause-look g c =
@@ -22,4 +22,4 @@ returns-clause-look g c =
     let when : to_z w64 (of_z w64 c.args.at) ≡ c.args.at = search rules in
     let look = rw when at c.sight_alone.ensures.look in
     look_means (state g.S.Store c.args.conn.now) (state g.S.Store c.sight_alone.new.conn) c.sight_alone.result look
-    (λ it is moments h held r sound stands. is moments h held r sound stands ∙ seen_alike r caller.party caller.role (sym c.is_citizen.ensures ∙ c.if-is_citizen.false) c.args.kind)
+    (λ it is moments h held r sound stands. is moments h held r sound stands ∙ seen_alike r caller.party caller.role c.args.kind (sym c.has_circle.ensures ∙ c.if-has_circle.false))
