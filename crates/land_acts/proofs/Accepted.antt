@@ -1,13 +1,14 @@
 -- Accepted acts keep a register sound, and name no key twice.
 use Rattle.std.proofs.Common.{◌≡◌, ◌≤◌, true, false, ◌&&◌, not, Some, None, Ok, [], ◌∷◌, length, refl, subst, arith}
-use Rattle.std.specs.Prelude.{ℤ, ◌||◌, ◌+◌, map as map_list}
+use Rattle.std.specs.Prelude.{ℤ, ◌||◌, ◌+◌, nat_eq, map as map_list}
 use Rattle.std.specs.FinMap as map
 use Rattle.std.specs.Option.{option_map_or}
-use Rattle.land_acts.proofs.Approvals.{approve_grows, approve_once, approved_is_sound, caller_stands, refuse_grows, refuse_once, refused_is_sound}
+use Rattle.land_acts.proofs.Approvals.{approve_grows, approve_once, approved_is_sound, caller_is_single, caller_stands, refuse_grows, refuse_once, refused_is_sound}
 use Rattle.land_acts.proofs.BurdenedUnits.{burdened_is_sound}
 use Rattle.land_acts.proofs.GroupActs.{enrolled_is_sound, grouped_is_sound, regrouped_is_sound}
 use Rattle.land_acts.proofs.LiftedEntries.{lifted_is_sound}
 use Rattle.land_acts.proofs.LodgedMutations.{fresh, lodged_is_sound}
+use Rattle.land_acts.proofs.MandateActs.{mandated_is_sound, withdrawn_is_sound}
 use Rattle.land_acts.proofs.NewObjects.{numbered_once}
 use Rattle.land_acts.proofs.Outcomes.{IsPlanned, planned_from, unstamped}
 use Rattle.land_acts.proofs.Refusals.{first_none}
@@ -19,6 +20,7 @@ use Rattle.land_acts.specs.FirstRights.{lists_absent, are_types_too_fine, are_ty
 use Rattle.land_acts.specs.Laws.{AcceptedKeepsSound, AcceptedNamesKeysOnce, AcceptedTellsStamp, NothingWithoutStamp}
 use Rattle.land_acts.specs.Lifting.{has_burden}
 use Rattle.land_acts.specs.Lodging.{has_lodged_other}
+use Rattle.land_acts.specs.Mandating.{given}
 use Rattle.land_acts.specs.Mutations.Asking.{content_refusals}
 use Rattle.land_acts.specs.Mutations.Planning.{would_crowd, first_that_holds, lacks_numbers}
 use Rattle.land_acts.specs.Outcome.{outcome_of, refusals_of, change_of, done_of, repeated_done}
@@ -26,12 +28,13 @@ use Rattle.land_acts.specs.Registering.{new_count, parcel_of, right_of}
 use Rattle.land_acts.specs.Revoking.{has_administrator_beside}
 use Rattle.land_acts.specs.Sharing.{lists_stranger, are_too_fine, are_whole, lists_twice}
 use Rattle.land_acts.specs.declared.mutations.refusal.Planned.TheVariants.{New}
-use Rattle.land_acts.specs.declared.mutations.refusal.Refusal.TheVariants.{NotLodged, NoSuchUnit, NoSuchRight, NoSuchParty, SharesTooFine, TooMany, SharesNotWhole, ReferenceUsed, RoleHeld, RoleNotHeld, ClockOut, LastAdministrator, SameParty}
+use Rattle.land_acts.specs.declared.mutations.refusal.Refusal.TheVariants.{NotLodged, NoSuchUnit, NoSuchRight, NoSuchParty, SharesTooFine, TooMany, SharesNotWhole, ReferenceUsed, RoleHeld, RoleNotHeld, ClockOut, LastAdministrator, SameParty, MandateHeld}
 use Rattle.land_core.proofs.Booleans.{both_of, or_false, not_false}
 use Rattle.land_core.specs.Acts.{is_well_formed, are_members, name_numbers}
 use Rattle.land_core.specs.Changes.{after, NamesKeysOnce}
 use Rattle.land_core.specs.Contents.{is_well_formed_content}
 use Rattle.land_core.specs.Entries.{has}
+use Rattle.land_core.specs.Mandates.{has_mandate}
 use Rattle.land_core.specs.Members.{is_group_size}
 use Rattle.land_core.specs.Numbers.{is_number}
 use Rattle.land_core.specs.Register.{has_single_party, has_group, holds}
@@ -79,6 +82,13 @@ sound_after law r caller (act.Revoke it) stamp sound formed held new none =
     let held = first_none RoleNotHeld (not (holds r it.party it.role)) ((ClockOut, false) ∷ (LastAdministrator, last) ∷ []) known.rest in
     let stamped = first_none ClockOut false ((LastAdministrator, last) ∷ []) held.rest in
     revoked_is_sound r it sound (first_none LastAdministrator last [] stamped.rest).first
+sound_after law r caller (act.Mandate it) stamp sound formed held new none =
+    let pair = has_mandate r.mandates (given caller it) in
+    let known = first_none NoSuchParty (not (has_single_party r it.agent)) ((ClockOut, false) ∷ (SameParty, nat_eq it.agent caller.party) ∷ (MandateHeld, pair) ∷ []) none in
+    let stamped = first_none ClockOut false ((SameParty, nat_eq it.agent caller.party) ∷ (MandateHeld, pair) ∷ []) known.rest in
+    let apart = first_none SameParty (nat_eq it.agent caller.party) ((MandateHeld, pair) ∷ []) stamped.rest in
+    mandated_is_sound r caller it sound (caller_is_single r caller sound held) (not_false _ known.first) apart.first
+sound_after law r caller (act.Withdraw it) stamp sound formed held new none = withdrawn_is_sound r it sound
 sound_after law r caller (act.Register it) stamp sound formed held new none =
     let known = first_none NoSuchParty (lists_absent r it.rights) ((SharesTooFine, it.checked && are_types_too_fine it.rights) ∷ (TooMany, lacks_numbers r (new_count it)) ∷ (SharesNotWhole, it.checked && not (are_types_whole it.rights)) ∷ (ClockOut, false) ∷ (SameParty, has_right_twice it.rights) ∷ []) none in
     let fine = first_none SharesTooFine (it.checked && are_types_too_fine it.rights) ((TooMany, lacks_numbers r (new_count it)) ∷ (SharesNotWhole, it.checked && not (are_types_whole it.rights)) ∷ (ClockOut, false) ∷ (SameParty, has_right_twice it.rights) ∷ []) known.rest in
@@ -108,6 +118,8 @@ next_grows r caller (act.Group it) stamp = omega arith
 next_grows r caller (act.Regroup it) stamp = omega arith
 next_grows r caller (act.Grant it) stamp = omega arith
 next_grows r caller (act.Revoke it) stamp = omega arith
+next_grows r caller (act.Mandate it) stamp = omega arith
+next_grows r caller (act.Withdraw it) stamp = omega arith
 next_grows r caller (act.Register it) stamp = omega arith
 next_grows r caller (act.Burden it) stamp = omega arith
 next_grows r caller (act.Lift it) stamp = omega arith
@@ -137,6 +149,8 @@ names_once r caller (act.Lodge it) stamp sound none = record { parties = refl; r
 names_once r caller (act.Approve it) stamp sound none = approve_once r it stamp sound (first_none NotLodged (not (is_lodged r it.mutation)) (option_map_or (λ m. content_refusals r m.content (Some stamp)) (map.get r.mutations it.mutation) []) none).rest
 names_once r caller (act.Refuse it) stamp sound none = refuse_once r it
 names_once r caller (act.Revoke it) stamp sound none = record { parties = refl; roles = refl; members = refl; units = refl; parcels = refl; rrrs = refl; sources = refl; mutations = refl; mandates = refl }
+names_once r caller (act.Mandate it) stamp sound none = record { parties = refl; roles = refl; members = refl; units = refl; parcels = refl; rrrs = refl; sources = refl; mutations = refl; mandates = refl }
+names_once r caller (act.Withdraw it) stamp sound none = record { parties = refl; roles = refl; members = refl; units = refl; parcels = refl; rrrs = refl; sources = refl; mutations = refl; mandates = refl }
 
 -- the stamp is told with the change
 stamp_told : (r : Register) (caller : Caller) (a : Act) (stamp : ℤ) → (done_of r caller a stamp).stamp ≡ stamp
@@ -145,6 +159,8 @@ stamp_told r caller (act.Group it) stamp = refl
 stamp_told r caller (act.Regroup it) stamp = refl
 stamp_told r caller (act.Grant it) stamp = refl
 stamp_told r caller (act.Revoke it) stamp = refl
+stamp_told r caller (act.Mandate it) stamp = refl
+stamp_told r caller (act.Withdraw it) stamp = refl
 stamp_told r caller (act.Register it) stamp = refl
 stamp_told r caller (act.Burden it) stamp = refl
 stamp_told r caller (act.Lift it) stamp = refl

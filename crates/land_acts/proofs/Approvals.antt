@@ -30,7 +30,7 @@ use Rattle.land_core.specs.Changes.{NamesKeysOnce, after, no_change}
 use Rattle.land_core.specs.Contents.{is_well_formed_content}
 use Rattle.land_core.specs.Entries.{has}
 use Rattle.land_core.specs.Grants.{grant_of}
-use Rattle.land_core.specs.Register.{holds}
+use Rattle.land_core.specs.Register.{has_single_party, holds}
 use Rattle.land_core.specs.Soundness.{IsSound, is_loose_mutation}
 use Rattle.land_core.specs.declared.act.Decision.{Decision}
 use Rattle.land_core.specs.declared.caller.Caller.{Caller}
@@ -43,14 +43,16 @@ use Rattle.land_core.specs.declared.soundness.Unsound.TheVariants.{Reference}
 use Rattle.land_fraction.specs.Laws.{WholenessLaw}
 
 -- who holds a role stands
-pub caller_stands : (r : Register) (caller : Caller) → IsSound r → holds r caller.party caller.role ≡ true → has r.parties caller.party ≡ true
-caller_stands r caller sound held =
-    let it = stands_from r caller.party (single_from r (refers r (sound Reference)).grants (grant_of caller.party caller.role) (granted (map.get r.roles (grant_of caller.party caller.role)) held)) in
-    ap is_some it.there
+pub caller_is_single : (r : Register) (caller : Caller) → IsSound r → holds r caller.party caller.role ≡ true → has_single_party r caller.party ≡ true
+caller_is_single r caller sound held =
+    single_from r (refers r (sound Reference)).grants (grant_of caller.party caller.role) (granted (map.get r.roles (grant_of caller.party caller.role)) held)
   where
     granted : (o : Option (Unit {0})) → is_some o ≡ true → o ≡ Some tt
     granted None h = absurd (false≢true h)
     granted (Some u) h = refl
+
+pub caller_stands : (r : Register) (caller : Caller) → IsSound r → holds r caller.party caller.role ≡ true → has r.parties caller.party ≡ true
+caller_stands r caller sound held = let it = stands_from r caller.party (caller_is_single r caller sound held) in ap is_some it.there
 
 -- the source of a mutation stands
 source_stands : (r : Register) → IsSound r → (n : ℕ) (m : MutationRecord) → map.get r.mutations n ≡ Some m → has r.sources m.source ≡ true

@@ -15,6 +15,7 @@ pub mod KeptEntries
 pub mod LiftedEntries
 pub mod ListedMembers
 pub mod LodgedMutations
+pub mod MandateActs
 pub mod MergedApprovals
 pub mod MergedEntries
 pub mod MergedKeys

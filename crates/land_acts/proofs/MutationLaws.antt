@@ -137,6 +137,8 @@ module _ (r : Register) (sound : IsSound r) where
   becomes caller (act.Regroup it) stamp none n x is = (x.state, is, λ shut. refl)
   becomes caller (act.Grant it) stamp none n x is = (x.state, is, λ shut. refl)
   becomes caller (act.Revoke it) stamp none n x is = (x.state, is, λ shut. refl)
+  becomes caller (act.Mandate it) stamp none n x is = (x.state, is, λ shut. refl)
+  becomes caller (act.Withdraw it) stamp none n x is = (x.state, is, λ shut. refl)
   becomes caller (act.Register it) stamp none n x is = (x.state, is, λ shut. refl)
   becomes caller (act.Burden it) stamp none n x is = (x.state, is, λ shut. refl)
   becomes caller (act.Lift it) stamp none n x is = (x.state, is, λ shut. refl)
@@ -156,6 +158,8 @@ module _ (r : Register) (sound : IsSound r) where
   source_stays caller (act.Regroup it) stamp n s is = is
   source_stays caller (act.Grant it) stamp n s is = is
   source_stays caller (act.Revoke it) stamp n s is = is
+  source_stays caller (act.Mandate it) stamp n s is = is
+  source_stays caller (act.Withdraw it) stamp n s is = is
   source_stays caller (act.Register it) stamp n s is = there r.sources r.next (record { kind = Administrative; title = it.document }) n s (source_below n s is) is
   source_stays caller (act.Burden it) stamp n s is = there r.sources r.next (record { kind = Administrative; title = it.document }) n s (source_below n s is) is
   source_stays caller (act.Lift it) stamp n s is = is

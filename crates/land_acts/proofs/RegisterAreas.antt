@@ -193,6 +193,8 @@ module _ (r : Register) (sound : IsSound r) where
   adds caller (act.Regroup it) stamp none = nothing_more (area_of_all r)
   adds caller (act.Grant it) stamp none = nothing_more (area_of_all r)
   adds caller (act.Revoke it) stamp none = nothing_more (area_of_all r)
+  adds caller (act.Mandate it) stamp none = nothing_more (area_of_all r)
+  adds caller (act.Withdraw it) stamp none = nothing_more (area_of_all r)
   adds caller (act.Register it) stamp none = registered it caller stamp
   adds caller (act.Burden it) stamp none = nothing_more (area_of_all r)
   adds caller (act.Lift it) stamp none = nothing_more (area_of_all r)

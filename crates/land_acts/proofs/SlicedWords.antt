@@ -13,12 +13,13 @@ use Rattle.land_acts.specs.FirstRights.{have_party, lists_absent}
 use Rattle.land_acts.specs.Lifting.{has_burden, is_burden}
 use Rattle.land_acts.specs.Revoking.{has_administrator_beside}
 use Rattle.land_acts.specs.Sharing.{lists_party, lists_stranger}
-use Rattle.land_acts.specs.Slices.{slice_of, looks_at_party, looks_at_rrr, names_party, names_rrr, names_unit}
+use Rattle.land_acts.specs.Slices.{slice_of, is_mandate, looks_at_party, looks_at_rrr, names_mandate, names_party, names_rrr, names_unit}
 use Rattle.land_core.proofs.Booleans.{both_of}
-use Rattle.land_core.proofs.FiniteSets.{grants_total, exact_grants}
+use Rattle.land_core.proofs.FiniteSets.{grants_total, exact_grants, mandates_total, exact_mandates}
 use Rattle.land_core.proofs.Reflection.{get-only, entries-only, each_there, list_any-filter, list_any-map}
 use Rattle.land_core.specs.Entries.{only, has}
 use Rattle.land_core.specs.Grants.{grants_in, has_grant, grant_of}
+use Rattle.land_core.specs.Mandates.{has_mandate}
 use Rattle.land_core.specs.Register.{has_single_party, has_group, holds, is_single}
 use Rattle.land_core.specs.Role.{is_role}
 use Rattle.land_core.specs.Units.{rrr_count}
@@ -27,6 +28,7 @@ use Rattle.land_core.specs.declared.act.Act.TheVariants as act
 use Rattle.land_core.specs.declared.act.NewRight.{NewRight}
 use Rattle.land_core.specs.declared.act.Regroup.{Regroup}
 use Rattle.land_core.specs.declared.caller.Caller.{Caller}
+use Rattle.land_core.specs.declared.mandates.Mandate.{Mandate}
 use Rattle.land_core.specs.declared.member.Member.{Member}
 use Rattle.land_core.specs.declared.register.Register.{Register}
 use Rattle.land_core.specs.declared.role.Role.{Role}
@@ -92,6 +94,16 @@ module _ (r : Register) (caller : Caller) (a : Act) where
             (subst (λ (role : Role). has_grant r.roles (grant_of e.0.party role) ≡ true) (administrator_is e.0.role (both_of _ _ passes).0) (ap is_some h.0)),
         kept es h.1,
       )
+
+-- ---- mandates
+
+-- a mandate is itself
+pub same_mandate : (it : Mandate) → is_mandate it it ≡ true
+same_mandate it = ap (λ b. b && nat_eq it.agent it.agent) (same_number it.principal) ∙ same_number it.agent
+
+module _ (r : Register) (caller : Caller) (a : Act) where
+  pub mandated_same : (m : Mandate) → names_mandate caller a m ≡ true → has_mandate (slice_of r caller a).mandates m ≡ has_mandate r.mandates m
+  mandated_same m named = ap is_some (get-only mandates_total exact_mandates (λ k u. names_mandate caller a k) r.mandates m (λ u. named))
 
 -- ---- units and entries
 

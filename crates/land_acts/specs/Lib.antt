@@ -10,6 +10,7 @@ pub mod Grouping
 pub mod Laws
 pub mod Lifting
 pub mod Lodging
+pub mod Mandating
 pub mod MutationLaws
 pub mod Mutations
 pub mod Outcome
@@ -19,3 +20,4 @@ pub mod Regrouping
 pub mod Revoking
 pub mod Sharing
 pub mod Slices
+pub mod Withdrawing

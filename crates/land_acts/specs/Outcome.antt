@@ -7,16 +7,18 @@ use Rattle.land_acts.specs.Granting.{grant_refusals, grant_change, grant_done}
 use Rattle.land_acts.specs.Grouping.{group_refusals, group_change, group_done}
 use Rattle.land_acts.specs.Lifting.{lift_refusals, lift_change, lift_done}
 use Rattle.land_acts.specs.Lodging.{lodge_repeat, lodge_refusals, lodge_change, lodge_done}
+use Rattle.land_acts.specs.Mandating.{mandate_refusals, mandate_change, mandate_done}
 use Rattle.land_acts.specs.Mutations.Planning.{done_on, first_that_holds}
 use Rattle.land_acts.specs.Registering.{register_refusals, register_change, register_done}
 use Rattle.land_acts.specs.Regrouping.{regroup_refusals, regroup_change, regroup_done}
 use Rattle.land_acts.specs.Revoking.{revoke_refusals, revoke_change, revoke_done}
+use Rattle.land_acts.specs.Withdrawing.{withdraw_refusals, withdraw_change, withdraw_done}
 use Rattle.land_acts.specs.declared.mutations.refusal.Planned.{Planned}
 use Rattle.land_acts.specs.declared.mutations.refusal.Planned.TheVariants.{New, Repeat}
 use Rattle.land_acts.specs.declared.mutations.refusal.Refusal.{Refusal}
 use Rattle.land_acts.specs.declared.mutations.refusal.Refusal.TheVariants.{ClockOut}
 use Rattle.land_core.specs.declared.act.Act.{Act}
-use Rattle.land_core.specs.declared.act.Act.TheVariants.{Enrol, Group, Regroup, Grant, Revoke, Register as RegisterUnit, Burden, Lift, Lodge, Approve, Refuse}
+use Rattle.land_core.specs.declared.act.Act.TheVariants.{Enrol, Group, Regroup, Grant, Revoke, Mandate, Withdraw, Register as RegisterUnit, Burden, Lift, Lodge, Approve, Refuse}
 use Rattle.land_core.specs.declared.caller.Caller.{Caller}
 use Rattle.land_core.specs.declared.change.Change.{Change}
 use Rattle.land_core.specs.declared.change.Done.{Done}
@@ -29,6 +31,8 @@ refusals_of r caller (Group it) stamp = group_refusals r it stamp
 refusals_of r caller (Regroup it) stamp = regroup_refusals r it stamp
 refusals_of r caller (Grant it) stamp = grant_refusals r it stamp
 refusals_of r caller (Revoke it) stamp = revoke_refusals r it stamp
+refusals_of r caller (Mandate it) stamp = mandate_refusals r caller it stamp
+refusals_of r caller (Withdraw it) stamp = withdraw_refusals r it stamp
 refusals_of r caller (RegisterUnit it) stamp = register_refusals r it stamp
 refusals_of r caller (Burden it) stamp = burden_refusals r it stamp
 refusals_of r caller (Lift it) stamp = lift_refusals r it stamp
@@ -43,6 +47,8 @@ change_of r caller (Group it) stamp = group_change r it
 change_of r caller (Regroup it) stamp = regroup_change r it
 change_of r caller (Grant it) stamp = grant_change r it
 change_of r caller (Revoke it) stamp = revoke_change r it
+change_of r caller (Mandate it) stamp = mandate_change r caller it
+change_of r caller (Withdraw it) stamp = withdraw_change r it
 change_of r caller (RegisterUnit it) stamp = register_change r it
 change_of r caller (Burden it) stamp = burden_change r it
 change_of r caller (Lift it) stamp = lift_change r it
@@ -57,6 +63,8 @@ done_of r caller (Group it) stamp = group_done r stamp
 done_of r caller (Regroup it) stamp = regroup_done it stamp
 done_of r caller (Grant it) stamp = grant_done it stamp
 done_of r caller (Revoke it) stamp = revoke_done it stamp
+done_of r caller (Mandate it) stamp = mandate_done it stamp
+done_of r caller (Withdraw it) stamp = withdraw_done it stamp
 done_of r caller (RegisterUnit it) stamp = register_done r it stamp
 done_of r caller (Burden it) stamp = burden_done r stamp
 done_of r caller (Lift it) stamp = lift_done it stamp
@@ -80,6 +88,8 @@ repeated_done r caller (Group it) = None
 repeated_done r caller (Regroup it) = None
 repeated_done r caller (Grant it) = None
 repeated_done r caller (Revoke it) = None
+repeated_done r caller (Mandate it) = None
+repeated_done r caller (Withdraw it) = None
 repeated_done r caller (RegisterUnit it) = None
 repeated_done r caller (Burden it) = None
 repeated_done r caller (Lift it) = None
@@ -111,6 +121,8 @@ has_room_for r (Group it) = true
 has_room_for r (Regroup it) = true
 has_room_for r (Grant it) = true
 has_room_for r (Revoke it) = true
+has_room_for r (Mandate it) = true
+has_room_for r (Withdraw it) = true
 has_room_for r (RegisterUnit it) = true
 has_room_for r (Burden it) = true
 has_room_for r (Lift it) = true

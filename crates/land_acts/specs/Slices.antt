@@ -1,10 +1,11 @@
 -- Slices: a register with only the records that planning may look at.
-use Rattle.std.specs.Prelude.{ℕ, ◌≡◌, Bool, false, ◌||◌, nat_eq}
+use Rattle.std.specs.Prelude.{ℕ, ◌≡◌, Bool, false, ◌&&◌, ◌||◌, nat_eq}
 use Rattle.std.specs.FinMap as map
 use Rattle.std.specs.FinMap.{FinMap}
 use Rattle.std.specs.Option.{option_map_or}
 use Rattle.std.specs.Ordering.{nat_cmp}
 use Rattle.land_acts.specs.FirstRights.{have_party}
+use Rattle.land_acts.specs.Mandating.{given}
 use Rattle.land_acts.specs.Sharing.{lists_party}
 use Rattle.land_core.specs.Contents.{names_unit as content_names_unit}
 use Rattle.land_core.specs.Entries.{only, some}
@@ -16,6 +17,7 @@ use Rattle.land_core.specs.declared.act.Act.TheVariants as act
 use Rattle.land_core.specs.declared.caller.Caller.{Caller}
 use Rattle.land_core.specs.declared.content.Content.{Content}
 use Rattle.land_core.specs.declared.content.Content.TheVariants as content
+use Rattle.land_core.specs.declared.mandates.Mandate.{Mandate}
 use Rattle.land_core.specs.declared.mutation.MutationRecord.{MutationRecord}
 use Rattle.land_core.specs.declared.register.Register.{Register}
 use Rattle.land_core.specs.declared.role.Role.TheVariants.{StateAdministrator}
@@ -40,6 +42,8 @@ names_party r (act.Group it) n = lists_party it.members n
 names_party r (act.Regroup it) n = nat_eq n it.group || lists_party it.members n
 names_party r (act.Grant it) n = nat_eq n it.party
 names_party r (act.Revoke it) n = nat_eq n it.party
+names_party r (act.Mandate it) n = nat_eq n it.agent
+names_party r (act.Withdraw it) n = nat_eq n it.principal || nat_eq n it.agent
 names_party r (act.Register it) n = have_party it.rights n
 names_party r (act.Burden it) n = nat_eq n it.party
 names_party r (act.Lift it) n = false
@@ -54,6 +58,8 @@ names_unit r (act.Group it) n = false
 names_unit r (act.Regroup it) n = false
 names_unit r (act.Grant it) n = false
 names_unit r (act.Revoke it) n = false
+names_unit r (act.Mandate it) n = false
+names_unit r (act.Withdraw it) n = false
 names_unit r (act.Register it) n = false
 names_unit r (act.Burden it) n = nat_eq n it.unit
 names_unit r (act.Lift it) n = false
@@ -68,6 +74,8 @@ names_rrr r (act.Group it) n = false
 names_rrr r (act.Regroup it) n = false
 names_rrr r (act.Grant it) n = false
 names_rrr r (act.Revoke it) n = false
+names_rrr r (act.Mandate it) n = false
+names_rrr r (act.Withdraw it) n = false
 names_rrr r (act.Register it) n = false
 names_rrr r (act.Burden it) n = false
 names_rrr r (act.Lift it) n = nat_eq n it.rrr
@@ -82,12 +90,34 @@ looks_at_mutation caller (act.Group it) n m = false
 looks_at_mutation caller (act.Regroup it) n m = false
 looks_at_mutation caller (act.Grant it) n m = false
 looks_at_mutation caller (act.Revoke it) n m = false
+looks_at_mutation caller (act.Mandate it) n m = false
+looks_at_mutation caller (act.Withdraw it) n m = false
 looks_at_mutation caller (act.Register it) n m = false
 looks_at_mutation caller (act.Burden it) n m = false
 looks_at_mutation caller (act.Lift it) n m = false
 looks_at_mutation caller (act.Lodge it) n m = is_lodged_as caller.party it.reference m
 looks_at_mutation caller (act.Approve it) n m = nat_eq n it.mutation
 looks_at_mutation caller (act.Refuse it) n m = nat_eq n it.mutation
+
+-- whether a mandate is another: of the same principal, to the same agent
+abbrev pub is_mandate : (it m : Mandate) → Bool
+is_mandate it m = nat_eq m.principal it.principal && nat_eq m.agent it.agent
+
+-- whether an act names a mandate: it gives or withdraws it
+abbrev pub names_mandate : Caller → Act → Mandate → Bool
+names_mandate caller (act.Enrol it) m = false
+names_mandate caller (act.Group it) m = false
+names_mandate caller (act.Regroup it) m = false
+names_mandate caller (act.Grant it) m = false
+names_mandate caller (act.Revoke it) m = false
+names_mandate caller (act.Mandate it) m = is_mandate (given caller it) m
+names_mandate caller (act.Withdraw it) m = is_mandate it m
+names_mandate caller (act.Register it) m = false
+names_mandate caller (act.Burden it) m = false
+names_mandate caller (act.Lift it) m = false
+names_mandate caller (act.Lodge it) m = false
+names_mandate caller (act.Approve it) m = false
+names_mandate caller (act.Refuse it) m = false
 
 abbrev pub mutations_looked_at : Register → Caller → Act → FinMap nat_cmp MutationRecord
 mutations_looked_at r caller a = only (λ n m. looks_at_mutation caller a n m) r.mutations
@@ -116,7 +146,7 @@ slice_of r caller a = record {
   rrrs = only (λ n e. looks_at_rrr r a n e) r.rrrs;
   sources = only (λ n s. looks_at_source r caller a n) r.sources;
   mutations = mutations_looked_at r caller a;
-  mandates = map.empty;
+  mandates = only (λ m u. names_mandate caller a m) r.mandates;
   next = r.next;
 }
 

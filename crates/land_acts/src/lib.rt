@@ -10,6 +10,7 @@ mod group;
 pub mod laws;
 mod lift;
 mod lodge;
+mod mandate;
 pub mod mutations;
 pub mod plan;
 mod register;
@@ -17,5 +18,6 @@ mod regroup;
 mod revoke;
 mod sharing;
 pub mod slice;
+mod withdraw;
 
 pub use crate::mutations::refusal;

@@ -7,7 +7,9 @@ ghost use Rattle.land_core.specs.Acts.{is_well_formed};
 
 use crate::mutations::refusal::{Planned, Refusal};
 use crate::slice::Slice;
-use crate::{burden, decide, enrol, grant, group, lift, lodge, register, regroup, revoke};
+use crate::{
+    burden, decide, enrol, grant, group, lift, lodge, mandate, register, regroup, revoke, withdraw,
+};
 use land_core::act::Act;
 use land_core::caller::Caller;
 use land_core::change::{Change, Done};
@@ -75,6 +77,8 @@ fn first_refusal(
         Act::Regroup(it) => regroup::refusal(alloc, slice, it, stamp),
         Act::Grant(it) => Ok(grant::refusal(slice, it, stamp)),
         Act::Revoke(it) => Ok(revoke::refusal(slice, it, stamp)),
+        Act::Mandate(it) => Ok(mandate::refusal(slice, caller, it, stamp)),
+        Act::Withdraw(it) => Ok(withdraw::refusal(slice, it, stamp)),
         Act::Register(it) => register::refusal(alloc, slice, it, stamp),
         Act::Burden(it) => Ok(burden::refusal(slice, it, stamp)),
         Act::Lift(it) => Ok(lift::refusal(slice, it, stamp)),
@@ -113,6 +117,8 @@ fn planned(
         Act::Regroup(it) => regroup::planned(alloc, slice, it, stamp),
         Act::Grant(it) => grant::planned(alloc, slice, it, stamp),
         Act::Revoke(it) => revoke::planned(alloc, slice, it, stamp),
+        Act::Mandate(it) => mandate::planned(alloc, slice, caller, it, stamp),
+        Act::Withdraw(it) => withdraw::planned(alloc, slice, it, stamp),
         Act::Register(it) => register::planned(alloc, slice, it, stamp),
         Act::Burden(it) => burden::planned(alloc, slice, it, stamp),
         Act::Lift(it) => lift::planned(alloc, slice, it, stamp),

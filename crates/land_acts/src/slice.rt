@@ -1,16 +1,17 @@
 //! Slices: the records that planning may look at.
 ghost use Rattle.std.specs.Prelude.{◌≡◌, nat_eq, IfOk};
-ghost use Rattle.land_acts.specs.Slices.{content_names_party, slice_of, looks_at_mutation, looks_at_party, looks_at_rrr, mutations_looked_at, names_party, names_rrr, names_unit};
+ghost use Rattle.land_acts.specs.Slices.{content_names_party, slice_of, is_mandate, looks_at_mutation, looks_at_party, looks_at_rrr, mutations_looked_at, names_mandate, names_party, names_rrr, names_unit};
 ghost use Rattle.land_core.specs.Entries.{only, some};
 
 use crate::first_rights::have_party;
+use crate::mandate::given;
 pub use crate::mutations::planning::Slice;
 use crate::sharing::lists_party;
 use land_core::act::Act;
 use land_core::caller::Caller;
 use land_core::content::Content;
 use land_core::duplicate::Duplicate;
-use land_core::mandates::Mandates;
+use land_core::mandates::{Mandate, Mandates};
 use land_core::mutation::MutationRecord;
 use land_core::parcel::ParcelRecord;
 use land_core::records::Records;
@@ -24,8 +25,8 @@ use std::alloc::{AllocError, Global};
 
 /// The slice of a register for an act: the parties that the act names, or the mutation that it decides, and all state
 /// administrators, each with its roles and its members; the units named likewise with their parcels and entries; the entry
-/// that a lift names; the mutation that it decides, or that its caller lodged under its reference, with its source; and the
-/// next number.
+/// that a lift names; the mutation that it decides, or that its caller lodged under its reference, with its source; the
+/// mandate that it gives or withdraws; and the next number.
 pub fn slice_of(
     alloc: Global,
     register: &Register,
@@ -44,7 +45,7 @@ pub fn slice_of(
         rrrs: rrrs_looked_at(alloc, register, act)?,
         sources: sources_of(alloc, register, &mutations)?,
         mutations,
-        mandates: Mandates::new(alloc),
+        mandates: mandates_looked_at(alloc, register, caller, act)?,
         next: register.next,
     })
 }
@@ -170,6 +171,41 @@ fn is_source_of(mutations: &Records<MutationRecord>, source: u64) -> bool
         .any(|(_, mutation)| mutation.source == source)
 }
 
+/// The mandate that an act gives or withdraws, where it stands.
+fn mandates_looked_at(
+    alloc: Global,
+    register: &Register,
+    caller: Caller,
+    act: &Act,
+) -> Result<Mandates, AllocError>
+    ensures { IfOk result (λ it. it ≡ only (λ mandate u. names_mandate caller act.now mandate) register.now.mandates) }
+{
+    let mut kept = Mandates::new(alloc);
+    for mandate in register.mandates.iter() {
+        if names_mandate(caller, act, *mandate) {
+            kept.insert(*mandate)?;
+        }
+    }
+    Ok(kept)
+}
+
+fn names_mandate(caller: Caller, act: &Act, mandate: Mandate) -> bool
+    ensures { result ≡ names_mandate caller act.now mandate }
+{
+    match act {
+        Act::Mandate(it) => is_mandate(given(caller, it), mandate),
+        Act::Withdraw(it) => is_mandate(*it, mandate),
+        _ => false,
+    }
+}
+
+/// Whether a mandate is another: of the same principal, to the same agent.
+fn is_mandate(it: Mandate, mandate: Mandate) -> bool
+    ensures { result ≡ is_mandate it mandate }
+{
+    mandate.principal == it.principal && mandate.agent == it.agent
+}
+
 fn looks_at_mutation(caller: Caller, act: &Act, number: u64, mutation: &MutationRecord) -> bool
     ensures { result ≡ looks_at_mutation caller act.now number mutation.now }
 {
@@ -194,6 +230,8 @@ fn names_party(register: &Register, act: &Act, party: u64) -> bool
         Act::Group(it) => lists_party(it.members.as_slice(), party),
         Act::Regroup(it) => party == it.group || lists_party(it.members.as_slice(), party),
         Act::Grant(it) | Act::Revoke(it) => party == it.party,
+        Act::Mandate(it) => party == it.agent,
+        Act::Withdraw(it) => party == it.principal || party == it.agent,
         Act::Register(it) => have_party(it.rights.as_slice(), party),
         Act::Burden(it) => party == it.party,
         Act::Lift(_) => false,

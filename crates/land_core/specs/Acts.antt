@@ -8,7 +8,7 @@ use Rattle.land_core.specs.Register.{is_single}
 use Rattle.land_core.specs.Texts.{is_name, is_title, are_words, is_label, is_reference}
 use Rattle.land_core.specs.Units.{is_type}
 use Rattle.land_core.specs.declared.act.Act.{Act}
-use Rattle.land_core.specs.declared.act.Act.TheVariants.{Enrol, Group, Regroup, Grant, Revoke, Register, Burden as ActBurden, Lift as ActLift, Lodge, Approve, Refuse}
+use Rattle.land_core.specs.declared.act.Act.TheVariants.{Enrol, Group, Regroup, Grant, Revoke, Mandate, Withdraw, Register, Burden as ActBurden, Lift as ActLift, Lodge, Approve, Refuse}
 use Rattle.land_core.specs.declared.act.Burden.{Burden}
 use Rattle.land_core.specs.declared.act.Lodging.{Lodging}
 use Rattle.land_core.specs.declared.act.NewParcel.{NewParcel}
@@ -70,6 +70,8 @@ is_well_formed (Group it) = is_name it.name && are_members it.members
 is_well_formed (Regroup it) = is_number it.group && are_members it.members
 is_well_formed (Grant it) = is_number it.party
 is_well_formed (Revoke it) = is_number it.party
+is_well_formed (Mandate it) = is_number it.agent
+is_well_formed (Withdraw it) = is_number it.principal && is_number it.agent
 is_well_formed (Register it) = is_new_unit it
 is_well_formed (ActBurden it) = is_burden it
 is_well_formed (ActLift it) = is_number it.rrr

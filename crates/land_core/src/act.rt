@@ -6,6 +6,7 @@ ghost use Rattle.land_core.specs.Acts.{are_members, name_numbers, are_parcels, h
 use crate::content::Content;
 use crate::kind::PartyKind;
 use crate::limits::{are_words, is_label, is_name, is_number, is_reference, is_title};
+use crate::mandates::Mandate;
 use crate::member::Member;
 use crate::roles::Grant;
 use crate::rrr::RightType;
@@ -85,6 +86,13 @@ pub enum BurdenClass {
     Responsibility,
 }
 
+/// Lets another party look as its caller does.
+#[derive(Clone, Copy, Debug, PartialEq, Eq)]
+pub struct NewMandate {
+    /// The number of the party that holds the mandate from then on. The principal is the caller.
+    pub agent: u64,
+}
+
 /// Burdens a unit with a restriction or a responsibility of a party.
 #[derive(Debug, Drop)]
 pub struct Burden {
@@ -138,6 +146,10 @@ pub enum Act {
     Grant(Grant),
     /// Ends a role of a single party.
     Revoke(Grant),
+    /// Gives another party a mandate of the caller.
+    Mandate(NewMandate),
+    /// Ends a mandate.
+    Withdraw(Mandate),
     /// Enters a unit.
     Register(NewUnit),
     /// Burdens a unit.
@@ -164,6 +176,8 @@ impl Act {
             Act::Group(it) => is_name(it.name.as_str()) && are_members(it.members.as_slice()),
             Act::Regroup(it) => is_number(it.group) && are_members(it.members.as_slice()),
             Act::Grant(it) | Act::Revoke(it) => is_number(it.party),
+            Act::Mandate(it) => is_number(it.agent),
+            Act::Withdraw(it) => is_number(it.principal) && is_number(it.agent),
             Act::Register(it) => it.is_well_formed(),
             Act::Burden(it) => it.is_well_formed(),
             Act::Lift(it) => is_number(it.rrr),

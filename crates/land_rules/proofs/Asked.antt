@@ -1,10 +1,10 @@
 -- What is asked for: acts of the office, and what is lodged.
 use Rattle.std.proofs.Common.{◌≡◌, inl, inr, ℕ, Bool, true, false, not, Option, Some, None, refl, sym, ap, ◌∙◌, subst}
-use Rattle.std.specs.Prelude.{◌≢◌}
+use Rattle.std.specs.Prelude.{◌≢◌, ◌||◌}
 use Rattle.std.specs.Option.{option_map_or}
 use Rattle.std.specs.FinMap as map
 use Rattle.std.proofs.lemmas.Bool.{false≢true}
-use Rattle.land_core.proofs.Booleans.{both_of, not_true}
+use Rattle.land_core.proofs.Booleans.{both_of, not_true, or_false}
 use Rattle.land_core.specs.declared.act.Act.{Act}
 use Rattle.land_core.specs.declared.act.Act.TheVariants as act
 use Rattle.land_core.specs.declared.ask.Ask.{Ask}
@@ -13,13 +13,14 @@ use Rattle.land_core.specs.declared.content.Content.{Content}
 use Rattle.land_core.specs.declared.content.Content.TheVariants as content
 use Rattle.land_core.specs.declared.content.Discharge.{Discharge}
 use Rattle.land_core.specs.declared.content.Mortgage.{Mortgage}
+use Rattle.land_core.specs.declared.mandates.Mandate.{Mandate}
 use Rattle.land_core.specs.declared.register.Register.{Register}
 use Rattle.land_core.specs.declared.rrr.RrrRecord.{RrrRecord}
 use Rattle.land_rules.specs.ActLaws.{to_approve, to_refuse}
-use Rattle.land_rules.specs.Acts.{decides, is_discharge_of_another, is_mortgage_of, is_mortgage_of_another, is_of_a_mortgage, is_of_outlines, is_office_act, is_transfer, lodges}
+use Rattle.land_rules.specs.Acts.{decides, is_discharge_of_another, is_mortgage_of, is_mortgage_of_another, is_of_a_mortgage, is_of_mandates, is_of_outlines, is_office_act, is_transfer, lodges, withdraws}
 use Rattle.land_rules.specs.Relations.{has_lodged, is_rrr_where}
 use Rattle.land_rules.specs.StandingLaws.{HasMortgage, IsOfTheOffice, Lodges, LodgesMortgageOrDischarge, LodgesSubdivisionOrMerger, LodgesTransfer, is_lodging}
-use Rattle.land_rules.proofs.StandingTests.{both, never, not_both, number_at, number_is}
+use Rattle.land_rules.proofs.StandingTests.{both, neither, never, not_both, number_at, number_is}
 
 -- whether what is asked for is an act that passes a test
 abbrev pub asks_for : (Act → Bool) → Ask → Bool
@@ -59,9 +60,11 @@ lodges_as_no_office passes a h =
     let it = lodging_of passes a h in
     subst (λ (x : Ask). asks_for is_office_act x ≡ false) (sym it.lodged.asked) refl
 
--- what is no lodging is an act of the office, and lodges nothing
-lodging_or_office : (it : Act) → is_office_act it ≡ not (is_lodging it)
+-- what is no lodging and not on a mandate is an act of the office, and lodges nothing
+lodging_or_office : (it : Act) → is_office_act it ≡ not (is_lodging it || is_of_mandates it)
 lodging_or_office (act.Lodge it) = refl
+lodging_or_office (act.Mandate it) = refl
+lodging_or_office (act.Withdraw it) = refl
 lodging_or_office other = refl
 
 pub office_lodges_nothing : (passes : Content → Bool) (it : Act) → is_lodging it ≡ false → lodges passes it ≡ false
@@ -69,11 +72,18 @@ office_lodges_nothing passes (act.Lodge it) h = absurd (false≢true (sym h))
 office_lodges_nothing passes other h = refl
 
 pub of_the_office : (a : Ask) → asks_for is_office_act a ≡ true → IsOfTheOffice a
-of_the_office (ask.Do it) h = record { act = it; asked = refl; no_lodging = not_true _ (sym (lodging_or_office it) ∙ h) }
+of_the_office (ask.Do it) h =
+    let parts = or_false _ _ (not_true _ (sym (lodging_or_office it) ∙ h)) in
+    record { act = it; asked = refl; no_lodging = parts.0; no_mandate = parts.1 }
 of_the_office other h = absurd (false≢true h)
 
 pub asks_the_office : (a : Ask) → IsOfTheOffice a → asks_for is_office_act a ≡ true
-asks_the_office a it = subst (λ (x : Ask). asks_for is_office_act x ≡ true) (sym it.asked) (lodging_or_office it.act ∙ ap not it.no_lodging)
+asks_the_office a it = subst (λ (x : Ask). asks_for is_office_act x ≡ true) (sym it.asked) (lodging_or_office it.act ∙ ap not (neither _ _ it.no_lodging it.no_mandate))
+
+-- an act that is not on a mandate withdraws none
+pub withdraws_nothing : (passes : Mandate → Bool) (it : Act) → is_of_mandates it ≡ false → withdraws passes it ≡ false
+withdraws_nothing passes (act.Withdraw it) h = absurd (false≢true (sym h))
+withdraws_nothing passes other h = refl
 
 -- a decision on nothing that a party lodged
 pub decides_for_others : (now : Register) (party : ℕ) (it : Act)

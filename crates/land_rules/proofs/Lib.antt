@@ -11,6 +11,7 @@ pub mod Enough
 pub mod InCircles
 pub mod Interests
 pub mod LookedUp
+pub mod MandateRules
 pub mod Seeing
 pub mod SightByInterest
 pub mod SightDenials

@@ -24,14 +24,14 @@ use Rattle.land_core.specs.declared.role.Role.TheVariants.{Conveyancer, Notary, 
 use Rattle.land_core.specs.declared.subdivision.Subdivision.{Subdivision}
 use Rattle.land_rules.proofs.Denied.{none_from_allowed, verdicts_least}
 use Rattle.land_rules.specs.ActLaws.{to_approve, to_refuse}
-use Rattle.land_rules.specs.Acts.{decides, is_discharge_of_another, is_mortgage_of, is_mortgage_of_another, is_of_a_mortgage, is_of_mortgages, is_of_outlines, is_of_transfers, is_office_act, is_transfer, lodges}
+use Rattle.land_rules.specs.Acts.{decides, is_between_others, is_discharge_of_another, is_mortgage_of, is_mortgage_of_another, is_of_a_mortgage, is_of_mandates, is_of_mortgages, is_of_outlines, is_of_transfers, is_office_act, is_transfer, lodges}
 use Rattle.land_rules.specs.Relations.{has_lodged, is_rrr_where}
 use Rattle.land_rules.specs.Rules.{Rules, act_rules, denies, first_denial, is_of_the_present, rules_on, sight_rules, verdict_of}
 use Rattle.land_rules.specs.StandingLaws.{ActsOfTheOfficeAreReserved, BanksAndNotariesLodgeMortgages, BanksDischargeTheirOwnMortgages, BanksLodgeTheirOwnMortgages, ConveyancersAndNotariesLodgeTransfers, IsGivenTo, IsLeftTo, IsOfTheOffice, IsOfTheOfficeForOthers, Lodges, LodgesMortgageOrDischarge, LodgesSubdivisionOrMerger, LodgesTransfer, RolesAreHeld, StrangersAreDeniedEverything, SurveyorsLodgeSubdivisionsAndMergers, ThePastIsClosedToThreeRoles, asks_in, is_in_role, is_lodging, may_ask, roles_of_the_past}
 use Rattle.land_rules.specs.declared.verdict.Verdict.{Verdict}
 use Rattle.land_rules.specs.declared.verdict.Verdict.TheVariants.{Allowed}
 use Rattle.land_rules.proofs.StandingTests.{and_nothing, both, first_fails, last_fails, neither, not_both, nothing_there, number_apart, number_at, or_nothing}
-use Rattle.land_rules.proofs.Asked.{asks_for, asks_the_office, decides_for_others, discharge_of_another, lodges_it, lodges_mortgage_or_discharge, lodges_outlines, lodges_transfer, mortgage_is_found, mortgage_of_another, mortgage_or_discharge_of, no_mortgage_found, of_the_office, office_lodges_nothing, outlines_are_no_transfer, outlines_of, transfer_of}
+use Rattle.land_rules.proofs.Asked.{asks_for, asks_the_office, decides_for_others, discharge_of_another, lodges_it, lodges_mortgage_or_discharge, lodges_outlines, lodges_transfer, mortgage_is_found, mortgage_of_another, mortgage_or_discharge_of, no_mortgage_found, of_the_office, office_lodges_nothing, outlines_are_no_transfer, outlines_of, transfer_of, withdraws_nothing}
 use Rattle.land_rules.proofs.StandingRules.{allows, as_bank, closed_from, from_rule_1, from_rule_2, from_rule_3, from_rule_4, from_rule_5, from_rule_6, from_rule_7, from_rule_8, from_rule_9, in_role, late_is_allowed, may, no_past_from, none_before, past_from, present_from, rule_1, rule_2, rule_3, rule_4, rule_5, rule_6, rule_7, rule_8, rule_9}
 
 module _ (now at : Register) (caller : Caller) (past : Bool) where
@@ -94,7 +94,7 @@ module _ (now at : Register) (caller : Caller) (past : Bool) where
       (from_rule_7 now at caller past a)
 
   -- none of the first three rules denies a caller that may ask
-  none_of_three : may_ask now caller past ≡ true → (others : Bool) → others ≡ false
+  pub none_of_three : may_ask now caller past ≡ true → (others : Bool) → others ≡ false
       → (not (stands now kind.Party caller.party) || (not (holds now caller.party caller.role) || (past && is_of_the_present caller || others)))
       ≡ false
   none_of_three asker others none =
@@ -106,13 +106,13 @@ module _ (now at : Register) (caller : Caller) (past : Bool) where
   office_given : (a : Ask) → IsGivenTo (StateAdministrator ∷ []) (IsOfTheOfficeForOthers now caller.party) now at caller a past
   office_given a asker role it =
       subst (λ (x : Ask). verdict_of now at caller x past ≡ Allowed) (sym it.office.asked)
-      (given it.office.act it.office.no_lodging (decides_for_others now caller.party it.office.act
+      (given it.office.act it.office.no_lodging it.office.no_mandate (decides_for_others now caller.party it.office.act
       (subst (λ (x : Ask). (number : ℕ) → has_lodged now caller.party number ≡ true → (x ≢ to_approve number) × (x ≢ to_refuse number))
       it.office.asked it.others)))
     where
-      given : (it : Act) → is_lodging it ≡ false → decides (has_lodged now caller.party) it ≡ false
+      given : (it : Act) → is_lodging it ≡ false → is_of_mandates it ≡ false → decides (has_lodged now caller.party) it ≡ false
           → verdict_of now at caller (ask.Do it) past ≡ Allowed
-      given it no_lodging others =
+      given it no_lodging no_mandate others =
           let nothing : (passes : Content → Bool) → lodges passes it ≡ false = λ passes. office_lodges_nothing passes it no_lodging in
           allows (rules_on now at caller (ask.Do it) past) (none_of_three asker _
           (neither _ _ (last_fails _ _ (ap not (sym (or_nothing _) ∙ role)))
@@ -121,7 +121,9 @@ module _ (now at : Register) (caller : Caller) (past : Bool) where
           (neither _ _ (first_fails _ _ (nothing is_of_a_mortgage))
           (neither _ _ (last_fails _ _ (nothing (is_mortgage_of_another caller.party)))
           (neither _ _ (last_fails _ _ (nothing (is_discharge_of_another now caller.party)))
-          (neither _ _ others refl))))))))
+          (neither _ _ others
+          (neither _ _ (first_fails _ _ no_mandate)
+          (neither _ _ (withdraws_nothing (is_between_others caller.party) it no_mandate) refl))))))))))
 
   -- what rules 5 to 9 say of a content that is lodged
   record IsFree (c : Content) : Type 0 where

@@ -6,19 +6,22 @@ use Rattle.land_core.specs.declared.act.Act.TheVariants as act
 use Rattle.land_core.specs.declared.caller.Caller.{Caller}
 use Rattle.land_core.specs.declared.content.Content.{Content}
 use Rattle.land_core.specs.declared.content.Content.TheVariants as content
+use Rattle.land_core.specs.declared.mandates.Mandate.{Mandate}
 use Rattle.land_core.specs.declared.register.Register.{Register}
 use Rattle.land_core.specs.declared.role.Role.TheVariants.{Conveyancer, Notary, Bank}
 use Rattle.land_core.specs.declared.rrr.RrrRecord.{RrrRecord}
 use Rattle.land_rules.specs.Relations.{is_mortgage, is_rrr_where}
 
 -- acts of the office: to enrol, to group and regroup, to grant and revoke roles, to register and burden units, to lift burdens,
--- to approve and refuse mutations; all others are lodgings
+-- to approve and refuse mutations; the others are lodgings, and what is done with mandates
 abbrev pub is_office_act : Act → Bool
 is_office_act (act.Enrol it) = true
 is_office_act (act.Group it) = true
 is_office_act (act.Regroup it) = true
 is_office_act (act.Grant it) = true
 is_office_act (act.Revoke it) = true
+is_office_act (act.Mandate it) = false
+is_office_act (act.Withdraw it) = false
 is_office_act (act.Register it) = true
 is_office_act (act.Burden it) = true
 is_office_act (act.Lift it) = true
@@ -36,6 +39,21 @@ abbrev pub decides : (ℕ → Bool) → Act → Bool
 decides passes (act.Approve it) = passes it.mutation
 decides passes (act.Refuse it) = passes it.mutation
 decides passes other = false
+
+-- whether an act gives or withdraws a mandate
+abbrev pub is_of_mandates : Act → Bool
+is_of_mandates (act.Mandate it) = true
+is_of_mandates (act.Withdraw it) = true
+is_of_mandates other = false
+
+-- whether an act withdraws a mandate that passes a test
+abbrev pub withdraws : (Mandate → Bool) → Act → Bool
+withdraws passes (act.Withdraw it) = passes it
+withdraws passes other = false
+
+-- whether a mandate is between others: the party is neither its principal nor its agent
+abbrev pub is_between_others : (party : ℕ) → Mandate → Bool
+is_between_others party m = not (nat_eq m.principal party || nat_eq m.agent party)
 
 -- ---- roles that lodge
 

@@ -13,7 +13,7 @@ use Rattle.land_core.specs.declared.kind.Kind.TheVariants as kind
 use Rattle.land_core.specs.declared.register.Register.{Register}
 use Rattle.land_core.specs.declared.role.Role.TheVariants.{Citizen, Conveyancer, Notary, Bank, CertifiedSurveyor, StateAdministrator}
 use Rattle.land_core.specs.declared.rrr.RrrRecord.{RrrRecord}
-use Rattle.land_rules.specs.Acts.{decides, is_discharge_of_another, is_mortgage_of_another, is_of_a_mortgage, is_of_mortgages, is_of_outlines, is_of_transfers, is_office_act, is_transfer, lodges}
+use Rattle.land_rules.specs.Acts.{decides, is_between_others, is_discharge_of_another, is_mortgage_of_another, is_of_a_mortgage, is_of_mandates, is_of_mortgages, is_of_outlines, is_of_transfers, is_office_act, is_transfer, lodges, withdraws}
 use Rattle.land_rules.specs.Circles.{circle_of, is_group_of, is_held_by, is_in_circle, is_told_to_circle, names_held_by}
 use Rattle.land_rules.specs.Relations.{has_lodged, is_creditor_on, is_lodger_on, is_mutation_where, is_rrr_where, is_told_to_creditor}
 use Rattle.land_rules.specs.declared.verdict.Verdict.{Verdict}
@@ -63,6 +63,10 @@ act_rules now caller a =
     ∷ (9, is_role caller.role Bank && lodges (is_discharge_of_another now caller.party) a)
     -- the caller approves or refuses a mutation that it lodged, whatever its role and the mutation's state
     ∷ (10, decides (has_lodged now caller.party) a)
+    -- a mandate is given or withdrawn in another role than citizen
+    ∷ (28, is_of_mandates a && not (is_role caller.role Citizen))
+    -- a mandate is withdrawn by a caller that is neither its principal nor its agent, whether it stands or not
+    ∷ (29, withdraws (is_between_others caller.party) a)
     ∷ []
 
 abbrev pub standing_rules : (now : Register) → Caller → Ask → (past : Bool) → Rules

@@ -8,6 +8,7 @@ use Rattle.land_core.specs.Role.{is_role}
 use Rattle.land_core.specs.declared.act.Act.{Act}
 use Rattle.land_core.specs.declared.act.Act.TheVariants as act
 use Rattle.land_core.specs.declared.act.Lodging.{Lodging}
+use Rattle.land_core.specs.declared.act.NewMandate.{NewMandate}
 use Rattle.land_core.specs.declared.ask.Ask.{Ask}
 use Rattle.land_core.specs.declared.ask.Ask.TheVariants as ask
 use Rattle.land_core.specs.declared.caller.Caller.{Caller}
@@ -17,6 +18,7 @@ use Rattle.land_core.specs.declared.content.Discharge.{Discharge}
 use Rattle.land_core.specs.declared.content.Mortgage.{Mortgage}
 use Rattle.land_core.specs.declared.content.Transfer.{Transfer}
 use Rattle.land_core.specs.declared.kind.Kind.TheVariants as kind
+use Rattle.land_core.specs.declared.mandates.Mandate.{Mandate}
 use Rattle.land_core.specs.declared.merger.Merger.{Merger}
 use Rattle.land_core.specs.declared.register.Register.{Register}
 use Rattle.land_core.specs.declared.role.Role.{Role}
@@ -24,6 +26,7 @@ use Rattle.land_core.specs.declared.role.Role.TheVariants.{Citizen, Conveyancer,
 use Rattle.land_core.specs.declared.rrr.RrrRecord.{RrrRecord}
 use Rattle.land_core.specs.declared.subdivision.Subdivision.{Subdivision}
 use Rattle.land_rules.specs.ActLaws.{to_approve, to_refuse}
+use Rattle.land_rules.specs.Acts.{is_of_mandates}
 use Rattle.land_rules.specs.Relations.{has_lodged, is_mortgage}
 use Rattle.land_rules.specs.Rules.{verdict_of}
 use Rattle.land_rules.specs.declared.verdict.Verdict.TheVariants.{Allowed, Denied}
@@ -108,11 +111,12 @@ abbrev pub is_lodging : Act → Bool
 is_lodging (act.Lodge it) = true
 is_lodging other = false
 
--- what is asked for is an act, and no lodging: it is one of the office
+-- what is asked for is an act, no lodging, and nothing is done with a mandate: it is one of the office
 pub record IsOfTheOffice (a : Ask) : Type 0 where
   pub act : Act
   pub asked : a ≡ ask.Do act
   pub no_lodging : is_lodging act ≡ false
+  pub no_mandate : is_of_mandates act ≡ false
 
 -- such an act, and no decision on a mutation that the party lodged
 pub record IsOfTheOfficeForOthers (now : Register) (party : ℕ) (a : Ask) : Type 0 where
@@ -225,3 +229,42 @@ pub record DischargeIsItsOwn (now at : Register) (caller : Caller) (a : Ask) (pa
 
 abbrev pub BanksDischargeTheirOwnMortgages : Type 0
 BanksDischargeTheirOwnMortgages = (now at : Register) (caller : Caller) (a : Ask) (past : Bool) → DischargeIsItsOwn now at caller a past
+
+-- ---- rules 28 and 29: citizens give mandates, and withdraw those of which they are principal or agent
+
+-- what is asked for is to give a mandate, or to withdraw one
+abbrev pub GivesMandate : Ask → Type 0
+GivesMandate a = (it : NewMandate) × (a ≡ ask.Do (act.Mandate it))
+
+abbrev pub WithdrawsMandate : Mandate → Ask → Type 0
+WithdrawsMandate it a = a ≡ ask.Do (act.Withdraw it)
+
+abbrev pub IsOnMandate : Ask → Type 0
+IsOnMandate a = GivesMandate a ⊎ ((it : Mandate) × WithdrawsMandate it a)
+
+-- a party is the principal or the agent of a mandate
+abbrev pub IsPartyTo : (party : ℕ) → Mandate → Type 0
+IsPartyTo party it = (it.principal ≡ party) ⊎ (it.agent ≡ party)
+
+-- a party gives a mandate, or withdraws one of which it is the principal or the agent
+abbrev pub IsOnItsMandate : (party : ℕ) → Ask → Type 0
+IsOnItsMandate party a = GivesMandate a ⊎ ((it : Mandate) × WithdrawsMandate it a × IsPartyTo party it)
+
+-- a citizen that may ask withdraws a mandate between others
+pub record WithdrawsForOthers (now : Register) (caller : Caller) (a : Ask) (past : Bool) : Type 0 where
+  pub asker : may_ask now caller past ≡ true
+  pub citizen : asks_in (Citizen ∷ []) caller ≡ true
+  pub mandate : Mandate
+  pub asked : WithdrawsMandate mandate a
+  pub others : IsPartyTo caller.party mandate → ⊥
+
+-- to give and to withdraw mandates is left to citizens by rule 28. To give them is given to each, whoever the agent is, and to
+-- withdraw them to the principal and to the agent, whether they stand or not; to other citizens rule 29 denies it, and it denies
+-- nothing else
+pub record MandateIsItsOwn (now at : Register) (caller : Caller) (a : Ask) (past : Bool) : Type 0 where
+  pub left : IsLeftTo (Citizen ∷ []) 28 IsOnMandate now at caller a past
+  pub given : IsGivenTo (Citizen ∷ []) (IsOnItsMandate caller.party) now at caller a past
+  pub denied : (verdict_of now at caller a past ≡ Denied 29) ↔ WithdrawsForOthers now caller a past
+
+abbrev pub CitizensGiveMandates : Type 0
+CitizensGiveMandates = (now at : Register) (caller : Caller) (a : Ask) (past : Bool) → MandateIsItsOwn now at caller a past

@@ -6,7 +6,7 @@ ghost use Rattle.land_rules.specs.Laws.{RulesRise, VerdictsAreLeast, SeenIsExact
 ghost use Rattle.land_rules.specs.SightLaws.{MembersHold, EndedEntriesGiveNoSight, OwnersAloneSeeMortgages, BanksSeeByTheirMortgages, LodgersSeeTheirMutations, ConveyancersSeeByTheirLodgings};
 ghost use Rattle.land_rules.specs.StandingLaws.{StrangersAreDeniedEverything, RolesAreHeld, ThePastIsClosedToThreeRoles, ActsOfTheOfficeAreReserved};
 ghost use Rattle.land_rules.specs.StandingLaws.{ConveyancersAndNotariesLodgeTransfers, SurveyorsLodgeSubdivisionsAndMergers, BanksAndNotariesLodgeMortgages};
-ghost use Rattle.land_rules.specs.StandingLaws.{BanksLodgeTheirOwnMortgages, BanksDischargeTheirOwnMortgages};
+ghost use Rattle.land_rules.specs.StandingLaws.{BanksLodgeTheirOwnMortgages, BanksDischargeTheirOwnMortgages, CitizensGiveMandates};
 
 /// The rules on every ask stand in rising order.
 pub fn rules_rise()
@@ -121,7 +121,7 @@ pub fn the_past_is_closed_to_three_roles()
     ensures { ThePastIsClosedToThreeRoles }
 {}
 
-/// Acts of the office, which are all but lodgings, are for state administrators alone, and for them all but the decisions on
+/// Acts of the office, which are all but lodgings and mandates, are for state administrators alone, and for them all but decisions on
 /// what they lodged. In other roles rule 4 denies them to whoever may ask, and nothing else.
 pub fn acts_of_the_office_are_reserved()
     ensures { ActsOfTheOfficeAreReserved }
@@ -154,4 +154,11 @@ pub fn banks_lodge_their_own_mortgages()
 /// absent, no mortgage or the mortgage of another rule 9 denies it, and nothing else.
 pub fn banks_discharge_their_own_mortgages()
     ensures { BanksDischargeTheirOwnMortgages }
+{}
+
+/// Mandates are given and withdrawn by citizens alone; in other roles rule 28 denies it to whoever may ask, and nothing else. Each
+/// citizen may give one, and withdraw those of which it is the principal or the agent; those between others rule 29 denies it, and
+/// nothing else.
+pub fn citizens_give_mandates()
+    ensures { CitizensGiveMandates }
 {}

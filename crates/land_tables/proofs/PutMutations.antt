@@ -55,6 +55,8 @@ module _ (r : Register) (sound : IsSound r) where
   puts caller (act.Regroup it) stamp = record { used = below; put = tt; ended = refl }
   puts caller (act.Grant it) stamp = record { used = below; put = tt; ended = refl }
   puts caller (act.Revoke it) stamp = record { used = below; put = tt; ended = refl }
+  puts caller (act.Mandate it) stamp = record { used = below; put = tt; ended = refl }
+  puts caller (act.Withdraw it) stamp = record { used = below; put = tt; ended = refl }
   puts caller (act.Register it) stamp = record { used = below; put = tt; ended = refl }
   puts caller (act.Burden it) stamp = record { used = below; put = tt; ended = refl }
   puts caller (act.Lift it) stamp = record { used = below; put = tt; ended = refl }

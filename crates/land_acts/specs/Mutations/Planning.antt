@@ -1,7 +1,7 @@
 -- What planning reads of a register, and what all plans have in common.
 use Rattle.std.specs.Prelude.{ℕ, ◌+◌, ℤ, Bool, List, [], ◌∷◌, Option, Some, None, nat_lt, if◌then◌else◌}
 use Rattle.land_acts.specs.declared.mutations.refusal.Refusal.{Refusal}
-use Rattle.land_acts.specs.declared.mutations.refusal.Refusal.TheVariants.{NotLodged, NoSuchUnit, NoSuchParcel, NoSuchRight, NoSuchParty, ShareTooLarge, SharesTooFine, UnitsUnlike, TooMany, NotBank, NotMortgage, SharesNotWhole, ReferenceUsed, RoleHeld, RoleNotHeld, ClockOut, LastAdministrator, SameParty, NotMatched, NoMemory}
+use Rattle.land_acts.specs.declared.mutations.refusal.Refusal.TheVariants.{NotLodged, NoSuchUnit, NoSuchParcel, NoSuchRight, NoSuchParty, ShareTooLarge, SharesTooFine, UnitsUnlike, TooMany, NotBank, NotMortgage, SharesNotWhole, ReferenceUsed, RoleHeld, RoleNotHeld, ClockOut, LastAdministrator, SameParty, NotMatched, MandateHeld, NoMandate, NoMemory}
 use Rattle.land_core.specs.Units.{rrr_count}
 use Rattle.land_core.specs.declared.change.Done.{Done}
 use Rattle.land_core.specs.declared.register.Register.{Register}
@@ -29,6 +29,8 @@ number_of ClockOut = 217
 number_of LastAdministrator = 218
 number_of SameParty = 219
 number_of NotMatched = 220
+number_of MandateHeld = 221
+number_of NoMandate = 222
 number_of NoMemory = 501
 
 -- whether there are too few numbers left for so many new objects: 1_000_000_000 is the last one

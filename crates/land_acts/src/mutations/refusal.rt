@@ -46,6 +46,10 @@ pub enum Refusal {
     /// 220: the new outlines are not the ground of the old ones: parts and old parcel, or listed parcels and outline, do not
     /// match.
     NotMatched,
+    /// 221: the mandate stands already.
+    MandateHeld,
+    /// 222: the mandate does not stand.
+    NoMandate,
     /// 501: there was no memory for the plan.
     NoMemory,
 }
@@ -77,6 +81,8 @@ impl Refusal {
             Refusal::LastAdministrator => 218,
             Refusal::SameParty => 219,
             Refusal::NotMatched => 220,
+            Refusal::MandateHeld => 221,
+            Refusal::NoMandate => 222,
             Refusal::NoMemory => 501,
         }
     }

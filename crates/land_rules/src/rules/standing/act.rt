@@ -1,6 +1,6 @@
-//! Standing rules on acts: who may do what the office does, lodge and decide, by the register now.
+//! Standing rules on acts: who may do what the office does, lodge, decide, give and withdraw mandates, by the register now.
 ghost use Rattle.std.specs.Prelude.{◌≡◌};
-ghost use Rattle.land_rules.specs.Acts.{decides, is_discharge_of_another, is_mortgage_of, is_mortgage_of_another, is_of_a_mortgage, is_of_mortgages, is_of_outlines, is_of_transfers, is_office_act, is_transfer, lodges};
+ghost use Rattle.land_rules.specs.Acts.{decides, is_between_others, is_discharge_of_another, is_mortgage_of, is_mortgage_of_another, is_of_a_mortgage, is_of_mandates, is_of_mortgages, is_of_outlines, is_of_transfers, is_office_act, is_transfer, lodges, withdraws};
 ghost use Rattle.land_rules.specs.Relations.{has_lodged, is_rrr_where};
 ghost use Rattle.land_rules.specs.Rules.{first_denial, act_rules};
 
@@ -9,6 +9,7 @@ use crate::verdict::Verdict;
 use land_core::act::Act;
 use land_core::caller::Caller;
 use land_core::content::Content;
+use land_core::mandates::Mandate;
 use land_core::register::Register;
 use land_core::role::Role;
 
@@ -30,6 +31,10 @@ pub(crate) fn verdict(now: &Register, caller: Caller, act: &Act) -> Verdict
         Verdict::Denied(9)
     } else if decides_own(now, caller.party, act) {
         Verdict::Denied(10)
+    } else if is_of_mandates(act) && caller.role != Role::Citizen {
+        Verdict::Denied(28)
+    } else if withdraws_between_others(caller.party, act) {
+        Verdict::Denied(29)
     } else {
         Verdict::Allowed
     }
@@ -49,8 +54,31 @@ fn is_office_act(act: &Act) -> bool
         | Act::Lift(_)
         | Act::Approve(_)
         | Act::Refuse(_) => true,
-        Act::Lodge(_) => false,
+        Act::Mandate(_) | Act::Withdraw(_) | Act::Lodge(_) => false,
     }
+}
+
+/// Whether an act gives or withdraws a mandate.
+fn is_of_mandates(act: &Act) -> bool
+    ensures { result ≡ is_of_mandates act.now }
+{
+    matches!(act, Act::Mandate(_) | Act::Withdraw(_))
+}
+
+fn withdraws_between_others(party: u64, act: &Act) -> bool
+    ensures { result ≡ withdraws (is_between_others party) act.now }
+{
+    match act {
+        Act::Withdraw(it) => is_between_others(party, *it),
+        _ => false,
+    }
+}
+
+/// Whether a party is neither the principal nor the agent of a mandate.
+fn is_between_others(party: u64, mandate: Mandate) -> bool
+    ensures { result ≡ is_between_others party mandate }
+{
+    !(mandate.principal == party || mandate.agent == party)
 }
 
 /// Whether transfers are lodged in the caller's role.

@@ -1,0 +1,62 @@
+//! Giving another party a mandate.
+ghost use Rattle.std.specs.Prelude.{◌≡◌, IfOk};
+ghost use Rattle.land_acts.specs.Mandating.{given, mandate_refusals, mandate_change, mandate_done};
+ghost use Rattle.land_acts.specs.Mutations.Planning.{first_that_holds};
+
+use crate::mutations::planning::done_on;
+use crate::mutations::refusal::Refusal;
+use crate::slice::Slice;
+use land_core::act::NewMandate;
+use land_core::caller::Caller;
+use land_core::change::{Change, Done};
+use land_core::mandates::Mandate;
+use land_core::sequence::Sequence;
+use std::alloc::{AllocError, Global};
+
+/// The least refusal of a mandate whose condition holds.
+pub(crate) fn refusal(
+    slice: &Slice,
+    caller: Caller,
+    it: &NewMandate,
+    stamp: Option<i64>,
+) -> Option<Refusal>
+    ensures { result ≡ first_that_holds (mandate_refusals slice.now caller it.now stamp) }
+{
+    if !slice.has_single_party(it.agent) {
+        Some(Refusal::NoSuchParty)
+    } else if stamp.is_none() {
+        Some(Refusal::ClockOut)
+    } else if it.agent == caller.party {
+        Some(Refusal::SameParty)
+    } else if slice.mandates.contains(given(caller, it)) {
+        Some(Refusal::MandateHeld)
+    } else {
+        None
+    }
+}
+
+/// The mandate of the caller that is asked for.
+pub(crate) fn given(caller: Caller, it: &NewMandate) -> Mandate
+    ensures { result ≡ given caller it.now }
+{
+    Mandate {
+        principal: caller.party,
+        agent: it.agent,
+    }
+}
+
+/// The mandate, from then on.
+pub(crate) fn planned(
+    alloc: Global,
+    slice: &Slice,
+    caller: Caller,
+    it: &NewMandate,
+    stamp: i64,
+) -> Result<(Change, Done), AllocError>
+    ensures { IfOk result (λ planned. (planned.0 ≡ mandate_change slice.now caller it.now) × (planned.1 ≡ mandate_done it.now stamp)) }
+{
+    let mandates = Sequence::of_one(alloc, given(caller, it))?;
+    let mut change = Change::nothing(alloc, slice.next);
+    change.put.mandates = mandates;
+    Ok((change, done_on(alloc, it.agent, stamp)))
+}

@@ -1,0 +1,40 @@
+//! Ending a mandate.
+ghost use Rattle.std.specs.Prelude.{◌≡◌, IfOk};
+ghost use Rattle.land_acts.specs.Mutations.Planning.{first_that_holds};
+ghost use Rattle.land_acts.specs.Withdrawing.{withdraw_refusals, withdraw_change, withdraw_done};
+
+use crate::mutations::planning::done_on;
+use crate::mutations::refusal::Refusal;
+use crate::slice::Slice;
+use land_core::change::{Change, Done};
+use land_core::mandates::Mandate;
+use land_core::sequence::Sequence;
+use std::alloc::{AllocError, Global};
+
+/// The least refusal of a withdrawal whose condition holds.
+pub(crate) fn refusal(slice: &Slice, it: &Mandate, stamp: Option<i64>) -> Option<Refusal>
+    ensures { result ≡ first_that_holds (withdraw_refusals slice.now it.now stamp) }
+{
+    if stamp.is_none() {
+        Some(Refusal::ClockOut)
+    } else if !slice.mandates.contains(*it) {
+        Some(Refusal::NoMandate)
+    } else {
+        None
+    }
+}
+
+/// The end of the mandate.
+pub(crate) fn planned(
+    alloc: Global,
+    slice: &Slice,
+    it: &Mandate,
+    stamp: i64,
+) -> Result<(Change, Done), AllocError>
+    ensures { IfOk result (λ planned. (planned.0 ≡ withdraw_change slice.now it.now) × (planned.1 ≡ withdraw_done it.now stamp)) }
+{
+    let mandates = Sequence::of_one(alloc, *it)?;
+    let mut change = Change::nothing(alloc, slice.next);
+    change.ended.mandates = mandates;
+    Ok((change, done_on(alloc, it.agent, stamp)))
+}
