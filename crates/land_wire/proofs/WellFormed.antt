@@ -20,7 +20,7 @@ use Rattle.land_wire.specs.declared.routes.act_word.ActWord.TheVariants as word
 use Rattle.land_wire_json.specs.Bodies.Fields.{value_in}
 use Rattle.land_wire_json.specs.Bodies.Laws.{BodiesAreWellFormed}
 use Rattle.land_wire_json.specs.Bodies.Mutations.{decision_of, lodging_of}
-use Rattle.land_wire_json.specs.Bodies.Parties.{enrol_of, group_of, regroup_of, grant_of}
+use Rattle.land_wire_json.specs.Bodies.Parties.{enrol_of, group_of, regroup_of, grant_of, mandate_of, withdrawal_of}
 use Rattle.land_wire_json.specs.Bodies.Units.{unit_of, burden_of, lift_of}
 use Rattle.land_wire_json.specs.Bodies.WireFaults.{◌>>=◌, Gives}
 use Rattle.land_wire_json.specs.declared.bodies.content_kind.ContentKind.{ContentKind}
@@ -68,6 +68,8 @@ act_of-well_formed law word.Group value = wrapped act.Group (group_of value) (la
 act_of-well_formed law word.Regroup value = wrapped act.Regroup (regroup_of value) (law.regroup value)
 act_of-well_formed law word.Grant value = wrapped act.Grant (grant_of value) (law.grant value)
 act_of-well_formed law word.Revoke value = wrapped act.Revoke (grant_of value) (law.revoke value)
+act_of-well_formed law word.Mandate value = wrapped act.Mandate (mandate_of value) (law.mandate value)
+act_of-well_formed law word.Withdraw value = wrapped act.Withdraw (withdrawal_of value) (law.withdraw value)
 act_of-well_formed law word.Register value = wrapped act.Register (unit_of value) (law.register value)
 act_of-well_formed law word.Burden value = wrapped act.Burden (burden_of value) (law.burden value)
 act_of-well_formed law word.Lift value = wrapped act.Lift (lift_of value) (law.lift value)

@@ -6,7 +6,7 @@ use Rattle.land_wire.specs.declared.routes.act_word.ActWord.{ActWord}
 use Rattle.land_wire.specs.declared.routes.act_word.ActWord.TheVariants as word
 use Rattle.land_wire_json.specs.Bodies.Fields.{value_in}
 use Rattle.land_wire_json.specs.Bodies.Mutations.{decision_of, lodging_of}
-use Rattle.land_wire_json.specs.Bodies.Parties.{enrol_of, group_of, regroup_of, grant_of}
+use Rattle.land_wire_json.specs.Bodies.Parties.{enrol_of, group_of, regroup_of, grant_of, mandate_of, withdrawal_of}
 use Rattle.land_wire_json.specs.Bodies.Units.{unit_of, burden_of, lift_of}
 use Rattle.land_wire_json.specs.Bodies.WireFaults.{◌>>=◌}
 use Rattle.land_wire_json.specs.declared.bodies.content_kind.ContentKind.{ContentKind}
@@ -25,6 +25,8 @@ act_of word.Group value = group_of value >>= λ it. Ok (act.Group it)
 act_of word.Regroup value = regroup_of value >>= λ it. Ok (act.Regroup it)
 act_of word.Grant value = grant_of value >>= λ it. Ok (act.Grant it)
 act_of word.Revoke value = grant_of value >>= λ it. Ok (act.Revoke it)
+act_of word.Mandate value = mandate_of value >>= λ it. Ok (act.Mandate it)
+act_of word.Withdraw value = withdrawal_of value >>= λ it. Ok (act.Withdraw it)
 act_of word.Register value = unit_of value >>= λ it. Ok (act.Register it)
 act_of word.Burden value = burden_of value >>= λ it. Ok (act.Burden it)
 act_of word.Lift value = lift_of value >>= λ it. Ok (act.Lift it)

@@ -9,7 +9,9 @@ use land_core::act::Act;
 use land_wire_json::bodies::content_kind::ContentKind;
 use land_wire_json::bodies::fields::read_value;
 use land_wire_json::bodies::lodging::{decision_of, lodging_of};
-use land_wire_json::bodies::party::{enrol_of, grant_of, group_of, regroup_of};
+use land_wire_json::bodies::party::{
+    enrol_of, grant_of, group_of, mandate_of, regroup_of, withdrawal_of,
+};
 use land_wire_json::bodies::unit::{burden_of, lift_of, unit_of};
 use land_wire_json::bodies::wire_fault::WireFault;
 use serde_json::Value;
@@ -34,6 +36,8 @@ pub fn act_of(alloc: Global, word: ActWord, value: &Value) -> Result<Act, WireFa
         ActWord::Regroup => Ok(Act::Regroup(regroup_of(alloc, value)?)),
         ActWord::Grant => Ok(Act::Grant(grant_of(value)?)),
         ActWord::Revoke => Ok(Act::Revoke(grant_of(value)?)),
+        ActWord::Mandate => Ok(Act::Mandate(mandate_of(value)?)),
+        ActWord::Withdraw => Ok(Act::Withdraw(withdrawal_of(value)?)),
         ActWord::Register => Ok(Act::Register(unit_of(alloc, value)?)),
         ActWord::Burden => Ok(Act::Burden(burden_of(alloc, value)?)),
         ActWord::Lift => Ok(Act::Lift(lift_of(value)?)),

@@ -20,7 +20,7 @@ use Rattle.land_wire_json.specs.Bodies.Fields.{text_value, field_at, object_with
 use Rattle.land_wire_json.specs.Bodies.Laws.{BodiesAreWellFormed, ContentsAreWellFormed}
 use Rattle.land_wire_json.specs.Bodies.Mutations.{fields_of, content_by, content_in, content_kind_of, content_of, decision_of, discharge_of, lodging_of, merger_of, mortgage_of, new_name_of, part_of, rest_of, rising_at, subdivision_of, transfer_of, without}
 use Rattle.land_wire_json.specs.Bodies.Outlines.{outline_in}
-use Rattle.land_wire_json.specs.Bodies.Parties.{enrol_of, group_of, grant_of, member_of, members_of, regroup_of}
+use Rattle.land_wire_json.specs.Bodies.Parties.{enrol_of, group_of, grant_of, mandate_of, member_of, members_of, regroup_of, withdrawal_of}
 use Rattle.land_wire_json.specs.Bodies.Shares.{share_at}
 use Rattle.land_wire_json.specs.Bodies.Units.{burden_by, burden_fields, burden_of, lift_of, parcel_of, parcels_of, right_of, rights_of, unit_by, unit_fields, unit_of}
 use Rattle.land_wire_json.specs.Bodies.WireFaults.{◌>>=◌, or_fault}
@@ -178,6 +178,20 @@ grant_of-numbered value =
     bind (object_with (codes "party" ∷ codes "role" ∷ []) value) (λ whole.
     bind_with (number_at (codes "party") value) (number_at-number (codes "party") value) (λ party is.
     bind (role_in value) (λ role. record { if_ok = is })))
+
+mandate_of-well_formed : (value : Data) → Ensures (λ it. is_well_formed (act.Mandate it) ≡ true) (mandate_of value)
+unfolding mandate_of
+mandate_of-well_formed value =
+    bind (object_with (codes "agent" ∷ []) value) (λ whole.
+    bind_with (number_at (codes "agent") value) (number_at-number (codes "agent") value) (λ agent is. record { if_ok = is }))
+
+withdrawal_of-well_formed : (value : Data) → Ensures (λ it. is_well_formed (act.Withdraw it) ≡ true) (withdrawal_of value)
+unfolding withdrawal_of
+withdrawal_of-well_formed value =
+    bind (object_with (codes "principal" ∷ codes "agent" ∷ []) value) (λ whole.
+    bind_with (number_at (codes "principal") value) (number_at-number (codes "principal") value) (λ principal principal_is.
+    bind_with (number_at (codes "agent") value) (number_at-number (codes "agent") value) (λ agent agent_is.
+    record { if_ok = rw (principal_is, agent_is) refl })))
 
 -- ---- units
 
@@ -372,6 +386,8 @@ bodies = record {
   regroup = λ value. (regroup_of-well_formed value).if_ok;
   grant = λ value. (grant_of-numbered value).if_ok;
   revoke = λ value. (grant_of-numbered value).if_ok;
+  mandate = λ value. (mandate_of-well_formed value).if_ok;
+  withdraw = λ value. (withdrawal_of-well_formed value).if_ok;
   register = λ value. (unit_of-well_formed value).if_ok;
   burden = λ value. (burden_of-well_formed value).if_ok;
   lift = λ value. (lift_of-well_formed value).if_ok;

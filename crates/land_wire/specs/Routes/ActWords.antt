@@ -11,6 +11,8 @@ act_word act.Group = codes "group"
 act_word act.Regroup = codes "regroup"
 act_word act.Grant = codes "grant"
 act_word act.Revoke = codes "revoke"
+act_word act.Mandate = codes "mandate"
+act_word act.Withdraw = codes "withdraw"
 act_word act.Register = codes "register"
 act_word act.Burden = codes "burden"
 act_word act.Lift = codes "lift"
@@ -25,8 +27,8 @@ act_word act.Refuse = codes "refuse"
 -- all acts
 abbrev pub acts : List ActWord
 acts =
-    act.Enrol ∷ act.Group ∷ act.Regroup ∷ act.Grant ∷ act.Revoke ∷ act.Register ∷ act.Burden ∷ act.Lift ∷ act.Transfer
-    ∷ act.Subdivision ∷ act.Merger ∷ act.Mortgage ∷ act.Discharge ∷ act.Approve ∷ act.Refuse ∷ []
+    act.Enrol ∷ act.Group ∷ act.Regroup ∷ act.Grant ∷ act.Revoke ∷ act.Mandate ∷ act.Withdraw ∷ act.Register ∷ act.Burden ∷ act.Lift
+    ∷ act.Transfer ∷ act.Subdivision ∷ act.Merger ∷ act.Mortgage ∷ act.Discharge ∷ act.Approve ∷ act.Refuse ∷ []
 
 -- the act that has these bytes for its word
 abbrev pub act_of : List ℕ → Option ActWord

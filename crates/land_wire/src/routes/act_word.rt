@@ -16,6 +16,10 @@ pub enum ActWord {
     Grant,
     /// A role is revoked.
     Revoke,
+    /// A mandate is given.
+    Mandate,
+    /// A mandate is withdrawn.
+    Withdraw,
     /// A unit is registered.
     Register,
     /// A unit is burdened with a restriction or a responsibility.
@@ -44,6 +48,8 @@ const ACTS: &[ActWord] = &[
     ActWord::Regroup,
     ActWord::Grant,
     ActWord::Revoke,
+    ActWord::Mandate,
+    ActWord::Withdraw,
     ActWord::Register,
     ActWord::Burden,
     ActWord::Lift,
@@ -67,6 +73,8 @@ impl ActWord {
             ActWord::Regroup => "regroup",
             ActWord::Grant => "grant",
             ActWord::Revoke => "revoke",
+            ActWord::Mandate => "mandate",
+            ActWord::Withdraw => "withdraw",
             ActWord::Register => "register",
             ActWord::Burden => "burden",
             ActWord::Lift => "lift",

@@ -8,7 +8,7 @@ use Rattle.land_core.specs.declared.content.Content.{Content}
 use Rattle.land_shape.specs.Faults.{IsOutlineAnswer}
 use Rattle.land_wire_json.specs.Bodies.Mutations.{content_in, decision_of, lodging_of}
 use Rattle.land_wire_json.specs.Bodies.Outlines.{answer_of}
-use Rattle.land_wire_json.specs.Bodies.Parties.{enrol_of, group_of, regroup_of, grant_of}
+use Rattle.land_wire_json.specs.Bodies.Parties.{enrol_of, group_of, regroup_of, grant_of, mandate_of, withdrawal_of}
 use Rattle.land_wire_json.specs.Bodies.Stored.{IsStorable}
 use Rattle.land_wire_json.specs.Bodies.Units.{unit_of, burden_of, lift_of}
 use Rattle.land_wire_json.specs.Texts.Mutations.{content_text}
@@ -26,6 +26,8 @@ pub record BodiesAreWellFormed : Type 0 where
   pub regroup : (value : Data) → IfOk (regroup_of value) (λ it. is_well_formed (act.Regroup it) ≡ true)
   pub grant : (value : Data) → IfOk (grant_of value) (λ it. is_well_formed (act.Grant it) ≡ true)
   pub revoke : (value : Data) → IfOk (grant_of value) (λ it. is_well_formed (act.Revoke it) ≡ true)
+  pub mandate : (value : Data) → IfOk (mandate_of value) (λ it. is_well_formed (act.Mandate it) ≡ true)
+  pub withdraw : (value : Data) → IfOk (withdrawal_of value) (λ it. is_well_formed (act.Withdraw it) ≡ true)
   pub register : (value : Data) → IfOk (unit_of value) (λ it. is_well_formed (act.Register it) ≡ true)
   pub burden : (value : Data) → IfOk (burden_of value) (λ it. is_well_formed (act.Burden it) ≡ true)
   pub lift : (value : Data) → IfOk (lift_of value) (λ it. is_well_formed (act.Lift it) ≡ true)

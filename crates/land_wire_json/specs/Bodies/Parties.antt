@@ -3,7 +3,9 @@ use Rattle.std.specs.Prelude.{List, [], ◌∷◌, codes, Result, Ok}
 use Rattle.land_core.specs.Texts.{is_name}
 use Rattle.land_core.specs.declared.act.Enrol.{Enrol}
 use Rattle.land_core.specs.declared.act.NewGroup.{NewGroup}
+use Rattle.land_core.specs.declared.act.NewMandate.{NewMandate}
 use Rattle.land_core.specs.declared.act.Regroup.{Regroup}
+use Rattle.land_core.specs.declared.mandates.Mandate.{Mandate}
 use Rattle.land_core.specs.declared.member.Member.{Member}
 use Rattle.land_core.specs.declared.roles.Grant.{Grant}
 use Rattle.land_wire_json.specs.Bodies.Fields.{object_with, limited_at, number_at, items_at, each_of}
@@ -56,3 +58,18 @@ grant_of value = do
   party ← number_at (codes "party") value
   role ← role_in value
   Ok (record { party = party; role = role })
+
+-- a mandate that the caller gives: `agent`
+unfoldable pub mandate_of : Data → Result NewMandate WireFault
+mandate_of value = do
+  whole ← object_with (codes "agent" ∷ []) value
+  agent ← number_at (codes "agent") value
+  Ok (record { agent = agent })
+
+-- a mandate that is withdrawn: `principal`, `agent`
+unfoldable pub withdrawal_of : Data → Result Mandate WireFault
+withdrawal_of value = do
+  whole ← object_with (codes "principal" ∷ codes "agent" ∷ []) value
+  principal ← number_at (codes "principal") value
+  agent ← number_at (codes "agent") value
+  Ok (record { principal = principal; agent = agent })

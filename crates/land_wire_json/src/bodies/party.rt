@@ -1,7 +1,7 @@
 //! The bodies of acts on parties.
 ghost use Rattle.std.specs.Prelude.{◌≡◌};
 ghost use Rattle.land_wire_json.specs.Bodies.Fields.{each_of};
-ghost use Rattle.land_wire_json.specs.Bodies.Parties.{enrol_of, grant_of, group_of, member_of, members_of, regroup_of};
+ghost use Rattle.land_wire_json.specs.Bodies.Parties.{enrol_of, grant_of, group_of, mandate_of, member_of, members_of, regroup_of, withdrawal_of};
 ghost use Rattle.land_wire_json.specs.Bodies.WireFaults.{Gives};
 ghost use Rattle.serde_json.specs.View.{view, items_view};
 
@@ -9,7 +9,8 @@ use crate::bodies::fields::{check_keys, items_at, name_at, number_at};
 use crate::bodies::share::share_at;
 use crate::bodies::wire_fault::WireFault;
 use crate::bodies::words::{kind_in, role_in};
-use land_core::act::{Enrol, NewGroup, Regroup};
+use land_core::act::{Enrol, NewGroup, NewMandate, Regroup};
+use land_core::mandates::Mandate;
 use land_core::member::Member;
 use land_core::roles::Grant;
 use land_core::sequence::Sequence;
@@ -58,6 +59,27 @@ pub fn grant_of(value: &Value) -> Result<Grant, WireFault>
     let party = number_at(value, "party")?;
     let role = role_in(value)?;
     Ok(Grant { party, role })
+}
+
+/// A mandate that the caller gives: `agent`.
+#[tactic(auto, unfolding(crate::specs::Bodies::Parties::mandate_of))]
+pub fn mandate_of(value: &Value) -> Result<NewMandate, WireFault>
+    ensures { result ≡ mandate_of (view value.now) }
+{
+    check_keys(value, &["agent"])?;
+    let agent = number_at(value, "agent")?;
+    Ok(NewMandate { agent })
+}
+
+/// A mandate that is withdrawn: `principal`, `agent`.
+#[tactic(auto, unfolding(crate::specs::Bodies::Parties::withdrawal_of))]
+pub fn withdrawal_of(value: &Value) -> Result<Mandate, WireFault>
+    ensures { result ≡ withdrawal_of (view value.now) }
+{
+    check_keys(value, &["principal", "agent"])?;
+    let principal = number_at(value, "principal")?;
+    let agent = number_at(value, "agent")?;
+    Ok(Mandate { principal, agent })
 }
 
 #[tactic(auto, unfolding(crate::specs::Bodies::Parties::members_of))]
