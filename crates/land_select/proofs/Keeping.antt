@@ -53,6 +53,12 @@ module _ {K V : Type 0} {R : K → K → Ordering} (o : IsTotalOrder R) (same : 
       (λ k v is. let it = was_kept p m k v is in is_kept q m k v it.0 (sym (agree k v) ∙ it.1))
       (λ k v is. let it = was_kept q m k v is in is_kept p m k v it.0 (agree k v ∙ it.1))
 
+  -- of what is kept by a wider test the same is kept
+  pub kept_within : (p q : K → V → Bool) (m : FinMap R V) → ((k : K) (v : V) → p k v ≡ true → q k v ≡ true) → only p (only q m) ≡ only p m
+  kept_within p q m within = same_entries (only p (only q m)) (only p m)
+      (λ k v is. let outer = was_kept p (only q m) k v is in is_kept p m k v (was_kept q m k v outer.0).0 outer.1)
+      (λ k v is. let it = was_kept p m k v is in is_kept p (only q m) k v (is_kept q m k v it.0 (within k v it.1)) it.1)
+
   -- a test that nothing passes keeps nothing
   pub none_kept : (m : FinMap R V) → map.empty ≡ only (λ k v. false) m
   none_kept m = same_entries map.empty (only (λ k v. false) m)

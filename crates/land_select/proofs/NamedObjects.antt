@@ -9,7 +9,7 @@ use Rattle.std.specs.List.{list_any}
 use Rattle.std.specs.Option.{option_map_or}
 use Rattle.std.specs.Ordering.{nat_cmp}
 use Rattle.std.specs.Prelude.{map as map_list}
-use Rattle.land_acts.specs.Slices.{content_names_party, is_mutation_where, mutations_looked_at, names_party, names_unit}
+use Rattle.land_acts.specs.Slices.{content_names_party, is_mandate, is_mutation_where, mutations_looked_at, names_mandate, names_party, names_unit}
 use Rattle.land_core.proofs.FiniteSets.{exact_grants, grants_total}
 use Rattle.land_core.proofs.Reflection.{get-only, list_any-map}
 use Rattle.land_core.specs.Contents.{names_unit as content_names_unit}
@@ -22,6 +22,7 @@ use Rattle.land_core.specs.declared.act.Act.TheVariants as act
 use Rattle.land_core.specs.declared.caller.Caller.{Caller}
 use Rattle.land_core.specs.declared.content.Content.{Content}
 use Rattle.land_core.specs.declared.content.Content.TheVariants as content
+use Rattle.land_core.specs.declared.mandates.Mandate.{Mandate}
 use Rattle.land_core.specs.declared.mutation.MutationRecord.{MutationRecord}
 use Rattle.land_core.specs.declared.register.Register.{Register}
 use Rattle.land_core.specs.declared.role.Role.{Role}
@@ -29,7 +30,7 @@ use Rattle.land_core.specs.declared.role.Role.TheVariants as roles
 use Rattle.land_core.specs.declared.roles.Grant.{Grant}
 use Rattle.land_select.proofs.Keeping.{entry_found, entry_there, is_kept, was_kept}
 use Rattle.land_select.specs.Slices.Gathered.{with_number, with_numbers}
-use Rattle.land_select.specs.Slices.Named.{lists, of_mutation, parties_of, parties_of_content, sources_of, units_of, units_of_content}
+use Rattle.land_select.specs.Slices.Named.{lists, mandate_of_act, of_mutation, parties_of, parties_of_content, sources_of, units_of, units_of_content}
 use Rattle.land_select_joins.proofs.Containing.{any_decides}
 
 -- ---- truths
@@ -105,6 +106,8 @@ party_listed r caller (act.Group it) mutations are n = sym (list_any-map (nat_eq
 party_listed r caller (act.Regroup it) mutations are n = ap (λ b. nat_eq n it.group || b) (sym (list_any-map (nat_eq n) (λ member. member.party) it.members))
 party_listed r caller (act.Grant it) mutations are n = sym (or_nothing (nat_eq n it.party))
 party_listed r caller (act.Revoke it) mutations are n = sym (or_nothing (nat_eq n it.party))
+party_listed r caller (act.Mandate it) mutations are n = sym (or_nothing (nat_eq n it.agent))
+party_listed r caller (act.Withdraw it) mutations are n = ap (λ b. nat_eq n it.principal || b) (sym (or_nothing (nat_eq n it.agent)))
 party_listed r caller (act.Register it) mutations are n = sym (list_any-map (nat_eq n) (λ right. right.party) it.rights)
 party_listed r caller (act.Burden it) mutations are n = sym (or_nothing (nat_eq n it.party))
 party_listed r caller (act.Lift it) mutations are n = refl
@@ -119,12 +122,19 @@ unit_listed r caller (act.Group it) mutations are n = refl
 unit_listed r caller (act.Regroup it) mutations are n = refl
 unit_listed r caller (act.Grant it) mutations are n = refl
 unit_listed r caller (act.Revoke it) mutations are n = refl
+unit_listed r caller (act.Mandate it) mutations are n = refl
+unit_listed r caller (act.Withdraw it) mutations are n = refl
 unit_listed r caller (act.Register it) mutations are n = refl
 unit_listed r caller (act.Burden it) mutations are n = sym (or_nothing (nat_eq n it.unit))
 unit_listed r caller (act.Lift it) mutations are n = refl
 unit_listed r caller (act.Lodge it) mutations are n = listed_unit n it.content
 unit_listed r caller (act.Approve it) mutations are n = decided_names r it.mutation mutations are content_names_unit units_of_content listed_unit n
 unit_listed r caller (act.Refuse it) mutations are n = decided_names r it.mutation mutations are content_names_unit units_of_content listed_unit n
+
+pub mandate_named : (caller : Caller) (a : Act) (m : Mandate) → names_mandate caller a m ≡ option_map_or (λ it. is_mandate it m) (mandate_of_act caller a) false
+mandate_named caller (act.Mandate it) m = refl
+mandate_named caller (act.Withdraw it) m = refl
+mandate_named caller other m = refl
 
 pub source_listed : (mutations : FinMap nat_cmp MutationRecord) (n : ℕ) → some (λ k m. nat_eq m.source n) mutations ≡ lists (sources_of mutations) n
 source_listed mutations n =

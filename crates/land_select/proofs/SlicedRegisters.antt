@@ -1,5 +1,5 @@
 -- A slice, from what is gathered for it.
-use Rattle.std.proofs.Common.{◌≡◌, ◌≢◌, ℕ, Bool, true, false, ◌||◌, ◌++◌, List, [], ◌∷◌, inl, refl, sym, ap, ap₂, ◌∙◌, IsTrue, Ok, arith}
+use Rattle.std.proofs.Common.{◌≡◌, ◌≢◌, ℕ, Bool, true, false, ◌||◌, ◌++◌, List, [], ◌∷◌, inl, refl, sym, ap, ap₂, ◌∙◌, IsTrue, Ok, arith, Result, Err}
 use Rattle.std.proofs.lemmas.List.Folds.{list_any-append}
 use Rattle.std.specs.Cmp.{nat_cmp_total}
 use Rattle.std.specs.FinMap as map
@@ -10,7 +10,6 @@ use Rattle.land_acts.specs.Slices.{looks_at_party, looks_at_rrr, mutations_looke
 use Rattle.land_core.proofs.FiniteSets.{exact_grants, grants_total}
 use Rattle.land_core.specs.Entries.{only, some}
 use Rattle.land_core.specs.Grants.{Grants, grants_in}
-use Rattle.land_core.specs.Mandates.{Mandates}
 use Rattle.land_core.specs.Role.{is_role}
 use Rattle.land_core.specs.declared.act.Act.{Act}
 use Rattle.land_core.specs.declared.act.Act.TheVariants as act
@@ -28,6 +27,7 @@ use Rattle.land_select.specs.declared.slices.holdings.Holdings.{Holdings}
 use Rattle.land_select.specs.declared.slices.papers.Papers.{Papers}
 use Rattle.land_select.specs.declared.slices.people.People.{People}
 use Rattle.land_select.specs.declared.slices.slice.Known.{Known}
+use Rattle.land_tables_schema.proofs.Looking.{look_told}
 use Rattle.land_tables_schema.specs.Rows.Looks.{IsLook}
 use Rattle.sqlite.specs.State.{HasCleanDisk, State}
 
@@ -53,6 +53,8 @@ about_none r caller (act.Group it) l p q = none_kept nat_cmp_total nat_cmp-IsAnt
 about_none r caller (act.Regroup it) l p q = none_kept nat_cmp_total nat_cmp-IsAntisymmetric r.mutations
 about_none r caller (act.Grant it) l p q = none_kept nat_cmp_total nat_cmp-IsAntisymmetric r.mutations
 about_none r caller (act.Revoke it) l p q = none_kept nat_cmp_total nat_cmp-IsAntisymmetric r.mutations
+about_none r caller (act.Mandate it) l p q = none_kept nat_cmp_total nat_cmp-IsAntisymmetric r.mutations
+about_none r caller (act.Withdraw it) l p q = none_kept nat_cmp_total nat_cmp-IsAntisymmetric r.mutations
 about_none r caller (act.Register it) l p q = none_kept nat_cmp_total nat_cmp-IsAntisymmetric r.mutations
 about_none r caller (act.Burden it) l p q = none_kept nat_cmp_total nat_cmp-IsAntisymmetric r.mutations
 about_none r caller (act.Lift it) l p q = none_kept nat_cmp_total nat_cmp-IsAntisymmetric r.mutations
@@ -66,6 +68,8 @@ lifts_none r (act.Group it) l = none_kept nat_cmp_total nat_cmp-IsAntisymmetric 
 lifts_none r (act.Regroup it) l = none_kept nat_cmp_total nat_cmp-IsAntisymmetric r.rrrs
 lifts_none r (act.Grant it) l = none_kept nat_cmp_total nat_cmp-IsAntisymmetric r.rrrs
 lifts_none r (act.Revoke it) l = none_kept nat_cmp_total nat_cmp-IsAntisymmetric r.rrrs
+lifts_none r (act.Mandate it) l = none_kept nat_cmp_total nat_cmp-IsAntisymmetric r.rrrs
+lifts_none r (act.Withdraw it) l = none_kept nat_cmp_total nat_cmp-IsAntisymmetric r.rrrs
 lifts_none r (act.Register it) l = none_kept nat_cmp_total nat_cmp-IsAntisymmetric r.rrrs
 lifts_none r (act.Burden it) l = none_kept nat_cmp_total nat_cmp-IsAntisymmetric r.rrrs
 lifts_none r (act.Lodge it) l = none_kept nat_cmp_total nat_cmp-IsAntisymmetric r.rrrs
@@ -129,9 +133,9 @@ papers_gathered r mutations it grown = record {
 
 -- ---- the slice
 
--- the slice has what is known of it, its sources, its entries with the one that is lifted, and no mandates
-pub sliced : (r : Register) (caller : Caller) (a : Act) (known : Known) (papers : Papers) (lifted rrrs : FinMap nat_cmp RrrRecord) (mandates : Mandates) → IsKnown r caller a known
-    → KnowsPapers r (λ n. some (λ k m. nat_eq m.source n) known.mutations) papers → lifted ≡ only (λ n e. names_rrr r a n) r.rrrs → rrrs ≡ put_all known.holdings.rrrs lifted → mandates ≡ map.empty
+-- the slice has what is known of it, its sources, and its entries with the one that is lifted
+pub sliced : (r : Register) (caller : Caller) (a : Act) (known : Known) (papers : Papers) (lifted rrrs : FinMap nat_cmp RrrRecord) → IsKnown r caller a known
+    → KnowsPapers r (λ n. some (λ k m. nat_eq m.source n) known.mutations) papers → lifted ≡ only (λ n e. names_rrr r a n) r.rrrs → rrrs ≡ put_all known.holdings.rrrs lifted
     → ◌≡◌ {A = Register} (record {
       parties = known.people.parties;
       roles = known.people.roles;
@@ -141,11 +145,11 @@ pub sliced : (r : Register) (caller : Caller) (a : Act) (known : Known) (papers 
       rrrs = rrrs;
       sources = papers.sources;
       mutations = known.mutations;
-      mandates = mandates;
+      mandates = known.mandates;
       next = known.next;
     }) (slice_of r caller a)
-sliced r caller a known papers lifted rrrs mandates is knows lifts puts none =
-    alike _ _ _ _ _ _ _ _ _ _ _ _ _ _ _ _ _ _ _ _ is.people.parties is.people.roles is.people.members is.holdings.units is.holdings.parcels entries sources is.mutations none (sym is.next)
+sliced r caller a known papers lifted rrrs is knows lifts puts =
+    alike _ _ _ _ _ _ _ _ _ _ _ _ _ _ _ _ _ _ _ _ is.people.parties is.people.roles is.people.members is.holdings.units is.holdings.parcels entries sources is.mutations is.mandates (sym is.next)
   where
     entries : rrrs ≡ only (λ n e. looks_at_rrr r a n e) r.rrrs
     entries =
@@ -165,3 +169,8 @@ sliced r caller a known papers lifted rrrs mandates is knows lifts puts none =
         → ◌≡◌ {A = Register} (record { parties = p; roles = g; members = m; units = u; parcels = l; rrrs = e; sources = s; mutations = t; mandates = d; next = n })
         (record { parties = p'; roles = g'; members = m'; units = u'; parcels = l'; rrrs = e'; sources = s'; mutations = t'; mandates = d'; next = n' })
     alike p p' g g' m m' u u' l l' e e' s s' t t' d d' n n' a b c f h i j k o q = cc
+
+-- what a look gives, in other words, whether it succeeds or not
+pub look_so : {X E : Type 0} {P Q : X → Type 0} (a b : State) (r : Result X E) → IsLook r P a b → ((x : X) → P x → Q x) → IsLook r Q a b
+look_so a b (Ok x) look so = look_told a b (Ok x) look (λ clean given. so x given)
+look_so a b (Err e) look so = record { given = λ _. tt; same = λ _. tt; left = look.left; survives = look.survives }

@@ -4,6 +4,7 @@ mod gathers;
 mod holdings;
 mod mutations;
 mod named;
+mod pairs;
 mod papers;
 mod people;
 pub mod slice;

@@ -6,18 +6,20 @@ use Rattle.std.specs.FinMap as finite
 use Rattle.std.specs.FinMap.{FinMap, nat_cmp-IsAntisymmetric}
 use Rattle.std.specs.List.{Contains}
 use Rattle.std.specs.Ordering.{nat_cmp}
-use Rattle.land_core.proofs.FiniteSets.{exact_grants, grants_total}
+use Rattle.land_core.proofs.FiniteSets.{exact_grants, exact_mandates, grants_total, mandates_total}
 use Rattle.land_core.proofs.Reflection.{entries-only}
 use Rattle.land_core.specs.Entries.{only}
 use Rattle.land_core.specs.Grants.{Grants, grants_in}
+use Rattle.land_core.specs.Mandates.{Mandates, mandates_in}
 use Rattle.land_core.specs.Members.{Members, members_in}
+use Rattle.land_core.specs.declared.mandates.Mandate.{Mandate}
 use Rattle.land_core.specs.declared.member.Member.{Member}
 use Rattle.land_core.specs.declared.roles.Grant.{Grant}
 use Rattle.land_select_joins.proofs.Records.{passes_filter}
 use Rattle.land_select_joins.proofs.Standing.{entry_found, entry_there}
 use Rattle.land_tables_history.proofs.Permutations.{filter_permuted}
 use Rattle.land_tables_history.specs.Groups.{AreGroupsAt, HaveMembers, group_members}
-use Rattle.land_tables_history.specs.Standing.{AreRolesAt, IsPartAt, stands, standing}
+use Rattle.land_tables_history.specs.Standing.{AreMandatesAt, AreRolesAt, IsPartAt, stands, standing}
 use Rattle.land_tables_history.specs.declared.group_member.GroupMember.{GroupMember}
 use Rattle.land_tables_history.specs.declared.version.Version.{Version}
 
@@ -57,7 +59,7 @@ part_found t p versions m part found are =
 
 -- roles
 
-first_kept : (q : Grant → Bool) (es : List (Grant × Unit {0})) → map (λ e. e.0) (filter (λ e. q e.0) es) ≡ filter q (map (λ e. e.0) es)
+first_kept : {X : Type 0} (q : X → Bool) (es : List (X × Unit {0})) → map (λ e. e.0) (filter (λ e. q e.0) es) ≡ filter q (map (λ e. e.0) es)
 first_kept q [] = refl
 first_kept q (e ∷ es) = go (q e.0) (first_kept q es)
   where
@@ -74,6 +76,17 @@ pub roles_found : (t : ℤ) (q : Grant → Bool) (versions : List (Version Grant
     → (found : List (Version Grant)) → IsPermutation found (filter (λ v. stands t v && q v.what) versions) → AreRolesAt t found (only (λ g u. q g) grants)
 roles_found t q versions grants part found are =
     subst (IsPermutation (standing t found)) (sym (grants_kept q grants)) (stand_of t q versions (grants_in grants) part found are)
+
+-- mandates, likewise
+
+mandates_kept : (q : Mandate → Bool) (mandates : Mandates) → mandates_in (only (λ m u. q m) mandates) ≡ filter q (mandates_in mandates)
+unfolding mandates_in
+mandates_kept q mandates = ap (map (λ e. e.0)) (entries-only mandates_total exact_mandates (λ m u. q m) mandates) ∙ first_kept q (finite.entries mandates)
+
+pub mandates_found : (t : ℤ) (q : Mandate → Bool) (versions : List (Version Mandate)) (mandates : Mandates) → AreMandatesAt t versions mandates
+    → (found : List (Version Mandate)) → IsPermutation found (filter (λ v. stands t v && q v.what) versions) → AreMandatesAt t found (only (λ m u. q m) mandates)
+mandates_found t q versions mandates part found are =
+    subst (IsPermutation (standing t found)) (sym (mandates_kept q mandates)) (stand_of t q versions (mandates_in mandates) part found are)
 
 -- groups
 

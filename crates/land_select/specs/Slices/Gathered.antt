@@ -3,7 +3,7 @@ use Rattle.std.specs.Prelude.{◌≡◌, ℤ, ℕ, Bool, ◌||◌, nat_eq, List,
 use Rattle.std.specs.FinMap as map
 use Rattle.std.specs.FinMap.{FinMap}
 use Rattle.std.specs.Ordering.{nat_cmp}
-use Rattle.land_acts.specs.Slices.{looks_at_party, mutations_looked_at, names_unit}
+use Rattle.land_acts.specs.Slices.{looks_at_party, mutations_looked_at, names_mandate, names_unit}
 use Rattle.land_core.specs.Entries.{only, with_entries}
 use Rattle.land_core.specs.Grants.{Grants}
 use Rattle.land_core.specs.Members.{Members}
@@ -92,4 +92,5 @@ pub record IsKnown (r : Register) (caller : Caller) (a : Act) (known : Known) : 
   pub mutations : known.mutations ≡ mutations_looked_at r caller a
   pub people : KnowsPeople r (λ n. looks_at_party r a n) known.people
   pub holdings : KnowsHoldings r (λ n. names_unit r a n) known.holdings
+  pub mandates : known.mandates ≡ only (λ m u. names_mandate caller a m) r.mandates
   pub next : r.next ≡ known.next

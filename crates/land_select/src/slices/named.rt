@@ -1,9 +1,10 @@
 //! Whom and what an act names.
-ghost use Rattle.std.specs.Prelude.{◌≡◌, ◌∷◌, map as map_list, IfOk};
+ghost use Rattle.std.specs.Prelude.{◌≡◌, [], ◌∷◌, map as map_list, IfOk};
 ghost use Rattle.land_select.specs.Slices.Named.{of_mutation, parties_of, parties_of_content, sources_of, units_of, units_of_content};
 
 use land_core::act::{Act, NewRight};
 use land_core::content::Content;
+use land_core::mandates::Mandate;
 use land_core::member::Member;
 use land_core::mutation::MutationRecord;
 use land_core::records::Records;
@@ -44,6 +45,15 @@ fn parties_of_rights(alloc: Global, rights: &[NewRight]) -> Result<NumberList, A
     for right in rights {
         parties.push(right.party)?;
     }
+    Ok(parties)
+}
+
+/// The two parties of a mandate.
+fn principal_and_agent(alloc: Global, mandate: Mandate) -> Result<NumberList, AllocError>
+    ensures { IfOk result (λ it. it ≡ mandate.principal ∷ mandate.agent ∷ []) }
+{
+    let mut parties = NumberList::of_one(alloc, mandate.principal)?;
+    parties.push(mandate.agent)?;
     Ok(parties)
 }
 
@@ -97,6 +107,8 @@ pub(crate) fn parties_of(
         Act::Group(it) => parties_of_members(alloc, it.members.as_slice()),
         Act::Regroup(it) => group_and_members(alloc, it.group, it.members.as_slice()),
         Act::Grant(it) | Act::Revoke(it) => NumberList::of_one(alloc, it.party),
+        Act::Mandate(it) => NumberList::of_one(alloc, it.agent),
+        Act::Withdraw(it) => principal_and_agent(alloc, *it),
         Act::Register(it) => parties_of_rights(alloc, it.rights.as_slice()),
         Act::Burden(it) => NumberList::of_one(alloc, it.party),
         Act::Lodge(it) => parties_of_content(alloc, &it.content),

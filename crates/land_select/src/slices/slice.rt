@@ -1,7 +1,7 @@
 //! The slice of a register for an act, by look-ups.
 ghost use Rattle.std.specs.FinMap as map;
 ghost use Rattle.std.specs.Prelude.{◌≡◌, ◌++◌, false, nat_eq, map as map_list, IfOk, IsTrue};
-ghost use Rattle.land_acts.specs.Slices.{looks_at_party, looks_at_source, mutations_looked_at, names_rrr, names_unit, slice_of};
+ghost use Rattle.land_acts.specs.Slices.{looks_at_party, looks_at_source, mutations_looked_at, names_mandate, names_rrr, names_unit, slice_of};
 ghost use Rattle.land_core.specs.Entries.{only, some};
 ghost use Rattle.land_core.specs.Grants.{grants_in};
 ghost use Rattle.land_core.specs.declared.caller.Caller.{Caller as Asker};
@@ -17,11 +17,13 @@ use crate::slices::gathers::gather_all;
 use crate::slices::holdings::Holdings;
 use crate::slices::mutations::mutations_of;
 use crate::slices::named::{parties_of, sources_of, units_of};
+use crate::slices::pairs::mandates_of;
 use crate::slices::papers::Papers;
 use crate::slices::people::{People, put_all, put_one};
 use land_acts::slice::Slice;
 use land_core::act::Act;
 use land_core::caller::Caller;
+use land_core::mandates::Mandates;
 use land_core::mutation::MutationRecord;
 use land_core::records::Records;
 use land_core::register::Register;
@@ -139,6 +141,7 @@ struct Known {
     mutations: Records<MutationRecord>,
     people: People,
     holdings: Holdings,
+    mandates: Mandates,
     next: u64,
 }
 
@@ -159,6 +162,7 @@ fn slice_with<S: Alter>(
         mutations,
         people,
         holdings,
+        mandates,
         next,
     } = known;
     let papers = papers_of(alloc, conn, &mutations, at)?;
@@ -172,23 +176,24 @@ fn slice_with<S: Alter>(
         rrrs: put_all(alloc, holdings.rrrs, &lifted)?,
         sources: papers.sources,
         mutations,
+        mandates,
         next,
-        ..Register::nothing(alloc)
     })
 }
 
-/// The slice, of the mutations that the act is about.
+/// The slice, of the mutations that the act is about and of the mandate that it names.
 fn slice_about<S: Alter>(
     alloc: Global,
     conn: &mut Connection<S>,
     act: &Act,
     mutations: Records<MutationRecord>,
+    mandates: Mandates,
     next: u64,
     at: i64,
 ) -> Result<Slice, ReadFault>
     requires open { HasCleanDisk (state S.Store conn.old) → IsTrue (state S.Store conn.old).is_open }
     requires land { HasCleanDisk (state S.Store conn.old) → IsLand (state S.Store conn.old).now.schema }
-    ensures look { IsLook result (λ it. IsSo (λ r. r.next ≡ next → (caller : Asker) → mutations ≡ mutations_looked_at r caller act.now → it ≡ slice_of r caller act.now) at (state S.Store conn.old).now.trees) (state S.Store conn.old) (state S.Store conn.new) }
+    ensures look { IsLook result (λ it. IsSo (λ r. r.next ≡ next → (caller : Asker) → mutations ≡ mutations_looked_at r caller act.now → mandates ≡ only (λ m u. names_mandate caller act.now m) r.mandates → it ≡ slice_of r caller act.now) at (state S.Store conn.old).now.trees) (state S.Store conn.old) (state S.Store conn.new) }
     ensures mode { conn.old.in_transaction ≡ false → conn.new.in_transaction ≡ false }
 {
     let people = people_of(alloc, conn, act, &mutations, at)?;
@@ -197,6 +202,7 @@ fn slice_about<S: Alter>(
         mutations,
         people,
         holdings,
+        mandates,
         next,
     };
     slice_with(alloc, conn, act, known, at)
@@ -219,5 +225,6 @@ pub fn slice_at<S: Alter>(
     ensures mode { conn.old.in_transaction ≡ false → conn.new.in_transaction ≡ false }
 {
     let mutations = mutations_of(alloc, conn, caller, act, at)?;
-    slice_about(alloc, conn, act, mutations, next, at)
+    let mandates = mandates_of(alloc, conn, caller, act, at)?;
+    slice_about(alloc, conn, act, mutations, mandates, next, at)
 }

@@ -1,7 +1,8 @@
-//! Those whose mandate a party holds, and the circle that they make with it.
-ghost use Rattle.std.specs.Prelude.{◌≡◌, false, map, IfErr, IfOk};
+//! The mandates that a party holds, those who gave them, and the circle that they make with it.
+ghost use Rattle.std.specs.Prelude.{◌≡◌, false, map, nat_eq, IfErr, IfOk};
+ghost use Rattle.land_core.specs.Entries.{only};
 ghost use Rattle.land_select_joins.specs.Joins.Running.{HoldsNone};
-ghost use Rattle.land_select_joins.specs.Lookups.Parts.{ArePrincipalsOf, IsCircleOf};
+ghost use Rattle.land_select_joins.specs.Lookups.Parts.{ArePrincipalsOf, IsCircleOf, IsPart};
 ghost use Rattle.land_tables_schema.specs.Land.{IsLand};
 ghost use Rattle.land_tables_schema.specs.Rows.Looks.{IsLook};
 ghost use Rattle.sqlite.specs.Held.{state};
@@ -9,12 +10,29 @@ ghost use Rattle.sqlite.specs.State.{HasCleanDisk};
 
 use crate::lookups::finding::find;
 use crate::lookups::look_up::LookUp;
-use land_core::mandates::Mandate;
+use land_core::mandates::{Mandate, Mandates};
 use land_core::sequence::{NumberList, Sequence};
+use land_tables_history::mandates::mandates_at;
 use land_tables_history::version::Version;
 use land_tables_rows::listing::fault::ReadFault;
 use sqlite::{Alter, Connection};
 use std::alloc::{AllocError, Global};
+
+/// The mandates that a party holds at a moment, in milliseconds since 1970 UTC. 520: the tables hold no history. 501: there was no memory.
+pub fn mandates<S: Alter>(
+    alloc: Global,
+    conn: &mut Connection<S>,
+    agent: u64,
+    at: i64,
+) -> Result<Mandates, ReadFault>
+    requires land { HasCleanDisk (state S.Store conn.old) → IsLand (state S.Store conn.old).now.schema }
+    ensures look { IsLook result (λ it. IsPart (λ r. only (λ mandate u. nat_eq mandate.agent agent) r.mandates) at (state S.Store conn.old).now.trees it) (state S.Store conn.old) (state S.Store conn.new) }
+    ensures unreadable { HasCleanDisk (state S.Store conn.new) → IfErr result (HoldsNone (state S.Store conn.old).now.trees) }
+    ensures mode { conn.old.in_transaction ≡ false → conn.new.in_transaction ≡ false }
+{
+    let held = find(alloc, conn, LookUp::MandatesOfAgent, agent, at)?;
+    Ok(mandates_at(alloc, held.as_slice(), at)?)
+}
 
 /// Those whose mandate a party holds at a moment, in milliseconds since 1970 UTC, in whatever order and each once; the principals of these
 /// are not looked for. 520: the tables hold no history. 501: there was no memory.

@@ -25,11 +25,12 @@ returns-clause-look g c =
     look_then a (state g.S.Store c.people_of.new.conn) d (rw when at c.in_ok-people.ensures.look) (rw when at c.in_ok-holdings.ensures.look)
     (λ clean same first second. (first, subst (λ (now : Database). IsSo (λ r. (caller : Caller) → mutations ≡ mutations_looked_at r caller act → KnowsHoldings r (λ n. names_unit r act n) holdings) t now.trees) same second)) in
     look_after a d (state g.S.Store c.slice_with.new.conn) c.slice_with.result both (rw when at c.slice_with.ensures.look)
-    (λ it clean same both sliced moments h held r have stands next caller are.
-    subst (λ (now : Database). IsSo (λ r. (caller : Caller) → IsKnown r caller act (record { mutations = mutations; people = people; holdings = holdings; next = c.args.next }) → it ≡ slice_of r caller act) t now.trees)
+    (λ it clean same both sliced moments h held r have stands next caller are pair.
+    subst (λ (now : Database). IsSo (λ r. (caller : Caller) → IsKnown r caller act (record { mutations = mutations; people = people; holdings = holdings; mandates = c.args.mandates; next = c.args.next }) → it ≡ slice_of r caller act) t now.trees)
     same sliced moments h held r have stands caller (record {
       mutations = are;
       people = both.0 moments h held r have stands caller are;
       holdings = both.1 moments h held r have stands caller are;
+      mandates = pair;
       next = next;
     }))

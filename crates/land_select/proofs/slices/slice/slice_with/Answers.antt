@@ -1,7 +1,6 @@
-use Rattle.std.proofs.Common.{rules, ◌≡◌, ap, nat_eq, subst, to_z, of_z, w64, Ok}
+use Rattle.std.proofs.Common.{rules, ◌≡◌, nat_eq, subst, to_z, of_z, w64, Ok}
 use Rattle.land_acts.specs.Slices.{names_rrr}
 use Rattle.land_core.specs.Entries.{only, some}
-use Rattle.land_core.specs.declared.register.Register.{Register}
 use Rattle.land_select.proofs.SlicedRegisters.{sliced}
 use Rattle.land_select.specs.Slices.Gathered.{IsSo, KnowsPapers}
 use Rattle.land_select_joins.specs.Lookups.Parts.{IsPart}
@@ -28,5 +27,4 @@ returns-clause-look g c =
     (λ clean same first second. (first, subst (λ (now : Database). IsPart (λ r. only (λ n e. names_rrr r act n) r.rrrs) t now.trees lifted) same second)) in
     look_told a d _ both
     (λ clean both moments h held r have stands caller is.
-    sliced r caller act known papers lifted _ _ is (both.0 moments h held r have stands) (both.1 moments h held r have stands) c.in_ok-put_all.ensures
-    (ap (λ (it : Register). it.mandates) c.nothing.ensures))
+    sliced r caller act known papers lifted _ is (both.0 moments h held r have stands) (both.1 moments h held r have stands) c.in_ok-put_all.ensures)

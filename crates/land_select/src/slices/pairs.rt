@@ -1,0 +1,86 @@
+//! The mandate that an act gives or withdraws.
+ghost use Rattle.std.specs.Prelude.{◌≡◌, false, IfOk, IsTrue};
+ghost use Rattle.land_acts.specs.Slices.{is_mandate, names_mandate};
+ghost use Rattle.land_core.specs.Entries.{only};
+ghost use Rattle.land_select.specs.Slices.Named.{mandate_of_act};
+ghost use Rattle.land_select_joins.specs.Lookups.Parts.{IsPart};
+ghost use Rattle.land_tables_schema.specs.Land.{IsLand};
+ghost use Rattle.land_tables_schema.specs.Rows.Looks.{IsLook};
+ghost use Rattle.sqlite.specs.Held.{state};
+ghost use Rattle.sqlite.specs.State.{HasCleanDisk};
+
+use land_core::act::Act;
+use land_core::caller::Caller;
+use land_core::mandates::{Mandate, Mandates};
+use land_select_joins::lookups::of_agent;
+use land_tables_rows::listing::fault::ReadFault;
+use sqlite::{Alter, Connection};
+use std::alloc::{AllocError, Global};
+
+/// The mandate that an act gives or withdraws, if any.
+fn mandate_of_act(caller: Caller, act: &Act) -> Option<Mandate>
+    ensures { result ≡ mandate_of_act caller act.now }
+{
+    match act {
+        Act::Mandate(it) => Some(Mandate {
+            principal: caller.party,
+            agent: it.agent,
+        }),
+        Act::Withdraw(it) => Some(*it),
+        _ => None,
+    }
+}
+
+/// Whether a mandate is another: of the same principal, to the same agent.
+fn is_mandate(it: Mandate, mandate: Mandate) -> bool
+    ensures { result ≡ is_mandate it mandate }
+{
+    mandate.principal == it.principal && mandate.agent == it.agent
+}
+
+/// A mandate alone, where it is among some.
+fn one_of(alloc: Global, mandates: &Mandates, it: Mandate) -> Result<Mandates, AllocError>
+    ensures { IfOk result (λ kept. kept ≡ only (λ mandate u. is_mandate it mandate) mandates.now) }
+{
+    let mut kept = Mandates::new(alloc);
+    for mandate in mandates.iter() {
+        if is_mandate(it, *mandate) {
+            kept.insert(*mandate)?;
+        }
+    }
+    Ok(kept)
+}
+
+/// A mandate, if it stands: it is looked for among those that its agent holds.
+fn between<S: Alter>(
+    alloc: Global,
+    conn: &mut Connection<S>,
+    it: Mandate,
+    at: i64,
+) -> Result<Mandates, ReadFault>
+    requires land { HasCleanDisk (state S.Store conn.old) → IsLand (state S.Store conn.old).now.schema }
+    ensures look { IsLook result (λ found. IsPart (λ r. only (λ mandate u. is_mandate it mandate) r.mandates) at (state S.Store conn.old).now.trees found) (state S.Store conn.old) (state S.Store conn.new) }
+    ensures mode { conn.old.in_transaction ≡ false → conn.new.in_transaction ≡ false }
+{
+    let held = of_agent::mandates(alloc, conn, it.agent, at)?;
+    Ok(one_of(alloc, &held, it)?)
+}
+
+/// The mandate that an act gives or withdraws, if it stands at a moment in milliseconds since 1970 UTC.
+pub(crate) fn mandates_of<S: Alter>(
+    alloc: Global,
+    conn: &mut Connection<S>,
+    caller: Caller,
+    act: &Act,
+    at: i64,
+) -> Result<Mandates, ReadFault>
+    requires open { HasCleanDisk (state S.Store conn.old) → IsTrue (state S.Store conn.old).is_open }
+    requires land { HasCleanDisk (state S.Store conn.old) → IsLand (state S.Store conn.old).now.schema }
+    ensures look { IsLook result (λ it. IsPart (λ r. only (λ mandate u. names_mandate caller act.now mandate) r.mandates) at (state S.Store conn.old).now.trees it) (state S.Store conn.old) (state S.Store conn.new) }
+    ensures mode { conn.old.in_transaction ≡ false → conn.new.in_transaction ≡ false }
+{
+    match mandate_of_act(caller, act) {
+        Some(it) => between(alloc, conn, it, at),
+        None => Ok(Mandates::new(alloc)),
+    }
+}
