@@ -4,4 +4,4 @@ use Rattle.land_sheet.specs.declared.extracts.seen.Seen.{Seen}
 
 -- the numbers whose rows are still to be given, ascending
 abbrev pub left_of : {K : Type 0} → Seen K → List ℕ
-left_of it = drop it.given it.numbers
+left_of it = drop it.given it.numbers.now

@@ -12,7 +12,7 @@ ghost use Rattle.land_sheet.specs.Rows.{object_row};
 use crate::extracts::extract_row::ExtractRow;
 use crate::extracts::fault::ExtractFault;
 use crate::extracts::list::list;
-use crate::extracts::seen::Seen;
+use crate::extracts::seen::{Seen, each_seen};
 use crate::rows::{csv_header, csv_row};
 use land_core::caller::Caller;
 use land_core::kind::Kind;
@@ -75,10 +75,8 @@ fn write_seen<K: Keeper, W: Write>(
     ensures same { IsLive (K.honest keeper.new) (K.closed keeper.new) → K.timeline keeper.new ≡ K.timeline keeper.old }
     ensures closes { Closes (K.closed keeper.old) (K.closed keeper.new) (of_store result) }
 {
-    let mut seen = Seen::new(alloc, keeper, numbers, kind, at);
-    let told = write_rows(alloc, &mut seen, writer, before);
-    let _keeper = seen.into_keeper();
-    told
+    let mut seen = each_seen(alloc, keeper, &numbers, kind, at);
+    write_rows(alloc, &mut seen, writer, before)
 }
 
 /// Writes the rows that are left of what is seen behind so many bytes, and says how many are written then.

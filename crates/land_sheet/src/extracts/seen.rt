@@ -1,5 +1,5 @@
 //! What a caller sees of a kind at a moment, row by row.
-ghost use Rattle.std.specs.Prelude.{◌≡◌, Bool, IfOk};
+ghost use Rattle.std.specs.Prelude.{◌≡◌, IfOk};
 ghost use Rattle.land_keep.specs.Keeping.{Closes, IsLive};
 ghost use Rattle.land_keep.specs.Timeline.{register_at};
 ghost use Rattle.land_rules.specs.Rules.{seen_of};
@@ -16,63 +16,60 @@ use land_keep::store_fault::StoreFault;
 use std::alloc::Global;
 
 /// The rows of what a caller sees of a kind at a moment, given one at a time in ascending order. It borrows the keeper, and
-/// `into_keeper` gives it back.
+/// `into_keeper` gives it back. It may be let go at any row: it owns no memory, so that whoever lent the keeper knows it again.
 #[derive(Drop)]
 pub struct Seen<'a, K: Keeper> {
     alloc: Global,
     keeper: &'a mut K,
-    numbers: NumberList,
+    numbers: &'a [u64],
     given: usize,
     kind: Kind,
     at: i64,
 }
 
-/// What a caller sees of a kind at a moment, to be given row by row. Nothing in the register changes. A keeper whose store fails is
-/// closed from then on, and no rows are given.
-pub fn each_seen<K: Keeper>(
+/// What a caller sees of a kind at a moment: the numbers of objects that stand, ascending, of which `each_seen` gives the rows. Nothing
+/// in the register changes, whether there are numbers or a fault. A keeper whose store fails is closed from then on.
+pub fn numbers_seen<K: Keeper>(
     alloc: Global,
     keeper: &mut K,
     caller: Caller,
     kind: Kind,
     at: i64,
-) -> Result<Seen<'_, K>, StoreFault>
-    ensures seen { IfOk result (λ it. K.honest it.keeper.now → left_of it ≡ seen_of (register_at (K.timeline keeper.old) at) caller kind) }
-    ensures stand { IfOk result (λ it. K.honest it.keeper.now → AllStand (register_at (K.timeline keeper.old) at) kind (left_of it)) }
-    ensures asked { IfOk result (λ it. (it.kind ≡ kind) × (it.at ≡ at)) }
-    ensures was { IfOk result (λ it. K.honest it.keeper.now → K.honest keeper.old) }
-    ensures same { IfOk result (λ it. IsLive (K.honest it.keeper.now) (K.closed it.keeper.now) → K.timeline it.keeper.now ≡ K.timeline keeper.old) }
-    ensures closes { IfOk result (λ it. Closes (K.closed keeper.old) (K.closed it.keeper.now) result) }
-    ensures faults { (after : Bool) × Closes (K.closed keeper.old) after result }
-    ensures same_reference { IfOk result (λ it. it.keeper.ghost_name ≡ keeper.entry.ghost_name) }
+) -> Result<NumberList, StoreFault>
+    ensures seen { K.honest keeper.new → IfOk result (λ it. it ≡ seen_of (register_at (K.timeline keeper.old) at) caller kind) }
+    ensures stand { K.honest keeper.new → IfOk result (λ it. AllStand (register_at (K.timeline keeper.old) at) kind it) }
+    ensures was { K.honest keeper.new → K.honest keeper.old }
+    ensures same { IsLive (K.honest keeper.new) (K.closed keeper.new) → K.timeline keeper.new ≡ K.timeline keeper.old }
+    ensures closes { Closes (K.closed keeper.old) (K.closed keeper.new) result }
 {
-    let numbers = keeper.sight(alloc, caller, kind, at)?;
-    Ok(Seen::new(alloc, keeper, numbers, kind, at))
+    keeper.sight(alloc, caller, kind, at)
+}
+
+/// The rows of the objects of a kind under these numbers at a moment, to be given one at a time. Nothing is asked of the keeper yet.
+pub fn each_seen<'a, K: Keeper>(
+    alloc: Global,
+    keeper: &'a mut K,
+    numbers: &'a NumberList,
+    kind: Kind,
+    at: i64,
+) -> Seen<'a, K>
+    ensures left { left_of result ≡ numbers.now }
+    ensures asked { (result.kind ≡ kind) × (result.at ≡ at) }
+    ensures same { result.keeper.now ≡ keeper.old }
+    ensures same_reference { result.keeper.ghost_name ≡ keeper.entry.ghost_name }
+{
+    let numbers = numbers.as_slice();
+    Seen {
+        alloc,
+        keeper,
+        numbers,
+        given: 0,
+        kind,
+        at,
+    }
 }
 
 impl<'a, K: Keeper> Seen<'a, K> {
-    /// The rows of the objects of a kind under these numbers at a moment, to be given one at a time.
-    pub(crate) fn new(
-        alloc: Global,
-        keeper: &'a mut K,
-        numbers: NumberList,
-        kind: Kind,
-        at: i64,
-    ) -> Seen<'a, K>
-        ensures left { left_of result ≡ numbers }
-        ensures asked { (result.kind ≡ kind) × (result.at ≡ at) }
-        ensures same { result.keeper.now ≡ keeper.old }
-        ensures same_reference { result.keeper.ghost_name ≡ keeper.entry.ghost_name }
-    {
-        Seen {
-            alloc,
-            keeper,
-            numbers,
-            given: 0,
-            kind,
-            at,
-        }
-    }
-
     /// The row of the next object, or `None` once all are given. After an error it is `None` from then on.
     pub fn next(&mut self) -> Result<Option<ExtractRow>, StoreFault>
         ensures gives { K.honest self.new.keeper.now → AllStand (register_at (K.timeline self.old.keeper.now) self.old.at) self.old.kind (left_of self.old)
@@ -84,11 +81,11 @@ impl<'a, K: Keeper> Seen<'a, K> {
         ensures closes { ClosesAt (left_of self.old) (K.closed self.old.keeper.now) (K.closed self.new.keeper.now) result }
         ensures same_reference { self.new.keeper.ghost_name ≡ self.old.keeper.ghost_name }
     {
-        let count = self.numbers.as_slice().len();
+        let count = self.numbers.len();
         if count <= self.given {
             return Ok(None);
         }
-        let number = self.numbers.as_slice()[self.given];
+        let number = self.numbers[self.given];
         let made = row_of(self.alloc, self.keeper, self.kind, number, self.at);
         self.given = match &made {
             Ok(Some(_)) => self.given + 1,

@@ -1,4 +1,4 @@
-use Rattle.std.proofs.Common.{◌<◌, ℕ, List, ap, get_or, length, rules}
+use Rattle.std.proofs.Common.{◌<◌, length, refl, rules}
 use Rattle.std.specs.Int.{w64}
 use Rattle.std.specs.Prelude.{FitsSigned}
 use Rattle.std.proofs.lemmas.Int.{to_z-of_z}
@@ -12,6 +12,5 @@ returns-clause-gives g c honest stand =
     let it = c.args.self.now in
     let r = register_at (g.K.Keeper.timeline it.keeper.now) it.at in
     let fit : FitsSigned w64 it.at = search rules in
-    let inside : it.given < length it.numbers = search rules in
-    let place = ap (λ (numbers : List ℕ). get_or numbers it.given 0) c.as_slice.ensures in
-    result_given r it.kind it.numbers it.given _ c.row_of-made.result inside place stand (simp to_z-of_z at (c.row_of-made.ensures.value honest))
+    let inside : it.given < length it.numbers.now = search rules in
+    result_given r it.kind it.numbers.now it.given _ c.row_of-made.result inside refl stand (simp to_z-of_z at (c.row_of-made.ensures.value honest))
