@@ -1,4 +1,4 @@
-use Rattle.std.proofs.Common.{ℤ, Result, of_z, rules, subst, sym, to_z, w64, ◌≡◌}
+use Rattle.std.proofs.Common.{ℤ, of_z, rules, subst, sym, to_z, w64, ◌≡◌}
 use Rattle.land_commands.specs.Extracting.{IsExtracting, wanted_of}
 use Rattle.land_commands.specs.Program.{IsRun}
 use Rattle.land_commands.specs.Words.Orders.{order_of}
