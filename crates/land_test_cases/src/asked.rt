@@ -2,12 +2,13 @@
 use crate::lodged::{RowContent, lodging};
 use crate::stop::Stop;
 use land_core::act::{
-    Act, Burden, BurdenClass, Decision, Enrol, Lift, NewGroup, NewParcel, NewRight, NewUnit,
-    Regroup,
+    Act, Burden, BurdenClass, Decision, Enrol, Lift, NewGroup, NewMandate, NewParcel, NewRight,
+    NewUnit, Regroup,
 };
 use land_core::ask::Ask;
 use land_core::caller::Caller;
 use land_core::kind::{Kind, PartyKind};
+use land_core::mandates::Mandate;
 use land_core::member::Member;
 use land_core::role::Role;
 use land_core::roles::Grant;
@@ -31,6 +32,10 @@ pub enum RowAct {
     Regroup(u64, &'static [Share]),
     Grant(u64, Role),
     Revoke(u64, Role),
+    /// The agent of a mandate of the caller.
+    Mandate(u64),
+    /// The principal and the agent of a mandate that ends.
+    Withdraw(u64, u64),
     /// A unit, its shares checked or not, with so many parcels and these rights.
     Register(bool, usize, &'static [Right]),
     /// A unit under another name than the garden's, its shares checked, with one parcel and these rights.
@@ -167,6 +172,11 @@ pub fn act(alloc: Global, it: &RowAct) -> Result<Act, Stop> {
         RowAct::Revoke(party, role) => Act::Revoke(Grant {
             party: *party,
             role: *role,
+        }),
+        RowAct::Mandate(agent) => Act::Mandate(NewMandate { agent: *agent }),
+        RowAct::Withdraw(principal, agent) => Act::Withdraw(Mandate {
+            principal: *principal,
+            agent: *agent,
         }),
         RowAct::Register(checked, count, rights) => {
             Act::Register(new_unit(alloc, &GARDEN, *checked, *count, rights)?)

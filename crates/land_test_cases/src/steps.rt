@@ -1,5 +1,5 @@
 //! The steps that other rows begin with.
-use crate::asked::RowAct::{Approve, Enrol, Grant, Group, Lodge, Register, RegisterAs};
+use crate::asked::RowAct::{Approve, Enrol, Grant, Group, Lodge, Mandate, Register, RegisterAs};
 use crate::asked::RowAsk::Do;
 use crate::asked::{OFFICE, Right, RowAsk, Share};
 use crate::lodged::RowContent::{Mortgage, Transfer};
@@ -156,6 +156,12 @@ pub const WITH_GARDEN: &[&[Row]] = &[ENROLLED, GROUPED, REGISTERED, LODGED, MORT
 
 /// The same steps, with the field in the garden's place.
 pub const WITH_FIELD: &[&[Row]] = &[ENROLLED, GROUPED, FIELD_REGISTERED, LODGED, MORTGAGED];
+
+/// Ben's mandate to Sam.
+const MANDATED: &[Row] = &[Row(1000, BEN, Do(Mandate(6)), "done 6 made [] at 1012")];
+
+/// The steps up to the mortgage on the garden, and Ben's mandate to Sam.
+pub const WITH_MANDATE: &[&[Row]] = &[ENROLLED, GROUPED, REGISTERED, LODGED, MORTGAGED, MANDATED];
 
 /// Plays rows over a new register, and compares the replies in full.
 pub fn play_anew(alloc: Global, rows: &[Row]) -> Result<(), Stop> {

@@ -1,7 +1,7 @@
-//! Two worlds that differ in one registration, and whether a caller is told the same of both.
+//! Two worlds that differ in one registration, or in one mandate, and whether a caller is told the same of both.
 use crate::asked::OFFICE;
 use crate::rows::keeper_after;
-use crate::steps::{ANNA, BANK, BEN, NORA, SAM, WITH_FIELD, WITH_GARDEN};
+use crate::steps::{ANNA, BANK, BEN, NORA, SAM, WITH_FIELD, WITH_GARDEN, WITH_MANDATE};
 use crate::stop::{Stop, expect};
 use crate::told::are_alike;
 use land_core::ask::{Ask, Request};
@@ -42,7 +42,7 @@ const ROLES: &[Role] = &[
     Role::StateAdministrator,
 ];
 
-/// No moment, now, before the first stamp, and each stamp of both worlds.
+/// No moment, now, before the first stamp, and each stamp of the worlds.
 const MOMENTS: &[Option<i64>] = &[
     None,
     Some(NOW),
@@ -59,18 +59,27 @@ const MOMENTS: &[Option<i64>] = &[
     Some(1009),
     Some(1010),
     Some(1011),
+    Some(1012),
 ];
 
-/// Who sees the unit in which the worlds differ, each from which moment on: the office, its owners, its lessee and the notary from its
-/// registration on, and the bank, which is shown nothing of the past, now.
-const SEERS: &[(Caller, i64)] = &[
-    (OFFICE, 1009),
-    (ANNA, 1009),
-    (BEN, 1009),
-    (SAM, 1009),
-    (NORA, 1009),
-    (BANK, NOW),
+/// Who is told that two worlds differ, from which moment on, and the first look whose replies differ.
+struct Seer(Caller, i64, Look);
+
+const UNIT: Look = Look::View(Kind::Unit, 9);
+
+/// Who sees the unit in which two worlds differ: the office, its owners, its lessee and the notary from its registration on, and the
+/// bank, which is shown nothing of the past, now.
+const SEERS_OF_THE_UNIT: &[Seer] = &[
+    Seer(OFFICE, 1009, UNIT),
+    Seer(ANNA, 1009, UNIT),
+    Seer(BEN, 1009, UNIT),
+    Seer(SAM, 1009, UNIT),
+    Seer(NORA, 1009, UNIT),
+    Seer(BANK, NOW, UNIT),
 ];
+
+/// Who sees by Ben's mandate what it did not see before: Sam as a citizen, Ben himself first of all. The unit he sees as its lessee.
+const SEERS_BY_THE_MANDATE: &[Seer] = &[Seer(SAM, 1012, Look::View(Kind::Party, 3))];
 
 fn ask_of(look: Look, at: Option<i64>) -> Ask {
     match look {
@@ -97,11 +106,12 @@ fn reply_to(
     Ok(answer(alloc, keeper, NOW, &request))
 }
 
-/// Two registers through time.
+/// Two registers through time, and who is told that they differ.
 #[derive(Drop)]
 struct Worlds {
     one: PlainKeeper,
     other: PlainKeeper,
+    seers: &'static [Seer],
 }
 
 impl Worlds {
@@ -186,41 +196,57 @@ impl Worlds {
         self.first_sheet(alloc, caller, at)
     }
 
-    /// At each moment the first difference is the unit where the caller sees it, and there is none where it does not.
+    /// At each moment the first difference is that of the caller where it is told of one, and there is none where it is not.
     fn are_told_alike(&mut self, alloc: Global, caller: Caller) -> Result<(), Stop> {
         for (place, at) in MOMENTS.iter().enumerate() {
             let found = self.first_difference(alloc, caller, *at)?;
-            expect(found == difference_for(caller, *at), "moment", place)?;
+            let wanted = difference_for(self.seers, caller, *at);
+            expect(found == wanted, "moment", place)?;
+        }
+        Ok(())
+    }
+
+    /// Every party, and one that does not stand, in every role, at every moment, is told the same of both worlds in all views, lists and
+    /// sheets, but for the seers, of whom each is told its own difference first.
+    fn are_told_alike_to_all(&mut self, alloc: Global) -> Result<(), Stop> {
+        for party in 1..9 {
+            for role in ROLES {
+                let caller = Caller { party, role: *role };
+                self.are_told_alike(alloc, caller)?;
+            }
         }
         Ok(())
     }
 }
 
 /// The first difference that a caller may be told of.
-fn difference_for(caller: Caller, at: Option<i64>) -> Option<Look> {
+fn difference_for(seers: &[Seer], caller: Caller, at: Option<i64>) -> Option<Look> {
     let moment = at.unwrap_or(NOW);
-    let is_seer = SEERS.iter().any(|(seer, from)| {
-        seer.party == caller.party && seer.role == caller.role && *from <= moment
-    });
-    if is_seer {
-        Some(Look::View(Kind::Unit, 9))
-    } else {
-        None
+    for seer in seers {
+        let is_it = seer.0.party == caller.party && seer.0.role == caller.role;
+        if is_it && seer.1 <= moment {
+            return Some(seer.2);
+        }
     }
+    None
 }
 
-/// Every party, and one that does not stand, in every role, at every moment, is told the same of both worlds in all views, lists and sheets,
-/// but for those who see the unit in which the worlds differ: the first difference that they are told is that unit.
+/// Two worlds that differ in a unit: those who do not see it are told the same of both, and to all others it is the first difference.
 pub fn are_alike_to_whom_they_look_alike(alloc: Global) -> Result<(), Stop> {
     let mut worlds = Worlds {
         one: keeper_after(alloc, WITH_GARDEN)?,
         other: keeper_after(alloc, WITH_FIELD)?,
+        seers: SEERS_OF_THE_UNIT,
     };
-    for party in 1..9 {
-        for role in ROLES {
-            let caller = Caller { party, role: *role };
-            worlds.are_told_alike(alloc, caller)?;
-        }
-    }
-    Ok(())
+    worlds.are_told_alike_to_all(alloc)
+}
+
+/// Two worlds of which one has a mandate more: its agent alone is told a difference, as a citizen, from the mandate on.
+pub fn a_mandate_is_told_to_its_agent_alone(alloc: Global) -> Result<(), Stop> {
+    let mut worlds = Worlds {
+        one: keeper_after(alloc, WITH_GARDEN)?,
+        other: keeper_after(alloc, WITH_MANDATE)?,
+        seers: SEERS_BY_THE_MANDATE,
+    };
+    worlds.are_told_alike_to_all(alloc)
 }

@@ -4,6 +4,7 @@ pub mod exchanges;
 pub mod failures;
 pub mod long_requests;
 pub mod long_streams;
+pub mod mandates;
 mod office;
 pub mod readings;
 pub mod replies;

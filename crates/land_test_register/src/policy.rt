@@ -15,10 +15,13 @@ use land_rules::verdict::Verdict;
 use land_test_cases::stop::{Stop, expect};
 use std::alloc::Global;
 
+pub mod banks;
 pub mod lists;
+pub mod mandates;
 pub mod mutations;
 pub mod parcels;
 pub mod standing;
+pub mod usufructs;
 pub mod views;
 
 const OFFICE: u64 = 1;

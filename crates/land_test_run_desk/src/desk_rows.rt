@@ -1,7 +1,7 @@
 //! Requests and replies as bytes, and streams of them.
 use crate::conclusion::conclude;
 use land_test_desk::desk::{
-    exchanges, failures, long_requests, long_streams, readings, replies, streams,
+    exchanges, failures, long_requests, long_streams, mandates, readings, replies, streams,
 };
 use std::test::Fail;
 
@@ -54,6 +54,11 @@ fn bytes_come_one_by_one(rt: HostRuntime) -> Result<(), Fail> {
 }
 
 #[test]
+fn mandates_as_bytes(rt: HostRuntime) -> Result<(), Fail> {
+    conclude(&rt, mandates::mandates(rt.alloc()))
+}
+
+#[test]
 fn a_list_is_read(rt: HostRuntime) -> Result<(), Fail> {
     conclude(&rt, readings::a_list_is_read(rt.alloc()))
 }
@@ -96,5 +101,13 @@ fn what_was_read_ahead_is_not_read_again(rt: HostRuntime) -> Result<(), Fail> {
     conclude(
         &rt,
         streams::what_was_read_ahead_is_not_read_again(rt.alloc()),
+    )
+}
+
+#[test]
+fn a_reader_is_not_asked_after_the_last_reply(rt: HostRuntime) -> Result<(), Fail> {
+    conclude(
+        &rt,
+        streams::a_reader_is_not_asked_after_the_last_reply(rt.alloc()),
     )
 }

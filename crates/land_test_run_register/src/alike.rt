@@ -3,8 +3,10 @@ use crate::conclusion::conclude;
 use land_core::kind::Kind::{Mutation, Parcel, Party, Rrr, Source, Unit};
 use land_test_cases::asked::RowAsk::{List, View};
 use land_test_cases::rows::{Row, play_rows};
-use land_test_cases::steps::{ANNA, NORA_HERSELF, WITH_FIELD, WITH_GARDEN};
-use land_test_cases::worlds::are_alike_to_whom_they_look_alike;
+use land_test_cases::steps::{ANNA, NORA_HERSELF, WITH_FIELD, WITH_GARDEN, WITH_MANDATE};
+use land_test_cases::worlds::{
+    a_mandate_is_told_to_its_agent_alone, are_alike_to_whom_they_look_alike,
+};
 use std::test::Fail;
 
 /// What Nora, who holds nothing, is told as a citizen.
@@ -30,7 +32,8 @@ const OF_FIELD: &[Row] = &[Row(2000, ANNA, View(Unit, 9, None), "unit 9 Field tr
 
 #[test]
 fn alike_pairs(rt: HostRuntime) -> Result<(), Fail> {
-    conclude(&rt, are_alike_to_whom_they_look_alike(rt.alloc()))
+    conclude(&rt, are_alike_to_whom_they_look_alike(rt.alloc()))?;
+    conclude(&rt, a_mandate_is_told_to_its_agent_alone(rt.alloc()))
 }
 
 #[test]
@@ -41,6 +44,11 @@ fn who_holds_nothing_is_told_nothing_of_the_garden(rt: HostRuntime) -> Result<()
 #[test]
 fn who_holds_nothing_is_told_nothing_of_the_field(rt: HostRuntime) -> Result<(), Fail> {
     conclude(&rt, play_rows(rt.alloc(), WITH_FIELD, OF_NEITHER))
+}
+
+#[test]
+fn who_holds_nothing_is_told_nothing_of_a_mandate(rt: HostRuntime) -> Result<(), Fail> {
+    conclude(&rt, play_rows(rt.alloc(), WITH_MANDATE, OF_NEITHER))
 }
 
 #[test]

@@ -31,6 +31,8 @@ mod large_unit;
 #[cfg(test)]
 mod late;
 #[cfg(test)]
+mod mandates;
+#[cfg(test)]
 mod memory;
 #[cfg(test)]
 mod mutations;

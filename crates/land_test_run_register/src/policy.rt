@@ -1,7 +1,9 @@
 //! The policy.
 use crate::conclusion::conclude;
 use land_test_register::policy;
-use land_test_register::policy::{lists, mutations, parcels, standing, views};
+use land_test_register::policy::{
+    banks, lists, mandates, mutations, parcels, standing, usufructs, views,
+};
 use std::test::Fail;
 
 #[test]
@@ -43,6 +45,48 @@ fn before_the_office_began_there_is_nothing(rt: HostRuntime) -> Result<(), Fail>
     conclude(
         &rt,
         lists::before_the_office_began_there_is_nothing(rt.alloc()),
+    )
+}
+
+#[test]
+fn a_usufruct_is_no_ownership(rt: HostRuntime) -> Result<(), Fail> {
+    conclude(&rt, usufructs::a_usufruct_is_no_ownership(rt.alloc()))
+}
+
+#[test]
+fn groups_are_shown_to_their_members_as_citizens(rt: HostRuntime) -> Result<(), Fail> {
+    conclude(
+        &rt,
+        banks::groups_are_shown_to_their_members_as_citizens(rt.alloc()),
+    )
+}
+
+#[test]
+fn the_mandates_are_soundly_registered(rt: HostRuntime) -> Result<(), Fail> {
+    conclude(
+        &rt,
+        mandates::the_mandates_are_soundly_registered(rt.alloc()),
+    )
+}
+
+#[test]
+fn agents_see_as_their_principals_do(rt: HostRuntime) -> Result<(), Fail> {
+    conclude(&rt, mandates::agents_see_as_their_principals_do(rt.alloc()))
+}
+
+#[test]
+fn agents_are_denied_what_none_of_their_circle_sees(rt: HostRuntime) -> Result<(), Fail> {
+    conclude(
+        &rt,
+        mandates::agents_are_denied_what_none_of_their_circle_sees(rt.alloc()),
+    )
+}
+
+#[test]
+fn citizens_give_mandates_and_withdraw_their_own(rt: HostRuntime) -> Result<(), Fail> {
+    conclude(
+        &rt,
+        mandates::citizens_give_mandates_and_withdraw_their_own(rt.alloc()),
     )
 }
 

@@ -1,6 +1,6 @@
 //! Commands over files.
 use crate::conclusion::conclude;
-use land_test_commands::commands;
+use land_test_store::commands;
 use std::test::Fail;
 
 #[test]

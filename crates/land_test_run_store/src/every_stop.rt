@@ -1,6 +1,6 @@
 //! Changes and migrations over files whose disks stop, after each of their calls.
 use crate::conclusion::conclude;
-use land_test_commands::every_stop::{changes, migrations};
+use land_test_stops::every_stop::{changes, migrations};
 use std::test::Fail;
 
 #[test]

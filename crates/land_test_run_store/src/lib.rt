@@ -1,5 +1,5 @@
 //! The tests of what stands on a store: its tables, the keepers over them, extracts, commands and their words. Each of them is a call of
-//! a trial in `land_test_store`, `land_test_tables`, `land_test_keepers` or `land_test_commands`; the words are tried here. There is
+//! a trial in `land_test_store`, `land_test_tables`, `land_test_keepers` or `land_test_stops`; the words are tried here. There is
 //! nothing else here: a crate that has tests is proved twice, and its program is compiled with all that it stands on.
 //!
 //! Want of memory ends a test with an `Err`, so that it fails unless an allocation was refused; all else that is wrong fails an assertion.

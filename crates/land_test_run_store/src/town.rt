@@ -1,6 +1,6 @@
 //! The command that serves.
 use crate::conclusion::conclude;
-use land_test_commands::town;
+use land_test_store::town;
 use std::test::Fail;
 
 #[test]

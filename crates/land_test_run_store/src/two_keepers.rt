@@ -35,6 +35,14 @@ fn roles_and_banks_come_and_go(rt: HostRuntime) -> Result<(), Fail> {
 }
 
 #[test]
+fn mandates_are_given_and_withdrawn(rt: HostRuntime) -> Result<(), Fail> {
+    conclude(
+        &rt,
+        two_keepers::mandates_are_given_and_withdrawn(rt.alloc()),
+    )
+}
+
+#[test]
 fn parcels_are_cut_and_merged(rt: HostRuntime) -> Result<(), Fail> {
     conclude(&rt, two_keepers::parcels_are_cut_and_merged(rt.alloc()))
 }

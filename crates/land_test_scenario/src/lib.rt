@@ -8,6 +8,7 @@ pub mod doubles;
 pub mod first;
 pub mod lines;
 pub mod looks;
+pub mod mandates;
 pub mod playing;
 pub mod scenario;
 pub mod stop;

@@ -25,6 +25,16 @@ impl Office {
         })
     }
 
+    /// Serves a stream, whose reader is lent.
+    pub fn serve_from(
+        &mut self,
+        alloc: Global,
+        reader: &mut Pieces<'_>,
+        writer: &mut Sink,
+    ) -> Result<Served, DeskFault> {
+        serve(alloc, reader, writer, &mut self.keeper, &mut self.clock)
+    }
+
     /// Serves a stream.
     pub fn serve(
         &mut self,
@@ -33,13 +43,7 @@ impl Office {
         writer: &mut Sink,
     ) -> Result<Served, DeskFault> {
         let mut reader = reader;
-        serve(
-            alloc,
-            &mut reader,
-            writer,
-            &mut self.keeper,
-            &mut self.clock,
-        )
+        self.serve_from(alloc, &mut reader, writer)
     }
 
     /// Whether the input, which comes in pieces, is answered by these bytes, which are so many replies. Want of memory

@@ -57,6 +57,9 @@ const OTHERS: &[Row] = &[
         r#"{"group":7,"members":[{"party":2,"share":"1/2"},{"party":3,"share":"1/2"}]}"#,
     ),
     Row(Reader::Lift, r#"{"rrr":13}"#),
+    Row(Reader::Mandate, r#"{"agent":5}"#),
+    Row(Reader::Withdraw, r#"{"principal":2,"agent":5}"#),
+    Row(Reader::Withdraw, r#"{"agent":2,"principal":2}"#),
     Row(
         Reader::Burden,
         r#"{"unit":1000000000,"party":1,"class":"responsibility","words":"Keep the fence","document":"Order"}"#,

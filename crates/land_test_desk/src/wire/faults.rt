@@ -48,6 +48,10 @@ const FIELDS: &[Row] = &[
     Row(131, Reader::Lift, r#"{"rrr":[13]}"#),
     Row(131, Reader::Lift, r#"{"rrr":13,"unit":9}"#),
     Row(131, Reader::Lift, r#"{"Rrr":13}"#),
+    Row(131, Reader::Mandate, r#"{"principal":2,"agent":5}"#),
+    Row(131, Reader::Mandate, r#"{"party":5}"#),
+    Row(131, Reader::Withdraw, r#"{"principal":2}"#),
+    Row(131, Reader::Withdraw, r#"{"agent":0}"#),
     // an unknown key comes before the fields, and a field at its turn
     Row(131, Reader::Enrol, r#"{"kind":"group","name":"","more":1}"#),
     Row(133, Reader::Enrol, r#"{"kind":"group"}"#),
@@ -79,6 +83,9 @@ const FIELDS: &[Row] = &[
 
 const NUMBERS: &[Row] = &[
     Row(132, Reader::Lift, r#"{"rrr":0}"#),
+    Row(132, Reader::Mandate, r#"{"agent":0}"#),
+    Row(132, Reader::Withdraw, r#"{"principal":0,"agent":"5"}"#),
+    Row(132, Reader::Withdraw, r#"{"principal":2,"agent":-5}"#),
     Row(132, Reader::Lift, r#"{"rrr":-0}"#),
     Row(132, Reader::Lift, r#"{"rrr":-1}"#),
     Row(132, Reader::Lift, r#"{"rrr":1.0}"#),

@@ -2,7 +2,9 @@
 use land_wire_json::bodies::content_kind::ContentKind;
 use land_wire_json::bodies::fields::read_value;
 use land_wire_json::bodies::lodging::{decision_of, lodging_of};
-use land_wire_json::bodies::party::{enrol_of, grant_of, group_of, regroup_of};
+use land_wire_json::bodies::party::{
+    enrol_of, grant_of, group_of, mandate_of, regroup_of, withdrawal_of,
+};
 use land_wire_json::bodies::unit::{burden_of, lift_of, unit_of};
 use land_wire_json::bodies::wire_fault::WireFault;
 use serde_json::Value;
@@ -19,6 +21,10 @@ pub(super) enum Reader {
     Regroup,
     /// A role is given or ended.
     Grant,
+    /// A mandate is given.
+    Mandate,
+    /// A mandate is withdrawn.
+    Withdraw,
     /// A unit is registered.
     Register,
     /// A unit is burdened.
@@ -46,6 +52,8 @@ fn read(alloc: Global, reader: Reader, body: &[u8]) -> Result<(), WireFault> {
         Reader::Enrol | Reader::Group | Reader::Regroup | Reader::Grant => {
             read_of_parties(alloc, reader, &value)
         }
+        Reader::Mandate => drop_mandate(&value),
+        Reader::Withdraw => drop_withdrawal(&value),
         Reader::Register | Reader::Burden | Reader::Lift => read_of_units(alloc, reader, &value),
         Reader::Lodge(kind) => drop_lodging(alloc, kind, &value),
         Reader::Decide => drop_decision(&value),
@@ -86,6 +94,16 @@ fn drop_regroup(alloc: Global, value: &Value) -> Result<(), WireFault> {
 
 fn drop_grant(value: &Value) -> Result<(), WireFault> {
     let _read = grant_of(value)?;
+    Ok(())
+}
+
+fn drop_mandate(value: &Value) -> Result<(), WireFault> {
+    let _read = mandate_of(value)?;
+    Ok(())
+}
+
+fn drop_withdrawal(value: &Value) -> Result<(), WireFault> {
+    let _read = withdrawal_of(value)?;
     Ok(())
 }
 

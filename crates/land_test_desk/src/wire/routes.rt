@@ -55,6 +55,8 @@ const ACTS: &[Row] = &[
     Row("/acts/regroup", Some(Route::Act(ActWord::Regroup))),
     Row("/acts/grant", Some(Route::Act(ActWord::Grant))),
     Row("/acts/revoke", Some(Route::Act(ActWord::Revoke))),
+    Row("/acts/mandate", Some(Route::Act(ActWord::Mandate))),
+    Row("/acts/withdraw", Some(Route::Act(ActWord::Withdraw))),
     Row("/acts/register", Some(Route::Act(ActWord::Register))),
     Row("/acts/burden", Some(Route::Act(ActWord::Burden))),
     Row("/acts/lift", Some(Route::Act(ActWord::Lift))),
@@ -77,6 +79,8 @@ const NO_ACTS: &[Row] = &[
     Row("/acts/enrol/", None),
     Row("/acts/enrol/1", None),
     Row("/acts/enrolment", None),
+    Row("/acts/mandates", None),
+    Row("/acts/withdrawal", None),
     Row("/acts/enro", None),
     Row("/acts//enrol", None),
     Row("/acts/enrol%20", None),
@@ -84,7 +88,7 @@ const NO_ACTS: &[Row] = &[
     Row("/acts/sheet", None),
     Row("/Acts/enrol", None),
     Row("/acts/mortgage/discharge", None),
-    Row("/acts/withdraw", None),
+    Row("/acts/withdrawal", None),
 ];
 
 /// Numbers are not read here: any part that is not empty and has no `/`.

@@ -162,6 +162,18 @@ const ENTRIES: &[Row] = &[
             "TITLE SHEET\nUnit 6 Field\nAt 1970-01-01T00:00:01.007Z\nShares unchecked\nArea 0.0000005\nParcels 1\n         7             0.0000005  1\nEntries 4\n         8  ownership                2 Anna: 1/1\n         9  usufruct                 3 Ben: 1/2\n        11  responsibility           3 Ben: Clear the snow\n        14  mortgage                 4 Bank, \"North\": rank 1 EUR 1000000000000000\nEND\n",
         ),
     ),
+    Row("GET /units", BEN, b"", Shown(r#"{"numbers":[6]}"#)),
+    Row("GET /rrrs", BEN, b"", Shown(r#"{"numbers":[8,9,11]}"#)),
+    Row("GET /rrrs/14", BEN, b"", Denied(12)),
+    Row("GET /parties", BEN, b"", Shown(r#"{"numbers":[2,3]}"#)),
+    Row(
+        "GET /units/6/sheet",
+        BEN,
+        b"",
+        Sheet(
+            "TITLE SHEET\nUnit 6 Field\nAt 1970-01-01T00:00:01.007Z\nShares unchecked\nArea 0.0000005\nParcels 1\n         7             0.0000005  1\nEntries 3\n         8  ownership                2 Anna: 1/1\n         9  usufruct                 3 Ben: 1/2\n        11  responsibility           3 Ben: Clear the snow\nEND\n",
+        ),
+    ),
 ];
 
 /// Mutations that name what does not stand are lodged all the same, and shown with their outlines as they are printed.
@@ -216,12 +228,23 @@ const LODGINGS: &[Row] = &[
     ),
 ];
 
-const THREE: &[Row] = &[Row(
-    "POST /acts/group",
-    OFFICE,
-    br#"{"name":"Three","members":[{"party":2,"share":"1/3"},{"party":3,"share":"1/3"},{"party":4,"share":"1/3"}]}"#,
-    Shown(r#"{"made":[5],"number":5,"stamp":1003}"#),
-)];
+const THREE: &[Row] = &[
+    Row(
+        "POST /acts/group",
+        OFFICE,
+        br#"{"name":"Three","members":[{"party":2,"share":"1/3"},{"party":3,"share":"1/3"},{"party":4,"share":"1/3"}]}"#,
+        Shown(r#"{"made":[5],"number":5,"stamp":1003}"#),
+    ),
+    Row(
+        "POST /acts/grant",
+        OFFICE,
+        br#"{"party":4,"role":"bank"}"#,
+        Shown(r#"{"made":[],"number":4,"stamp":1004}"#),
+    ),
+    Row("GET /parties", BEN, b"", Shown(r#"{"numbers":[3,5]}"#)),
+    Row("GET /parties", BANK, b"", Shown(r#"{"numbers":[4]}"#)),
+    Row("GET /parties/5", BANK, b"", Denied(17)),
+];
 
 const GROUPS_AND_ROLES: &[Row] = &[
     Row(

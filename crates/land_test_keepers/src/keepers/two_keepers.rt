@@ -7,6 +7,7 @@ use crate::keepers::requests::{BODIES, CALLERS, ROUTES, SHARES_AND_OUTLINES, TAR
 use crate::keepers::story::Story;
 use crate::keepers::streams::{cut_in_a_body, heads_at_their_limit};
 use crate::keepers::turns::{EARLY, ROLES, TRANSFERS};
+use land_test_scenario::mandates::MANDATES;
 use land_test_scenario::scenario::STEPS;
 use land_test_scenario::stop::Stop;
 use land_test_scenario::talk::Talk;
@@ -24,6 +25,9 @@ const ACTS: &[Story] = &[
     Story("bodies", 0, &[], BODIES),
     Story("shares and outlines", 0, &[], SHARES_AND_OUTLINES),
 ];
+
+/// Mandates, once the garden has a mortgage.
+const AGENTS: &[Story] = &[Story("mandates", 12, &[], MANDATES)];
 
 /// The talk of a story, the steps before it among its rows.
 fn talk_of(alloc: Global, story: &Story) -> Result<Talk, AllocError> {
@@ -73,6 +77,11 @@ pub fn rights_are_transferred(alloc: Global) -> Result<(), Stop> {
 /// Roles and banks come and go.
 pub fn roles_and_banks_come_and_go(alloc: Global) -> Result<(), Stop> {
     are_told(alloc, ROLES)
+}
+
+/// Mandates are given and withdrawn.
+pub fn mandates_are_given_and_withdrawn(alloc: Global) -> Result<(), Stop> {
+    are_told(alloc, AGENTS)
 }
 
 /// Parcels are cut and merged.

@@ -12,7 +12,7 @@
 //! - `;`: a number, mostly a new one
 //! - `|`: a moment that has been
 //! - `_`: the word of a role
-use land_test_scenario::talk::{BANK, NOTARY, OFFICE, SURVEYOR};
+use land_test_scenario::talk::{BANK, NOTARY, OFFICE, SAM, SURVEYOR};
 
 /// Anybody in any role, anybody as a citizen, and Ben as a conveyancer.
 pub const ANYBODY: &str = "Register-Party: @\r\nRegister-Role: _\r\n";
@@ -30,7 +30,7 @@ pub struct Draft(
 );
 
 /// How many throws there are.
-pub const THROWS: u32 = 50;
+pub const THROWS: u32 = 53;
 
 /// The drafts.
 pub const DRAFTS: &[Draft] = &[
@@ -139,4 +139,12 @@ pub const DRAFTS: &[Draft] = &[
     Draft(48, "GET /units/#/sheet?at=|", NOTARY, ""),
     Draft(49, "GET /sources/;", NOTARY, ""),
     Draft(50, "GET /mutations/%", ANYBODY, ""),
+    Draft(51, "POST /acts/mandate", CITIZEN, r#"{"agent":&}"#),
+    Draft(52, "POST /acts/mandate", SAM, r#"{"agent":*}"#),
+    Draft(
+        53,
+        "POST /acts/withdraw",
+        SAM,
+        r#"{"principal":6,"agent":*}"#,
+    ),
 ];

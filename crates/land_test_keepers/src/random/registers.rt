@@ -9,7 +9,7 @@ use land_test_scenario::stop::{Stop, expect};
 use std::alloc::Global;
 
 /// How many requests are made.
-const REQUESTS: u32 = 600;
+const REQUESTS: u32 = 640;
 
 /// How many changes, and objects that stand, there are at least in the end, and how many lists are compared.
 const CHANGES: i64 = 190;

@@ -80,8 +80,8 @@ fn read_by_keeper(alloc: Global, caller: Caller) -> Result<Reads, Stop> {
 const MANDATES: &str =
     "SELECT principal, agent, since, until FROM mandate WHERE agent = ?1 AND since <= ?2 AND ?2 < until";
 
-/// Runs the texts of a list, whose first parameter is the caller and whose second is the moment; of a citizen's list that of its mandates
-/// before, of which there are none here.
+/// Runs the texts of a list, whose first parameter is the caller and whose second is the moment; of a citizen's list, but of parcels, which
+/// everybody sees, that of its mandates before, of which there are none here.
 fn run_texts(
     conn: &mut Connection<Recorder<MemStore>>,
     caller: Caller,
@@ -89,7 +89,7 @@ fn run_texts(
 ) -> Result<(), Stop> {
     let party = i64::try_from(caller.party).unwrap_or(0);
     let params = [ValueRef::Int(party), ValueRef::Int(LAST)];
-    if caller.role == Role::Citizen {
+    if caller.role == Role::Citizen && kind != Kind::Parcel {
         conn.query_all(MANDATES, &params)?;
     }
     for text in sight_text(caller.role, kind) {
@@ -107,7 +107,7 @@ fn read_by_texts(alloc: Global, caller: Caller) -> Result<Reads, Stop> {
     Ok(conn.into_store().reads())
 }
 
-/// Over joins a list is told by its texts, a citizen's by that of its mandates too, and by nothing else.
+/// Over joins a list is told by its texts, a citizen's, but of parcels, by that of its mandates too, and by nothing else.
 pub fn lists_are_told_by_their_texts(alloc: Global) -> Result<(), Stop> {
     for (place, caller) in CALLERS.iter().enumerate() {
         let by_keeper = read_by_keeper(alloc, *caller)?;

@@ -13,7 +13,7 @@ use land_test_cases::stop::{Stop, expect};
 use std::alloc::Global;
 
 /// Who views which object, and the number of the rule that denies it; 0 where none does.
-struct Row(u64, Role, Kind, u64, u8);
+pub(super) struct Row(pub u64, pub Role, pub Kind, pub u64, pub u8);
 
 fn is_told(register: &Register, row: &Row) -> bool {
     let ask = Ask::View {
@@ -25,7 +25,7 @@ fn is_told(register: &Register, row: &Row) -> bool {
 }
 
 /// How many rows are told as expected before the first that is not.
-fn told_of(register: &Register, rows: &[Row]) -> usize {
+pub(super) fn told_of(register: &Register, rows: &[Row]) -> usize {
     for (place, row) in rows.iter().enumerate() {
         if !is_told(register, row) {
             return place;

@@ -4,10 +4,11 @@ use super::{ANNA, GARDEN, PATH, Right, is_good};
 use crate::core_types::text;
 use Tried::{Burden, Lift, Register};
 use land_core::act::BurdenClass::{Responsibility, Restriction};
-use land_core::act::{Act, BurdenClass, Enrol, NewGroup, Regroup};
+use land_core::act::{Act, BurdenClass, Enrol, NewGroup, NewMandate, Regroup};
 use land_core::ask::{Ask, Request};
 use land_core::caller::Caller;
 use land_core::kind::{Kind, PartyKind};
+use land_core::mandates::Mandate;
 use land_core::member::Member;
 use land_core::role::Role;
 use land_core::roles::Grant;
@@ -287,6 +288,27 @@ fn grants(party: u64) -> bool {
 #[test]
 fn requests_keep_the_limits_of_their_acts(rt: HostRuntime) {
     assert!(&rt; !grants(0) && grants(1) && grants(1_000_000_000) && !grants(1_000_000_001));
+}
+
+fn mandates(agent: u64) -> bool {
+    is_good_ask(Ask::Do(Act::Mandate(NewMandate { agent })))
+}
+
+fn withdrawals(principal: u64, agent: u64) -> bool {
+    is_good_ask(Ask::Do(Act::Withdraw(Mandate { principal, agent })))
+}
+
+#[test]
+fn mandates_name_parties_by_numbers(rt: HostRuntime) {
+    assert!(&rt;
+        !mandates(0) && mandates(1) && mandates(1_000_000_000) && !mandates(1_000_000_001)
+    );
+    assert!(&rt;
+        withdrawals(1, 1_000_000_000)
+            && !withdrawals(0, 1)
+            && !withdrawals(1, 0)
+            && !withdrawals(1_000_000_001, 1)
+    );
 }
 
 fn views(kind: Kind, number: u64, at: Option<i64>) -> bool {

@@ -1,0 +1,55 @@
+//! Mandates as bytes: what is told where the first twelve steps of the scenario were made.
+use crate::desk::office::Office;
+use land_test_scenario::mandates::MANDATES;
+use land_test_scenario::scenario::STEPS;
+use land_test_scenario::stop::Stop;
+use land_test_scenario::talk::Told::Fault;
+use land_test_scenario::talk::{ANNA, BEN, NOTARY, Row, Talk};
+use std::alloc::{AllocError, Global};
+
+/// Bodies are read before the policy is asked: what a field is, and which there are.
+const READING: &[Row] = &[
+    Row("POST /acts/mandate", ANNA, b"", Fault(130)),
+    Row("POST /acts/mandate", ANNA, b"{}", Fault(131)),
+    Row(
+        "POST /acts/mandate",
+        NOTARY,
+        br#"{"principal":2,"agent":5}"#,
+        Fault(131),
+    ),
+    Row("POST /acts/mandate", ANNA, br#"{"agent":"5"}"#, Fault(131)),
+    Row("POST /acts/mandate", ANNA, br#"{"agent":0}"#, Fault(132)),
+    Row("POST /acts/withdraw", BEN, br#"{"agent":5}"#, Fault(131)),
+    Row(
+        "POST /acts/withdraw",
+        BEN,
+        br#"{"principal":1.0,"agent":"5"}"#,
+        Fault(132),
+    ),
+    Row("GET /acts/mandate", ANNA, b"", Fault(137)),
+];
+
+fn talk(alloc: Global) -> Result<Talk, AllocError> {
+    let mut talk = Talk::new(alloc)?;
+    for (place, step) in STEPS.iter().take(12).enumerate() {
+        talk.ask("the scenario", place, step)?;
+    }
+    talk.ask_all("mandates", MANDATES)?;
+    talk.ask_all("reading", READING)?;
+    Ok(talk)
+}
+
+/// The name and the place of the first request that is answered otherwise.
+fn first_wrong(alloc: Global) -> Result<Option<(&'static str, usize)>, Stop> {
+    let talk = talk(alloc)?;
+    let mut office = Office::new(alloc, &[])?;
+    office.first_wrong(alloc, &talk, 1000)
+}
+
+/// Mandates are given and withdrawn, a citizen sees by them, and bodies are read.
+pub fn mandates(alloc: Global) -> Result<(), Stop> {
+    match first_wrong(alloc)? {
+        Some((name, place)) => Err(Stop::Unlike(name, place)),
+        None => Ok(()),
+    }
+}
