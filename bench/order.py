@@ -1,13 +1,14 @@
 #!/usr/bin/env python3
-"""Holds the order of texts (texts.py) against the program: what it runs for each request of joins.py is what the peer runs.
+"""Holds the order of texts (texts.py) against the program: what it runs for each request of joins.py and mandates.py is what the peer runs.
 
     bench/order.py                       (over a register of 1,000 entries; it needs gdb, cc and sqlite3.h)
     LAND=PROGRAM bench/order.py          another program than crates/land/out/land
 
 `land serve` runs under gdb, which stops at each text that the program hands to its sqlite (`Connection::bind`), and writes it down with its
-parameters. The peer runs over a copy of the file, and tells the same of itself. Both are asked for all that joins.py asks for, reads and then
-two acts of each kind, and have to run the same texts, in the same order, with the same parameters; moments of now are compared as such. What differs
-is told, and ends this with status 1. A program without symbols shows no text.
+parameters. The peer runs over a copy of the file, and tells the same of itself. Both are asked for all reads of joins.py, for those of
+mandates.py by agents of no, one and ten principals, and for two acts of each kind, and have to run the same texts, in the same order, with
+the same parameters; moments of now are compared as such. What differs is told, and ends this with status 1. A program without symbols shows
+no text.
 """
 import json
 import os
@@ -87,14 +88,14 @@ def compare(name, mine, theirs, faults):
     print(f"{name}: they differ\n  land: " + "\n        ".join(map(" | ".join, mine)) + "\n  peer: " + "\n        ".join(map(" | ".join, theirs)))
 
 
-def hold_reads(watched, shown, known, faults):
+def hold_reads(watched, shown, known, requests, faults, of=""):
     import joins
 
-    for party, role, name, path in joins.asked(known):
+    for party, role, name, path in requests:
         if path == "/nothing":
             continue
         _, mine = watched.ask(joins.head("GET", path, party, role))
-        compare(f"{role}: {name}", mine, shown(f"{role}: {name}", *joins.values(known, party, path)), faults)
+        compare(f"{role}{of}: {name}", mine, shown(f"{role}: {name}", *joins.values(known, party, path)), faults)
 
 
 def hold_acts(watched, shown, known, faults):
@@ -115,6 +116,7 @@ def hold_acts(watched, shown, known, faults):
 
 def main():
     import joins
+    import mandates
     import registers
     import texts
 
@@ -125,6 +127,7 @@ def main():
     with tempfile.TemporaryDirectory() as folder:
         file = os.path.join(folder, "register.land")
         known = registers.of_entries(file, 1000)
+        agents = registers.add_mandates(file, known, (0, 1, 10), 2)
         peer = texts.Peer([texts.build(folder), shutil.copy(file, file + ".peer"), "wal"])
 
         def shown(plan, *cells):
@@ -132,7 +135,9 @@ def main():
 
         try:
             watched = Watched(folder, file)
-            hold_reads(watched, shown, known, faults)
+            hold_reads(watched, shown, known, joins.asked(known), faults)
+            for agent in agents:
+                hold_reads(watched, shown, agent, mandates.asked(agent), faults, f" of {len(agent['principals'])} principals")
             hold_acts(watched, shown, known, faults)
         finally:
             for service in [*joins.Service.running]:

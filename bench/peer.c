@@ -8,7 +8,8 @@
        text NAME TEXT              a text, which is prepared once and kept
        plan NAME NEW               what a request runs follows; NEW is how many numbers it makes, of a read 0
        run TEXT CELL..             the plan runs a text with these parameters
-       each OTHER TEXT CELL..      the plan runs a text once for each row of the last result of another
+       each OTHER TEXT CELL..      the plan runs a text once for each row of the last result of another, and where such lines of one OTHER
+                                   follow on each other, all of them for its first row, then for its second
        read PLAN SECONDS VALUE..   runs a read for so long, three times at least: the median of nanoseconds, texts and rows of a run
        act PLAN VALUE..            runs an act in one transaction: nanoseconds, those of the processor, the first new number
        show PLAN VALUE..           runs a read or an act, and tells each text with its parameters in a line, then an empty line
@@ -24,7 +25,8 @@
 #include <string.h>
 #include <time.h>
 
-enum { MOST_TEXTS = 128, MOST_PLANS = 64, MOST_STEPS = 32, MOST_CELLS = 16, MOST_KEPT = 8192, MOST_BYTES = 1 << 20, MOST_RUNS = 1 << 17 };
+enum { MOST_TEXTS = 128, MOST_PLANS = 64, MOST_STEPS = 32, MOST_CELLS = 16, MOST_KEPT = 1 << 15, MOST_BYTES = 1 << 20 };
+enum { MOST_RUNS = 1 << 17 };
 
 enum kind { NUMBER, WORDS, NOTHING, GIVEN, NOW, STAMP, NEW, COLUMN };
 
@@ -317,17 +319,38 @@ static void run_step(struct plan *plan, struct step *step, size_t row)
     run_texts++;
 }
 
+/* The end of the steps that are run together with one: those that follow on it, for the rows of the same step. */
+static int end_of(struct plan *plan, int first)
+{
+    int each = plan->steps[first].each, end = first + 1;
+    while (each >= 0 && end < plan->count && plan->steps[end].each == each)
+        end++;
+    return end;
+}
+
+/* Runs steps together. Of several no rows are kept, for they would stand mixed. */
+static void run_together(struct plan *plan, int first, int end)
+{
+    int each = plan->steps[first].each;
+    size_t times = each < 0 ? 1 : plan->steps[each].rows;
+    for (int it = first; it < end; it++) {
+        hold(end - first == 1 || !plan->steps[it].is_kept, "rows of what is run together cannot be kept");
+        plan->steps[it].first = kept_count;
+        plan->steps[it].rows = 0;
+    }
+    for (size_t row = 0; row < times; row++)
+        for (int it = first; it < end; it++)
+            run_step(plan, &plan->steps[it], row);
+    for (int it = first; it < end; it++)
+        run_rows += plan->steps[it].rows;
+}
+
 static void run_steps(struct plan *plan)
 {
     kept_count = byte_count = run_texts = run_rows = 0;
-    for (int it = 0; it < plan->count; it++) {
-        struct step *step = &plan->steps[it];
-        size_t times = step->each < 0 ? 1 : plan->steps[step->each].rows;
-        step->first = kept_count;
-        step->rows = 0;
-        for (size_t row = 0; row < times; row++)
-            run_step(plan, step, row);
-        run_rows += step->rows;
+    for (int it = 0, end; it < plan->count; it = end) {
+        end = end_of(plan, it);
+        run_together(plan, it, end);
     }
 }
 

@@ -102,6 +102,46 @@ def of_entries(path, entries):
     return known
 
 
+def add_units(base, owners, count):
+    """At the stamp 3000 so many units more for each of some owners, in turns: each with a parcel and one entry, all by one document."""
+    deed, = base.execute("SELECT max(next) FROM moments").fetchone()
+    estates, parcels, rrrs, number = [], [], [], deed + 1
+    for place in range(count * len(owners)):
+        unit, parcel, entry = range(number, number + 3)
+        number += 3
+        estates.append((unit, f"Unit {unit}", 1, 3000, OPEN))
+        parcels.append((parcel, unit, f"P{parcel}", square(100000 + place), deed, 3000, OPEN))
+        rrrs.append((entry, unit, owners[place % len(owners)], "ownership", 1, 1, None, None, None, None, deed, 3000, OPEN))
+    put(base, "source", [(deed, "administrative", f"Deed {deed}", 3000, OPEN)])
+    for table, rows in (("unit", estates), ("parcel", parcels), ("rrr", rrrs)):
+        put(base, table, rows)
+    put(base, "moments", [(3000, number)])
+
+
+def add_mandates(path, known, counts, more):
+    """Mandates in a register of `of_entries`, at the stamp 3000; of each agent what is known of the owner, its partner and its principals.
+
+    An agent owns a half of one unit, and its partner the other half; the first agent is the owner that is known. It has so many principals,
+    each of which owns a half of another unit and nothing else. One agent more has as many as the last, and each of these gets so many units
+    more.
+    """
+    base = sqlite3.connect(path)
+    party = dict(base.execute("SELECT number, party FROM rrr"))
+    known_one = (known["unit"], known["entry"])
+    places = [known_one, *(place for place in reversed(known["rights"]) if place != known_one)]
+    plan, agents = [*((count, 0) for count in counts), (counts[-1], 1)], []
+    if len(places) < len(plan) + max(counts):
+        raise SystemExit(f"{path}: has too few owners for {max(counts)} principals")
+    for (count, half), (unit, entry) in zip(plan, places):
+        principals = [party[first + half] for _, first in places[len(plan):][:count]]
+        put(base, "mandate", [(principal, party[entry], 3000, OPEN) for principal in principals])
+        agents.append({**known, "owner": party[entry], "unit": unit, "entry": entry, "partner": party[entry + 1], "principals": principals})
+    add_units(base, agents[-1]["principals"], more)
+    base.commit()
+    base.close()
+    return agents
+
+
 def of_changes(path, changes, parcels=1):
     """A register of so many changes: in turns one enrols a party, and one registers a unit with so many parcels, a document and that party's
     right."""

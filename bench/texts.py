@@ -1,8 +1,9 @@
-"""Which texts the program runs for each request of joins.py, in which order and with which parameters; and the peer in C, which runs them.
+"""Which texts the program runs for each request of joins.py and mandates.py, in which order and with which parameters; and the peer in C,
+which runs them.
 
 The texts are taken from the sources by their names; those of a join or of a table stand under the name of their file too (own/GROUPS,
 party/BEGIN). The steps of a request are written as peer.c reads them: the name of a text and its parameters, after `each OTHER` where it is
-run once for each row of OTHER's last result. order.py holds all of this against what the program runs.
+run once for each row of OTHER's last result, and several of them together. order.py holds all of this against what the program runs.
 """
 import os
 import shutil
@@ -19,11 +20,18 @@ for folder, names in (("land_select_joins/src/joins", SELECTIONS), ("land_tables
     for file in names:
         TEXTS.update({f"{file}/{name}": text for name, text in texts(f"{folder}/{file}.rt").items()})
 
+
+def of_circle(*names):
+    """Texts that are run for each of a citizen's circle in turn: those whose mandate it holds, and then itself (running::unite_for)."""
+    others = [f"each MANDATES_OF_AGENT {name} MANDATES_OF_AGENT.principal now" for name in names]
+    return ["MANDATES_OF_AGENT $1 now", *others, *(f"{name} $1 now" for name in names)]
+
+
 # Parts of requests, each with the function of land_select that runs it. $1 is the caller, $2 the number in the path, $3 the unit that a mutation
 # names, which stands in the JSON of the mutation.
 CALLER = [f"PARTY $1 {LAST}", f"ROLES_OF_PARTY $1 {LAST}"]                                          # standing::person
-CIRCLE = ["MANDATES_OF_AGENT $1 now"]                                                               # of_agent::circle, of a citizen
-GROUPS = [*CIRCLE, "own/GROUPS $1 now"]                                                             # interests::names_of, of a citizen
+GROUPS = of_circle("own/GROUPS")                                                                    # interests::names_of, of a citizen
+PARTIES = of_circle("own/ITSELF", "own/GROUPS", "holder/PARTIES", "group/PARTIES")                  # sight::Sight, of a citizen
 UNIT = ["ENTRIES_OF_UNIT $2 now"]                                                                   # interests::is_unit_shown
 ENTRY = ["ENTRY $2 now", "ENTRIES_OF_UNIT ENTRY.unit now"]                                          # interests::is_number_shown
 NAMING = ["MUTATION $2 now", "ENTRIES_OF_UNIT $3 now"]                                              # naming::is_mutation_shown
@@ -32,17 +40,19 @@ VIEW = ["UNIT $2 now", "PARCELS_OF_UNIT $2 now", "ENTRIES_OF_UNIT $2 now"]      
 NAMES = ["each ENTRIES_OF_UNIT PARTY ENTRIES_OF_UNIT.party now"]                                    # view::named_entries: all are in sight
 
 # Of each read what follows on CALLER, and the functions that run it: whether it is seen is told first, by viewing::is_in_sight, and a denial
-# ends there; then it is looked up. A list is sight::Sight: each selection of the role and the kind, for a citizen after its circle, which here
-# is itself alone. An object is object::ObjectAt, a sheet view::UnitSeen; ObjectAt's look-up tells of what a role sees all of whether it is
-# there, and has_lodged of a mutation who lodged it.
+# ends there; then it is looked up. A list is sight::Sight: each selection of the role and the kind, for a citizen over its circle. An
+# object is object::ObjectAt, a sheet view::UnitSeen; ObjectAt's look-up tells of what a role sees all of whether it is there, and
+# has_lodged of a mutation who lodged it.
 READS = {
-    ("citizen", "its units"): [*CIRCLE, "holder/UNITS $1 now", "group/UNITS $1 now"],          # Sight
-    ("citizen", "the entries in its sight"): [*CIRCLE, "holder/ENTRIES $1 now", "group/ENTRIES $1 now"],  # Sight
-    ("citizen", "the parties in its sight"): [                                                 # Sight
-        *CIRCLE, "own/ITSELF $1 now", "own/GROUPS $1 now", "holder/PARTIES $1 now", "group/PARTIES $1 now"],
+    ("citizen", "its units"): of_circle("holder/UNITS", "group/UNITS"),                        # Sight
+    ("citizen", "the entries in its sight"): of_circle("holder/ENTRIES", "group/ENTRIES"),     # Sight
+    ("citizen", "the parties in its sight"): PARTIES,                                          # Sight
+    ("citizen", "a party in its sight"): [                                                     # viewing::is_in_sight: sight; ObjectAt
+        *PARTIES, "PARTY $2 now", "ROLES_OF_PARTY $2 now", "MEMBERS_OF_GROUP $2 now"],
     ("citizen", "an entry in its sight"): [*ENTRY, *GROUPS, "ENTRY $2 now"],                   # interests::is_number_shown, ObjectAt
     ("citizen", "an entry that is denied"): [*ENTRY, *GROUPS],                                 # interests::is_number_shown
     ("citizen", "a parcel"): ["PARCEL $2 now", "PARCEL $2 now"],                               # ObjectAt's look-up, ObjectAt
+    ("citizen", "its unit"): [*UNIT, *GROUPS, "UNIT $2 now"],                                  # interests::is_unit_shown, ObjectAt
     ("citizen", "its title sheet"): [*UNIT, *GROUPS, *VIEW, *GROUPS, *NAMES],                  # interests::is_unit_shown, UnitSeen
     ("citizen", "a title sheet that is denied"): [*UNIT, *GROUPS],                             # interests::is_unit_shown
     ("bank", "the units in its sight"): ["creditor/UNITS $1 now"],                             # Sight
@@ -60,7 +70,7 @@ READS = {
     ("notary", "an entry that is not there"): ["ENTRY $2 now"],                                # ObjectAt's look-up
     ("notary", "a title sheet"): ["UNIT $2 now", *VIEW, *NAMES],                               # ObjectAt's look-up, UnitSeen
     ("notary", "all units"): ["all/UNITS $1 now"],                                             # Sight
-    ("citizen", "all parcels"): [*CIRCLE, "all/PARCELS $1 now"],                               # Sight
+    ("citizen", "all parcels"): ["all/PARCELS $1 now"],                                        # Sight, which has no circle for parcels
 }
 
 
