@@ -18,7 +18,8 @@ COLUMNS = {
     "unit": ("number", "name", "checked"), "parcel": ("number", "unit", "label", "outline", "source"),
     "rrr": ("number", "unit", "party", "class", "num", "den", "amount", "currency", "place", "words", "source"),
     "source": ("number", "kind", "title"),
-    "mutation": ("number", "lodger", "reference", "source", "lodged", "act", "content", "state"), "names": ("mutation", "unit")}
+    "mutation": ("number", "lodger", "reference", "source", "lodged", "act", "content", "state"), "names": ("mutation", "unit"),
+    "mandate": ("principal", "agent")}
 CONTENTS = {"transfer": ("unit", "right", "receiver", "share"), "subdivision": ("unit", "parcel", "first", "rest"),
             "merger": ("unit", "others", "parcels", "label", "outline"), "mortgage": ("unit", "creditor", "amount", "currency"),
             "discharge": ("unit", "mortgage")}
@@ -150,6 +151,14 @@ class Ledger:
     def revoke(self, act):
         self.close("role", [self.one("role", party=act.body["party"], role=act.body["role"])])
         return act.body["party"]
+
+    def mandate(self, act):
+        self.begin("mandate", principal=act.party, agent=act.body["agent"])
+        return act.body["agent"]
+
+    def withdraw(self, act):
+        self.close("mandate", [self.one("mandate", principal=act.body["principal"], agent=act.body["agent"])])
+        return act.body["agent"]
 
     def register(self, act):
         source, unit = self.source(act.body["document"]), self.take()

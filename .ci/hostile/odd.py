@@ -3,8 +3,8 @@ import json
 
 OFFICE = "Register-Party: 1\r\nRegister-Role: stateAdministrator\r\n"
 LISTS = ("parties", "units", "parcels", "rrrs", "sources", "mutations")
-ACTS = ("enrol", "group", "regroup", "grant", "revoke", "register", "burden", "lift", "transfer", "subdivision", "merger", "mortgage",
-        "discharge", "approve", "refuse")
+ACTS = ("enrol", "group", "regroup", "grant", "revoke", "mandate", "withdraw", "register", "burden", "lift", "transfer", "subdivision",
+        "merger", "mortgage", "discharge", "approve", "refuse")
 # What any reply may be, where nobody works out which it is.
 ANY = None
 

@@ -49,6 +49,18 @@ class Office:
         row = self.dice.choice(held)
         return Act("revoke", {"party": row["party"], "role": row["role"]})
 
+    def mandate(self):
+        principal, agent = self.dice.sample(self.single(), 2)
+        return Act("mandate", {"agent": agent}, principal, "citizen")
+
+    def withdraw(self):
+        found = self.ledger.standing["mandate"]
+        if not found:
+            return self.mandate()
+        row = self.dice.choice(found)
+        pair = {"principal": row["principal"], "agent": row["agent"]}
+        return Act("withdraw", pair, self.dice.choice((row["principal"], row["agent"])), "citizen")
+
     def members(self):
         some = self.dice.sample(self.single(), self.dice.choice((2, 2, 3, 4)))
         return [{"party": party, "share": f"1/{len(some)}"} for party in some]
@@ -143,8 +155,9 @@ class Office:
                 return Act("grant", {"party": self.dice.choice(self.single()), "role": role})
         if not self.ledger.standing["unit"]:
             return self.register()
-        return self.dice.choice((self.enrol, self.grant, self.revoke, self.group, self.regroup, self.register, self.burden, self.lift,
-                                 self.lodge, self.lodge, self.lodge, self.decide, self.decide, self.decide))()
+        return self.dice.choice((self.enrol, self.grant, self.revoke, self.mandate, self.withdraw, self.group, self.regroup,
+                                 self.register, self.burden, self.lift, self.lodge, self.lodge, self.lodge, self.decide, self.decide,
+                                 self.decide))()
 
 
 class Client:

@@ -55,6 +55,8 @@ export const RULES = {
   25: "A certified surveyor is shown the mutations that it lodged.",
   26: "Sources are shown to notaries and state administrators.",
   27: "At this moment there is no such object.",
+  28: "Mandates are given and withdrawn by citizens.",
+  29: "A mandate is withdrawn by who gave it, or by who holds it.",
 };
 
 export const FAULTS = {
@@ -102,10 +104,12 @@ export const REFUSALS = {
   218: "The last state administrator stays one.",
   219: "A party is named twice.",
   220: "The new outlines are not exactly the ground of the old ones.",
+  221: "The party holds this mandate already.",
+  222: "There is no such mandate.",
 };
 
-// Rules 4 to 10 are about acts, the first two about whoever asks.
-const titleOf = (rule) => (rule < 3 ? "Denied" : rule > 3 && rule < 11 ? "Not taken up" : "Not shown");
+// Rules 4 to 10, 28 and 29 are about acts, the first two about whoever asks.
+const titleOf = (rule) => (rule < 3 ? "Denied" : (rule > 3 && rule < 11) || rule > 27 ? "Not taken up" : "Not shown");
 
 const AGAIN = "If you sent something, look whether it was taken up before you send it again. A lodging may be sent again as it is.";
 
