@@ -25,6 +25,14 @@ fn the_register_takes_early_turns(rt: HostRuntime) -> Result<(), Fail> {
 }
 
 #[test]
+fn holders_and_members_are_shown_what_they_hold(rt: HostRuntime) -> Result<(), Fail> {
+    conclude(
+        &rt,
+        two_keepers::holders_and_members_are_shown_what_they_hold(rt.alloc()),
+    )
+}
+
+#[test]
 fn rights_are_transferred(rt: HostRuntime) -> Result<(), Fail> {
     conclude(&rt, two_keepers::rights_are_transferred(rt.alloc()))
 }

@@ -618,11 +618,15 @@ pub const EARLY: &[Story] = &[
     ),
     Story("before 1970", 0, &[-1, -5000, i64::MIN], BEFORE_1970),
     Story("outlines", 1, &[], OUTLINES),
-    Story("a group of three", 3, &[], THREE),
-    Story("entries", 4, &[], ENTRIES),
     Story("lodgings", 8, &[], LODGINGS),
     Story("groups and roles", 9, &[], GROUPS_AND_ROLES),
     Story("a burden", 10, &[], BURDEN),
+];
+
+/// The same: what holders and members are shown.
+pub const SHOWN: &[Story] = &[
+    Story("a group of three", 3, &[], THREE),
+    Story("entries", 4, &[], ENTRIES),
 ];
 
 /// Turns once the garden has a mortgage: transfers.

@@ -6,7 +6,7 @@ use crate::keepers::parcels::PARCELS;
 use crate::keepers::requests::{BODIES, CALLERS, ROUTES, SHARES_AND_OUTLINES, TARGETS};
 use crate::keepers::story::Story;
 use crate::keepers::streams::{cut_in_a_body, heads_at_their_limit};
-use crate::keepers::turns::{EARLY, ROLES, TRANSFERS};
+use crate::keepers::turns::{EARLY, ROLES, SHOWN, TRANSFERS};
 use land_test_scenario::mandates::MANDATES;
 use land_test_scenario::scenario::STEPS;
 use land_test_scenario::stop::Stop;
@@ -67,6 +67,11 @@ pub fn bodies_are_told_their_first_fault(alloc: Global) -> Result<(), Stop> {
 /// The register takes early turns.
 pub fn the_register_takes_early_turns(alloc: Global) -> Result<(), Stop> {
     are_told(alloc, EARLY)
+}
+
+/// Holders and members are shown what they hold.
+pub fn holders_and_members_are_shown_what_they_hold(alloc: Global) -> Result<(), Stop> {
+    are_told(alloc, SHOWN)
 }
 
 /// Rights are transferred.
