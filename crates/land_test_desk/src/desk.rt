@@ -2,6 +2,7 @@
 
 pub mod exchanges;
 pub mod failures;
+pub mod last_reads;
 pub mod long_requests;
 pub mod long_streams;
 pub mod mandates;

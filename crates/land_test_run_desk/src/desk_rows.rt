@@ -1,7 +1,8 @@
 //! Requests and replies as bytes, and streams of them.
 use crate::conclusion::conclude;
 use land_test_desk::desk::{
-    exchanges, failures, long_requests, long_streams, mandates, readings, replies, streams,
+    exchanges, failures, last_reads, long_requests, long_streams, mandates, readings, replies,
+    streams,
 };
 use std::test::Fail;
 
@@ -108,6 +109,6 @@ fn what_was_read_ahead_is_not_read_again(rt: HostRuntime) -> Result<(), Fail> {
 fn a_reader_is_not_asked_after_the_last_reply(rt: HostRuntime) -> Result<(), Fail> {
     conclude(
         &rt,
-        streams::a_reader_is_not_asked_after_the_last_reply(rt.alloc()),
+        last_reads::a_reader_is_not_asked_after_the_last_reply(rt.alloc()),
     )
 }

@@ -1,0 +1,47 @@
+//! Requests after which the connection ends: the reader is not asked again.
+use crate::desk::office::{Office, is_want_of_memory, open_sink};
+use land_desk::serve::Served;
+use land_test_scenario::doubles::Pieces;
+use land_test_scenario::stop::{Stop, expect};
+use land_test_scenario::talk::{Talk, Told};
+use std::alloc::Global;
+
+/// What comes in one piece, and the fault that is told of it, after which the connection ends.
+struct Last(&'static [u8], u16);
+
+/// Requests after which the connection is to end, and what is no head.
+const LAST: &[Last] = &[
+    Last(b"GET / HTTP/1.0\r\n\r\n", 136),
+    Last(b"GET / HTTP/1.1\r\nConnection: close\r\n\r\n", 136),
+    Last(b"GET /a\x01", 140),
+];
+
+/// Whether it is served, and the reader was asked once for it.
+fn is_served_by_one_read(alloc: Global, row: &Last) -> Result<bool, Stop> {
+    let mut talk = Talk::new(alloc)?;
+    talk.tell(Told::Fault(row.1), true)?;
+    let mut sink = open_sink(alloc, talk.output.len())?;
+    let mut office = Office::new(alloc, &[])?;
+    let mut reader = Pieces {
+        left: row.0,
+        piece: 4096,
+        reads: u64::MAX,
+    };
+    let served = office.serve_from(alloc, &mut reader, &mut sink);
+    if is_want_of_memory(&served, &sink.taken, talk.output.as_bytes()) {
+        return Err(Stop::Memory);
+    }
+    Ok(
+        served == Ok(Served { replies: 1 })
+            && sink.taken.as_slice() == talk.output.as_bytes()
+            && reader.reads == u64::MAX - 1,
+    )
+}
+
+/// A reader is not asked after the last reply.
+pub fn a_reader_is_not_asked_after_the_last_reply(alloc: Global) -> Result<(), Stop> {
+    for (place, row) in LAST.iter().enumerate() {
+        expect(is_served_by_one_read(alloc, row)?, "last", place)?;
+    }
+    Ok(())
+}
