@@ -29,20 +29,20 @@ def of_circle(*names):
 
 # Parts of requests, each with the function of land_select that runs it. $1 is the caller, $2 the number in the path, $3 the unit that a mutation
 # names, which stands in the JSON of the mutation.
-CALLER = [f"PARTY $1 {LAST}", f"ROLES_OF_PARTY $1 {LAST}"]                                          # standing::person
+CALLER = [f"ROLES_OF_PARTY $1 {LAST}"]                                                              # standing::person: it holds the role
 GROUPS = of_circle("own/GROUPS")                                                                    # interests::names_of, of a citizen
 PARTIES = of_circle("own/ITSELF", "own/GROUPS", "holder/PARTIES", "group/PARTIES")                  # sight::Sight, of a citizen
 UNIT = ["ENTRIES_OF_UNIT $2 now"]                                                                   # interests::is_unit_shown
 ENTRY = ["ENTRY $2 now", "ENTRIES_OF_UNIT ENTRY.unit now"]                                          # interests::is_number_shown
 NAMING = ["MUTATION $2 now", "ENTRIES_OF_UNIT $3 now"]                                              # naming::is_mutation_shown
-AWAITED = ["NAMINGS_OF_UNIT $2 now", "each NAMINGS_OF_UNIT MUTATION NAMINGS_OF_UNIT.mutation now"]  # awaited::is_lodger_on
+AWAITED = ["LODGERS_ON_UNIT $2 now"]                                                                # lodgers::is_lodger_on
 VIEW = ["UNIT $2 now", "PARCELS_OF_UNIT $2 now", "ENTRIES_OF_UNIT $2 now"]                          # view::view
-NAMES = ["each ENTRIES_OF_UNIT PARTY ENTRIES_OF_UNIT.party now"]                                    # view::named_entries: all are in sight
+NAMES = ["PARTIES_OF_UNIT $2 now"]                                                                  # of_entries::parties
 
 # Of each read what follows on CALLER, and the functions that run it: whether it is seen is told first, by viewing::is_in_sight, and a denial
 # ends there; then it is looked up. A list is sight::Sight: each selection of the role and the kind, for a citizen over its circle. An
-# object is object::ObjectAt, a sheet view::UnitSeen; ObjectAt's look-up tells of what a role sees all of whether it is there, and
-# has_lodged of a mutation who lodged it.
+# object is object::ObjectAt, a sheet view::UnitSeen; presence::stands tells of what a role sees all of whether it is there, by its number
+# alone, and lodgers::has_lodged of a mutation who lodged it.
 READS = {
     ("citizen", "its units"): of_circle("holder/UNITS", "group/UNITS"),                        # Sight
     ("citizen", "the entries in its sight"): of_circle("holder/ENTRIES", "group/ENTRIES"),     # Sight
@@ -51,7 +51,7 @@ READS = {
         *PARTIES, "PARTY $2 now", "ROLES_OF_PARTY $2 now", "MEMBERS_OF_GROUP $2 now"],
     ("citizen", "an entry in its sight"): [*ENTRY, *GROUPS, "ENTRY $2 now"],                   # interests::is_number_shown, ObjectAt
     ("citizen", "an entry that is denied"): [*ENTRY, *GROUPS],                                 # interests::is_number_shown
-    ("citizen", "a parcel"): ["PARCEL $2 now", "PARCEL $2 now"],                               # ObjectAt's look-up, ObjectAt
+    ("citizen", "a parcel"): ["PARCEL_NUMBER $2 now", "PARCEL $2 now"],                        # presence::stands, ObjectAt
     ("citizen", "its unit"): [*UNIT, *GROUPS, "UNIT $2 now"],                                  # interests::is_unit_shown, ObjectAt
     ("citizen", "its title sheet"): [*UNIT, *GROUPS, *VIEW, *GROUPS, *NAMES],                  # interests::is_unit_shown, UnitSeen
     ("citizen", "a title sheet that is denied"): [*UNIT, *GROUPS],                             # interests::is_unit_shown
@@ -63,12 +63,12 @@ READS = {
     ("bank", "an entry, where it has a mortgage on all other units"): [*ENTRY, "ENTRY $2 now"],  # interests::is_number_shown, ObjectAt
     ("citizen", "a mutation of its unit"): [*NAMING, *GROUPS, "MUTATION $2 now"],              # naming::is_mutation_shown, ObjectAt
     ("citizen", "a mutation that is denied"): [*NAMING, *GROUPS],                              # naming::is_mutation_shown
-    ("conveyancer", "a mutation, where it lodged all that there are"): ["MUTATION $2 now", "MUTATION $2 now"],  # lodging::has_lodged, ObjectAt
-    ("conveyancer", "a mutation that another lodged"): ["MUTATION $2 now"],                    # lodging::has_lodged
-    ("conveyancer", "a unit that is denied, where all that it lodged is decided"): [*AWAITED, *AWAITED],  # awaited::is_awaited, viewing::is_named
-    ("notary", "an entry"): ["ENTRY $2 now", "ENTRY $2 now"],                                  # ObjectAt's look-up, ObjectAt
-    ("notary", "an entry that is not there"): ["ENTRY $2 now"],                                # ObjectAt's look-up
-    ("notary", "a title sheet"): ["UNIT $2 now", *VIEW, *NAMES],                               # ObjectAt's look-up, UnitSeen
+    ("conveyancer", "a mutation, where it lodged all that there are"): ["LODGER_OF_MUTATION $2 now", "MUTATION $2 now"],  # has_lodged, ObjectAt
+    ("conveyancer", "a mutation that another lodged"): ["LODGER_OF_MUTATION $2 now"],          # lodgers::has_lodged
+    ("conveyancer", "a unit that is denied, where all that it lodged is decided"): AWAITED,    # awaited::unit_awaited
+    ("notary", "an entry"): ["ENTRY_NUMBER $2 now", "ENTRY $2 now"],                           # presence::stands, ObjectAt
+    ("notary", "an entry that is not there"): ["ENTRY_NUMBER $2 now"],                         # presence::stands
+    ("notary", "a title sheet"): ["UNIT_NUMBER $2 now", *VIEW, *NAMES],                        # presence::stands, UnitSeen
     ("notary", "all units"): ["all/UNITS $1 now"],                                             # Sight
     ("citizen", "all parcels"): ["all/PARCELS $1 now"],                                        # Sight, which has no circle for parcels
 }

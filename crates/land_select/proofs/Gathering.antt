@@ -1,6 +1,6 @@
 -- What is put together is what was asked for of each part.
 use Rattle.std.proofs.Common.{◌≡◌, ◌⊎◌, ℕ, Bool, true, false, ◌||◌, nat_eq, cond, List, [], ◌∷◌, Option, Some, None, refl, sym, ap, ap₂, subst, ◌∙◌, inl, inr}
-use Rattle.std.proofs.lemmas.Bool.{false≢true}
+use Rattle.std.proofs.lemmas.Bool.{or_cases, or_left, or_right}
 use Rattle.std.proofs.lemmas.Bool.Decides.{Decides-eqb}
 use Rattle.std.specs.Cmp.{IsTotalOrder, nat_cmp_total}
 use Rattle.std.specs.FinMap as map
@@ -9,6 +9,7 @@ use Rattle.std.specs.List.{AllByRecursion, Contains}
 use Rattle.std.specs.Ordering.{eq_by_cmp, is_eq, nat_cmp}
 use Rattle.std.specs.Cmp.{tied_itself}
 use Rattle.std.specs.declared.cmp.Ordering.{Ordering}
+use Rattle.land_core.proofs.Booleans.{or_nothing}
 use Rattle.land_core.proofs.FiniteMaps.{is_equal}
 use Rattle.land_core.proofs.FiniteSets.{exact_grants, grants_total}
 use Rattle.land_core.proofs.Reflection.{each_there}
@@ -29,18 +30,6 @@ use Rattle.land_select.specs.declared.slices.people.People.{People}
 use Rattle.land_select_joins.proofs.Containing.{first, first_or_later, in_nothing, later}
 
 -- ---- truths
-
-either_is : (a b : Bool) → (a || b) ≡ true → (a ≡ true) ⊎ (b ≡ true)
-either_is true b h = inl refl
-either_is false b h = inr h
-
-left : (a b : Bool) → a ≡ true → (a || b) ≡ true
-left true b h = refl
-left false b h = absurd (false≢true h)
-
-right : (a b : Bool) → b ≡ true → (a || b) ≡ true
-right true b h = refl
-right false b h = h
 
 one : {V : Type 0} {a b : V} → Some a ≡ Some b → a ≡ b
 one e = cc
@@ -117,10 +106,10 @@ module _ {K V : Type 0} {R : K → K → Ordering} (o : IsTotalOrder R) (same : 
         let within : IsWithin (only w all) = λ k v is. (was_kept o same w all k v is).0 in
         same_entries o same (put_all (only w all) (only u all)) (only (λ k v. u k v || w k v) all)
         (λ k v is. elim (from_either (map.entries (only u all)) (only w all) k v is) [
-          | inl old ↦ let it = was_kept o same w all k v old in is_kept o same (λ k v. u k v || w k v) all k v it.0 (right (u k v) (w k v) it.1)
-          | inr new ↦ let it = was_kept o same u all k v (entry_there o same (only u all) (k, v) new) in is_kept o same (λ k v. u k v || w k v) all k v it.0 (left (u k v) (w k v) it.1)
+          | inl old ↦ let it = was_kept o same w all k v old in is_kept o same (λ k v. u k v || w k v) all k v it.0 (or_right (u k v) (w k v) it.1)
+          | inr new ↦ let it = was_kept o same u all k v (entry_there o same (only u all) (k, v) new) in is_kept o same (λ k v. u k v || w k v) all k v it.0 (or_left (u k v) (w k v) it.1)
         ])
-        (λ k v is. let it = was_kept o same (λ k v. u k v || w k v) all k v is in elim (either_is (u k v) (w k v) it.1) [
+        (λ k v is. let it = was_kept o same (λ k v. u k v || w k v) all k v is in elim (or_cases (u k v) (w k v) it.1) [
           | inl new ↦ all_there (map.entries (only u all)) of (only w all) within (k, v) (entry_found o same (only u all) k v (is_kept o same u all k v it.0 new))
           | inr old ↦ all_keep (map.entries (only u all)) of (only w all) within k v (is_kept o same w all k v it.0 old)
         ])
@@ -131,15 +120,15 @@ pub one_kept : {V : Type 0} (asked : ℕ → Bool) (all : FinMap nat_cmp V) (n :
 one_kept {V} asked all n None is =
     same_entries nat_cmp_total nat_cmp-IsAntisymmetric (only (λ k v. asked k) all) (only (λ k v. with_number n asked k) all)
     (λ k v there. let it = was_kept nat_cmp_total nat_cmp-IsAntisymmetric (λ k v. asked k) all k v there in
-    is_kept nat_cmp_total nat_cmp-IsAntisymmetric (λ k v. with_number n asked k) all k v it.0 (right (nat_eq k n) (asked k) it.1))
-    (λ k v there. let it = was_kept nat_cmp_total nat_cmp-IsAntisymmetric (λ k v. with_number n asked k) all k v there in elim (either_is (nat_eq k n) (asked k) it.1) [
+    is_kept nat_cmp_total nat_cmp-IsAntisymmetric (λ k v. with_number n asked k) all k v it.0 (or_right (nat_eq k n) (asked k) it.1))
+    (λ k v there. let it = was_kept nat_cmp_total nat_cmp-IsAntisymmetric (λ k v. with_number n asked k) all k v there in elim (or_cases (nat_eq k n) (asked k) it.1) [
       | inl at ↦ absurd (let here = ap (map.get all) ((Decides-eqb k n).0 at) in let both : None ≡ Some v = is ∙ sym here ∙ it.0 in cc)
       | inr old ↦ is_kept nat_cmp_total nat_cmp-IsAntisymmetric (λ k v. asked k) all k v it.0 old
     ])
 one_kept {V} asked all n (Some value) is =
     same_entries nat_cmp_total nat_cmp-IsAntisymmetric (map.insert (only (λ k v. asked k) all) n value) (only (λ k v. with_number n asked k) all)
     (λ k v there. go k v (eq_by_cmp nat_cmp k n) refl (sym (map.get-insert nat_cmp_total (only (λ k v. asked k) all) n value k) ∙ there))
-    (λ k v there. let it = was_kept nat_cmp_total nat_cmp-IsAntisymmetric (λ k v. with_number n asked k) all k v there in elim (either_is (nat_eq k n) (asked k) it.1) [
+    (λ k v there. let it = was_kept nat_cmp_total nat_cmp-IsAntisymmetric (λ k v. with_number n asked k) all k v there in elim (or_cases (nat_eq k n) (asked k) it.1) [
       | inl at ↦
           let here : k ≡ n = (Decides-eqb k n).0 at in
           ap (map.get (map.insert (only (λ k v. asked k) all) n value)) here ∙ put_there nat_cmp_total nat_cmp-IsAntisymmetric all (only (λ k v. asked k) all) (n, value) ∙ is ∙ ap (map.get all) (sym here) ∙ it.0
@@ -152,20 +141,16 @@ one_kept {V} asked all n (Some value) is =
     go : (k : ℕ) (v : V) (b : Bool) → eq_by_cmp nat_cmp k n ≡ b → cond b (Some value) (map.get (only (λ k v. asked k) all) k) ≡ Some v → map.get (only (λ k v. with_number n asked k) all) k ≡ Some v
     go k v true at it =
         let here : k ≡ n = nat_cmp-IsAntisymmetric k n (is_equal _ at) in
-        is_kept nat_cmp_total nat_cmp-IsAntisymmetric (λ k v. with_number n asked k) all k v (ap (map.get all) here ∙ sym is ∙ it) (left (nat_eq k n) (asked k) ((Decides-eqb k n).1 here))
+        is_kept nat_cmp_total nat_cmp-IsAntisymmetric (λ k v. with_number n asked k) all k v (ap (map.get all) here ∙ sym is ∙ it) (or_left (nat_eq k n) (asked k) ((Decides-eqb k n).1 here))
     go k v false apart it =
         let that = was_kept nat_cmp_total nat_cmp-IsAntisymmetric (λ k v. asked k) all k v it in
-        is_kept nat_cmp_total nat_cmp-IsAntisymmetric (λ k v. with_number n asked k) all k v that.0 (right (nat_eq k n) (asked k) that.1)
+        is_kept nat_cmp_total nat_cmp-IsAntisymmetric (λ k v. with_number n asked k) all k v that.0 (or_right (nat_eq k n) (asked k) that.1)
 
 -- a record alone, as the whole has it
 pub single_kept : {V : Type 0} (all : FinMap nat_cmp V) (n : ℕ) (found : Option V) → found ≡ map.get all n → put_one map.empty n found ≡ only (λ k v. nat_eq k n) all
 single_kept all n found is =
     ap (λ m. put_one m n found) (none_kept nat_cmp_total nat_cmp-IsAntisymmetric all) ∙ one_kept (λ k. false) all n found is
     ∙ same_kept nat_cmp_total nat_cmp-IsAntisymmetric (λ k v. with_number n (λ k. false) k) (λ k v. nat_eq k n) all (λ k v. or_nothing (nat_eq k n))
-  where
-    or_nothing : (a : Bool) → (a || false) ≡ a
-    or_nothing true = refl
-    or_nothing false = refl
 
 -- one more party with its roles and its members
 pub person_known : (r : Register) (asked : ℕ → Bool) (known : People) (n : ℕ) (party : Option PartyRecord) (roles : Grants) (members : FinMap nat_cmp Members) → party ≡ map.get r.parties n

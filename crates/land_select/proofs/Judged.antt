@@ -1,22 +1,25 @@
 -- What the evidence and what is in sight tell is the verdict on what is asked.
-use Rattle.std.proofs.Common.{◌≡◌, ◌∙◌, ◌++◌, ◌&&◌, ◌||◌, ℕ, ℤ, Bool, true, false, cond, [], ◌∷◌, None, Some, Option, is_some, Ok, IfSome, IsTrue, refl, sym, ap, ap₂, arith, inl}
+use Rattle.std.proofs.Common.{◌≡◌, ◌∙◌, ◌++◌, ◌&&◌, ◌||◌, ℕ, ℤ, Bool, true, false, cond, [], ◌∷◌, None, Some, Option, Ok, IfSome, IsTrue, refl, sym, ap, ap₂, arith, inl}
+use Rattle.std.proofs.lemmas.Bool.{false≢true}
 use Rattle.std.specs.FinMap as map
 use Rattle.std.specs.FinMap.{FinMap}
-use Rattle.std.specs.Option.{option_map}
 use Rattle.std.specs.Ordering.{nat_cmp}
-use Rattle.land_core.specs.Register.{object_at, stands}
+use Rattle.land_core.proofs.Booleans.{and_false}
+use Rattle.land_core.specs.Register.{stands}
 use Rattle.land_core.specs.declared.ask.Ask.{Ask}
 use Rattle.land_core.specs.declared.caller.Caller.{Caller}
 use Rattle.land_core.specs.declared.kind.Kind.{Kind}
 use Rattle.land_core.specs.declared.kind.Kind.TheVariants as kind
 use Rattle.land_core.specs.declared.register.Register.{Register}
-use Rattle.land_rules.specs.Denials.Sight.{SightTellsVerdicts, is_unit_of_conveyancer, told_by}
+use Rattle.land_core.specs.declared.role.Role.{Role}
+use Rattle.land_rules.specs.Denials.Sight.{SightTellsVerdicts, WhatIsAwaitedIsSeen, is_awaited, is_unit_of_conveyancer, sees_by_awaiting, told_by}
 use Rattle.land_rules.specs.Denials.Standing.{EvidenceIsEnough, LookedUpIsEnough, decided, discharged}
 use Rattle.land_rules.specs.Laws.{IsSoundOrNothing, is_itself, rule_of_role}
 use Rattle.land_rules.specs.Relations.{is_lodger_on}
 use Rattle.land_rules.specs.Rules.{Rules, first_denial, sees, sight_rules, standing_rules, verdict_of, view_rules}
 use Rattle.land_rules.specs.declared.verdict.Verdict.{Verdict}
 use Rattle.land_rules.specs.declared.verdict.Verdict.TheVariants.{Allowed, Denied}
+use Rattle.land_select.proofs.Callers.{put_there}
 use Rattle.land_select.specs.Verdicts.{evidence_in, record_at, roles_in}
 use Rattle.land_select_joins.specs.Lookups.Parts.{IsPart}
 use Rattle.land_tables_schema.specs.Rows.Looks.{IsLook}
@@ -49,40 +52,41 @@ evidence_denies enough looked r caller a past evidence is =
     let party = map.get r.parties caller.party in
     let entry = record_at r.rrrs (discharged a) in
     let mutation = record_at r.mutations (decided a) in
+    let it =
+    looked r caller a party (roles_in r caller.party) entry mutation (record { party_is = refl; roles_are = refl; entry_is = at_number (discharged a) r.rrrs; mutation_is = at_number (decided a) r.mutations }) in
     ap (λ (m : Register). first_denial (standing_rules m caller a past)) is
-    ∙ enough (evidence_in r caller a) r caller a past
-    (looked r caller a party (roles_in r caller.party) entry mutation (record { party_is = refl; roles_are = refl; entry_is = at_number (discharged a) r.rrrs; mutation_is = at_number (decided a) r.mutations }))
+    ∙ enough (evidence_in r caller a) r caller a past (record { party = put_there caller.party (stands r kind.Party caller.party); role = it.role; entry = it.entry; mutation = it.mutation })
 
 -- ---- what is in sight
-
-shown_there : {T U V : Type 0} (f : U → V) (g : T → U) (o : Option T) → is_some (option_map f (option_map g o)) ≡ is_some o
-shown_there f g None = refl
-shown_there f g (Some x) = refl
-
--- an object is shown where it stands
-pub object_stands : (r : Register) (k : Kind) (n : ℕ) → is_some (object_at r k n) ≡ stands r k n
-object_stands r kind.Party n = shown_there _ _ (map.get r.parties n)
-object_stands r kind.Unit n = shown_there _ _ (map.get r.units n)
-object_stands r kind.Parcel n = shown_there _ _ (map.get r.parcels n)
-object_stands r kind.Rrr n = shown_there _ _ (map.get r.rrrs n)
-object_stands r kind.Source n = shown_there _ _ (map.get r.sources n)
-object_stands r kind.Mutation n = shown_there _ _ (map.get r.mutations n)
 
 denied_is_not_allowed : (j : ℕ) → Denied j ≡ Allowed → ⊥
 denied_is_not_allowed j e = cc
 
--- what is asked for twice is asked for once
-asked_twice : (a b : Bool) → (a && (a && b)) ≡ (a && b)
-asked_twice true b = refl
-asked_twice false b = refl
-
--- the verdict on a view is told by what is in sight, also where nothing stands
-pub view_told : SightTellsVerdicts → (r : Register) → IsSoundOrNothing r → (caller : Caller) (k : Kind) (n : ℕ)
-    → told_by (sees r caller k n) (is_unit_of_conveyancer caller.role k && is_lodger_on r caller.party n) caller k n ≡ first_denial (view_rules r caller k n)
-view_told law r premise caller k n =
+-- who is no conveyancer that views a unit is told by what is in sight alone, also where nothing stands
+pub sight_told : SightTellsVerdicts → (r : Register) → IsSoundOrNothing r → (caller : Caller) (k : Kind) (n : ℕ) → is_unit_of_conveyancer caller.role k ≡ false
+    → told_by (sees r caller k n) false caller k n ≡ first_denial (view_rules r caller k n)
+sight_told law r premise caller k n other =
     ap (λ b. cond (sees r caller k n) Allowed (Denied (cond (b || is_itself caller k n) 27 (rule_of_role caller.role k))))
-    (asked_twice (is_unit_of_conveyancer caller.role k) (is_lodger_on r caller.party n))
+    (and_false (is_unit_of_conveyancer caller.role k) ∙ sym (ap (λ b. b && is_lodger_on r caller.party n) other))
     ∙ sym (law r premise caller k n)
+
+-- a conveyancer that views a unit sees it by what it awaits
+by_awaiting : (role : Role) (k : Kind) → is_unit_of_conveyancer role k ≡ true → (k ≡ kind.Unit) × (sees_by_awaiting role kind.Unit ≡ true)
+by_awaiting role kind.Party is = absurd (false≢true is)
+by_awaiting role kind.Unit is = (refl, is)
+by_awaiting role kind.Parcel is = absurd (false≢true is)
+by_awaiting role kind.Rrr is = absurd (false≢true is)
+by_awaiting role kind.Source is = absurd (false≢true is)
+by_awaiting role kind.Mutation is = absurd (false≢true is)
+
+-- so it is told by that, and by whether an undecided mutation of its own names the unit
+pub unit_told : SightTellsVerdicts → WhatIsAwaitedIsSeen → (r : Register) → IsSoundOrNothing r → (caller : Caller) (k : Kind) (n : ℕ) → is_unit_of_conveyancer caller.role k ≡ true
+    → told_by (is_awaited r caller kind.Unit n) (is_lodger_on r caller.party n) caller kind.Unit n ≡ first_denial (view_rules r caller k n)
+unit_told law awaited r premise caller k n is =
+    let it = by_awaiting caller.role k is in
+    ap (λ b. told_by b (is_lodger_on r caller.party n) caller kind.Unit n) (sym (awaited r premise caller kind.Unit n it.1))
+    ∙ sym (law r premise caller kind.Unit n)
+    ∙ ap (λ (which : Kind). first_denial (view_rules r caller which n)) (sym it.0)
 
 -- ---- the verdict
 

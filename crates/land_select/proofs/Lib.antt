@@ -1,9 +1,11 @@
 -- Lemmas of the keeper over joins.
 pub mod Awaiting
+pub mod Callers
 pub mod Gathering
 pub mod Judged
 pub mod Keeping
 pub mod Looks
+pub mod Named
 pub mod NamedObjects
 pub mod Passing
 pub mod Seen

@@ -9,7 +9,9 @@ use Rattle.std.specs.List.{list_any}
 use Rattle.std.specs.Option.{option_map_or}
 use Rattle.std.specs.Ordering.{nat_cmp}
 use Rattle.std.specs.Prelude.{map as map_list}
+use Rattle.std.proofs.lemmas.Cmp.{nat_eq_equiv}
 use Rattle.land_acts.specs.Slices.{content_names_party, is_mandate, is_mutation_where, mutations_looked_at, names_mandate, names_party, names_unit}
+use Rattle.land_core.proofs.Booleans.{or_nothing, same_tests}
 use Rattle.land_core.proofs.FiniteSets.{exact_grants, grants_total}
 use Rattle.land_core.proofs.Reflection.{get-only, list_any-map}
 use Rattle.land_core.specs.Contents.{names_unit as content_names_unit}
@@ -35,23 +37,11 @@ use Rattle.land_select_joins.proofs.Containing.{any_decides}
 
 -- ---- truths
 
-same_truth : (a b : Bool) → (a ≡ true → b ≡ true) → (b ≡ true → a ≡ true) → a ≡ b
-same_truth true b to from = sym (to refl)
-same_truth false true to from = from refl
-same_truth false false to from = refl
-
-or_nothing : (a : Bool) → (a || false) ≡ a
-or_nothing true = refl
-or_nothing false = refl
-
 turned : (a b c : Bool) → ((a || b) || c) ≡ (b || (a || c))
 turned true true c = refl
 turned true false c = refl
 turned false true c = refl
 turned false false c = refl
-
-equal_turned : (a b : ℕ) → nat_eq a b ≡ nat_eq b a
-equal_turned a b = same_truth (nat_eq a b) (nat_eq b a) (λ h. (Decides-eqb b a).1 (sym ((Decides-eqb a b).0 h))) (λ h. (Decides-eqb a b).1 (sym ((Decides-eqb b a).0 h)))
 
 any_same : {X : Type 0} (p q : X → Bool) → ((x : X) → p x ≡ q x) → (xs : List X) → list_any p xs ≡ list_any q xs
 any_same p q same [] = refl
@@ -72,24 +62,21 @@ listed_party n (content.Mortgage it) = sym (or_nothing (nat_eq n it.creditor))
 listed_party n (content.Discharge it) = refl
 
 one_unit : (n u : ℕ) → nat_eq u n ≡ (nat_eq n u || false)
-one_unit n u = equal_turned u n ∙ sym (or_nothing (nat_eq n u))
+one_unit n u = nat_eq_equiv.symm u n ∙ sym (or_nothing (nat_eq n u))
 
 listed_unit : (n : ℕ) (c : Content) → content_names_unit n c ≡ lists (units_of_content c) n
 listed_unit n (content.Transfer it) = one_unit n it.unit
 listed_unit n (content.Subdivision it) = one_unit n it.unit
-listed_unit n (content.Merger it) = ap₂ (λ a b. a || b) (equal_turned it.unit n) (any_same (λ k. nat_eq k n) (λ k. nat_eq n k) (λ k. equal_turned k n) it.others)
+listed_unit n (content.Merger it) = ap₂ (λ a b. a || b) (nat_eq_equiv.symm it.unit n) (any_same (λ k. nat_eq k n) (λ k. nat_eq n k) (λ k. nat_eq_equiv.symm k n) it.others)
 listed_unit n (content.Mortgage it) = one_unit n it.unit
 listed_unit n (content.Discharge it) = one_unit n it.unit
 
 -- ---- acts
 
-itself : (n : ℕ) → nat_eq n n ≡ true
-itself n = (Decides-eqb n n).1 refl
-
 -- the mutation that an act decides is among those that it is about
 module _ (r : Register) (k : ℕ) (mutations : FinMap nat_cmp MutationRecord) (are : mutations ≡ only (λ n m. nat_eq n k) r.mutations) where
   decided_there : map.get mutations k ≡ map.get r.mutations k
-  decided_there = ap (λ ms. map.get ms k) are ∙ get-only nat_cmp_total nat_cmp-IsAntisymmetric (λ n m. nat_eq n k) r.mutations k (λ m. itself k)
+  decided_there = ap (λ ms. map.get ms k) are ∙ get-only nat_cmp_total nat_cmp-IsAntisymmetric (λ n m. nat_eq n k) r.mutations k (λ m. nat_eq_equiv.refl k)
 
   decided_names : (names : ℕ → Content → Bool) (listed : Content → List ℕ) → ((n : ℕ) (c : Content) → names n c ≡ lists (listed c) n) → (n : ℕ)
       → is_mutation_where (λ m. names n m.content) r k ≡ lists (of_mutation listed mutations k) n
@@ -138,7 +125,7 @@ mandate_named caller other m = refl
 
 pub source_listed : (mutations : FinMap nat_cmp MutationRecord) (n : ℕ) → some (λ k m. nat_eq m.source n) mutations ≡ lists (sources_of mutations) n
 source_listed mutations n =
-    any_same (λ e. nat_eq e.1.source n) (λ e. nat_eq n e.1.source) (λ e. equal_turned e.1.source n) (map.entries mutations)
+    any_same (λ e. nat_eq e.1.source n) (λ e. nat_eq n e.1.source) (λ e. nat_eq_equiv.symm e.1.source n) (map.entries mutations)
     ∙ sym (list_any-map (nat_eq n) (λ e. e.1.source) (map.entries mutations))
 
 -- ---- state administrators
@@ -162,7 +149,7 @@ pub office_listed : (r : Register) (office : Grants) → office ≡ only (λ gra
     → holds r n roles.StateAdministrator ≡ lists (map_list (λ grant. grant.party) (grants_in office)) n
 unfolding grants_in
 office_listed r office are n =
-    same_truth (holds r n roles.StateAdministrator) (list_any (λ e. nat_eq n e.0.party) (map.entries office)) to from
+    same_tests (holds r n roles.StateAdministrator) (list_any (λ e. nat_eq n e.0.party) (map.entries office)) to from
     ∙ sym (list_any-map (nat_eq n) (λ (grant : Grant). grant.party) (map_list (λ e. e.0) (map.entries office)) ∙ list_any-map (λ (grant : Grant). nat_eq n grant.party) (λ e. e.0) (map.entries office))
   where
     whole : (role : Role) → Grant → Unit {0} → Bool

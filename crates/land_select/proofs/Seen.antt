@@ -67,7 +67,7 @@ verdict_stands look_ups s caller a past t u place (Ok it) answer =
     let sound = answer.register.sound in
     let holds = answer.register.holds in
     let last : register_at tl last_moment ≡ last_register tl = stays_last tl last_moment sound.rising (last_is_moment tl sound) in
-    answer.answer holds.listed holds.history holds.holds (register_at tl last_moment) (register_at tl t) (have_members look_ups tl last_moment sound) (sound_or_nothing tl t sound)
+    answer.answer holds.listed holds.history holds.holds (register_at tl last_moment) (register_at tl t) (sound_or_nothing tl last_moment sound) (sound_or_nothing tl t sound)
     (holds.stands.stands last_moment the_last) (place s answer.register)
     ∙ ap (λ (now : Register). verdict_of now (register_at tl t) caller a past) last
 verdict_stands look_ups s caller a past t u place (Err fault) answer = tt

@@ -23,7 +23,7 @@ use Rattle.land_rules.specs.Denials.Sight.{AllThatStandsIsSeen, sees_all}
 use Rattle.land_rules.specs.Laws.{SeenIsExactly}
 use Rattle.land_rules.specs.Laws.{IsSoundOrNothing}
 use Rattle.land_rules.specs.Rules.{seen_of, sees}
-use Rattle.land_select.specs.Views.{IsShown, in_sight, named_at, named_of, view_from}
+use Rattle.land_select.specs.Views.{IsShown, in_sight, named_at, view_from}
 use Rattle.land_select_joins.proofs.Containing.{first, later}
 use Rattle.land_select_joins.proofs.Standing.{entry_there}
 use Rattle.land_select_joins.specs.Joins.Running.{OfHeld}
@@ -49,15 +49,6 @@ parcels_are r unit found is =
     ap (λ m. map_list (λ e. shown_parcel e.0 e.1) (map.entries m)) is ∙ ap (map_list (λ e. shown_parcel e.0 e.1)) (entries-only nat_cmp_total nat_cmp-IsAntisymmetric (λ n p. nat_eq p.unit unit) r.parcels)
 
 -- ---- entries
-
--- those that are named, and those that are to be named yet, are some
-abbrev pub AreNamedSoFar : (t : ℤ) → Trees → List NamedRrr → (rest entries : List (ℕ × RrrRecord)) → Type 0
-AreNamedSoFar t db all rest entries = OfHeld db (λ h. (r : Register) → HaveMembers r.members → StandsAt t h r → all ++ named_of r rest ≡ named_of r entries)
-
-pub one_named : (t : ℤ) (db : Trees) (all : List NamedRrr) (n : ℕ) (e : RrrRecord) (rest entries : List (ℕ × RrrRecord)) (it : NamedRrr)
-    → AreNamedSoFar t db all ((n, e) ∷ rest) entries → IsPart (λ r. named_rrr r n e) t db it → AreNamedSoFar t db (all ++ it ∷ []) rest entries
-one_named t db all n e rest entries it so_far is moments h held r have stands =
-    append_assoc all (it ∷ []) (named_of r rest) ∙ ap (λ x. all ++ x ∷ named_of r rest) (is moments h held r have stands) ∙ so_far moments h held r have stands
 
 module _ {X : Type 0} where
   pub twice : (p q : X → Bool) (xs : List X) → filter p (filter q xs) ≡ filter (λ x. q x && p x) xs
@@ -97,10 +88,6 @@ listed_in_sight exact r caller unit listed are =
     ∙ twice (λ e. list_any (nat_eq e.0) listed) (λ e. nat_eq e.1.unit unit) (map.entries r.rrrs)
     ∙ alike (λ e. nat_eq e.1.unit unit && list_any (nat_eq e.0) listed) (λ e. nat_eq e.1.unit unit && sees r caller Rrr e.0)
     (λ e. ap (λ b. nat_eq e.1.unit unit && b) (ap (list_any (nat_eq e.0)) are ∙ (exact r caller Rrr).exact e.0)) (map.entries r.rrrs))
-
--- named, these are the entries that are seen
-pub named_in_sight : (r : Register) (caller : Caller) (unit : ℕ) → named_of r (map.entries (in_sight r caller unit)) ≡ entries_seen r caller unit
-named_in_sight r caller unit = ap (named_of r) (entries-only nat_cmp_total nat_cmp-IsAntisymmetric (λ n e. nat_eq e.unit unit && sees r caller Rrr n) r.rrrs)
 
 -- the entries of a unit, and the numbers of all entries that the caller sees
 abbrev pub AreListed : (t : ℤ) → Trees → Caller → (unit : ℕ) → FinMap nat_cmp RrrRecord → List ℕ → Type 0

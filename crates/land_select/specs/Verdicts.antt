@@ -2,11 +2,15 @@
 use Rattle.std.specs.FinMap as map
 use Rattle.std.specs.FinMap.{FinMap}
 use Rattle.std.specs.Ordering.{nat_cmp}
-use Rattle.std.specs.Prelude.{◌≡◌, ℕ, ℤ, Bool, nat_eq, Option, option_and_then}
+use Rattle.std.specs.Prelude.{◌≡◌, ℕ, ℤ, Bool, nat_eq, [], None, Some, Option, option_and_then, if◌then◌else◌}
 use Rattle.land_core.specs.Entries.{only}
 use Rattle.land_core.specs.Grants.{Grants}
+use Rattle.land_core.specs.Register.{stands}
 use Rattle.land_core.specs.declared.ask.Ask.{Ask}
 use Rattle.land_core.specs.declared.caller.Caller.{Caller}
+use Rattle.land_core.specs.declared.kind.Kind.TheVariants as kind
+use Rattle.land_core.specs.declared.kind.PartyKind.TheVariants.{NaturalPerson}
+use Rattle.land_core.specs.declared.party.PartyRecord.{PartyRecord}
 use Rattle.land_core.specs.declared.register.Register.{Register}
 use Rattle.land_keep.specs.Moments.{last_moment}
 use Rattle.land_rules.specs.Denials.Standing.{decided, discharged, evidence_of}
@@ -14,7 +18,6 @@ use Rattle.land_rules.specs.Laws.{IsSoundOrNothing}
 use Rattle.land_rules.specs.Rules.{verdict_of}
 use Rattle.land_rules.specs.declared.verdict.Verdict.{Verdict}
 use Rattle.land_select_joins.specs.Joins.Running.{OfHeld}
-use Rattle.land_tables_history.specs.Groups.{HaveMembers}
 use Rattle.land_tables_history.specs.History.{StandsAt}
 use Rattle.sqlite_trees.specs.Tree.{Trees}
 
@@ -26,12 +29,17 @@ record_at m number = option_and_then (map.get m) number
 abbrev pub roles_in : Register → (party : ℕ) → Grants
 roles_in r party = only (λ grant u. nat_eq grant.party party) r.roles
 
--- the evidence of a register by which who asks is judged
+-- a party, whatever it is called and of whatever kind, where one is there
+abbrev pub somebody : Bool → Option PartyRecord
+somebody there = if there then Some (record { kind = NaturalPerson; name = [] }) else None
+
+-- the evidence of a register by which who asks is judged: what the caller is called is none
 abbrev pub evidence_in : Register → Caller → Ask → Register
-evidence_in r caller a = evidence_of caller a (map.get r.parties caller.party) (roles_in r caller.party) (record_at r.rrrs (discharged a)) (record_at r.mutations (decided a))
+evidence_in r caller a =
+    evidence_of caller a (somebody (stands r kind.Party caller.party)) (roles_in r caller.party) (record_at r.rrrs (discharged a)) (record_at r.mutations (decided a))
 
 -- Where the tables hold a history, this is the verdict on what is asked, by the register that stands at the last moment and the one that
--- stands at the asked one, which is sound or has nothing in it.
+-- stands at the asked one, each of which is sound or has nothing in it.
 abbrev pub IsVerdict : Caller → Ask → (past : Bool) → (t : ℤ) → Trees → Verdict → Type 0
 IsVerdict caller a past t db it =
-    OfHeld db (λ h. (now at : Register) → HaveMembers now.members → IsSoundOrNothing at → StandsAt last_moment h now → StandsAt t h at → it ≡ verdict_of now at caller a past)
+    OfHeld db (λ h. (now at : Register) → IsSoundOrNothing now → IsSoundOrNothing at → StandsAt last_moment h now → StandsAt t h at → it ≡ verdict_of now at caller a past)

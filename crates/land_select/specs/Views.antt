@@ -1,10 +1,10 @@
 -- What look-ups and joins show of the register that stands at a moment.
 use Rattle.std.specs.FinMap as map
-use Rattle.std.specs.Prelude.{◌≡◌, ◌↔◌, ℕ, ℤ, true, ◌&&◌, nat_eq, List, [], map as map_list, Option, if◌then◌else◌}
+use Rattle.std.specs.Prelude.{◌≡◌, ◌↔◌, ℕ, ℤ, true, ◌&&◌, nat_eq, List, [], ◌∷◌, map as map_list, Option, if◌then◌else◌}
 use Rattle.std.specs.FinMap.{FinMap}
 use Rattle.std.specs.Ordering.{nat_cmp}
 use Rattle.std.specs.List.{Contains}
-use Rattle.std.specs.Option.{option_map, option_map_or}
+use Rattle.std.specs.Option.{option_map}
 use Rattle.land_core.specs.Entries.{only}
 use Rattle.land_core.specs.declared.caller.Caller.{Caller}
 use Rattle.land_core.specs.declared.kind.Kind.TheVariants.{Rrr}
@@ -12,7 +12,7 @@ use Rattle.land_core.specs.declared.party.PartyRecord.{PartyRecord}
 use Rattle.land_core.specs.declared.register.Register.{Register}
 use Rattle.land_core.specs.declared.rrr.RrrRecord.{RrrRecord}
 use Rattle.land_core.specs.declared.unit.UnitRecord.{UnitRecord}
-use Rattle.land_keep.specs.Sheets.{entries_seen, named_rrr, parcels_at}
+use Rattle.land_keep.specs.Sheets.{entries_seen, parcels_at}
 use Rattle.land_keep.specs.declared.view.NamedRrr.{NamedRrr}
 use Rattle.land_keep.specs.declared.view.View.{View}
 use Rattle.land_rules.specs.Circles.{circle_of, is_group_of, is_name_of}
@@ -22,22 +22,25 @@ use Rattle.land_rules.specs.Relations.{is_lodger_on}
 use Rattle.land_rules.specs.Rules.{sees}
 use Rattle.land_select_joins.specs.Joins.Running.{OfHeld}
 use Rattle.land_tables_history.specs.History.{StandsAt}
+use Rattle.land_tables_history.specs.declared.version.Version.{Version}
 use Rattle.sqlite_trees.specs.Tree.{Trees}
 
 -- where the tables hold a history that at the moment stands for a register, sound or with nothing in it, this is what is shown of it
 abbrev pub IsShown : {T : Type 0} → (Register → T) → (t : ℤ) → Trees → T → Type 0
 IsShown shown t db it = OfHeld db (λ h. (r : Register) → IsSoundOrNothing r → StandsAt t h r → it ≡ shown r)
 
--- some entries, each with the name of its party
-abbrev pub named_of : Register → List (ℕ × RrrRecord) → List NamedRrr
-named_of r entries = map_list (λ e. named_rrr r e.0 e.1) entries
+-- what the party of a number is called among some, nothing where it is not among them
+abbrev pub name_among : List (Version (ℕ × PartyRecord)) → (number : ℕ) → List ℕ
+name_among [] number = []
+name_among (v ∷ vs) number = if nat_eq v.what.0 number then v.what.1.name else name_among vs number
 
--- an entry with its number and the name of its party, nothing where that does not stand
-abbrev pub with_name : ℕ → RrrRecord → Option PartyRecord → NamedRrr
-with_name n e party = record {
-  rrr = record { number = n; unit = e.unit; party = e.party; class = e.class; source = e.source };
-  name = option_map_or (λ p. p.name) party [];
-}
+-- an entry with its number and a name
+abbrev pub with_name : ℕ → RrrRecord → List ℕ → NamedRrr
+with_name n e name = record { rrr = record { number = n; unit = e.unit; party = e.party; class = e.class; source = e.source }; name = name }
+
+-- some entries, each with the name of its party, which is among some
+abbrev pub named_among : List (Version (ℕ × PartyRecord)) → List (ℕ × RrrRecord) → List NamedRrr
+named_among parties entries = map_list (λ e. with_name e.0 e.1 (name_among parties e.1.party)) entries
 
 -- the entries of a unit that a caller sees
 abbrev pub in_sight : Register → Caller → (unit : ℕ) → FinMap nat_cmp RrrRecord

@@ -1,10 +1,9 @@
 //! What a conveyancer awaits at a moment, by look-ups: undecided mutations of its own that name a unit.
 ghost use Rattle.std.specs.FinMap as map;
-ghost use Rattle.std.specs.List.{list_any};
 ghost use Rattle.std.specs.Prelude.{◌≡◌, false, if◌then◌else◌, IsTrue};
 ghost use Rattle.land_core.specs.declared.kind.Kind.TheVariants as kinds;
 ghost use Rattle.land_rules.specs.Denials.Sight.{is_awaited};
-ghost use Rattle.land_rules.specs.Relations.{is_lodger_on, is_mutation_where, is_pending_on};
+ghost use Rattle.land_rules.specs.Relations.{is_lodger_on};
 ghost use Rattle.land_select.specs.Views.{awaited_of};
 ghost use Rattle.land_select_joins.specs.Lookups.Parts.{IsPart};
 ghost use Rattle.land_tables_schema.specs.Land.{IsLand};
@@ -14,78 +13,32 @@ ghost use Rattle.sqlite.specs.State.{HasCleanDisk};
 
 use land_core::caller::Caller;
 use land_core::kind::Kind;
-use land_core::mutation::MutationRecord;
 use land_core::records::Records;
 use land_core::rrr::RrrRecord;
-use land_core::unit::UnitRecord;
-use land_select_joins::lookups::{by_number, of_unit};
+use land_select_joins::lookups::by_number;
+use land_select_joins::lookups::lodgers::is_lodger_on;
+use land_select_joins::lookups::presence::stands;
 use land_tables_rows::listing::fault::ReadFault;
 use sqlite::{Alter, Connection};
 use std::alloc::Global;
 
-/// Whether a mutation is undecided, and a party lodged it, and it names a unit.
-fn is_pending_on(party: u64, unit: u64, mutation: &MutationRecord) -> bool
-    ensures { result ≡ is_pending_on party unit mutation.now }
-{
-    mutation.is_undecided() && mutation.lodger == party && mutation.content.names_unit(unit)
-}
-
-/// Whether the mutation of a number stands at a moment and is undecided, and a party lodged it, and it names a unit.
-fn is_pending<S: Alter>(
+/// Whether a unit stands at a moment and an undecided mutation of a caller names it, and whether one names it, be the unit there or not.
+pub(crate) fn unit_awaited<S: Alter>(
     alloc: Global,
     conn: &mut Connection<S>,
-    party: u64,
+    caller: Caller,
     unit: u64,
-    number: u64,
     at: i64,
-) -> Result<bool, ReadFault>
+) -> Result<(bool, bool), ReadFault>
     requires land { HasCleanDisk (state S.Store conn.old) → IsLand (state S.Store conn.old).now.schema }
-    ensures look { IsLook result (λ it. IsPart (λ r. is_mutation_where (is_pending_on party unit) r number) at (state S.Store conn.old).now.trees it) (state S.Store conn.old) (state S.Store conn.new) }
+    ensures look { IsLook result (λ it. IsPart (λ r. (is_awaited r caller kinds.Unit unit, is_lodger_on r caller.party unit)) at (state S.Store conn.old).now.trees it) (state S.Store conn.old) (state S.Store conn.new) }
     ensures mode { conn.old.in_transaction ≡ false → conn.new.in_transaction ≡ false }
 {
-    let found = by_number::record(alloc, conn, number, at)?;
-    match found {
-        Some(mutation) => Ok(is_pending_on(party, unit, &mutation)),
-        None => Ok(false),
+    if !is_lodger_on(alloc, conn, caller.party, unit, at)? {
+        return Ok((false, false));
     }
-}
-
-/// Whether one of some mutations stands at a moment and is undecided, and a party lodged it, and it names a unit.
-fn is_one_pending<S: Alter>(
-    alloc: Global,
-    conn: &mut Connection<S>,
-    party: u64,
-    unit: u64,
-    numbers: &[u64],
-    at: i64,
-) -> Result<bool, ReadFault>
-    requires open { HasCleanDisk (state S.Store conn.old) → IsTrue (state S.Store conn.old).is_open }
-    requires land { HasCleanDisk (state S.Store conn.old) → IsLand (state S.Store conn.old).now.schema }
-    ensures look { IsLook result (λ it. IsPart (λ r. list_any (λ number. is_mutation_where (is_pending_on party unit) r number) numbers.now) at (state S.Store conn.old).now.trees it) (state S.Store conn.old) (state S.Store conn.new) }
-    ensures mode { conn.old.in_transaction ≡ false → conn.new.in_transaction ≡ false }
-{
-    for number in numbers {
-        if is_pending(alloc, conn, party, unit, *number, at)? {
-            return Ok(true);
-        }
-    }
-    Ok(false)
-}
-
-/// Whether an undecided mutation of a party names a unit at a moment.
-pub(crate) fn is_lodger_on<S: Alter>(
-    alloc: Global,
-    conn: &mut Connection<S>,
-    party: u64,
-    unit: u64,
-    at: i64,
-) -> Result<bool, ReadFault>
-    requires land { HasCleanDisk (state S.Store conn.old) → IsLand (state S.Store conn.old).now.schema }
-    ensures look { IsLook result (λ it. IsPart (λ r. is_lodger_on r party unit) at (state S.Store conn.old).now.trees it) (state S.Store conn.old) (state S.Store conn.new) }
-    ensures mode { conn.old.in_transaction ≡ false → conn.new.in_transaction ≡ false }
-{
-    let numbers = of_unit::mutations(alloc, conn, unit, at)?;
-    is_one_pending(alloc, conn, party, unit, numbers.as_slice(), at)
+    let there = stands(alloc, conn, Kind::Unit, unit, at)?;
+    Ok((there, true))
 }
 
 /// Whether a unit stands at a moment and an undecided mutation of a caller names it.
@@ -100,11 +53,9 @@ fn is_unit_awaited<S: Alter>(
     ensures look { IsLook result (λ it. IsPart (λ r. is_awaited r caller kinds.Unit unit) at (state S.Store conn.old).now.trees it) (state S.Store conn.old) (state S.Store conn.new) }
     ensures mode { conn.old.in_transaction ≡ false → conn.new.in_transaction ≡ false }
 {
-    if !is_lodger_on(alloc, conn, caller.party, unit, at)? {
-        return Ok(false);
-    }
-    let found = by_number::record::<UnitRecord, S>(alloc, conn, unit, at)?;
-    Ok(found.is_some())
+    let told = unit_awaited(alloc, conn, caller, unit, at)?;
+    let (awaited, _) = told;
+    Ok(awaited)
 }
 
 /// Whether the entry of a number stands at a moment and an undecided mutation of a caller names its unit.

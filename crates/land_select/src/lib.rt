@@ -6,7 +6,6 @@ mod awaited;
 mod denial;
 mod interests;
 pub mod laws;
-mod lodging;
 mod naming;
 mod object;
 mod shown;

@@ -80,8 +80,8 @@ fn surveyor_texts(kind: Kind) -> &'static [&'static str]
     }
 }
 
-/// The texts whose numbers together are what a role sees of a kind: 0 to 4 of 23. Parameter 1 is the caller, parameter 2 the moment in
-/// milliseconds since 1970 UTC.
+/// The texts whose numbers together are what a role sees of a kind without mandates: 0 to 4 of 23. Parameter 1 is the caller, or one of
+/// its circle, parameter 2 the moment in milliseconds since 1970 UTC.
 pub fn sight_text(role: Role, kind: Kind) -> &'static [&'static str]
     ensures { map (λ text. text.now) result.now ≡ sight_texts role kind }
 {

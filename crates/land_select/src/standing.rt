@@ -1,9 +1,12 @@
 //! Who may ask, by look-ups.
-ghost use Rattle.std.specs.FinMap as map;
 ghost use Rattle.std.specs.Prelude.{◌≡◌, false, IsTrue};
+ghost use Rattle.land_core.specs.Grants.{grant_of, has_grant};
+ghost use Rattle.land_core.specs.Register.{stands};
+ghost use Rattle.land_core.specs.declared.kind.Kind.TheVariants as kinds;
 ghost use Rattle.land_rules.specs.Denials.Standing.{decided, discharged};
 ghost use Rattle.land_rules.specs.Rules.{first_denial, standing_rules};
-ghost use Rattle.land_select.specs.Verdicts.{evidence_in, record_at, roles_in};
+ghost use Rattle.land_select.specs.Verdicts.{evidence_in, record_at, roles_in, somebody};
+ghost use Rattle.land_select.specs.Views.{IsShown};
 ghost use Rattle.land_select_joins.specs.Lookups.Parts.{IsPart};
 ghost use Rattle.land_tables_schema.specs.Land.{IsLand};
 ghost use Rattle.land_tables_schema.specs.Rows.Looks.{IsLook};
@@ -12,34 +15,53 @@ ghost use Rattle.sqlite.specs.State.{HasCleanDisk};
 
 use land_core::ask::Ask;
 use land_core::caller::Caller;
+use land_core::kind::{Kind, PartyKind};
+use land_core::laws::soundness_by_look_ups;
 use land_core::mutation::MutationRecord;
 use land_core::party::PartyRecord;
 use land_core::register::Register;
-use land_core::roles::Roles;
+use land_core::roles::{Grant, Roles};
 use land_core::rrr::RrrRecord;
+use land_core::text::Text;
 use land_rules::denials::evidence::evidence_of;
 use land_rules::denials::laws::{evidence_is_enough, looked_up_is_enough};
 use land_rules::denials::standing::{decided, discharged, standing_verdict};
 use land_rules::verdict::Verdict;
+use land_select_joins::lookups::presence::stands;
 use land_select_joins::lookups::{by_number, of_party};
 use land_tables_rows::listing::fault::ReadFault;
 use sqlite::{Alter, Connection};
 use std::alloc::Global;
 
-/// A party that stands at a moment, or none, and its roles.
+/// Whether a caller holds the role in which it asks, by its roles.
+fn is_held(roles: &Roles, caller: Caller) -> bool
+    ensures { result ≡ has_grant roles.now (grant_of caller.party caller.role) }
+{
+    roles.contains(Grant {
+        party: caller.party,
+        role: caller.role,
+    })
+}
+
+/// Whether a caller stands at a moment, and its roles. Whoever holds a role stands: the caller is looked for only where it does not hold the
+/// one in which it asks.
 fn person<S: Alter>(
     alloc: Global,
     conn: &mut Connection<S>,
-    number: u64,
+    caller: Caller,
     at: i64,
-) -> Result<(Option<PartyRecord>, Roles), ReadFault>
+) -> Result<(bool, Roles), ReadFault>
     requires land { HasCleanDisk (state S.Store conn.old) → IsLand (state S.Store conn.old).now.schema }
-    ensures look { IsLook result (λ it. IsPart (λ r. (map.get r.parties number, roles_in r number)) at (state S.Store conn.old).now.trees it) (state S.Store conn.old) (state S.Store conn.new) }
+    ensures look { IsLook result (λ it. IsShown (λ r. (stands r kinds.Party caller.party, roles_in r caller.party)) at (state S.Store conn.old).now.trees it) (state S.Store conn.old) (state S.Store conn.new) }
     ensures mode { conn.old.in_transaction ≡ false → conn.new.in_transaction ≡ false }
 {
-    let party = by_number::record(alloc, conn, number, at)?;
-    let roles = of_party::roles(alloc, conn, number, at)?;
-    Ok((party, roles))
+    soundness_by_look_ups();
+    let roles = of_party::roles(alloc, conn, caller.party, at)?;
+    if is_held(&roles, caller) {
+        return Ok((true, roles));
+    }
+    let there = stands(alloc, conn, Kind::Party, caller.party, at)?;
+    Ok((there, roles))
 }
 
 /// The entry of a number that stands at a moment, if there is a number.
@@ -96,6 +118,20 @@ fn named<S: Alter>(
     Ok((entry, mutation))
 }
 
+/// A party, whatever it is called and of whatever kind, where one is there.
+fn somebody(alloc: Global, there: bool) -> Option<PartyRecord>
+    ensures { result ≡ somebody there }
+{
+    if there {
+        Some(PartyRecord {
+            kind: PartyKind::NaturalPerson,
+            name: Text::new(String::new(alloc)),
+        })
+    } else {
+        None
+    }
+}
+
 /// The evidence by which who asks is judged, as it stands at a moment.
 fn evidence<S: Alter>(
     alloc: Global,
@@ -106,13 +142,15 @@ fn evidence<S: Alter>(
 ) -> Result<Register, ReadFault>
     requires open { HasCleanDisk (state S.Store conn.old) → IsTrue (state S.Store conn.old).is_open }
     requires land { HasCleanDisk (state S.Store conn.old) → IsLand (state S.Store conn.old).now.schema }
-    ensures look { IsLook result (λ it. IsPart (λ r. evidence_in r caller ask.now) at (state S.Store conn.old).now.trees it) (state S.Store conn.old) (state S.Store conn.new) }
+    ensures look { IsLook result (λ it. IsShown (λ r. evidence_in r caller ask.now) at (state S.Store conn.old).now.trees it) (state S.Store conn.old) (state S.Store conn.new) }
     ensures mode { conn.old.in_transaction ≡ false → conn.new.in_transaction ≡ false }
 {
-    let asking = person(alloc, conn, caller.party, at)?;
+    soundness_by_look_ups();
+    let asking = person(alloc, conn, caller, at)?;
     let asked = named(alloc, conn, ask, at)?;
-    let (party, roles) = asking;
+    let (there, roles) = asking;
     let (entry, mutation) = asked;
+    let party = somebody(alloc, there);
     Ok(evidence_of(alloc, caller, ask, party, roles, entry, mutation)?)
 }
 
@@ -127,7 +165,7 @@ pub(crate) fn standing<S: Alter>(
 ) -> Result<Verdict, ReadFault>
     requires open { HasCleanDisk (state S.Store conn.old) → IsTrue (state S.Store conn.old).is_open }
     requires land { HasCleanDisk (state S.Store conn.old) → IsLand (state S.Store conn.old).now.schema }
-    ensures look { IsLook result (λ it. IsPart (λ r. first_denial (standing_rules r caller ask.now past)) at (state S.Store conn.old).now.trees it)
+    ensures look { IsLook result (λ it. IsShown (λ r. first_denial (standing_rules r caller ask.now past)) at (state S.Store conn.old).now.trees it)
         (state S.Store conn.old) (state S.Store conn.new) }
     ensures mode { conn.old.in_transaction ≡ false → conn.new.in_transaction ≡ false }
 {

@@ -3,8 +3,8 @@ ghost use Rattle.std.specs.FinMap as map;
 ghost use Rattle.std.specs.List.{list_any};
 ghost use Rattle.std.specs.Prelude.{◌≡◌, false, nat_eq, map as map_list, [], IfOk, IsTrue, Some};
 ghost use Rattle.land_core.specs.Entries.{only};
-ghost use Rattle.land_keep.specs.Sheets.{entries_seen, named_rrr, parcels_at, shown_parcel, view_at};
-ghost use Rattle.land_select.specs.Views.{IsShown, in_sight, named_at, named_of, view_from, with_name};
+ghost use Rattle.land_keep.specs.Sheets.{entries_seen, parcels_at, shown_parcel, view_at};
+ghost use Rattle.land_select.specs.Views.{IsShown, in_sight, name_among, named_among, named_at, view_from, with_name};
 ghost use Rattle.land_select_joins.specs.Lookups.Parts.{IsPart};
 ghost use Rattle.land_tables_schema.specs.Land.{IsLand};
 ghost use Rattle.land_tables_schema.specs.Rows.Looks.{IsLook};
@@ -33,8 +33,10 @@ use land_rules::denials::laws::{
 use land_rules::denials::sight::{sees_all, sees_by_awaiting};
 use land_rules::laws::seen_is_exact;
 use land_select_joins::joins::sight::sight;
+use land_select_joins::lookups::of_entries::parties;
 use land_select_joins::lookups::{by_number, of_unit};
 use land_shape::Ring;
+use land_tables_history::version::Version;
 use land_tables_rows::listing::fault::ReadFault;
 use sqlite::{Alter, Connection};
 use std::alloc::{AllocError, Global};
@@ -74,19 +76,31 @@ fn parcels_of<S: Alter>(
     Ok(shown_parcels(alloc, &found)?)
 }
 
-/// An entry with its number and the name of its party; nothing where that does not stand.
+/// What the party of a number is called, among some; nothing where it is not among them.
+fn name_among(
+    alloc: Global,
+    parties: &[Version<(u64, PartyRecord)>],
+    number: u64,
+) -> Result<Text, AllocError>
+    ensures { IfOk result (λ it. it ≡ name_among parties.now number) }
+{
+    for version in parties {
+        if version.what.0 == number {
+            return version.what.1.name.copy(alloc);
+        }
+    }
+    Ok(Text::new(String::new(alloc)))
+}
+
+/// An entry with its number and the name of its party.
 fn with_name(
     alloc: Global,
     number: u64,
     entry: &RrrRecord,
-    party: Option<PartyRecord>,
+    name: Text,
 ) -> Result<NamedRrr, AllocError>
-    ensures { IfOk result (λ it. it ≡ with_name number entry.now party) }
+    ensures { IfOk result (λ it. it ≡ with_name number entry.now name) }
 {
-    let name = match party {
-        Some(PartyRecord { kind: _, name }) => name,
-        None => Text::new(String::new(alloc)),
-    };
     Ok(NamedRrr {
         rrr: Rrr {
             number,
@@ -97,22 +111,6 @@ fn with_name(
         },
         name,
     })
-}
-
-/// An entry with its number and the name that its party has at a moment.
-fn named<S: Alter>(
-    alloc: Global,
-    conn: &mut Connection<S>,
-    number: u64,
-    entry: &RrrRecord,
-    at: i64,
-) -> Result<NamedRrr, ReadFault>
-    requires land { HasCleanDisk (state S.Store conn.old) → IsLand (state S.Store conn.old).now.schema }
-    ensures look { IsLook result (λ it. IsPart (λ r. named_rrr r number entry.now) at (state S.Store conn.old).now.trees it) (state S.Store conn.old) (state S.Store conn.new) }
-    ensures mode { conn.old.in_transaction ≡ false → conn.new.in_transaction ≡ false }
-{
-    let found = by_number::record(alloc, conn, entry.party, at)?;
-    Ok(with_name(alloc, number, entry, found)?)
 }
 
 /// Whether a number is listed.
@@ -139,21 +137,18 @@ fn listed_entries(
     Ok(kept)
 }
 
-/// Some entries, by ascending numbers, each with the name that its party has at a moment.
-fn named_entries<S: Alter>(
+/// Some entries, by ascending numbers, each with the name of its party, which is among some.
+fn named_entries(
     alloc: Global,
-    conn: &mut Connection<S>,
     entries: &Records<RrrRecord>,
-    at: i64,
-) -> Result<Sequence<NamedRrr>, ReadFault>
-    requires open { HasCleanDisk (state S.Store conn.old) → IsTrue (state S.Store conn.old).is_open }
-    requires land { HasCleanDisk (state S.Store conn.old) → IsLand (state S.Store conn.old).now.schema }
-    ensures look { IsLook result (λ it. IsPart (λ r. named_of r (map.entries entries.now)) at (state S.Store conn.old).now.trees it) (state S.Store conn.old) (state S.Store conn.new) }
-    ensures mode { conn.old.in_transaction ≡ false → conn.new.in_transaction ≡ false }
+    parties: &[Version<(u64, PartyRecord)>],
+) -> Result<Sequence<NamedRrr>, AllocError>
+    ensures { IfOk result (λ it. it ≡ named_among parties.now (map.entries entries.now)) }
 {
     let mut all = Sequence::new(alloc);
     for (number, entry) in entries.iter() {
-        all.push(named(alloc, conn, *number, entry, at)?)?;
+        let name = name_among(alloc, parties, entry.party)?;
+        all.push(with_name(alloc, *number, entry, name)?)?;
     }
     Ok(all)
 }
@@ -205,7 +200,8 @@ fn seen_entries<S: Alter>(
 {
     soundness_by_look_ups();
     let entries = entries_in_sight(alloc, conn, caller, unit, at)?;
-    named_entries(alloc, conn, &entries, at)
+    let found = parties(alloc, conn, unit, at)?;
+    Ok(named_entries(alloc, &entries, found.as_slice())?)
 }
 
 /// A unit that stands, as a caller sees it.

@@ -1,6 +1,7 @@
 //! Whether an object is in a caller's sight, and the verdict on its view, by look-ups and joins.
-ghost use Rattle.std.specs.Prelude.{◌≡◌, ◌&&◌, false, IsTrue};
-ghost use Rattle.land_rules.specs.Denials.Sight.{is_unit_of_conveyancer};
+ghost use Rattle.std.specs.Prelude.{◌≡◌, false, IsTrue};
+ghost use Rattle.land_core.specs.declared.kind.Kind.TheVariants as kinds;
+ghost use Rattle.land_rules.specs.Denials.Sight.{is_awaited, told_by};
 ghost use Rattle.land_rules.specs.Relations.{is_lodger_on};
 ghost use Rattle.land_rules.specs.Rules.{first_denial, sees, view_rules};
 ghost use Rattle.land_select.specs.Views.{IsShown};
@@ -10,8 +11,7 @@ ghost use Rattle.land_tables_schema.specs.Rows.Looks.{IsLook};
 ghost use Rattle.sqlite.specs.Held.{state};
 ghost use Rattle.sqlite.specs.State.{HasCleanDisk};
 
-use crate::awaited::{is_awaited, is_lodger_on};
-use crate::lodging::has_lodged;
+use crate::awaited::{is_awaited, unit_awaited};
 use crate::shown::is_shown_by_interest;
 use crate::view::is_listed;
 use land_core::caller::Caller;
@@ -28,14 +28,15 @@ use land_rules::denials::sight::{
 use land_rules::laws::seen_is_exact;
 use land_rules::verdict::Verdict;
 use land_select_joins::joins::sight::sight;
-use land_select_joins::lookups::objects::object;
+use land_select_joins::lookups::lodgers::has_lodged;
+use land_select_joins::lookups::presence::stands;
 use land_tables_rows::listing::fault::ReadFault;
 use sqlite::{Alter, Connection};
 use std::alloc::Global;
 
 /// Whether a caller sees an object at a moment: one look by its number where the caller is shown all objects of the kind, or those that it
 /// lodged; the entries of one unit, or of those that a mutation names, and a citizen's groups, where the caller's interest in a unit tells;
-/// what names the unit where a conveyancer awaits it; else the list of those that it sees.
+/// who lodged what names the unit, where a conveyancer awaits it; else the list of those that it sees.
 fn is_in_sight<S: Alter>(
     alloc: Global,
     conn: &mut Connection<S>,
@@ -56,8 +57,7 @@ fn is_in_sight<S: Alter>(
     interests_tell_sight();
     what_is_awaited_is_seen();
     if sees_all(caller.role, kind) {
-        let found = object(alloc, conn, kind, number, at)?;
-        return Ok(found.is_some());
+        return stands(alloc, conn, kind, number, at);
     }
     if sees_own_lodgings(caller.role, kind) {
         return has_lodged(alloc, conn, caller.party, number, at);
@@ -72,25 +72,23 @@ fn is_in_sight<S: Alter>(
     Ok(is_listed(listed.as_slice(), number))
 }
 
-/// Whether a conveyancer asks for a unit, which need not stand, and an undecided mutation of its own names that.
-fn is_named<S: Alter>(
+/// The verdict on the view of a unit by a conveyancer, by what stands at a moment: what its undecided mutations name is asked once, for the
+/// sight of the unit and for the rule that denies it.
+fn unit_verdict<S: Alter>(
     alloc: Global,
     conn: &mut Connection<S>,
     caller: Caller,
-    kind: Kind,
-    number: u64,
+    unit: u64,
     at: i64,
-) -> Result<bool, ReadFault>
-    requires open { HasCleanDisk (state S.Store conn.old) → IsTrue (state S.Store conn.old).is_open }
+) -> Result<Verdict, ReadFault>
     requires land { HasCleanDisk (state S.Store conn.old) → IsLand (state S.Store conn.old).now.schema }
-    ensures look { IsLook result (λ it. IsPart (λ r. is_unit_of_conveyancer caller.role kind && is_lodger_on r caller.party number) at (state S.Store conn.old).now.trees it)
+    ensures look { IsLook result (λ it. IsPart (λ r. told_by (is_awaited r caller kinds.Unit unit) (is_lodger_on r caller.party unit) caller kinds.Unit unit) at (state S.Store conn.old).now.trees it)
         (state S.Store conn.old) (state S.Store conn.new) }
     ensures mode { conn.old.in_transaction ≡ false → conn.new.in_transaction ≡ false }
 {
-    if !is_unit_of_conveyancer(caller.role, kind) {
-        return Ok(false);
-    }
-    is_lodger_on(alloc, conn, caller.party, number, at)
+    let told = unit_awaited(alloc, conn, caller, unit, at)?;
+    let (in_sight, awaited) = told;
+    Ok(view_verdict(in_sight, awaited, caller, Kind::Unit, unit))
 }
 
 /// The verdict on the view of an object, by what stands at a moment.
@@ -109,7 +107,10 @@ pub(crate) fn viewing<S: Alter>(
 {
     soundness_by_look_ups();
     sight_tells_verdicts();
+    what_is_awaited_is_seen();
+    if is_unit_of_conveyancer(caller.role, kind) {
+        return unit_verdict(alloc, conn, caller, number, at);
+    }
     let in_sight = is_in_sight(alloc, conn, caller, kind, number, at)?;
-    let awaited = is_named(alloc, conn, caller, kind, number, at)?;
-    Ok(view_verdict(in_sight, awaited, caller, kind, number))
+    Ok(view_verdict(in_sight, false, caller, kind, number))
 }

@@ -1,7 +1,7 @@
 -- A text that is a join of tables gives the numbers of the versions of which its terms say so, and no others.
 use Rattle.std.proofs.Common.{◌≡◌, ◌↔◌, ℕ, ℤ, pos, false, List, [], ◌∷◌, ◌++◌, Bool, true, ◌&&◌, refl, sym, ap, subst, ◌∙◌, true≢false}
 use Rattle.std.specs.List.{list_all}
-use Rattle.land_core.proofs.Booleans.{both_of}
+use Rattle.std.proofs.lemmas.Bool.{and_parts}
 use Rattle.land_select_joins.proofs.Places.{Place, What, as_stored, row_of, shape, tree, version_of, versions}
 use Rattle.land_select_joins.proofs.Sets.{Fills, answer_of, answered, answers, is_answer, is_inner, plainly}
 use Rattle.land_select_joins.proofs.Shapes.{AreShapes, SayAll, all_decided, are_known, is_shape, is_simple, is_solid, same_value, shape_itself, shapes_more}
@@ -137,17 +137,17 @@ module _ (text : List ℕ) (places : List Place) (filter : List Term) (shown : T
     -- what the row of a join shows
     shows : (s e : Env) → Sure s → AreShapes s e → eval shown e ≡ Int (pos (number_in (eval shown s)))
     shows s e sure shapes =
-        let it = both_of (are_known filter s) (is_whole (eval shown s)) sure in
+        let it = and_parts (are_known filter s) (is_whole (eval shown s)) sure in
         same_value shown s e shapes is.simple (whole_solid (eval shown s) it.1) ∙ whole_back (eval shown s) it.1
 
     said : (number : ℕ) (s e : Env) → Sure s → AreShapes s e → list_all (holds e) filter ≡ true → (Int (pos number) ∷ []) ≡ eval_all (shown ∷ []) e → Said number s
     said number s e sure shapes passed is_row =
-        let it = both_of (are_known filter s) (is_whole (eval shown s)) sure in
+        let it = and_parts (are_known filter s) (is_whole (eval shown s)) sure in
         ((all_decided filter s e shapes it.0).0 passed, ap number_in (sym (shows s e sure shapes) ∙ sym (ap first_of is_row)))
 
     passes : (number : ℕ) (s e : Env) → Sure s → AreShapes s e → Said number s → (list_all (holds e) filter ≡ true) × ((Int (pos number) ∷ []) ≡ eval_all (shown ∷ []) e)
     passes number s e sure shapes it =
-        let known = both_of (are_known filter s) (is_whole (eval shown s)) sure in
+        let known = and_parts (are_known filter s) (is_whole (eval shown s)) sure in
         ((all_decided filter s e shapes known.0).1 it.0, ap (λ v. v ∷ []) (ap (λ n. Int (pos n)) (sym it.1) ∙ sym (shows s e sure shapes)))
 
     pub sound : (number : ℕ) → Has rows (Int (pos number) ∷ []) → Says places filter shown h caller t number

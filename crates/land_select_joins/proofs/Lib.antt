@@ -11,10 +11,12 @@ pub mod Joined
 pub mod JoinedByNobody
 pub mod Known
 pub mod Lodged
-pub mod Namers
 pub mod Naming
 pub mod Nobody
+pub mod NumberQueries
+pub mod NumbersTold
 pub mod Parts
+pub mod PartyQueries
 pub mod Passing
 pub mod Persons
 pub mod Places

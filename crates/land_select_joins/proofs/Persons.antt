@@ -1,11 +1,11 @@
 -- A party is shown by its own record, its roles and its members alone.
-use Rattle.std.proofs.Common.{◌≡◌, ℕ, Bool, true, nat_eq, cond, is_some, List, [], ◌∷◌, filter, None, Some, refl, ap, ap₂, ◌∙◌}
-use Rattle.std.proofs.lemmas.Bool.Decides.{Decides-eqb}
+use Rattle.std.proofs.Common.{◌≡◌, ℕ, Bool, nat_eq, cond, is_some, List, [], ◌∷◌, filter, None, Some, refl, ap, ap₂, ◌∙◌}
 use Rattle.std.specs.Cmp.{nat_cmp_total, tied_itself}
 use Rattle.std.specs.FinMap as map
 use Rattle.std.specs.FinMap.{FinMap, nat_cmp-IsAntisymmetric}
 use Rattle.std.specs.Option.{option_map, option_map_or}
 use Rattle.std.specs.Ordering.{is_eq, nat_cmp}
+use Rattle.std.proofs.lemmas.Cmp.{nat_eq_equiv}
 use Rattle.land_core.proofs.FiniteSets.{exact_grants, grants_total}
 use Rattle.land_core.proofs.Reflection.{get-only}
 use Rattle.land_core.specs.Entries.{only}
@@ -18,9 +18,6 @@ use Rattle.land_core.specs.declared.object.Object.TheVariants as object
 use Rattle.land_core.specs.declared.party.PartyRecord.{PartyRecord}
 use Rattle.land_core.specs.declared.register.Register.{Register}
 
-its_own : (n : ℕ) → nat_eq n n ≡ true
-its_own n = (Decides-eqb n n).1 refl
-
 filter_alike : {X : Type 0} (p q : X → Bool) → ((x : X) → p x ≡ q x) → (xs : List X) → filter p xs ≡ filter q xs
 filter_alike p q same [] = refl
 filter_alike p q same (x ∷ xs) = ap₂ (λ b rest. cond b (x ∷ rest) rest) (same x) (filter_alike p q same xs)
@@ -29,10 +26,10 @@ module _ (r : Register) (n : ℕ) where
   pub by_its_own : (found : PartyRecord) (roles : Grants) (members : FinMap nat_cmp Members) → roles ≡ only (λ grant u. nat_eq grant.party n) r.roles → members ≡ only (λ k ms. nat_eq k n) r.members
       → object_at (record nothing { parties = map.insert map.empty n found; roles = roles; members = members }) kinds.Party n ≡ object_at (record r { parties = map.insert map.empty n found }) kinds.Party n
   by_its_own found roles members are_roles are_members =
-      let group : map.get members n ≡ map.get r.members n = ap (λ m. map.get m n) are_members ∙ get-only nat_cmp_total nat_cmp-IsAntisymmetric (λ k ms. nat_eq k n) r.members n (λ v. its_own n) in
+      let group : map.get members n ≡ map.get r.members n = ap (λ m. map.get m n) are_members ∙ get-only nat_cmp_total nat_cmp-IsAntisymmetric (λ k ms. nat_eq k n) r.members n (λ v. nat_eq_equiv.refl n) in
       let held : filter (λ role. has_grant roles (grant_of n role)) all_roles ≡ filter (λ role. has_grant r.roles (grant_of n role)) all_roles =
       filter_alike (λ role. has_grant roles (grant_of n role)) (λ role. has_grant r.roles (grant_of n role))
-      (λ role. ap (λ g. has_grant g (grant_of n role)) are_roles ∙ ap is_some (get-only grants_total exact_grants (λ grant u. nat_eq grant.party n) r.roles (grant_of n role) (λ v. its_own n))) all_roles in
+      (λ role. ap (λ g. has_grant g (grant_of n role)) are_roles ∙ ap is_some (get-only grants_total exact_grants (λ grant u. nat_eq grant.party n) r.roles (grant_of n role) (λ v. nat_eq_equiv.refl n))) all_roles in
       ap₂ (λ ms held. option_map object.Party (option_map (λ p. record { number = n; kind = p.kind; name = p.name; members = option_map_or members_in ms []; roles = held }) (map.get (map.insert (map.empty {R = nat_cmp}) n found) n))) group held
 
   -- a party that stands is shown as it is

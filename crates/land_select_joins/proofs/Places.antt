@@ -421,7 +421,13 @@ module _ (db : Trees) (moments : List Moment) (h : History) (held : HoldsHistory
       let it = said_by (reading p) db (versions p h) (keeps db moments h held p) r has in
       (it.0, it.1, shows p r it.0 it.2)
 
+  pub read_of : (p : Place) (r : Row) → Has (db (tree p)) r → (v : Version (What p)) × Has (versions p h) v × ((reading p).said (columns_from 1 (reading p).width r) ≡ Ok v)
+  read_of p r has = said_by (reading p) db (versions p h) (keeps db moments h held p) r has
+
   -- and each version is said by a row
+  pub read_back : (p : Place) (v : Version (What p)) → Has (versions p h) v → (r : Row) × Has (db (tree p)) r × ((reading p).said (columns_from 1 (reading p).width r) ≡ Ok v)
+  read_back p v has = says_it (reading p) db (versions p h) (keeps db moments h held p) v has
+
   pub row_of : (p : Place) (v : Version (What p)) → Has (versions p h) v → (r : Row) × Has (db (tree p)) r × IsOf p v r
   row_of p v has =
       let it = says_it (reading p) db (versions p h) (keeps db moments h held p) v has in

@@ -2,7 +2,7 @@
 use Rattle.std.proofs.Common.{◌≡◌, ◌&&◌, ℕ, ℤ, List, [], ◌∷◌, codes, Ok, refl}
 use Rattle.land_select_joins.proofs.Joined.{Asks}
 use Rattle.land_select_joins.proofs.Known.{caller, same, still, word}
-use Rattle.land_select_joins.proofs.Places.{mandates, members, mutations, names, parcels, parties, roles, rrrs, shows, sources, units}
+use Rattle.land_select_joins.proofs.Places.{mandates, members, mutations, parcels, parties, roles, rrrs, shows, sources, units}
 use Rattle.land_select_joins.proofs.Tested.{by_number, by_role, decides}
 use Rattle.land_select_joins.specs.Joins.Meaning.{given}
 use Rattle.land_select_joins.specs.Joins.Running.{asked_for}
@@ -34,7 +34,6 @@ filter_of look_up.Source = same (col 1 1) caller ∷ still 1 4
 filter_of look_up.Mutation = same (col 1 1) caller ∷ still 1 9
 filter_of look_up.ParcelsOfUnit = same (col 1 2) caller ∷ still 1 6
 filter_of look_up.EntriesOfUnit = same (col 1 2) caller ∷ still 1 12
-filter_of look_up.NamingsOfUnit = same (col 1 2) caller ∷ still 1 3
 filter_of look_up.RolesOfParty = same (col 1 1) caller ∷ still 1 3
 filter_of look_up.MembersOfGroup = same (col 1 1) caller ∷ still 1 5
 filter_of look_up.MandatesOfAgent = same (col 1 2) caller ∷ still 1 3
@@ -50,7 +49,6 @@ project_of look_up.Source = columns_of 1 1 5
 project_of look_up.Mutation = columns_of 1 1 10
 project_of look_up.ParcelsOfUnit = columns_of 1 1 7
 project_of look_up.EntriesOfUnit = columns_of 1 1 13
-project_of look_up.NamingsOfUnit = columns_of 1 1 4
 project_of look_up.RolesOfParty = columns_of 1 1 4
 project_of look_up.MembersOfGroup = columns_of 1 1 6
 project_of look_up.MandatesOfAgent = columns_of 1 1 4
@@ -70,7 +68,6 @@ asks look_up.Source indexes = record { names = codes "number" ∷ codes "kind" �
 asks look_up.Mutation indexes = record { names = codes "number" ∷ codes "lodger" ∷ codes "reference" ∷ codes "source" ∷ codes "lodged" ∷ codes "act" ∷ codes "content" ∷ codes "state" ∷ codes "since" ∷ codes "until" ∷ []; command = refl; unlisted = refl; plain = (refl, refl) }
 asks look_up.ParcelsOfUnit indexes = record { names = codes "number" ∷ codes "unit" ∷ codes "label" ∷ codes "outline" ∷ codes "source" ∷ codes "since" ∷ codes "until" ∷ []; command = refl; unlisted = refl; plain = (refl, refl) }
 asks look_up.EntriesOfUnit indexes = record { names = codes "number" ∷ codes "unit" ∷ codes "party" ∷ codes "class" ∷ codes "num" ∷ codes "den" ∷ codes "amount" ∷ codes "currency" ∷ codes "place" ∷ codes "words" ∷ codes "source" ∷ codes "since" ∷ codes "until" ∷ []; command = refl; unlisted = refl; plain = (refl, refl) }
-asks look_up.NamingsOfUnit indexes = record { names = codes "mutation" ∷ codes "unit" ∷ codes "since" ∷ codes "until" ∷ []; command = refl; unlisted = refl; plain = (refl, refl) }
 asks look_up.RolesOfParty indexes = record { names = codes "party" ∷ codes "role" ∷ codes "since" ∷ codes "until" ∷ []; command = refl; unlisted = refl; plain = (refl, refl) }
 asks look_up.MembersOfGroup indexes = record { names = codes "grp" ∷ codes "party" ∷ codes "num" ∷ codes "den" ∷ codes "since" ∷ codes "until" ∷ []; command = refl; unlisted = refl; plain = (refl, refl) }
 asks look_up.MandatesOfAgent indexes = record { names = codes "principal" ∷ codes "agent" ∷ codes "since" ∷ codes "until" ∷ []; command = refl; unlisted = refl; plain = (refl, refl) }
@@ -86,7 +83,6 @@ stored look_up.Source db = refl
 stored look_up.Mutation db = refl
 stored look_up.ParcelsOfUnit db = refl
 stored look_up.EntriesOfUnit db = refl
-stored look_up.NamingsOfUnit db = refl
 stored look_up.RolesOfParty db = refl
 stored look_up.MembersOfGroup db = refl
 stored look_up.MandatesOfAgent db = refl
@@ -102,7 +98,6 @@ shown look_up.Source params r = refl
 shown look_up.Mutation params r = refl
 shown look_up.ParcelsOfUnit params r = refl
 shown look_up.EntriesOfUnit params r = refl
-shown look_up.NamingsOfUnit params r = refl
 shown look_up.RolesOfParty params r = refl
 shown look_up.MembersOfGroup params r = refl
 shown look_up.MandatesOfAgent params r = refl
@@ -127,8 +122,6 @@ tests look_up.ParcelsOfUnit r v e number t =
     by_number (passes (filter_of look_up.ParcelsOfUnit) (given (asked_for number) t) r) v.what.1.unit number t v.since v.until (shows parcels r v e).1.1 (decides parcels r v e (asked_for number) t (filter_of look_up.ParcelsOfUnit) refl)
 tests look_up.EntriesOfUnit r v e number t =
     by_number (passes (filter_of look_up.EntriesOfUnit) (given (asked_for number) t) r) v.what.1.unit number t v.since v.until (shows rrrs r v e).1.2 (decides rrrs r v e (asked_for number) t (filter_of look_up.EntriesOfUnit) refl)
-tests look_up.NamingsOfUnit r v e number t =
-    by_number (passes (filter_of look_up.NamingsOfUnit) (given (asked_for number) t) r) v.what.unit number t v.since v.until (shows names r v e).1.1 (decides names r v e (asked_for number) t (filter_of look_up.NamingsOfUnit) refl)
 tests look_up.RolesOfParty r v e number t =
     by_number (passes (filter_of look_up.RolesOfParty) (given (asked_for number) t) r) v.what.party number t v.since v.until (shows roles r v e).1 (decides roles r v e (asked_for number) t (filter_of look_up.RolesOfParty) refl)
 tests look_up.MembersOfGroup r v e number t =

@@ -1,10 +1,9 @@
 -- What the selections of a role give is what the rules let it see without mandates.
 use Rattle.std.proofs.Common.{◌≡◌, inl, inr, ℕ, Bool, true, nat_lt, List, [], ◌∷◌, sym, subst, ◌∙◌}
-use Rattle.std.proofs.lemmas.Bool.{eqb-true, ltb-true}
+use Rattle.std.proofs.lemmas.Bool.{eqb-true, ltb-true, and_parts}
 use Rattle.std.proofs.lemmas.Map.Views.{Contains-from_any, list_any-from_Contains}
 use Rattle.std.specs.Cmp.{nat_eq_equiv}
 use Rattle.std.specs.List.{Contains, list_all}
-use Rattle.land_core.proofs.Booleans.{both_of}
 use Rattle.land_core.specs.Laws.{SoundnessByLookUps}
 use Rattle.land_rules.specs.CircleLaws.{without_mandates}
 use Rattle.land_rules.specs.Laws.{SeenIsExactly}
@@ -27,13 +26,13 @@ the_rules seen look_ups r h t premise stands caller k n =
 all_pass : (p : ℕ → Bool) (xs : List ℕ) → list_all p xs ≡ true → (y : ℕ) → Contains xs y → p y ≡ true
 all_pass p [] h y among = absurd (in_nothing y among)
 all_pass p (x ∷ xs) h y among =
-    let both = both_of (p x) (list_all p xs) h in
+    let both = and_parts (p x) (list_all p xs) h in
     elim (first_or_later x xs y among) [ inl same ↦ subst (λ z. p z ≡ true) same both.0 | inr more ↦ all_pass p xs both.1 y more ]
 
 pub ascending : (xs : List ℕ) → ascends xs ≡ true → Ascends xs
 ascending [] h = tt
 ascending (x ∷ xs) h =
-    let both = both_of (list_all (nat_lt x) xs) (ascends xs) h in
+    let both = and_parts (list_all (nat_lt x) xs) (ascends xs) h in
     ((λ y among. ltb-true x y (all_pass (nat_lt x) xs both.0 y among)), ascending xs both.1)
 
 pub one_seen : SelectionsAreTheRules → SeenIsExactly → SelectedIsSeen

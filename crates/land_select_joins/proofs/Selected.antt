@@ -1,9 +1,9 @@
 -- What the terms of each text say is what its selection selects.
-use Rattle.std.proofs.Common.{◌≡◌, ◌↔◌, ◌⊎◌, inl, inr, ℕ, ℤ, List, [], ◌∷◌, filter, codes, bytes_eq, Bool, true, false, ◌||◌, ◌&&◌, cond, int_le, int_lt, refl, sym, subst, true≢false}
+use Rattle.std.proofs.Common.{◌≡◌, ◌↔◌, ◌⊎◌, inl, inr, ℕ, ℤ, List, [], ◌∷◌, filter, codes, bytes_eq, Bool, true, false, ◌||◌, cond, int_le, int_lt, refl, sym, subst}
 use Rattle.std.proofs.lemmas.Bool.Decides.{Decides-at, Decides-or, not_from_Decides}
 use Rattle.std.proofs.lemmas.Slice.Eq.{bytes_eq-Decides}
 use Rattle.std.specs.Bool.{Decides}
-use Rattle.land_core.proofs.Booleans.{both_of}
+use Rattle.std.proofs.lemmas.Bool.{and_from, and_parts}
 use Rattle.land_core.specs.Mutations.{is_open}
 use Rattle.land_core.specs.Units.{is_right_of}
 use Rattle.land_core.specs.Words.{state_word}
@@ -54,14 +54,10 @@ was_kept p (y ∷ ys) x h = go (p y) refl h (was_kept p ys x)
     go true is (inr rest) later = let it = later rest in (inr it.0, it.1)
     go false is rest later = let it = later rest in (inr it.0, it.1)
 
-both_are : (a b : Bool) → a ≡ true → b ≡ true → (a && b) ≡ true
-both_are true b one two = two
-both_are false b one two = absurd (true≢false (sym one))
-
 -- a version whose lifespan has the moment stands
 pub stood : {X : Type 0} (t : ℤ) (vs : List (Version X)) (v : Version X) → Has vs v → int_le v.since t ≡ true → int_lt t v.until ≡ true → Stands t vs v.what
 stood t vs v has begun going =
-    contains_had (standing t vs) v.what (mapped_has (λ v. v.what) (filter (stands t) vs) v (kept (stands t) vs v has (both_are (int_le v.since t) (int_lt t v.until) begun going)))
+    contains_had (standing t vs) v.what (mapped_has (λ v. v.what) (filter (stands t) vs) v (kept (stands t) vs v has (and_from (int_le v.since t) (int_lt t v.until) begun going)))
 
 -- and what stands is of such a version
 pub record IsVersion {X : Type 0} (t : ℤ) (vs : List (Version X)) (x : X) : Type 0 where
@@ -76,7 +72,7 @@ version t vs x standing_there =
     let it = has_mapped (λ v. v.what) (filter (stands t) vs) x (has_contained (standing t vs) x standing_there) in
     let v = it.0 in
     let there = was_kept (stands t) vs v it.1 in
-    let lives = both_of (int_le v.since t) (int_lt t v.until) there.1 in
+    let lives = and_parts (int_le v.since t) (int_lt t v.until) there.1 in
     record {
       since = v.since;
       until = v.until;
@@ -135,7 +131,7 @@ an_ownership c = Decides-at _ _ (ownership_test c) (bytes_eq-Decides (entry_word
 a_mortgage : (c : Class) → Decides (is_mortgage c) (HasWord c (codes "mortgage"))
 a_mortgage c = Decides-at _ _ (mortgage_test c) (bytes_eq-Decides (entry_word c) (codes "mortgage"))
 
-undecided : (s : MutationState) → Decides (is_open s) (state_word s ≡ codes "lodged")
+pub undecided : (s : MutationState) → Decides (is_open s) (state_word s ≡ codes "lodged")
 undecided s = Decides-at _ _ (lodged_test s) (bytes_eq-Decides (state_word s) (codes "lodged"))
 
 is_false : {P : Type 0} (b : Bool) → Decides b P → ¬ P → b ≡ false

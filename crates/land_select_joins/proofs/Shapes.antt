@@ -5,6 +5,7 @@ use Rattle.std.specs.List.{list_all}
 use Rattle.std.proofs.lemmas.Bool.Decides.{Decides-and, Decides-at, Decides-int_eq, Decides-not, Decides-or}
 use Rattle.std.proofs.lemmas.Map.Text.{is_eq-slice_cmp}
 use Rattle.std.proofs.lemmas.Slice.Eq.{bytes_eq-Decides}
+use Rattle.std.proofs.lemmas.Bool.{and_parts}
 use Rattle.sqlite.specs.declared.types.Value.{Value}
 use Rattle.sqlite.specs.declared.types.Value.TheVariants.{Null, Int, Real, Text, Blob}
 use Rattle.sqlite_sql.specs.Ops.{binary, is_true}
@@ -146,11 +147,6 @@ abbrev pub are_known : List Term → Env → Bool
 are_known [] e = true
 are_known (t ∷ ts) e = is_known t e && are_known ts e
 
-both : (a b : Bool) → (a && b) ≡ true → (a ≡ true) × (b ≡ true)
-both true true h = (refl, refl)
-both true false h = absurd (true≢false (sym h))
-both false b h = absurd (true≢false (sym h))
-
 same_pos : (m n : ℕ) → pos m ≡ pos n → m ≡ n
 same_pos m n e = cc
 
@@ -177,20 +173,20 @@ compared _ a b h = absurd (true≢false (sym h))
 -- what a term says of shapes decides whether it holds of the rows
 decided : (t : Term) (s e : Env) → AreShapes s e → is_known t s ≡ true → Decides (holds e t) (Says t s)
 decided (op2 (Compare op Binary) a b) s e shapes h =
-    let p = both (is_simple a && is_simple b) ((is_solid (eval a s) && is_solid (eval b s)) && comparable op (eval a s) (eval b s)) h in
-    let q = both (is_simple a) (is_simple b) p.0 in
-    let r = both (is_solid (eval a s) && is_solid (eval b s)) (comparable op (eval a s) (eval b s)) p.1 in
-    let v = both (is_solid (eval a s)) (is_solid (eval b s)) r.0 in
+    let p = and_parts (is_simple a && is_simple b) ((is_solid (eval a s) && is_solid (eval b s)) && comparable op (eval a s) (eval b s)) h in
+    let q = and_parts (is_simple a) (is_simple b) p.0 in
+    let r = and_parts (is_solid (eval a s) && is_solid (eval b s)) (comparable op (eval a s) (eval b s)) p.1 in
+    let v = and_parts (is_solid (eval a s)) (is_solid (eval b s)) r.0 in
     let same : is_true (binary (Compare op Binary) (eval a e) (eval b e)) ≡ is_true (binary (Compare op Binary) (eval a s) (eval b s)) =
     ap₂ (λ x y. is_true (binary (Compare op Binary) x y)) (same_value a s e shapes q.0 v.0) (same_value b s e shapes q.1 v.1) in
     Decides-at _ _ same (compared op (eval a s) (eval b s) r.1)
 decided (op2 Or a b) s e shapes h =
-    let it = both (is_known a s) (is_known b s) h in
+    let it = and_parts (is_known a s) (is_known b s) h in
     Decides-at _ _ (at_or false (eval a e) (eval b e) refl refl) (Decides-or _ _ (decided a s e shapes it.0) (decided b s e shapes it.1))
 decided _ s e shapes h = absurd (true≢false (sym h))
 
 pub all_decided : (ts : List Term) (s e : Env) → AreShapes s e → are_known ts s ≡ true → Decides (list_all (holds e) ts) (SayAll ts s)
 all_decided [] s e shapes h = ((λ _. tt), (λ _. refl))
 all_decided (t ∷ ts) s e shapes h =
-    let it = both (is_known t s) (are_known ts s) h in
+    let it = and_parts (is_known t s) (are_known ts s) h in
     Decides-and _ _ (decided t s e shapes it.0) (all_decided ts s e shapes it.1)

@@ -46,7 +46,7 @@ none_is_zero : (key : ℕ) → is_number key ≡ true → key ≡ 0 → ⊥
 none_is_zero key within is = true≢false (sym within ∙ ap is_number is)
 
 -- a number that an object can have is the one that is asked for where it is the one that is given
-asked_is : (key number : ℕ) → is_number key ≡ true → Decides (nat_eq key number) (key ≡ asked_for number)
+pub asked_is : (key number : ℕ) → is_number key ≡ true → Decides (nat_eq key number) (key ≡ asked_for number)
 asked_is key number within = Decides-like (nat_eq key number) (λ is. is ∙ kept (subst (λ n. is_number n ≡ true) is within)) (λ is. back (is_number number) refl is) (Decides-eqb key number)
   where
     kept : is_number number ≡ true → number ≡ asked_for number

@@ -55,6 +55,24 @@ HeldAs t h caller is_of unit = (e : Entry) × Holds t h caller e × (is_of e.1.c
 abbrev pub ToldToHolder : (t : ℤ) → History → (caller : ℕ) → Entry → Type 0
 ToldToHolder t h caller seen = IsTold t h (HoldsItself t h caller) IsToldToHolder seen ⊎ IsTold t h (HoldsThrough t h caller) IsToldToHolder seen
 
+-- an undecided mutation of a party names a unit
+pub awaits_decides : (r : Register) (t : ℤ) (h : History) → StandsAt t h r → (p unit : ℕ) → Decides (is_lodger_on r p unit) (Awaits t h p unit)
+awaits_decides r t h is p unit =
+    Decides-like (is_lodger_on r p unit)
+    (λ it. record {
+      mutation = it.0;
+      mutation_stands = it.1;
+      naming = it.2.1.0;
+      naming_stands = it.2.1.1.0;
+      named_by = it.2.1.1.1;
+      lodger = it.2.0.1;
+      undecided = it.2.0.0;
+      named = it.2.1.2;
+    })
+    (λ it. (it.mutation, it.mutation_stands, ((it.undecided, it.lodger), (it.naming, (it.naming_stands, it.named_by), it.named))))
+    (some_decides t h.mutations r.mutations is.mutations _ (λ e. ((is_undecided e.1 ≡ true) × (e.1.lodger ≡ p)) × Names t h e (λ k. k ≡ unit))
+    (λ e stands. Decides-and _ _ (Decides-and _ _ (plain (is_undecided e.1)) (Decides-eqb e.1.lodger p)) (names_decides r t h is (λ k. nat_eq k unit) (λ k. k ≡ unit) (λ k. Decides-eqb k unit) e stands)))
+
 module _ (r : Register) (t : ℤ) (h : History) (is : StandsAt t h r) (refers : Refers r) (p : ℕ) where
   -- the unit and the party of an entry that stands do so, a group and its members, and who lodged a mutation
   pub unit_stands : (e : Entry) → Stands t h.rrrs e → StandsUnder t h.units e.1.unit
@@ -155,18 +173,4 @@ module _ (r : Register) (t : ℤ) (h : History) (is : StandsAt t h r) (refers : 
   -- ---- lodgers
 
   pub lodger_decides : (unit : ℕ) → Decides (is_lodger_on r p unit) (Awaits t h p unit)
-  lodger_decides unit =
-      Decides-like (is_lodger_on r p unit)
-      (λ it. record {
-        mutation = it.0;
-        mutation_stands = it.1;
-        naming = it.2.1.0;
-        naming_stands = it.2.1.1.0;
-        named_by = it.2.1.1.1;
-        lodger = it.2.0.1;
-        undecided = it.2.0.0;
-        named = it.2.1.2;
-      })
-      (λ it. (it.mutation, it.mutation_stands, ((it.undecided, it.lodger), (it.naming, (it.naming_stands, it.named_by), it.named))))
-      (some_decides t h.mutations r.mutations is.mutations _ (λ e. ((is_undecided e.1 ≡ true) × (e.1.lodger ≡ p)) × Names t h e (λ k. k ≡ unit))
-      (λ e stands. Decides-and _ _ (Decides-and _ _ (plain (is_undecided e.1)) (Decides-eqb e.1.lodger p)) (names_decides r t h is (λ k. nat_eq k unit) (λ k. k ≡ unit) (λ k. Decides-eqb k unit) e stands)))
+  lodger_decides unit = awaits_decides r t h is p unit

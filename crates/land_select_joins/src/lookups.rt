@@ -2,14 +2,19 @@
 
 pub mod by_number;
 pub mod finding;
+pub mod lodgers;
 pub mod look_up;
+pub mod number_look_up;
 pub mod numbered;
+pub mod numbers;
 pub mod objects;
 pub mod of_agent;
+pub mod of_entries;
 pub mod of_group;
 pub mod of_lodger;
 pub mod of_party;
 pub mod of_unit;
 pub mod office;
+pub mod presence;
 mod shown;
 pub mod texts;

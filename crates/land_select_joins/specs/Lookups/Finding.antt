@@ -16,9 +16,8 @@ use Rattle.land_select_joins.specs.declared.lookups.look_up.LookUp.{LookUp}
 use Rattle.land_select_joins.specs.declared.lookups.look_up.LookUp.TheVariants as look_up
 use Rattle.land_tables_history.specs.Standing.{stands}
 use Rattle.land_tables_history.specs.declared.group_member.GroupMember.{GroupMember}
-use Rattle.land_tables_history.specs.declared.naming.Naming.{Naming}
 use Rattle.land_tables_history.specs.declared.version.Version.{Version}
-use Rattle.land_tables_rows.specs.Listing.Reading.{Listing, Says, mandates, members, mutations, namings, parcels, parties, roles, rrrs, sources, units}
+use Rattle.land_tables_rows.specs.Listing.Reading.{Listing, Says, mandates, members, mutations, parcels, parties, roles, rrrs, sources, units}
 use Rattle.land_tables_rows.specs.Reading.Readings.{each_of}
 use Rattle.land_tables_rows.specs.declared.listing.fault.ReadFault.{ReadFault}
 use Rattle.land_tables_rows.specs.declared.listing.fault.ReadFault.TheVariants.{Unreadable}
@@ -36,7 +35,6 @@ Found look_up.Source = ℕ × SourceRecord
 Found look_up.Mutation = ℕ × MutationRecord
 Found look_up.ParcelsOfUnit = ℕ × ParcelRecord
 Found look_up.EntriesOfUnit = ℕ × RrrRecord
-Found look_up.NamingsOfUnit = Naming
 Found look_up.RolesOfParty = Grant
 Found look_up.MembersOfGroup = GroupMember
 Found look_up.MandatesOfAgent = Mandate
@@ -52,7 +50,6 @@ listing_of look_up.Source = sources
 listing_of look_up.Mutation = mutations
 listing_of look_up.ParcelsOfUnit = parcels
 listing_of look_up.EntriesOfUnit = rrrs
-listing_of look_up.NamingsOfUnit = namings
 listing_of look_up.RolesOfParty = roles
 listing_of look_up.MembersOfGroup = members
 listing_of look_up.MandatesOfAgent = mandates
@@ -68,7 +65,6 @@ is_meant look_up.Source number source = nat_eq source.0 number
 is_meant look_up.Mutation number mutation = nat_eq mutation.0 number
 is_meant look_up.ParcelsOfUnit number parcel = nat_eq parcel.1.unit number
 is_meant look_up.EntriesOfUnit number entry = nat_eq entry.1.unit number
-is_meant look_up.NamingsOfUnit number naming = nat_eq naming.unit number
 is_meant look_up.RolesOfParty number grant = nat_eq grant.party number
 is_meant look_up.MembersOfGroup number joined = nat_eq joined.group number
 is_meant look_up.MandatesOfAgent number mandate = nat_eq mandate.agent number

@@ -1,7 +1,10 @@
 -- The text of each look-up.
 use Rattle.std.specs.Prelude.{ℕ, List}
+use Rattle.land_select_joins.specs.declared.joins.own.TheConstants as own
 use Rattle.land_select_joins.specs.declared.lookups.look_up.LookUp.{LookUp}
 use Rattle.land_select_joins.specs.declared.lookups.look_up.LookUp.TheVariants as look_up
+use Rattle.land_select_joins.specs.declared.lookups.number_look_up.NumberLookUp.{NumberLookUp}
+use Rattle.land_select_joins.specs.declared.lookups.number_look_up.NumberLookUp.TheVariants as number_look_up
 use Rattle.land_select_joins.specs.declared.lookups.texts.TheConstants as texts
 
 abbrev pub text_of : LookUp → List ℕ
@@ -13,8 +16,17 @@ text_of look_up.Source = texts.SOURCE.now
 text_of look_up.Mutation = texts.MUTATION.now
 text_of look_up.ParcelsOfUnit = texts.PARCELS_OF_UNIT.now
 text_of look_up.EntriesOfUnit = texts.ENTRIES_OF_UNIT.now
-text_of look_up.NamingsOfUnit = texts.NAMINGS_OF_UNIT.now
 text_of look_up.RolesOfParty = texts.ROLES_OF_PARTY.now
 text_of look_up.MembersOfGroup = texts.MEMBERS_OF_GROUP.now
 text_of look_up.MandatesOfAgent = texts.MANDATES_OF_AGENT.now
 text_of look_up.Administrators = texts.ADMINISTRATORS.now
+
+-- and of each look-up of numbers
+abbrev pub number_text_of : NumberLookUp → List ℕ
+number_text_of number_look_up.Party = own.ITSELF.now
+number_text_of number_look_up.Unit = texts.UNIT_NUMBER.now
+number_text_of number_look_up.Parcel = texts.PARCEL_NUMBER.now
+number_text_of number_look_up.Entry = texts.ENTRY_NUMBER.now
+number_text_of number_look_up.Source = texts.SOURCE_NUMBER.now
+number_text_of number_look_up.LodgerOfMutation = texts.LODGER_OF_MUTATION.now
+number_text_of number_look_up.LodgersOnUnit = texts.LODGERS_ON_UNIT.now

@@ -61,7 +61,7 @@ fn each_number(alloc: Global, rows: &[Row]) -> Result<NumberList, WireFault>
 }
 
 /// The numbers in rows. 520: one of them cannot be read. 501: there was no memory.
-fn read(alloc: Global, rows: &[Row]) -> Result<NumberList, ReadFault>
+pub(crate) fn read(alloc: Global, rows: &[Row]) -> Result<NumberList, ReadFault>
     ensures { IsRead (λ row. natural_in (column row 0)) rows.now result }
 {
     Ok(each_number(alloc, rows)?)

@@ -23,8 +23,6 @@ pub enum LookUp {
     ParcelsOfUnit,
     /// The entries of a unit.
     EntriesOfUnit,
-    /// Which mutations name a unit.
-    NamingsOfUnit,
     /// The roles of a party.
     RolesOfParty,
     /// The members of a group.
@@ -48,7 +46,6 @@ pub fn text_of(look_up: LookUp) -> &'static str
         LookUp::Mutation => texts::MUTATION,
         LookUp::ParcelsOfUnit => texts::PARCELS_OF_UNIT,
         LookUp::EntriesOfUnit => texts::ENTRIES_OF_UNIT,
-        LookUp::NamingsOfUnit => texts::NAMINGS_OF_UNIT,
         LookUp::RolesOfParty => texts::ROLES_OF_PARTY,
         LookUp::MembersOfGroup => texts::MEMBERS_OF_GROUP,
         LookUp::MandatesOfAgent => texts::MANDATES_OF_AGENT,

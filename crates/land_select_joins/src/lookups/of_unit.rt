@@ -1,8 +1,8 @@
 //! What belongs to a unit.
-ghost use Rattle.std.specs.Prelude.{◌≡◌, nat_eq, false, map, IfErr, IfOk};
+ghost use Rattle.std.specs.Prelude.{◌≡◌, nat_eq, false, IfErr};
 ghost use Rattle.land_core.specs.Entries.{only};
 ghost use Rattle.land_select_joins.specs.Joins.Running.{HoldsNone};
-ghost use Rattle.land_select_joins.specs.Lookups.Parts.{AreNamersOf, IsPart};
+ghost use Rattle.land_select_joins.specs.Lookups.Parts.{IsPart};
 ghost use Rattle.land_tables_schema.specs.Land.{IsLand};
 ghost use Rattle.land_tables_schema.specs.Rows.Looks.{IsLook};
 ghost use Rattle.sqlite.specs.Held.{state};
@@ -13,13 +13,10 @@ use crate::lookups::look_up::LookUp;
 use land_core::parcel::ParcelRecord;
 use land_core::records::Records;
 use land_core::rrr::RrrRecord;
-use land_core::sequence::{NumberList, Sequence};
-use land_tables_history::naming::Naming;
 use land_tables_history::part::part_at;
-use land_tables_history::version::Version;
 use land_tables_rows::listing::fault::ReadFault;
 use sqlite::{Alter, Connection};
-use std::alloc::{AllocError, Global};
+use std::alloc::Global;
 
 /// The parcels of a unit that stand at a moment, in milliseconds since 1970 UTC, under their numbers. 520: the tables hold no history. 501:
 /// there was no memory.
@@ -53,32 +50,4 @@ pub fn entries<S: Alter>(
 {
     let found = find(alloc, conn, LookUp::EntriesOfUnit, unit, at)?;
     Ok(part_at(alloc, found.as_slice(), at)?)
-}
-
-/// The numbers of the mutations that name a unit, decided or not, as they stand at a moment, in milliseconds since 1970 UTC, in whatever
-/// order. 520: the tables hold no history. 501: there was no memory.
-pub fn mutations<S: Alter>(
-    alloc: Global,
-    conn: &mut Connection<S>,
-    unit: u64,
-    at: i64,
-) -> Result<NumberList, ReadFault>
-    requires land { HasCleanDisk (state S.Store conn.old) → IsLand (state S.Store conn.old).now.schema }
-    ensures look { IsLook result (λ it. AreNamersOf unit at (state S.Store conn.old).now.trees it) (state S.Store conn.old) (state S.Store conn.new) }
-    ensures unreadable { HasCleanDisk (state S.Store conn.new) → IfErr result (HoldsNone (state S.Store conn.old).now.trees) }
-    ensures mode { conn.old.in_transaction ≡ false → conn.new.in_transaction ≡ false }
-{
-    let found = find(alloc, conn, LookUp::NamingsOfUnit, unit, at)?;
-    Ok(mutations_of(alloc, found.as_slice())?)
-}
-
-/// The numbers of the mutations of some namings, in the order of these.
-fn mutations_of(alloc: Global, namings: &[Version<Naming>]) -> Result<NumberList, AllocError>
-    ensures { IfOk result (λ it. it ≡ map (λ v. v.what.mutation) namings.now) }
-{
-    let mut numbers = Sequence::new(alloc);
-    for version in namings {
-        numbers.push(version.what.mutation)?;
-    }
-    Ok(numbers)
 }

@@ -35,10 +35,6 @@ pub const PARCELS_OF_UNIT: &str =
 pub const ENTRIES_OF_UNIT: &str =
     "SELECT number, unit, party, class, num, den, amount, currency, place, words, source, since, until FROM rrr WHERE unit = ?1 AND since <= ?2 AND ?2 < until";
 
-/// Which mutations name a unit.
-pub const NAMINGS_OF_UNIT: &str =
-    "SELECT mutation, unit, since, until FROM names WHERE unit = ?1 AND since <= ?2 AND ?2 < until";
-
 /// The roles of a party.
 pub const ROLES_OF_PARTY: &str =
     "SELECT party, role, since, until FROM role WHERE party = ?1 AND since <= ?2 AND ?2 < until";
@@ -58,3 +54,31 @@ pub const MUTATION_LODGED_AS: &str =
 /// The state administrators. Parameter 1 is not looked at.
 pub const ADMINISTRATORS: &str =
     "SELECT party, role, since, until FROM role WHERE role = 'stateAdministrator' AND since <= ?2 AND ?2 < until";
+
+/// The number of a unit, where it stands.
+pub const UNIT_NUMBER: &str =
+    "SELECT number FROM unit WHERE number = ?1 AND since <= ?2 AND ?2 < until";
+
+/// The number of a parcel, where it stands.
+pub const PARCEL_NUMBER: &str =
+    "SELECT number FROM parcel WHERE number = ?1 AND since <= ?2 AND ?2 < until";
+
+/// The number of an entry, where it stands.
+pub const ENTRY_NUMBER: &str =
+    "SELECT number FROM rrr WHERE number = ?1 AND since <= ?2 AND ?2 < until";
+
+/// The number of a source, where it stands.
+pub const SOURCE_NUMBER: &str =
+    "SELECT number FROM source WHERE number = ?1 AND since <= ?2 AND ?2 < until";
+
+/// Who lodged the mutation of a number.
+pub const LODGER_OF_MUTATION: &str =
+    "SELECT lodger FROM mutation WHERE number = ?1 AND since <= ?2 AND ?2 < until";
+
+/// Who lodged what is undecided and names a unit.
+pub const LODGERS_ON_UNIT: &str =
+    "SELECT mutation.lodger FROM names JOIN mutation ON mutation.number = names.mutation WHERE names.unit = ?1 AND mutation.state = 'lodged' AND names.since <= ?2 AND ?2 < names.until AND mutation.since <= ?2 AND ?2 < mutation.until";
+
+/// The parties of the entries of a unit, a party as often as it has one.
+pub const PARTIES_OF_UNIT: &str =
+    "SELECT party.number, party.name, party.kind, party.since, party.until FROM rrr JOIN party ON party.number = rrr.party WHERE rrr.unit = ?1 AND rrr.since <= ?2 AND ?2 < rrr.until AND party.since <= ?2 AND ?2 < party.until";

@@ -1,38 +1,11 @@
-use Rattle.std.proofs.Common.{rules, ◌≡◌, ◌&&◌, ap, Bool, true, is_some, subst, sym, to_z, of_z, w64, Ok, ◌∙◌}
-use Rattle.std.specs.FinMap as map
-use Rattle.land_core.specs.Entries.{has}
-use Rattle.land_rules.specs.Relations.{is_lodger_on}
-use Rattle.land_select_joins.specs.Lookups.Parts.{IsPart}
-use Rattle.land_tables_rows.specs.declared.listing.fault.ReadFault.{ReadFault}
-use Rattle.land_tables_schema.proofs.Looking.{look_then, look_told}
-use Rattle.land_tables_schema.specs.Rows.Looks.{IsLook}
-use Rattle.sqlite.specs.Effect.{Database}
+use Rattle.std.proofs.Common.{rules, ◌≡◌, ap, Bool, to_z, of_z, w64}
+use Rattle.land_tables_schema.proofs.Looking.{look_told}
 use Rattle.sqlite.specs.Held.{state}
 use Rattle.land_select.proofs.awaited.is_unit_awaited.Goals as goal
 
-pub returns-then-not-branch-clause-look : goal.returns-then-not-branch-clause-look
-returns-then-not-branch-clause-look g c =
-    let when : to_z w64 (of_z w64 c.args.at) ≡ c.args.at = search rules in
-    let look = rw when at c.in_ok-is_lodger_on.ensures.look in
-    look_told (state g.S.Store c.args.conn.now) (state g.S.Store c.is_lodger_on.new.conn) _ look
-    (λ clean is moments h held r have stands. ap (λ b. b && has r.units c.args.unit) (sym c.if-not-branch.true ∙ is moments h held r have stands))
-
 pub returns-clause-look : goal.returns-clause-look
 returns-clause-look g c =
-    let a = state g.S.Store c.args.conn.now in
-    let b = state g.S.Store c.is_lodger_on.new.conn in
-    let d = state g.S.Store c.record.new.conn in
-    let t = c.args.at in
-    let party = c.args.caller.party in
-    let unit = c.args.unit in
-    let found = c.in_ok-found.found in
-    let when : to_z w64 (of_z w64 t) ≡ t = search rules in
-    let both : IsLook {X = Unit {0}} {E = ReadFault} (Ok tt) (λ _. IsPart (λ r. is_lodger_on r party unit) t a.now.trees true × IsPart (λ r. map.get r.units unit) t a.now.trees found) a d =
-    look_then a b d (rw when at c.in_ok-is_lodger_on.ensures.look) (rw when at c.in_ok-found.ensures.look)
-    (λ clean same named one. (
-      subst (λ (it : Bool). IsPart (λ r. is_lodger_on r party unit) t a.now.trees it) c.if-not-branch.false named,
-      subst (λ (now : Database). IsPart (λ r. map.get r.units unit) t now.trees found) same one,
-    )) in
-    look_told a d _ both
-    (λ clean both moments h held r have stands.
-    c.is_some.ensures ∙ ap is_some (both.1 moments h held r have stands) ∙ ap (λ it. it && has r.units unit) (both.0 moments h held r have stands))
+    let when : to_z w64 (of_z w64 c.args.at) ≡ c.args.at = search rules in
+    let look = rw when at c.in_ok-told.ensures.look in
+    look_told (state g.S.Store c.args.conn.now) (state g.S.Store c.unit_awaited.new.conn) _ look
+    (λ clean is moments h held r have stands. ap (λ (it : Bool × Bool). it.0) (is moments h held r have stands))

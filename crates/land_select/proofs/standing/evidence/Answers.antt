@@ -1,7 +1,10 @@
 use Rattle.std.proofs.Common.{rules, ◌≡◌, ap₂, subst, to_z, of_z, w64, Ok, ◌∙◌}
-use Rattle.std.specs.FinMap as map
+use Rattle.land_core.specs.Register.{stands}
+use Rattle.land_core.specs.declared.kind.Kind.TheVariants as kind
 use Rattle.land_rules.specs.Denials.Standing.{decided, discharged, evidence_of}
-use Rattle.land_select.specs.Verdicts.{record_at, roles_in}
+use Rattle.land_select.proofs.Viewed.{have_members}
+use Rattle.land_select.specs.Verdicts.{record_at, roles_in, somebody}
+use Rattle.land_select.specs.Views.{IsShown}
 use Rattle.land_select_joins.specs.Lookups.Parts.{IsPart}
 use Rattle.land_tables_rows.specs.declared.listing.fault.ReadFault.{ReadFault}
 use Rattle.land_tables_schema.proofs.Looking.{look_fails, look_lost, look_then, look_told}
@@ -31,11 +34,12 @@ returns-clause-look g c =
     let when : to_z w64 (of_z w64 t) ≡ t = search rules in
     let asking = c.in_ok-asking.asking in
     let asked = c.in_ok-asked.asked in
+    let made = rw c.somebody-party.ensures at c.in_ok-evidence_of.ensures in
     let both : IsLook {X = Unit {0}} {E = ReadFault} (Ok tt)
-    (λ _. IsPart (λ r. (map.get r.parties caller.party, roles_in r caller.party)) t a.now.trees asking × IsPart (λ r. (record_at r.rrrs (discharged ask), record_at r.mutations (decided ask))) t a.now.trees asked) a d =
+    (λ _. IsShown (λ r. (stands r kind.Party caller.party, roles_in r caller.party)) t a.now.trees asking × IsPart (λ r. (record_at r.rrrs (discharged ask), record_at r.mutations (decided ask))) t a.now.trees asked) a d =
     look_then a (state g.S.Store c.person.new.conn) d (rw when at c.in_ok-asking.ensures.look) (rw when at c.in_ok-asked.ensures.look)
     (λ clean same one two. (one, subst (λ (now : Database). IsPart (λ r. (record_at r.rrrs (discharged ask), record_at r.mutations (decided ask))) t now.trees asked) same two)) in
     look_told a d _ both
-    (λ clean both moments h held r have stands.
-    c.in_ok-evidence_of.ensures
-    ∙ ap₂ (λ one two. evidence_of caller ask one.0 one.1 two.0 two.1) (both.0 moments h held r have stands) (both.1 moments h held r have stands))
+    (λ clean both moments h held r premise stand.
+    made
+    ∙ ap₂ (λ one two. evidence_of caller ask (somebody one.0) one.1 two.0 two.1) (both.0 moments h held r premise stand) (both.1 moments h held r (have_members c.soundness_by_look_ups.ensures r premise) stand))

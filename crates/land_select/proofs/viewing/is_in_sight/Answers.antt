@@ -1,6 +1,5 @@
-use Rattle.std.proofs.Common.{rules, ◌≡◌, nat_eq, sym, to_z, of_z, w64, ap, is_some, ◌∙◌}
+use Rattle.std.proofs.Common.{rules, ◌≡◌, nat_eq, sym, to_z, of_z, w64, ap, ◌∙◌}
 use Rattle.std.specs.List.{list_any}
-use Rattle.land_select.proofs.Judged.{object_stands}
 use Rattle.land_select.proofs.Looks.{look_means}
 use Rattle.land_select.proofs.Viewed.{have_members}
 use Rattle.land_tables_schema.proofs.Looking.{look_told}
@@ -10,12 +9,11 @@ use Rattle.land_select.proofs.viewing.is_in_sight.Goals as goal
 pub returns-then-sees_all-clause-look : goal.returns-then-sees_all-clause-look
 returns-then-sees_all-clause-look g c =
     let when : to_z w64 (of_z w64 c.args.at) ≡ c.args.at = search rules in
-    let look = rw when at c.in_ok-found.ensures.look in
+    let look = rw when at c.stands.ensures.look in
     let all = sym c.sees_all.ensures ∙ c.if-sees_all.true in
-    look_told (state g.S.Store c.args.conn.now) (state g.S.Store c.object.new.conn) _ look
-    (λ clean is moments h held r premise stands.
-    c.is_some.ensures ∙ ap is_some (is moments h held r (have_members c.soundness_by_look_ups.ensures r premise) stands) ∙ object_stands r c.args.kind c.args.number
-    ∙ sym (c.all_that_stands_is_seen.ensures r c.args.caller c.args.kind c.args.number all))
+    look_means (state g.S.Store c.args.conn.now) (state g.S.Store c.stands.new.conn) c.stands.result look
+    (λ it is moments h held r premise stands.
+    is moments h held r (have_members c.soundness_by_look_ups.ensures r premise) stands ∙ sym (c.all_that_stands_is_seen.ensures r c.args.caller c.args.kind c.args.number all))
 
 pub returns-then-sees_own_lodgings-clause-look : goal.returns-then-sees_own_lodgings-clause-look
 returns-then-sees_own_lodgings-clause-look g c =

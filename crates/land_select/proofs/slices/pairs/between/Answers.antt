@@ -1,6 +1,6 @@
 use Rattle.std.proofs.Common.{rules, ◌≡◌, ap, nat_eq, to_z, of_z, w64, ◌∙◌}
+use Rattle.std.proofs.lemmas.Bool.{and_parts}
 use Rattle.land_acts.specs.Slices.{is_mandate}
-use Rattle.land_core.proofs.Booleans.{both_of}
 use Rattle.land_core.proofs.FiniteSets.{exact_mandates, mandates_total}
 use Rattle.land_core.specs.Entries.{only}
 use Rattle.land_select.proofs.Keeping.{kept_within}
@@ -17,4 +17,4 @@ returns-clause-look g c =
     (λ clean is moments h held r have stands.
     c.in_ok-one_of.ensures
     ∙ ap (only (λ mandate u. is_mandate it mandate)) (is moments h held r have stands)
-    ∙ kept_within mandates_total exact_mandates (λ mandate u. is_mandate it mandate) (λ mandate u. nat_eq mandate.agent it.agent) r.mandates (λ mandate u same. (both_of _ _ same).1))
+    ∙ kept_within mandates_total exact_mandates (λ mandate u. is_mandate it mandate) (λ mandate u. nat_eq mandate.agent it.agent) r.mandates (λ mandate u same. (and_parts _ _ same).1))

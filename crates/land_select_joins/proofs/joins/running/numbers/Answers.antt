@@ -1,6 +1,7 @@
 use Rattle.std.proofs.Common.{rules, ◌≡◌, to_z, of_z, w64, sym, subst}
 use Rattle.land_select_joins.proofs.Counted.{none_held, numbers_told}
 use Rattle.land_select_joins.specs.Joins.Running.{AreRowsOf}
+use Rattle.land_select_joins.specs.Sights.Selections.{selects}
 use Rattle.land_tables_schema.proofs.Looking.{look_told}
 use Rattle.sqlite.specs.Held.{state}
 use Rattle.land_select_joins.proofs.joins.running.numbers.Goals as goal
@@ -12,7 +13,7 @@ returns-clause-look g c =
     let when : to_z w64 (of_z w64 c.args.at) ≡ c.args.at = search rules in
     let look = rw when at c.in_ok-rows.ensures.look in
     look_told old (state g.S.Store c.rows_of.new.conn) c.read.result look
-    (λ clean are. numbers_told s c.args.at c.args.caller old.now.trees c.as_slice.result.now (subst (AreRowsOf s c.args.at c.args.caller old.now.trees) (sym c.as_slice.ensures.value) are) c.read.result c.read.ensures)
+    (λ clean are. numbers_told (λ h. selects s c.args.at h c.args.caller) old.now.trees c.as_slice.result.now (subst (AreRowsOf s c.args.at c.args.caller old.now.trees) (sym c.as_slice.ensures.value) are) c.read.result c.read.ensures)
 
 pub returns-clause-unreadable : goal.returns-clause-unreadable
 returns-clause-unreadable g c clean =
@@ -20,5 +21,5 @@ returns-clause-unreadable g c clean =
     let s = c.args.selection in
     let when : to_z w64 (of_z w64 c.args.at) ≡ c.args.at = search rules in
     let look = rw when at c.in_ok-rows.ensures.look in
-    none_held s c.args.at c.args.caller old.now.trees c.as_slice.result.now
+    none_held (λ h. selects s c.args.at h c.args.caller) old.now.trees c.as_slice.result.now
     (subst (AreRowsOf s c.args.at c.args.caller old.now.trees) (sym c.as_slice.ensures.value) (look.given clean)) c.read.result c.read.ensures

@@ -1,0 +1,249 @@
+-- The text of each look-up of numbers as a join of tables, and what it gives.
+use Rattle.std.proofs.Common.{◌≡◌, ◌↔◌, ℕ, ℤ, List, [], ◌∷◌, ◌++◌, codes, Bool, true, false, if◌then◌else◌, refl, sym, ap, ◌∙◌, true≢false}
+use Rattle.land_core.specs.Numbers.{is_number}
+use Rattle.land_select_joins.proofs.Joined.{IsJoin, Says, complete, from, numbered, sound}
+use Rattle.land_select_joins.proofs.Known as known
+use Rattle.land_select_joins.proofs.Known.{caller, same, still, word}
+use Rattle.land_select_joins.proofs.Places.{IsWithin, Place, What, as_stored, mutations, names, parcels, parties, row_of, rrrs, sources, units, versions}
+use Rattle.land_select_joins.proofs.Selected.{IsVersion, of, stood, undecided, version}
+use Rattle.land_select_joins.proofs.Sets.{plainly}
+use Rattle.land_select_joins.specs.Joins.Meaning.{given}
+use Rattle.land_select_joins.specs.Joins.Running.{asked_for}
+use Rattle.land_select_joins.specs.Lookups.Numbers.{AreRowsToldBy, tells}
+use Rattle.land_select_joins.specs.Lookups.Texts.{number_text_of}
+use Rattle.land_select_joins.specs.declared.lookups.number_look_up.NumberLookUp.{NumberLookUp}
+use Rattle.land_select_joins.specs.declared.lookups.number_look_up.NumberLookUp.TheVariants as look_up
+use Rattle.land_tables_history.specs.declared.history.History.{History}
+use Rattle.land_tables_history.specs.declared.moment.Moment.{Moment}
+use Rattle.land_tables_rows.specs.Writing.History.{HoldsHistory}
+use Rattle.sqlite.specs.Listing.{understood}
+use Rattle.sqlite.specs.Program.{overlay}
+use Rattle.sqlite.specs.Query.{IsAnswer, Query}
+use Rattle.sqlite_sql.specs.Term.{Term, col}
+use Rattle.sqlite_tied.specs.Compute.{everything}
+use Rattle.sqlite_trees.specs.Tree.{Trees}
+use Rattle.sqlite_value.specs.Order.{Row}
+
+-- ---- joins
+
+-- the tables that are read
+abbrev pub places_of : NumberLookUp → List Place
+places_of look_up.Party = parties ∷ []
+places_of look_up.Unit = units ∷ []
+places_of look_up.Parcel = parcels ∷ []
+places_of look_up.Entry = rrrs ∷ []
+places_of look_up.Source = sources ∷ []
+places_of look_up.LodgerOfMutation = mutations ∷ []
+places_of look_up.LodgersOnUnit = names ∷ mutations ∷ []
+
+-- the tests: of ON, of the number that is given, of the state, and of the lifespans
+abbrev pub filter_of : NumberLookUp → List Term
+filter_of look_up.Party = known.itself
+filter_of look_up.Unit = same (col 1 1) caller ∷ still 1 4
+filter_of look_up.Parcel = same (col 1 1) caller ∷ still 1 6
+filter_of look_up.Entry = same (col 1 1) caller ∷ still 1 12
+filter_of look_up.Source = same (col 1 1) caller ∷ still 1 4
+filter_of look_up.LodgerOfMutation = same (col 1 1) caller ∷ still 1 9
+filter_of look_up.LodgersOnUnit = same (col 2 1) (col 1 1) ∷ same (col 1 2) caller ∷ word (col 2 8) (codes "lodged") ∷ still 1 3 ++ still 2 9
+
+-- the column that is shown
+abbrev pub shown_of : NumberLookUp → Term
+shown_of look_up.Party = col 1 1
+shown_of look_up.Unit = col 1 1
+shown_of look_up.Parcel = col 1 1
+shown_of look_up.Entry = col 1 1
+shown_of look_up.Source = col 1 1
+shown_of look_up.LodgerOfMutation = col 1 2
+shown_of look_up.LodgersOnUnit = col 2 2
+
+unit_join : IsJoin (number_text_of look_up.Unit) (units ∷ []) (filter_of look_up.Unit) (col 1 1)
+unfolding understood everything
+unit_join = record {
+  asks = λ indexes. record { names = codes "number" ∷ []; command = refl; unlisted = refl; plain = (refl, refl) };
+  meant = λ indexes. refl;
+  accepted = λ indexes caller t. refl;
+  simple = refl;
+  known = λ caller t v. refl;
+}
+
+parcel_join : IsJoin (number_text_of look_up.Parcel) (parcels ∷ []) (filter_of look_up.Parcel) (col 1 1)
+unfolding understood everything
+parcel_join = record {
+  asks = λ indexes. record { names = codes "number" ∷ []; command = refl; unlisted = refl; plain = (refl, refl) };
+  meant = λ indexes. refl;
+  accepted = λ indexes caller t. refl;
+  simple = refl;
+  known = λ caller t v. refl;
+}
+
+entry_join : IsJoin (number_text_of look_up.Entry) (rrrs ∷ []) (filter_of look_up.Entry) (col 1 1)
+unfolding understood everything
+entry_join = record {
+  asks = λ indexes. record { names = codes "number" ∷ []; command = refl; unlisted = refl; plain = (refl, refl) };
+  meant = λ indexes. refl;
+  accepted = λ indexes caller t. refl;
+  simple = refl;
+  known = λ caller t v. refl;
+}
+
+source_join : IsJoin (number_text_of look_up.Source) (sources ∷ []) (filter_of look_up.Source) (col 1 1)
+unfolding understood everything
+source_join = record {
+  asks = λ indexes. record { names = codes "number" ∷ []; command = refl; unlisted = refl; plain = (refl, refl) };
+  meant = λ indexes. refl;
+  accepted = λ indexes caller t. refl;
+  simple = refl;
+  known = λ caller t v. refl;
+}
+
+lodger_join : IsJoin (number_text_of look_up.LodgerOfMutation) (mutations ∷ []) (filter_of look_up.LodgerOfMutation) (col 1 2)
+unfolding understood everything
+lodger_join = record {
+  asks = λ indexes. record { names = codes "lodger" ∷ []; command = refl; unlisted = refl; plain = (refl, refl) };
+  meant = λ indexes. refl;
+  accepted = λ indexes caller t. refl;
+  simple = refl;
+  known = λ caller t v. refl;
+}
+
+lodgers_join : IsJoin (number_text_of look_up.LodgersOnUnit) (names ∷ mutations ∷ []) (filter_of look_up.LodgersOnUnit) (col 2 2)
+unfolding understood everything
+lodgers_join = record {
+  asks = λ indexes. record { names = codes "lodger" ∷ []; command = refl; unlisted = refl; plain = (refl, refl) };
+  meant = λ indexes. refl;
+  accepted = λ indexes caller t. refl;
+  simple = refl;
+  known = λ caller t n m. refl;
+}
+
+pub join_of : (l : NumberLookUp) → IsJoin (number_text_of l) (places_of l) (filter_of l) (shown_of l)
+join_of look_up.Party = known.itself_join
+join_of look_up.Unit = unit_join
+join_of look_up.Parcel = parcel_join
+join_of look_up.Entry = entry_join
+join_of look_up.Source = source_join
+join_of look_up.LodgerOfMutation = lodger_join
+join_of look_up.LodgersOnUnit = lodgers_join
+
+-- ---- what the terms of a text say is what its look-up tells
+
+module _ (h : History) (number : ℕ) (t : ℤ) (told : ℕ) where
+  a_party : Says (parties ∷ []) known.itself (col 1 1) h number t told ↔ tells look_up.Party t h number told
+  a_party = (
+    (λ g. (g.0.what, stood t h.parties g.0 g.1 g.2.0.1.0 g.2.0.1.1.0, g.2.0.0, g.2.1)),
+    (λ s. let v = version t h.parties s.0 s.1 in (of s.0 v.since v.until, v.has, ((s.2, (v.begun, (v.going, tt))), s.3))),
+  )
+
+  a_unit : Says (units ∷ []) (filter_of look_up.Unit) (col 1 1) h number t told ↔ tells look_up.Unit t h number told
+  a_unit = (
+    (λ g. (g.0.what, stood t h.units g.0 g.1 g.2.0.1.0 g.2.0.1.1.0, g.2.0.0, g.2.1)),
+    (λ s. let v = version t h.units s.0 s.1 in (of s.0 v.since v.until, v.has, ((s.2, (v.begun, (v.going, tt))), s.3))),
+  )
+
+  a_parcel : Says (parcels ∷ []) (filter_of look_up.Parcel) (col 1 1) h number t told ↔ tells look_up.Parcel t h number told
+  a_parcel = (
+    (λ g. (g.0.what, stood t h.parcels g.0 g.1 g.2.0.1.0 g.2.0.1.1.0, g.2.0.0, g.2.1)),
+    (λ s. let v = version t h.parcels s.0 s.1 in (of s.0 v.since v.until, v.has, ((s.2, (v.begun, (v.going, tt))), s.3))),
+  )
+
+  an_entry : Says (rrrs ∷ []) (filter_of look_up.Entry) (col 1 1) h number t told ↔ tells look_up.Entry t h number told
+  an_entry = (
+    (λ g. (g.0.what, stood t h.rrrs g.0 g.1 g.2.0.1.0 g.2.0.1.1.0, g.2.0.0, g.2.1)),
+    (λ s. let v = version t h.rrrs s.0 s.1 in (of s.0 v.since v.until, v.has, ((s.2, (v.begun, (v.going, tt))), s.3))),
+  )
+
+  a_source : Says (sources ∷ []) (filter_of look_up.Source) (col 1 1) h number t told ↔ tells look_up.Source t h number told
+  a_source = (
+    (λ g. (g.0.what, stood t h.sources g.0 g.1 g.2.0.1.0 g.2.0.1.1.0, g.2.0.0, g.2.1)),
+    (λ s. let v = version t h.sources s.0 s.1 in (of s.0 v.since v.until, v.has, ((s.2, (v.begun, (v.going, tt))), s.3))),
+  )
+
+  a_lodger : Says (mutations ∷ []) (filter_of look_up.LodgerOfMutation) (col 1 2) h number t told ↔ tells look_up.LodgerOfMutation t h number told
+  a_lodger = (
+    (λ g. (g.0.what, stood t h.mutations g.0 g.1 g.2.0.1.0 g.2.0.1.1.0, g.2.0.0, g.2.1)),
+    (λ s. let v = version t h.mutations s.0 s.1 in (of s.0 v.since v.until, v.has, ((s.2, (v.begun, (v.going, tt))), s.3))),
+  )
+
+  lodgers : Says (names ∷ mutations ∷ []) (filter_of look_up.LodgersOnUnit) (col 2 2) h number t told ↔ tells look_up.LodgersOnUnit t h number told
+  lodgers = (
+    (λ g. let n = g.0 in let m = g.2.0 in let say = g.2.2.0 in record {
+      mutation = m.what;
+      mutation_stands = stood t h.mutations m g.2.1 say.1.1.1.1.1.0 say.1.1.1.1.1.1.0;
+      naming = n.what;
+      naming_stands = stood t h.namings n g.1 say.1.1.1.0 say.1.1.1.1.0;
+      named_by = sym say.0;
+      lodger = g.2.2.1;
+      undecided = (undecided m.what.1.state).1 say.1.1.0;
+      named = say.1.0;
+    }),
+    (λ a. let n = version t h.namings a.naming a.naming_stands in let m = version t h.mutations a.mutation a.mutation_stands in (
+      of a.naming n.since n.until,
+      n.has,
+      (
+        of a.mutation m.since m.until,
+        m.has,
+        ((sym a.named_by, (a.named, ((undecided a.mutation.1.state).0 a.undecided, (n.begun, (n.going, (m.begun, (m.going, tt))))))), a.lodger),
+      ),
+    )),
+  )
+
+pub told_by : (l : NumberLookUp) (h : History) (number : ℕ) (t : ℤ) (told : ℕ) → Says (places_of l) (filter_of l) (shown_of l) h number t told ↔ tells l t h number told
+told_by look_up.Party = a_party
+told_by look_up.Unit = a_unit
+told_by look_up.Parcel = a_parcel
+told_by look_up.Entry = an_entry
+told_by look_up.Source = a_source
+told_by look_up.LodgerOfMutation = a_lodger
+told_by look_up.LodgersOnUnit = lodgers
+
+-- ---- a number that no object can have
+
+module _ (db : Trees) (moments : List Moment) (h : History) (held : HoldsHistory db moments h) (t : ℤ) where
+  within : (p : Place) (x : What p) (it : IsVersion t (versions p h) x) → IsWithin p (of x it.since it.until)
+  within p x it = (row_of db moments h held p (of x it.since it.until) it.has).2.1
+
+  moved : (one number : ℕ) → one ≡ number → is_number one ≡ true → is_number number ≡ true
+  moved one number same is = ap is_number (sym same) ∙ is
+
+  -- something is told by a number that an object can have, and by no other
+  number_within : (l : NumberLookUp) (number told : ℕ) → tells l t h number told → is_number number ≡ true
+  number_within look_up.Party number told x = moved x.0.0 number x.2 (within parties x.0 (version t h.parties x.0 x.1))
+  number_within look_up.Unit number told x = moved x.0.0 number x.2 (within units x.0 (version t h.units x.0 x.1))
+  number_within look_up.Parcel number told x = moved x.0.0 number x.2 (within parcels x.0 (version t h.parcels x.0 x.1)).0
+  number_within look_up.Entry number told x = moved x.0.0 number x.2 (within rrrs x.0 (version t h.rrrs x.0 x.1)).1
+  number_within look_up.Source number told x = moved x.0.0 number x.2 (within sources x.0 (version t h.sources x.0 x.1))
+  number_within look_up.LodgerOfMutation number told x = moved x.0.0 number x.2 (within mutations x.0 (version t h.mutations x.0 x.1)).1
+  number_within look_up.LodgersOnUnit number told x = moved x.naming.unit number x.named (within names x.naming (version t h.namings x.naming x.naming_stands)).1
+
+  none : (number : ℕ) → is_number number ≡ false → is_number number ≡ true → ⊥
+  none number out is = true≢false (sym is ∙ out)
+
+  -- so what is told by a number is told by the one that is asked for in its place
+  asked_so : (l : NumberLookUp) (number told : ℕ) → tells l t h (asked_for number) told ↔ tells l t h number told
+  asked_so l number told = go (is_number number) refl
+    where
+      go : (b : Bool) → is_number number ≡ b → tells l t h (if b then number else 0) told ↔ tells l t h number told
+      go true is = ((λ x. x), (λ x. x))
+      go false is = ((λ x. absurd (none 0 refl (number_within l 0 told x))), (λ x. absurd (none number is (number_within l number told x))))
+
+-- ---- answers
+
+abbrev pub query_of : NumberLookUp → Query
+query_of l = plainly (from (places_of l)) (filter_of l) (shown_of l ∷ [])
+
+-- what the text of a look-up answers are the rows that it finds
+pub are_rows_of : (l : NumberLookUp) (number : ℕ) (t : ℤ) (db : Trees) (rows : List Row) → IsAnswer (query_of l) (overlay db []) (given (asked_for number) t) rows → AreRowsToldBy l number t db rows
+are_rows_of l number t db rows a moments h held =
+    let asked = asked_for number in
+    let join = join_of l in
+    let ps = places_of l in
+    let fs = filter_of l in
+    record {
+      each = numbered (number_text_of l) ps fs (shown_of l) join db (overlay db []) (as_stored db) moments h held asked t rows a;
+      meant = λ n.
+          let it = told_by l h asked t n in
+          let so = asked_so db moments h held t l number n in (
+            (λ has. so.0 (it.0 (sound (number_text_of l) ps fs (shown_of l) join db (overlay db []) (as_stored db) moments h held asked t rows a n has))),
+            (λ x. complete (number_text_of l) ps fs (shown_of l) join db (overlay db []) (as_stored db) moments h held asked t rows a n (it.1 (so.1 x))),
+          );
+    }
