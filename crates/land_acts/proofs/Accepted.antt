@@ -3,6 +3,7 @@ use Rattle.std.proofs.Common.{◌≡◌, ◌≤◌, true, false, ◌&&◌, not, 
 use Rattle.std.specs.Prelude.{ℤ, ◌||◌, ◌+◌, nat_eq, map as map_list}
 use Rattle.std.specs.FinMap as map
 use Rattle.std.specs.Option.{option_map_or}
+use Rattle.std.proofs.lemmas.Bool.{and_parts, not-false, or_parts}
 use Rattle.land_acts.proofs.Approvals.{approve_grows, approve_once, approved_is_sound, caller_is_single, caller_stands, refuse_grows, refuse_once, refused_is_sound}
 use Rattle.land_acts.proofs.BurdenedUnits.{burdened_is_sound}
 use Rattle.land_acts.proofs.GroupActs.{enrolled_is_sound, grouped_is_sound, regrouped_is_sound}
@@ -11,7 +12,7 @@ use Rattle.land_acts.proofs.LodgedMutations.{fresh, lodged_is_sound}
 use Rattle.land_acts.proofs.MandateActs.{mandated_is_sound, withdrawn_is_sound}
 use Rattle.land_acts.proofs.NewObjects.{numbered_once}
 use Rattle.land_acts.proofs.Outcomes.{IsPlanned, planned_from, unstamped}
-use Rattle.land_acts.proofs.Refusals.{first_none}
+use Rattle.land_acts.proofs.Refusals.{first_none, none_hold}
 use Rattle.land_acts.proofs.RegisteredUnits.{registered_is_sound}
 use Rattle.land_acts.proofs.RoleActs.{granted_is_sound, revoked_is_sound}
 use Rattle.land_acts.proofs.TransferLaws.{whole_law}
@@ -29,7 +30,6 @@ use Rattle.land_acts.specs.Revoking.{has_administrator_beside}
 use Rattle.land_acts.specs.Sharing.{lists_stranger, are_too_fine, are_whole, lists_twice}
 use Rattle.land_acts.specs.declared.mutations.refusal.Planned.TheVariants.{New}
 use Rattle.land_acts.specs.declared.mutations.refusal.Refusal.TheVariants.{NotLodged, NoSuchUnit, NoSuchRight, NoSuchParty, SharesTooFine, TooMany, SharesNotWhole, ReferenceUsed, RoleHeld, RoleNotHeld, ClockOut, LastAdministrator, SameParty, MandateHeld}
-use Rattle.land_core.proofs.Booleans.{both_of, or_false, not_false}
 use Rattle.land_core.specs.Acts.{is_well_formed, are_members, name_numbers}
 use Rattle.land_core.specs.Changes.{after, NamesKeysOnce}
 use Rattle.land_core.specs.Contents.{is_well_formed_content}
@@ -55,60 +55,59 @@ use Rattle.land_fraction.specs.Laws.{WholenessLaw}
 sound_after : (law : WholenessLaw) (r : Register) (caller : Caller) (a : Act) (stamp : ℤ) → IsSound r → is_well_formed a ≡ true → holds r caller.party caller.role ≡ true → repeated_done r caller a ≡ None
     → first_that_holds (refusals_of r caller a (Some stamp)) ≡ None → IsSound (after (change_of r caller a stamp) r)
 sound_after law r caller (act.Enrol it) stamp sound formed held new none =
-    enrolled_is_sound r it sound (both_of _ _ formed).0 (first_none TooMany (lacks_numbers r 1) ((ClockOut, false) ∷ []) none).first
+    enrolled_is_sound r it sound (and_parts _ _ formed).0 (none_hold ((TooMany, lacks_numbers r 1) ∷ (ClockOut, false) ∷ []) none).0
 sound_after law r caller (act.Group it) stamp sound formed held new none =
-    let known = first_none NoSuchParty (lists_stranger r it.members) ((SharesTooFine, are_too_fine it.members) ∷ (TooMany, lacks_numbers r 1) ∷ (SharesNotWhole, not (are_whole it.members)) ∷ (ClockOut, false) ∷ (SameParty, lists_twice it.members) ∷ []) none in
-    let fine = first_none SharesTooFine (are_too_fine it.members) ((TooMany, lacks_numbers r 1) ∷ (SharesNotWhole, not (are_whole it.members)) ∷ (ClockOut, false) ∷ (SameParty, lists_twice it.members) ∷ []) known.rest in
-    let room = first_none TooMany (lacks_numbers r 1) ((SharesNotWhole, not (are_whole it.members)) ∷ (ClockOut, false) ∷ (SameParty, lists_twice it.members) ∷ []) fine.rest in
-    let whole = first_none SharesNotWhole (not (are_whole it.members)) ((ClockOut, false) ∷ (SameParty, lists_twice it.members) ∷ []) room.rest in
-    let stamped = first_none ClockOut false ((SameParty, lists_twice it.members) ∷ []) whole.rest in
-    let once = first_none SameParty (lists_twice it.members) [] stamped.rest in
-    let size : is_group_size (length it.members) ≡ true = (both_of _ (name_numbers it.members) (both_of (is_name it.name) (are_members it.members) formed).1).0 in
-    grouped_is_sound r it sound size known.first room.first (not_false _ whole.first) once.first
+    let fails = none_hold ((NoSuchParty, lists_stranger r it.members) ∷ (SharesTooFine, are_too_fine it.members) ∷ (TooMany, lacks_numbers r 1) ∷ (SharesNotWhole, not (are_whole it.members)) ∷ (ClockOut, false) ∷ (SameParty, lists_twice it.members) ∷ []) none in
+    let known = fails.0 in
+    let room = fails.1.1.0 in
+    let whole = fails.1.1.1.0 in
+    let once = fails.1.1.1.1.1.0 in
+    let size : is_group_size (length it.members) ≡ true = (and_parts _ (name_numbers it.members) (and_parts (is_name it.name) (are_members it.members) formed).1).0 in
+    grouped_is_sound r it sound size known room (not-false _ whole) once
 sound_after law r caller (act.Regroup it) stamp sound formed held new none =
-    let known = first_none NoSuchParty (not (has_group r it.group) || lists_stranger r it.members) ((SharesTooFine, are_too_fine it.members) ∷ (SharesNotWhole, not (are_whole it.members)) ∷ (ClockOut, false) ∷ (SameParty, lists_twice it.members) ∷ []) none in
-    let fine = first_none SharesTooFine (are_too_fine it.members) ((SharesNotWhole, not (are_whole it.members)) ∷ (ClockOut, false) ∷ (SameParty, lists_twice it.members) ∷ []) known.rest in
-    let whole = first_none SharesNotWhole (not (are_whole it.members)) ((ClockOut, false) ∷ (SameParty, lists_twice it.members) ∷ []) fine.rest in
-    let stamped = first_none ClockOut false ((SameParty, lists_twice it.members) ∷ []) whole.rest in
-    let once = first_none SameParty (lists_twice it.members) [] stamped.rest in
-    let parties = or_false (not (has_group r it.group)) (lists_stranger r it.members) known.first in
-    let size : is_group_size (length it.members) ≡ true = (both_of _ (name_numbers it.members) (both_of (is_number it.group) (are_members it.members) formed).1).0 in
-    regrouped_is_sound r it sound size (not_false _ parties.0) parties.1 (not_false _ whole.first) once.first
+    let fails = none_hold ((NoSuchParty, not (has_group r it.group) || lists_stranger r it.members) ∷ (SharesTooFine, are_too_fine it.members) ∷ (SharesNotWhole, not (are_whole it.members)) ∷ (ClockOut, false) ∷ (SameParty, lists_twice it.members) ∷ []) none in
+    let known = fails.0 in
+    let whole = fails.1.1.0 in
+    let once = fails.1.1.1.1.0 in
+    let parties = or_parts (not (has_group r it.group)) (lists_stranger r it.members) known in
+    let size : is_group_size (length it.members) ≡ true = (and_parts _ (name_numbers it.members) (and_parts (is_number it.group) (are_members it.members) formed).1).0 in
+    regrouped_is_sound r it sound size (not-false _ parties.0) parties.1 (not-false _ whole) once
 sound_after law r caller (act.Grant it) stamp sound formed held new none =
-    granted_is_sound r it sound (not_false _ (first_none NoSuchParty (not (has_single_party r it.party)) ((RoleHeld, holds r it.party it.role) ∷ (ClockOut, false) ∷ []) none).first)
+    granted_is_sound r it sound (not-false _ (none_hold ((NoSuchParty, not (has_single_party r it.party)) ∷ (RoleHeld, holds r it.party it.role) ∷ (ClockOut, false) ∷ []) none).0)
 sound_after law r caller (act.Revoke it) stamp sound formed held new none =
     let last = is_role it.role StateAdministrator && not (has_administrator_beside r it.party) in
-    let known = first_none NoSuchParty (not (has_single_party r it.party)) ((RoleNotHeld, not (holds r it.party it.role)) ∷ (ClockOut, false) ∷ (LastAdministrator, last) ∷ []) none in
-    let held = first_none RoleNotHeld (not (holds r it.party it.role)) ((ClockOut, false) ∷ (LastAdministrator, last) ∷ []) known.rest in
-    let stamped = first_none ClockOut false ((LastAdministrator, last) ∷ []) held.rest in
-    revoked_is_sound r it sound (first_none LastAdministrator last [] stamped.rest).first
+    let fails = none_hold ((NoSuchParty, not (has_single_party r it.party)) ∷ (RoleNotHeld, not (holds r it.party it.role)) ∷ (ClockOut, false) ∷ (LastAdministrator, last) ∷ []) none in
+    let other = fails.1.1.1.0 in
+    revoked_is_sound r it sound other
 sound_after law r caller (act.Mandate it) stamp sound formed held new none =
     let pair = has_mandate r.mandates (given caller it) in
-    let known = first_none NoSuchParty (not (has_single_party r it.agent)) ((ClockOut, false) ∷ (SameParty, nat_eq it.agent caller.party) ∷ (MandateHeld, pair) ∷ []) none in
-    let stamped = first_none ClockOut false ((SameParty, nat_eq it.agent caller.party) ∷ (MandateHeld, pair) ∷ []) known.rest in
-    let apart = first_none SameParty (nat_eq it.agent caller.party) ((MandateHeld, pair) ∷ []) stamped.rest in
-    mandated_is_sound r caller it sound (caller_is_single r caller sound held) (not_false _ known.first) apart.first
+    let fails = none_hold ((NoSuchParty, not (has_single_party r it.agent)) ∷ (ClockOut, false) ∷ (SameParty, nat_eq it.agent caller.party) ∷ (MandateHeld, pair) ∷ []) none in
+    let known = fails.0 in
+    let apart = fails.1.1.0 in
+    mandated_is_sound r caller it sound (caller_is_single r caller sound held) (not-false _ known) apart
 sound_after law r caller (act.Withdraw it) stamp sound formed held new none = withdrawn_is_sound r it sound
 sound_after law r caller (act.Register it) stamp sound formed held new none =
-    let known = first_none NoSuchParty (lists_absent r it.rights) ((SharesTooFine, it.checked && are_types_too_fine it.rights) ∷ (TooMany, lacks_numbers r (new_count it)) ∷ (SharesNotWhole, it.checked && not (are_types_whole it.rights)) ∷ (ClockOut, false) ∷ (SameParty, has_right_twice it.rights) ∷ []) none in
-    let fine = first_none SharesTooFine (it.checked && are_types_too_fine it.rights) ((TooMany, lacks_numbers r (new_count it)) ∷ (SharesNotWhole, it.checked && not (are_types_whole it.rights)) ∷ (ClockOut, false) ∷ (SameParty, has_right_twice it.rights) ∷ []) known.rest in
-    let room = first_none TooMany (lacks_numbers r (new_count it)) ((SharesNotWhole, it.checked && not (are_types_whole it.rights)) ∷ (ClockOut, false) ∷ (SameParty, has_right_twice it.rights) ∷ []) fine.rest in
-    let whole = first_none SharesNotWhole (it.checked && not (are_types_whole it.rights)) ((ClockOut, false) ∷ (SameParty, has_right_twice it.rights) ∷ []) room.rest in
-    let stamped = first_none ClockOut false ((SameParty, has_right_twice it.rights) ∷ []) whole.rest in
-    let once = first_none SameParty (has_right_twice it.rights) [] stamped.rest in
-    registered_is_sound r it sound formed known.first room.first whole.first once.first
+    let fails = none_hold ((NoSuchParty, lists_absent r it.rights) ∷ (SharesTooFine, it.checked && are_types_too_fine it.rights) ∷ (TooMany, lacks_numbers r (new_count it)) ∷ (SharesNotWhole, it.checked && not (are_types_whole it.rights)) ∷ (ClockOut, false) ∷ (SameParty, has_right_twice it.rights) ∷ []) none in
+    let known = fails.0 in
+    let room = fails.1.1.0 in
+    let whole = fails.1.1.1.0 in
+    let once = fails.1.1.1.1.1.0 in
+    registered_is_sound r it sound formed known room whole once
 sound_after law r caller (act.Burden it) stamp sound formed held new none =
-    let unit = first_none NoSuchUnit (not (has r.units it.unit)) ((NoSuchParty, not (has r.parties it.party)) ∷ (TooMany, lacks_numbers r 2 || would_crowd r it.unit 1) ∷ (ClockOut, false) ∷ []) none in
-    let party = first_none NoSuchParty (not (has r.parties it.party)) ((TooMany, lacks_numbers r 2 || would_crowd r it.unit 1) ∷ (ClockOut, false) ∷ []) unit.rest in
-    let room = or_false (lacks_numbers r 2) (would_crowd r it.unit 1) (first_none TooMany (lacks_numbers r 2 || would_crowd r it.unit 1) ((ClockOut, false) ∷ []) party.rest).first in
-    burdened_is_sound r it sound (not_false _ unit.first) (not_false _ party.first) room.0 room.1
+    let fails = none_hold ((NoSuchUnit, not (has r.units it.unit)) ∷ (NoSuchParty, not (has r.parties it.party)) ∷ (TooMany, lacks_numbers r 2 || would_crowd r it.unit 1) ∷ (ClockOut, false) ∷ []) none in
+    let unit = fails.0 in
+    let party = fails.1.0 in
+    let many = fails.1.1.0 in
+    let room = or_parts (lacks_numbers r 2) (would_crowd r it.unit 1) many in
+    burdened_is_sound r it sound (not-false _ unit) (not-false _ party) room.0 room.1
 sound_after law r caller (act.Lift it) stamp sound formed held new none =
-    lifted_is_sound r it (not_false _ (first_none NoSuchRight (not (has_burden r it.rrr)) ((ClockOut, false) ∷ []) none).first) sound
+    lifted_is_sound r it (not-false _ (none_hold ((NoSuchRight, not (has_burden r it.rrr)) ∷ (ClockOut, false) ∷ []) none).0) sound
 sound_after law r caller (act.Lodge it) stamp sound formed held new none =
-    let room = first_none TooMany (lacks_numbers r 2) ((ReferenceUsed, has_lodged_other r caller it) ∷ (ClockOut, false) ∷ []) none in
-    let other = first_none ReferenceUsed (has_lodged_other r caller it) ((ClockOut, false) ∷ []) room.rest in
-    let content = (both_of (is_reference it.reference && is_title it.document) (is_well_formed_content it.content) formed).1 in
-    lodged_is_sound r caller it stamp sound (caller_stands r caller sound held) content room.first (fresh r caller it new other.first)
+    let fails = none_hold ((TooMany, lacks_numbers r 2) ∷ (ReferenceUsed, has_lodged_other r caller it) ∷ (ClockOut, false) ∷ []) none in
+    let room = fails.0 in
+    let other = fails.1.0 in
+    let content = (and_parts (is_reference it.reference && is_title it.document) (is_well_formed_content it.content) formed).1 in
+    lodged_is_sound r caller it stamp sound (caller_stands r caller sound held) content room (fresh r caller it new other)
 sound_after law r caller (act.Approve it) stamp sound formed held new none = approved_is_sound law r stamp sound it (first_none NotLodged (not (is_lodged r it.mutation)) (option_map_or (λ m. content_refusals r m.content (Some stamp)) (map.get r.mutations it.mutation) []) none).rest
 sound_after law r caller (act.Refuse it) stamp sound formed held new none = refused_is_sound r it sound
 

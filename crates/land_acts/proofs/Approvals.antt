@@ -5,7 +5,7 @@ use Rattle.std.specs.Option.{option_map_or}
 use Rattle.std.specs.Cmp.{nat_cmp_total}
 use Rattle.std.specs.FinMap as map
 use Rattle.std.specs.FinMap.{nat_cmp-IsAntisymmetric}
-use Rattle.std.proofs.lemmas.Bool.{false≢true}
+use Rattle.std.proofs.lemmas.Bool.{false≢true, and_parts, not-false}
 use Rattle.land_acts.proofs.DecidedMutations.{decided_is_sound}
 use Rattle.land_acts.proofs.DischargedEntries.{discharged_is_sound}
 use Rattle.land_acts.proofs.MergedApprovals.{approved_merger_is_sound, approved_merger_once, tight_mutation}
@@ -23,7 +23,6 @@ use Rattle.land_acts.specs.Mutations.Planning.{first_that_holds}
 use Rattle.land_acts.specs.Mutations.Subdividing.{subdivision_change}
 use Rattle.land_acts.specs.Mutations.Transferring.{grows_at, held_at, move_change, number_after}
 use Rattle.land_acts.specs.declared.mutations.transfer.Held.{Held}
-use Rattle.land_core.proofs.Booleans.{both_of, not_false}
 use Rattle.land_core.proofs.Reflection.{none_at}
 use Rattle.land_core.proofs.SoundRegisters.{refers, single_from, stands_from}
 use Rattle.land_core.specs.Changes.{NamesKeysOnce, after, no_change}
@@ -57,8 +56,8 @@ caller_stands r caller sound held = let it = stands_from r caller.party (caller_
 -- the source of a mutation stands
 source_stands : (r : Register) → IsSound r → (n : ℕ) (m : MutationRecord) → map.get r.mutations n ≡ Some m → has r.sources m.source ≡ true
 source_stands r sound n m is =
-    let all = not_false _ (none_at nat_cmp_total nat_cmp-IsAntisymmetric (λ n m. is_loose_mutation r m) r.mutations n m (refers r (sound Reference)).mutations is) in
-    (both_of (has r.parties m.lodger) (has r.sources m.source) (both_of (has r.parties m.lodger && has r.sources m.source) (is_well_formed_content m.content) all).0).1
+    let all = not-false _ (none_at nat_cmp_total nat_cmp-IsAntisymmetric (λ n m. is_loose_mutation r m) r.mutations n m (refers r (sound Reference)).mutations is) in
+    (and_parts (has r.parties m.lodger) (has r.sources m.source) (and_parts (has r.parties m.lodger && has r.sources m.source) (is_well_formed_content m.content) all).0).1
 
 -- ---- approvals
 

@@ -3,13 +3,13 @@ use Rattle.std.proofs.Common.{◌≡◌, ℕ, Bool, true, false, cond, not, ◌&
 use Rattle.std.specs.Prelude.{ℤ, is_none, is_some, nat_eq}
 use Rattle.std.specs.Option.{option_map_or}
 use Rattle.std.specs.FinMap as map
+use Rattle.std.proofs.lemmas.Bool.{and_parts}
 use Rattle.land_acts.proofs.MortgageSlices.{AgreeOnUnit}
 use Rattle.land_acts.proofs.NumberTests.{at_kept}
 use Rattle.land_acts.specs.Mutations.Discharging.{discharge_change, discharge_refusals, has_entry_in, has_mortgage}
 use Rattle.land_acts.specs.Mutations.Planning.{first_that_holds}
 use Rattle.land_acts.specs.declared.mutations.refusal.Refusal.{Refusal}
 use Rattle.land_acts.specs.declared.mutations.refusal.Refusal.TheVariants.{NoSuchUnit, NoSuchRight, NotMortgage, ClockOut}
-use Rattle.land_core.proofs.Booleans.{both_of}
 use Rattle.land_core.specs.Entries.{has}
 use Rattle.land_core.specs.Units.{rank_of}
 use Rattle.land_core.specs.declared.content.Discharge.{Discharge}
@@ -43,7 +43,7 @@ module _ (s r : Register) (it : Discharge) (agree : AgreeOnUnit s r it.unit) whe
   mortgage_agrees =
       ap (λ m. option_map_or (λ e. nat_eq e.unit it.unit && is_some (rank_of e.class)) (map.get m it.mortgage) false) agree.entries
       ∙ at_kept r.rrrs agree.kept (λ e. nat_eq e.unit it.unit && is_some (rank_of e.class)) it.mortgage
-      (λ e passes. agree.keeps it.mortgage e (both_of (nat_eq e.unit it.unit) (is_some (rank_of e.class)) passes).0)
+      (λ e passes. agree.keeps it.mortgage e (and_parts (nat_eq e.unit it.unit) (is_some (rank_of e.class)) passes).0)
 
   -- the entry may be one of another unit, and then be no mortgage in the one and a mortgage in the other; but then it is refused before
   pub discharge_refusal_agrees : (stamp : Option ℤ) → first_that_holds (discharge_refusals s it stamp) ≡ first_that_holds (discharge_refusals r it stamp)

@@ -8,11 +8,10 @@ use Rattle.std.specs.declared.cmp.Ordering.TheVariants.{Equal}
 use Rattle.std.specs.FinMap as map
 use Rattle.std.specs.FinMap.{FinMap, nat_cmp-IsAntisymmetric}
 use Rattle.std.specs.FinMap.Entries.{find-where_key, is_sorted-where_key}
-use Rattle.std.proofs.lemmas.Bool.{false≢true}
+use Rattle.std.proofs.lemmas.Bool.{false≢true, and_parts, not-false, or_parts}
 use Rattle.std.proofs.lemmas.Bool.Decides.{nat_tests}
 use Rattle.land_acts.proofs.Growth.{anchored, anchored_back}
 use Rattle.land_acts.proofs.Numbers.{one_number}
-use Rattle.land_core.proofs.Booleans.{both_of, or_false, not_false}
 use Rattle.land_core.proofs.FiniteMaps.{none_is_not_some}
 use Rattle.land_core.proofs.Reflection.{each_there, none_passes, none_at, some_passes, some_at}
 use Rattle.land_core.proofs.SoundRegisters.{refers, refers_back, are_used, are_used_back, used_from, unused_from}
@@ -122,7 +121,7 @@ module _ (r : Register) (number : ℕ) (no_type : (e : RrrRecord) → map.get r.
 
       none_given : (es : List (ℕ × RrrRecord)) → AllByRecursion (λ e. map.get r.rrrs e.0 ≡ Some e.1) es → AllByRecursion (λ e. not (eq_by_cmp nat_cmp number e.0) ≡ false → share_in unit type e.1 ≡ None) es
       none_given [] h = tt
-      none_given (e ∷ es) h = (λ at. nothing e.1 (ends_none e.0 e.1 ((eq_by_cmp_equiv nat_cmp_total).symm e.0 number ∙ not_false _ at) h.0), none_given es h.1)
+      none_given (e ∷ es) h = (λ at. nothing e.1 (ends_none e.0 e.1 ((eq_by_cmp_equiv nat_cmp_total).symm e.0 number ∙ not-false _ at) h.0), none_given es h.1)
 
   owner_stays : (unit : ℕ) → has_owner r unit ≡ true → has_owner left unit ≡ true
   owner_stays unit owned =
@@ -132,7 +131,7 @@ module _ (r : Register) (number : ℕ) (no_type : (e : RrrRecord) → map.get r.
     where
       other : (n : ℕ) (e : RrrRecord) → map.get r.rrrs n ≡ Some e → is_right_in unit Ownership e ≡ true → eq_by_cmp nat_cmp n number ≡ false
       other n e is right = elim (eq_by_cmp nat_cmp n number) as (λ b. eq_by_cmp nat_cmp n number ≡ b → b ≡ false) [
-        | true ↦ λ at. absurd (false≢true (sym (no_right Ownership e.class (ends_none n e at is)) ∙ (both_of _ _ right).1))
+        | true ↦ λ at. absurd (false≢true (sym (no_right Ownership e.class (ends_none n e at is)) ∙ (and_parts _ _ right).1))
         | false ↦ λ apart. refl
       ] refl
 
@@ -180,12 +179,12 @@ module _ (r : Register) (number : ℕ) (no_type : (e : RrrRecord) → map.get r.
   ended_is_sound sound Bare =
       none_passes nat_cmp_total nat_cmp-IsAntisymmetric (λ n u. not (has_parcel left n && has_owner left n)) r.units
       (λ n u is.
-      let had = both_of (has_parcel r n) (has_owner r n) (not_false _ (none_at nat_cmp_total nat_cmp-IsAntisymmetric (λ n u. not (has_parcel r n && has_owner r n)) r.units n u (sound Bare) is)) in
+      let had = and_parts (has_parcel r n) (has_owner r n) (not-false _ (none_at nat_cmp_total nat_cmp-IsAntisymmetric (λ n u. not (has_parcel r n && has_owner r n)) r.units n u (sound Bare) is)) in
       ap (λ b. not (b && has_owner left n)) had.0 ∙ ap not (owner_stays n had.1))
   ended_is_sound sound Crowded =
       none_passes nat_cmp_total nat_cmp-IsAntisymmetric (λ n u. nat_lt 256 (parcel_count left n) || nat_lt 256 (rrr_count left n)) r.units
       (λ n u is.
-      let had = or_false (nat_lt 256 (parcel_count r n)) (nat_lt 256 (rrr_count r n)) (none_at nat_cmp_total nat_cmp-IsAntisymmetric (λ n u. nat_lt 256 (parcel_count r n) || nat_lt 256 (rrr_count r n)) r.units n u (sound Crowded) is) in
+      let had = or_parts (nat_lt 256 (parcel_count r n)) (nat_lt 256 (rrr_count r n)) (none_at nat_cmp_total nat_cmp-IsAntisymmetric (λ n u. nat_lt 256 (parcel_count r n) || nat_lt 256 (rrr_count r n)) r.units n u (sound Crowded) is) in
       ap (λ b. b || nat_lt 256 (rrr_count left n)) had.0 ∙ not_more (rrr_count left n) (rrr_count r n) (fewer_entries n) had.1)
     where
       not_more : (a b : ℕ) → a ≤ b → nat_lt 256 b ≡ false → nat_lt 256 a ≡ false

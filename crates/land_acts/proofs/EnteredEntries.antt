@@ -1,5 +1,5 @@
 -- A unit gets one more entry that is no right: the register stays sound.
-use Rattle.std.proofs.Common.{◌≡◌, ℕ, ◌+◌, ◌<◌, ◌≤◌, Bool, true, false, cond, ◌&&◌, ◌||◌, not, Option, Some, None, List, [], ◌∷◌, ◌++◌, length, length-append, refl, sym, ap, ◌∙◌, subst, append-nil, arith}
+use Rattle.std.proofs.Common.{◌≡◌, ℕ, ◌+◌, ◌<◌, ◌≤◌, true, false, cond, ◌&&◌, ◌||◌, not, Option, Some, None, List, [], ◌∷◌, ◌++◌, length, length-append, refl, sym, ap, ◌∙◌, subst, append-nil, arith}
 use Rattle.std.specs.Prelude.{filter, nat_eq, nat_lt}
 use Rattle.std.specs.List.{filter_map, cons_option}
 use Rattle.std.specs.Ordering.{nat_cmp, eq_by_cmp, is_eq}
@@ -8,12 +8,13 @@ use Rattle.std.specs.FinMap as map
 use Rattle.std.specs.FinMap.{FinMap, nat_cmp-IsAntisymmetric}
 use Rattle.std.proofs.lemmas.Bool.Decides.{nat_tests}
 use Rattle.std.proofs.lemmas.List.Elements.{filter-append, filter_map-append}
+use Rattle.std.proofs.lemmas.Bool.{and_parts, not-false, or_parts}
 use Rattle.land_acts.proofs.EndedEntries.{no_share}
 use Rattle.land_acts.proofs.Growth.{used_grows, unused_grows, ranks_grow, mutations_stay, AreAnchored, anchored, anchored_back, placed, placed_back}
 use Rattle.land_acts.proofs.NewObjects.{below_later, entries-last, below_next}
 use Rattle.land_acts.proofs.Numbers.{one_number, lesser_apart, tied_number}
 use Rattle.land_acts.specs.Mutations.Planning.{would_crowd}
-use Rattle.land_core.proofs.Booleans.{both_of, or_false, not_false}
+use Rattle.land_core.proofs.Booleans.{and_false}
 use Rattle.land_core.proofs.Reflection.{none_passes, none_at, some_passes, some_at}
 use Rattle.land_core.proofs.SoundRegisters.{refers, refers_back, are_used, are_used_back, used_from, unused_from, used_bounds, next_above_zero}
 use Rattle.land_core.specs.Entries.{has}
@@ -74,10 +75,6 @@ no_type_right None = refl
 pub no_rank_right : (o : Option ℕ) → are_of_one_rank o None ≡ false
 no_rank_right (Some rank) = refl
 no_rank_right None = refl
-
-and_false : (b : Bool) → (b && false) ≡ false
-and_false true = refl
-and_false false = refl
 
 module _ (r : Register) (sound : IsSound r) (number : ℕ) (entry : RrrRecord) (sources : FinMap nat_cmp SourceRecord) (next : ℕ) (h : Enters r number entry sources next) where
   abbrev more : Register
@@ -192,12 +189,12 @@ module _ (r : Register) (sound : IsSound r) (number : ℕ) (entry : RrrRecord) (
   entered_is_sound Bare =
       none_passes nat_cmp_total nat_cmp-IsAntisymmetric (λ n u. not (has_parcel more n && has_owner more n)) r.units
       (λ n u is.
-      let had = both_of (has_parcel r n) (has_owner r n) (not_false _ (none_at nat_cmp_total nat_cmp-IsAntisymmetric (λ n u. not (has_parcel r n && has_owner r n)) r.units n u (sound Bare) is)) in
+      let had = and_parts (has_parcel r n) (has_owner r n) (not-false _ (none_at nat_cmp_total nat_cmp-IsAntisymmetric (λ n u. not (has_parcel r n && has_owner r n)) r.units n u (sound Bare) is)) in
       ap (λ b. not (b && has_owner more n)) had.0 ∙ ap not (owner_stays n had.1))
   entered_is_sound Crowded =
       none_passes nat_cmp_total nat_cmp-IsAntisymmetric (λ n u. nat_lt 256 (parcel_count more n) || nat_lt 256 (rrr_count more n)) r.units
       (λ n u is.
-      let had = or_false (nat_lt 256 (parcel_count r n)) (nat_lt 256 (rrr_count r n)) (none_at nat_cmp_total nat_cmp-IsAntisymmetric (λ n u. nat_lt 256 (parcel_count r n) || nat_lt 256 (rrr_count r n)) r.units n u (sound Crowded) is) in
+      let had = or_parts (nat_lt 256 (parcel_count r n)) (nat_lt 256 (rrr_count r n)) (none_at nat_cmp_total nat_cmp-IsAntisymmetric (λ n u. nat_lt 256 (parcel_count r n) || nat_lt 256 (rrr_count r n)) r.units n u (sound Crowded) is) in
       ap (λ b. b || nat_lt 256 (rrr_count more n)) had.0 ∙ count_more n had.1)
   entered_is_sound Twice =
       none_passes nat_cmp_total nat_cmp-IsAntisymmetric (clashes_later more) more.rrrs

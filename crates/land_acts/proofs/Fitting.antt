@@ -4,7 +4,7 @@ use Rattle.std.proofs.Common.{◌≡◌, ℕ, ◌+◌, ◌<◌, ◌≤◌, true,
 use Rattle.std.specs.Prelude.{ℤ, is_none, nat_lt}
 use Rattle.std.specs.Option.{option_map_or}
 use Rattle.std.specs.FinMap as map
-use Rattle.std.proofs.lemmas.Bool.{lt-ltb, ltb-false, ltb-true}
+use Rattle.std.proofs.lemmas.Bool.{lt-ltb, ltb-false, ltb-true, and_parts, or_parts}
 use Rattle.land_acts.proofs.MergedApprovals.{merger_fits}
 use Rattle.land_acts.proofs.MortgageRanks.{next_rank_fits_kept}
 use Rattle.land_acts.proofs.Refusals.{first_none}
@@ -20,7 +20,6 @@ use Rattle.land_acts.specs.Outcome.{IsUnrefused, has_room_for}
 use Rattle.land_acts.specs.Slices.{IsOfSound, looks_at_rrr}
 use Rattle.land_acts.specs.declared.mutations.refusal.Refusal.TheVariants.{NotLodged}
 use Rattle.land_acts.specs.declared.mutations.transfer.Held.{Held}
-use Rattle.land_core.proofs.Booleans.{both_of, or_false}
 use Rattle.land_core.proofs.SoundRegisters.{refers}
 use Rattle.land_core.specs.Changes.{after}
 use Rattle.land_core.specs.Units.{rrr_count}
@@ -51,7 +50,7 @@ room_next : (s : Register) (c : Content) → has_room s c ≡ true → s.next �
 room_next s (content.Transfer it) room = next_bound s room
 room_next s (content.Subdivision it) room = next_bound s room
 room_next s (content.Merger it) room = next_bound s room
-room_next s (content.Mortgage it) room = next_bound s (both_of (nat_lt s.next 1000000002) (nat_lt (greatest (ranks_in s it.unit)) 1000000000) room).0
+room_next s (content.Mortgage it) room = next_bound s (and_parts (nat_lt s.next 1000000002) (nat_lt (greatest (ranks_in s it.unit)) 1000000000) room).0
 room_next s (content.Discharge it) room = next_bound s room
 
 -- ---- what fits where there is room
@@ -65,7 +64,7 @@ content_fits s stamp (content.Transfer it) room none = λ from held.
     let move = unrefused_move s it stamp none in
     let same : move.from ≡ from = one_right (sym move.held ∙ held) in
     let many : are_too_many s it from ≡ false = subst (λ (h : Held). are_too_many s it h ≡ false) same move.not_many in
-    counted s (grows_at s it from) (grows_at s it from) (room_next s (content.Transfer it) room) refl (λ new. (or_false (lacks_numbers s 1) (nat_lt 256 (rrr_count (after (move_change s 0 it from) s) it.unit)) (sym (ap (λ b. b && (lacks_numbers s 1 || nat_lt 256 (rrr_count (after (move_change s 0 it from) s) it.unit))) new) ∙ many)).0)
+    counted s (grows_at s it from) (grows_at s it from) (room_next s (content.Transfer it) room) refl (λ new. (or_parts (lacks_numbers s 1) (nat_lt 256 (rrr_count (after (move_change s 0 it from) s) it.unit)) (sym (ap (λ b. b && (lacks_numbers s 1 || nat_lt 256 (rrr_count (after (move_change s 0 it from) s) it.unit))) new) ∙ many)).0)
   where
     one_right : {a b : Held} → Some a ≡ Some b → a ≡ b
     one_right e = cc
@@ -73,7 +72,7 @@ content_fits s stamp (content.Subdivision it) room none = ltb-false 1000000001 (
 content_fits s stamp (content.Merger it) room none = merger_fits s it stamp none
 content_fits s stamp (content.Mortgage it) room none =
     let mortgage = unrefused_mortgage s it stamp none in
-    let rank : greatest (ranks_in s it.unit) < 1000000000 = ltb-true (greatest (ranks_in s it.unit)) 1000000000 (both_of (nat_lt s.next 1000000002) (nat_lt (greatest (ranks_in s it.unit)) 1000000000) room).1 in
+    let rank : greatest (ranks_in s it.unit) < 1000000000 = ltb-true (greatest (ranks_in s it.unit)) 1000000000 (and_parts (nat_lt s.next 1000000002) (nat_lt (greatest (ranks_in s it.unit)) 1000000000) room).1 in
     (one_left s mortgage.room, omega (arith, rank))
 content_fits s stamp (content.Discharge it) room none = tt
 

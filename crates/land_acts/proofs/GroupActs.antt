@@ -5,7 +5,7 @@ use Rattle.std.specs.Ordering.{nat_cmp, eq_by_cmp}
 use Rattle.std.specs.Cmp.{nat_cmp_total}
 use Rattle.std.specs.FinMap as map
 use Rattle.std.specs.FinMap.{FinMap}
-use Rattle.std.proofs.lemmas.Bool.{false≢true}
+use Rattle.std.proofs.lemmas.Bool.{false≢true, not-false}
 use Rattle.land_acts.proofs.Growth.{has_stays, mutations_stay, ranks_grow}
 use Rattle.land_acts.proofs.ListedMembers.{group_shares, listed_single}
 use Rattle.land_acts.proofs.Numbers.{one_number}
@@ -15,7 +15,6 @@ use Rattle.land_acts.specs.Grouping.{group_change}
 use Rattle.land_acts.specs.Mutations.Planning.{lacks_numbers}
 use Rattle.land_acts.specs.Regrouping.{regroup_change}
 use Rattle.land_acts.specs.Sharing.{lists_stranger, lists_twice, are_whole, members_of_list}
-use Rattle.land_core.proofs.Booleans.{not_false}
 use Rattle.land_core.proofs.FiniteMaps.{is_equal}
 use Rattle.land_core.proofs.FiniteSets.{grants_total, exact_grants}
 use Rattle.land_core.proofs.LooseMandates.{mandates_stay}
@@ -104,7 +103,7 @@ enrolled_is_sound r it sound single room Reference =
     })
 enrolled_is_sound r it sound single room Administrator =
     let new = after (enrol_change r it) r in
-    let one = administrator_from r (not_false _ (sound Administrator)) in
+    let one = administrator_from r (not-false _ (sound Administrator)) in
     ap not (administrator_at new one.key
     (map.get-insert grants_total r.roles (grant_of r.next Citizen) tt one.key
     ∙ elim (eq_by_cmp grant_cmp one.key (grant_of r.next Citizen)) as (λ b. cond b (Some tt) (map.get r.roles one.key) ≡ Some tt) [ true ↦ refl | false ↦ one.there ])

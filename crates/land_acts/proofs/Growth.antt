@@ -5,9 +5,8 @@ use Rattle.std.specs.Ordering.{nat_cmp}
 use Rattle.std.specs.Cmp.{nat_cmp_total}
 use Rattle.std.specs.FinMap as map
 use Rattle.std.specs.FinMap.{FinMap, nat_cmp-IsAntisymmetric}
-use Rattle.std.proofs.lemmas.Bool.{false≢true}
+use Rattle.std.proofs.lemmas.Bool.{false≢true, and_parts, not-false}
 use Rattle.std.proofs.lemmas.Bool.Decides.{nat_tests}
-use Rattle.land_core.proofs.Booleans.{both_of, not_false}
 use Rattle.land_core.proofs.Reflection.{none_passes, none_at}
 use Rattle.land_core.proofs.SoundRegisters.{used_from, unused_from}
 use Rattle.land_core.specs.Contents.{is_well_formed_content}
@@ -30,7 +29,7 @@ module _ (r new : Register) (grows : r.next ≤ new.next) where
 
   rank_grows : (rank : Option ℕ) → is_loose_rank r rank ≡ false → is_loose_rank new rank ≡ false
   rank_grows None h = refl
-  rank_grows (Some rank) h = ap not (used_grows rank (not_false _ h))
+  rank_grows (Some rank) h = ap not (used_grows rank (not-false _ h))
 
   -- the ranks of these entries stay within their bounds
   pub ranks_grow : (rrrs : FinMap nat_cmp RrrRecord) → some (λ n e. is_loose_rank r (rank_of e.class)) rrrs ≡ false → some (λ n e. is_loose_rank new (rank_of e.class)) rrrs ≡ false
@@ -54,9 +53,9 @@ pub record AreAnchored (r : Register) (e : RrrRecord) : Type 0 where
 
 pub anchored : (r : Register) → has_loose_rrr r ≡ false → (n : ℕ) (e : RrrRecord) → map.get r.rrrs n ≡ Some e → AreAnchored r e
 anchored r none n e is =
-    let all = not_false _ (none_at nat_cmp_total nat_cmp-IsAntisymmetric (λ n e. not (has r.units e.unit && has r.parties e.party && has r.sources e.source)) r.rrrs n e none is) in
-    let last = both_of (has r.units e.unit && has r.parties e.party) (has r.sources e.source) all in
-    let first = both_of (has r.units e.unit) (has r.parties e.party) last.0 in
+    let all = not-false _ (none_at nat_cmp_total nat_cmp-IsAntisymmetric (λ n e. not (has r.units e.unit && has r.parties e.party && has r.sources e.source)) r.rrrs n e none is) in
+    let last = and_parts (has r.units e.unit && has r.parties e.party) (has r.sources e.source) all in
+    let first = and_parts (has r.units e.unit) (has r.parties e.party) last.0 in
     record { unit = first.0; party = first.1; source = last.1 }
 
 pub anchored_back : (r : Register) → ((n : ℕ) (e : RrrRecord) → map.get r.rrrs n ≡ Some e → AreAnchored r e) → has_loose_rrr r ≡ false
@@ -69,8 +68,8 @@ anchored_back r h =
 -- where a parcel lies and what it comes from
 pub placed : (r : Register) → has_loose_parcel r ≡ false → (n : ℕ) (p : ParcelRecord) → map.get r.parcels n ≡ Some p → (has r.units p.unit ≡ true) × (has r.sources p.source ≡ true)
 placed r none n p is =
-    both_of (has r.units p.unit) (has r.sources p.source)
-    (not_false _ (none_at nat_cmp_total nat_cmp-IsAntisymmetric (λ n p. not (has r.units p.unit && has r.sources p.source)) r.parcels n p none is))
+    and_parts (has r.units p.unit) (has r.sources p.source)
+    (not-false _ (none_at nat_cmp_total nat_cmp-IsAntisymmetric (λ n p. not (has r.units p.unit && has r.sources p.source)) r.parcels n p none is))
 
 pub placed_back : (r : Register) → ((n : ℕ) (p : ParcelRecord) → map.get r.parcels n ≡ Some p → (has r.units p.unit ≡ true) × (has r.sources p.source ≡ true)) → has_loose_parcel r ≡ false
 placed_back r h =
@@ -83,7 +82,7 @@ pub mutations_stay : (r new : Register) → new.mutations ≡ r.mutations → ((
 mutations_stay r new same parties sources none =
     ap (some (λ n m. is_loose_mutation new m)) same
     ∙ none_passes nat_cmp_total nat_cmp-IsAntisymmetric (λ n m. is_loose_mutation new m) r.mutations (λ n m is.
-    let all = both_of (has r.parties m.lodger && has r.sources m.source) (is_well_formed_content m.content) (not_false _ (none_at nat_cmp_total nat_cmp-IsAntisymmetric (λ n m. is_loose_mutation r m) r.mutations n m none is)) in
-    let first = both_of (has r.parties m.lodger) (has r.sources m.source) all.0 in
+    let all = and_parts (has r.parties m.lodger && has r.sources m.source) (is_well_formed_content m.content) (not-false _ (none_at nat_cmp_total nat_cmp-IsAntisymmetric (λ n m. is_loose_mutation r m) r.mutations n m none is)) in
+    let first = and_parts (has r.parties m.lodger) (has r.sources m.source) all.0 in
     ap (λ b. not (b && has new.sources m.source && is_well_formed_content m.content)) (parties m.lodger first.0)
     ∙ ap (λ b. not (b && is_well_formed_content m.content)) (sources m.source first.1) ∙ ap not all.1)

@@ -2,16 +2,15 @@
 use Rattle.std.proofs.Common.{◌≡◌, ℕ, Bool, true, false, cond, Option, Some, None, List, [], ◌∷◌, refl, sym, ap, ◌∙◌, subst}
 use Rattle.std.specs.Prelude.{filter}
 use Rattle.std.specs.List.{AllByRecursion}
-use Rattle.std.specs.Ordering.{eq_by_cmp, is_eq, is_lt, nat_cmp}
-use Rattle.std.specs.declared.cmp.Ordering.{Ordering}
-use Rattle.std.specs.declared.cmp.Ordering.TheVariants.{Less, Equal, Greater}
+use Rattle.std.specs.Ordering.{eq_by_cmp, is_lt, nat_cmp}
 use Rattle.std.specs.Cmp.{nat_cmp_total}
 use Rattle.std.specs.FinMap as map
 use Rattle.std.specs.FinMap.{FinMap, find, is_sorted, nat_cmp-IsAntisymmetric}
 use Rattle.std.specs.FinMap.Entries.{below_all}
-use Rattle.std.proofs.lemmas.Bool.{false≢true}
+use Rattle.std.proofs.lemmas.Bool.{and_parts}
 use Rattle.land_acts.proofs.Numbers.{one_number}
-use Rattle.land_core.proofs.Booleans.{T_true, both_of}
+use Rattle.land_core.proofs.Booleans.{T_true}
+use Rattle.land_core.proofs.Orders.{less_apart}
 use Rattle.land_core.proofs.Reflection.{entries-only}
 use Rattle.land_core.specs.Entries.{only, updated, with_entries, without}
 
@@ -21,25 +20,20 @@ kept_at p q None = None
 kept_at p q (Some v) = cond (p q v) (Some v) None
 
 module _ {V : Type 0} (p : ℕ → V → Bool) where
-  before_is_other : (o : Ordering) → is_lt o ≡ true → is_eq o ≡ false
-  before_is_other Less h = refl
-  before_is_other Equal h = absurd (false≢true h)
-  before_is_other Greater h = refl
-
   -- nothing stands at a number before all others
   absent : (k : ℕ) (es : List (ℕ × V)) → below_all nat_cmp k es ≡ true → find nat_cmp k (filter (λ e. p e.0 e.1) es) ≡ None
   absent k [] h = refl
   absent k (e ∷ es) h =
-      let parts = both_of (is_lt (nat_cmp k e.0)) (below_all nat_cmp k es) h in
+      let parts = and_parts (is_lt (nat_cmp k e.0)) (below_all nat_cmp k es) h in
       elim (p e.0 e.1) as (λ b. find nat_cmp k (cond b (e ∷ filter (λ e. p e.0 e.1) es) (filter (λ e. p e.0 e.1) es)) ≡ None) [
-        | true ↦ ap (λ b. cond b (Some e.1) (find nat_cmp k (filter (λ e. p e.0 e.1) es))) (before_is_other (nat_cmp k e.0) parts.0) ∙ absent k es parts.1
+        | true ↦ ap (λ b. cond b (Some e.1) (find nat_cmp k (filter (λ e. p e.0 e.1) es))) (less_apart (nat_cmp k e.0) parts.0) ∙ absent k es parts.1
         | false ↦ absent k es parts.1
       ]
 
   find-kept : (q : ℕ) (es : List (ℕ × V)) → is_sorted nat_cmp es ≡ true → find nat_cmp q (filter (λ e. p e.0 e.1) es) ≡ kept_at p q (find nat_cmp q es)
   find-kept q [] h = refl
   find-kept q (e ∷ es) h =
-      let parts = both_of (below_all nat_cmp e.0 es) (is_sorted nat_cmp es) h in
+      let parts = and_parts (below_all nat_cmp e.0 es) (is_sorted nat_cmp es) h in
       let rest = find-kept q es parts.1 in
       elim (eq_by_cmp nat_cmp q e.0) as (λ b. eq_by_cmp nat_cmp q e.0 ≡ b
       → find nat_cmp q (cond (p e.0 e.1) (e ∷ filter (λ e. p e.0 e.1) es) (filter (λ e. p e.0 e.1) es)) ≡ kept_at p q (cond b (Some e.1) (find nat_cmp q es))) [

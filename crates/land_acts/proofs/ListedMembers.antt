@@ -1,5 +1,5 @@
 -- The members that an act lists, once they are a group's: none is lost and none is added, where no party is listed twice.
-use Rattle.std.proofs.Common.{◌≡◌, ℕ, Bool, true, false, cond, ◌&&◌, not, Some, None, List, [], ◌∷◌, ◌++◌, length, refl, sym, ap, ◌∙◌, subst, append-nil}
+use Rattle.std.proofs.Common.{◌≡◌, ℕ, true, false, cond, ◌&&◌, Some, None, List, [], ◌∷◌, ◌++◌, length, refl, sym, ap, ◌∙◌, subst, append-nil}
 use Rattle.std.specs.Prelude.{is_some, map as map_list}
 use Rattle.std.specs.List.{list_any, AllByRecursion}
 use Rattle.std.specs.List.Sorted.{IsPermutation}
@@ -9,12 +9,11 @@ use Rattle.std.specs.declared.cmp.Ordering.TheVariants.{Less, Equal, Greater}
 use Rattle.std.specs.Cmp.{nat_cmp_total}
 use Rattle.std.specs.FinMap as map
 use Rattle.std.specs.FinMap.{put}
-use Rattle.std.proofs.lemmas.Bool.{false≢true}
+use Rattle.std.proofs.lemmas.Bool.{false≢true, and_parts, not-false, not-true, or_parts}
 use Rattle.std.proofs.lemmas.List.{length-map}
 use Rattle.std.proofs.lemmas.List.Sorted.{IsPermutation-refl, IsPermutation-trans, IsPermutation-sym, IsPermutation-cons, IsPermutation-middle, IsPermutation-append_right, IsPermutation-map, length_permutation}
 use Rattle.land_acts.proofs.Numbers.{one_number, tied_number, turned_number}
 use Rattle.land_acts.specs.Sharing.{listed_shares, lists_stranger, are_whole, lists_twice, same_party, members_of_list}
-use Rattle.land_core.proofs.Booleans.{both_of, or_false, not_false}
 use Rattle.land_core.proofs.FiniteMaps.{none_is_not_some, nothing_from_length}
 use Rattle.land_core.specs.Entries.{with_entries, are_distinct}
 use Rattle.land_core.specs.Members.{Members, shares_in, is_group_size, is_yes, are_group_shares}
@@ -32,11 +31,11 @@ entry member = (member.party, member.share)
 
 put_new : (k : ℕ) (v : Ratio) (es : List (ℕ × Ratio)) → list_any (eq_by_cmp nat_cmp k) (map_list (λ e. e.0) es) ≡ false → IsPermutation ((k, v) ∷ es) (put nat_cmp k v es)
 put_new k v [] h = IsPermutation-refl _
-put_new k v (e ∷ es) h = by_case (nat_cmp k e.0) refl (put_new k v es (or_false _ _ h).1)
+put_new k v (e ∷ es) h = by_case (nat_cmp k e.0) refl (put_new k v es (or_parts _ _ h).1)
   where
     by_case : (o : Ordering) → nat_cmp k e.0 ≡ o → IsPermutation ((k, v) ∷ es) (put nat_cmp k v es) → IsPermutation ((k, v) ∷ e ∷ es) (put nat_cmp k v (e ∷ es))
     by_case Less is rest = rw is (IsPermutation-refl _)
-    by_case Equal is rest = absurd (false≢true (sym (or_false _ _ h).0 ∙ ap is_eq is))
+    by_case Equal is rest = absurd (false≢true (sym (or_parts _ _ h).0 ∙ ap is_eq is))
     by_case Greater is rest =
         rw is
         (IsPermutation-trans ((k, v) ∷ e ∷ es) (e ∷ (k, v) ∷ es) (e ∷ put nat_cmp k v es)
@@ -56,7 +55,7 @@ AreNew m members = AllByRecursion (λ member. map.get m member.party ≡ None) m
 still_new : (m : Members) (x : Member) (xs : List Member) → list_any (same_party x) xs ≡ false → AreNew m xs → AreNew (map.insert m x.party x.share) xs
 still_new m x [] apart new = tt
 still_new m x (y ∷ ys) apart new =
-    let parts = or_false _ _ apart in (
+    let parts = or_parts _ _ apart in (
       map.get-insert nat_cmp_total m x.party x.share y.party
           ∙ ap (λ b. cond b (Some x.share) (map.get m y.party)) (tied_number y.party x.party ∙ turned_number x.party y.party parts.0)
           ∙ new.0,
@@ -67,18 +66,14 @@ all_entered : (m : Members) (members : List Member) → are_distinct same_party 
     → IsPermutation (map_list entry members ++ map.entries m) (map.entries (with_entries m (map_list entry members)))
 all_entered m [] distinct new = IsPermutation-refl _
 all_entered m (x ∷ xs) distinct new =
-    let parts = both_of _ _ distinct in
-    let apart : list_any (same_party x) xs ≡ false = not_true _ parts.0 in
+    let parts = and_parts _ _ distinct in
+    let apart : list_any (same_party x) xs ≡ false = not-true _ parts.0 in
     let more = map.insert m x.party x.share in
     IsPermutation-trans (map_list entry (x ∷ xs) ++ map.entries m) (map_list entry xs ++ entry x ∷ map.entries m) (map.entries (with_entries more (map_list entry xs)))
     (IsPermutation-sym _ _ (IsPermutation-middle (map_list entry xs) (entry x) (map.entries m)))
     (IsPermutation-trans (map_list entry xs ++ entry x ∷ map.entries m) (map_list entry xs ++ map.entries more) (map.entries (with_entries more (map_list entry xs)))
     (IsPermutation-append_right (map_list entry xs) (entry x ∷ map.entries m) (map.entries more) (insert_new m x.party x.share new.0))
     (all_entered more xs parts.1 (still_new m x xs apart new.1)))
-  where
-    not_true : (b : Bool) → not b ≡ true → b ≡ false
-    not_true true h = absurd (false≢true h)
-    not_true false h = refl
 
 all_new : (members : List Member) → AreNew map.empty members
 all_new [] = tt
@@ -96,7 +91,7 @@ shares_kept members once =
     let listed : map_list (λ e. e.1) (map_list entry members ++ map.entries (map.empty {X = Ratio} {R = nat_cmp})) ≡ listed_shares members =
     ap (λ it. map_list (λ e. e.1) (map_list entry members ++ it)) none ∙ ap (map_list (λ e. e.1)) (append-nil (map_list entry members)) ∙ shares_of_entries members in
     subst (λ (shares : List Ratio). IsPermutation shares (shares_in (members_of_list members))) listed
-    (IsPermutation-map (λ e. e.1) _ _ (all_entered map.empty members (not_false _ once) (all_new members)))
+    (IsPermutation-map (λ e. e.1) _ _ (all_entered map.empty members (not-false _ once) (all_new members)))
 
 pub group_shares : (members : List Member) → lists_twice members ≡ false → is_group_size (length members) ≡ true → are_whole members ≡ true
     → are_group_shares (shares_in (members_of_list members)) ≡ true
@@ -115,11 +110,11 @@ single_among : (r : Register) (members : List Member) → lists_stranger r membe
     → (n : ℕ) (share : Ratio) → map.get (with_entries m (map_list entry members)) n ≡ Some share → has_single_party r n ≡ true
 single_among r [] none m before n share is = before n share is
 single_among r (x ∷ xs) none m before n share is =
-    let parts = or_false _ _ none in
+    let parts = or_parts _ _ none in
     single_among r xs parts.1 (map.insert m x.party x.share)
     (λ k v at.
     elim (eq_by_cmp nat_cmp k x.party) as (λ b. eq_by_cmp nat_cmp k x.party ≡ b → cond b (Some x.share) (map.get m k) ≡ Some v → has_single_party r k ≡ true) [
-      | true ↦ λ here e. subst (λ (p : ℕ). has_single_party r p ≡ true) (sym (one_number k x.party here)) (not_false _ parts.0)
+      | true ↦ λ here e. subst (λ (p : ℕ). has_single_party r p ≡ true) (sym (one_number k x.party here)) (not-false _ parts.0)
       | false ↦ λ apart e. before k v e
     ] refl (sym (map.get-insert nat_cmp_total m x.party x.share k) ∙ at)) n share is
 

@@ -12,6 +12,7 @@ use Rattle.land_acts.proofs.EnteredEntries.{each_record, here, there}
 use Rattle.land_acts.proofs.Growth.{anchored, anchored_back, has_stays, mutations_stay, placed, placed_back, ranks_grow, unused_grows, used_grows}
 use Rattle.land_acts.specs.Lodging.{document_kind, has_lodged_other, is_same_lodging, lodge_change, lodge_repeat, lodged_record, lodged_told, lodged_under, repeat_of}
 use Rattle.land_acts.specs.Mutations.Planning.{lacks_numbers}
+use Rattle.land_core.proofs.Booleans.{and_false}
 use Rattle.land_core.proofs.Reflection.{none_at, none_passes}
 use Rattle.land_core.proofs.SoundRegisters.{are_used, are_used_back, next_above_zero, refers, refers_back, unused_from, used_bounds, used_from}
 use Rattle.land_core.specs.Changes.{after}
@@ -82,10 +83,6 @@ module _ (r : Register) (caller : Caller) (it : Lodging) (stamp : ℤ) (sound : 
   alone : lodged_under r caller.party it.reference ≡ None → (n : ℕ) (m : MutationRecord) → map.get r.mutations n ≡ Some m → is_lodged_as caller.party it.reference m ≡ false
   alone none n m is =
       none_at nat_cmp_total nat_cmp-IsAntisymmetric (λ n m. is_lodged_as caller.party it.reference m) r.mutations n m (none_found (λ e. is_lodged_as caller.party it.reference e.1) (map.entries r.mutations) none) is
-
-  and_false : (b : Bool) → (b && false) ≡ false
-  and_false true = refl
-  and_false false = refl
 
   not_after : (n : ℕ) → n < r.next → nat_lt (r.next + 1) n ≡ false
   not_after n less = grind (arith, nat_tests)

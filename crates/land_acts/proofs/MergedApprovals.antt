@@ -4,7 +4,7 @@ use Rattle.std.specs.Prelude.{ℤ}
 use Rattle.std.specs.FinMap as map
 use Rattle.std.specs.FinMap.{nat_cmp-IsAntisymmetric}
 use Rattle.std.specs.Cmp.{nat_cmp_total}
-use Rattle.std.proofs.lemmas.Bool.{ltb-false}
+use Rattle.std.proofs.lemmas.Bool.{ltb-false, and_parts, not-false}
 use Rattle.land_acts.proofs.DecidedMutations.{decided_is_sound}
 use Rattle.land_acts.proofs.MergedKeys.{merger_names_once, unrefused_merger}
 use Rattle.land_acts.proofs.MergedUnits.{merged_is_sound}
@@ -12,7 +12,6 @@ use Rattle.land_acts.specs.Deciding.{with_state}
 use Rattle.land_acts.specs.Mutations.Asking.{Fits, content_refusals}
 use Rattle.land_acts.specs.Mutations.Merging.{merger_change}
 use Rattle.land_acts.specs.Mutations.Planning.{first_that_holds}
-use Rattle.land_core.proofs.Booleans.{both_of, not_false}
 use Rattle.land_core.proofs.Reflection.{none_at}
 use Rattle.land_core.proofs.SoundRegisters.{refers}
 use Rattle.land_core.specs.Changes.{NamesKeysOnce, after}
@@ -33,9 +32,9 @@ pub record IsTight (r : Register) (m : MutationRecord) : Type 0 where
 
 pub tight_mutation : (r : Register) → IsSound r → (n : ℕ) (m : MutationRecord) → map.get r.mutations n ≡ Some m → IsTight r m
 tight_mutation r sound n m is =
-    let all = not_false _ (none_at nat_cmp_total nat_cmp-IsAntisymmetric (λ n m. is_loose_mutation r m) r.mutations n m (refers r (sound Reference)).mutations is) in
-    let parts = both_of (has r.parties m.lodger && has r.sources m.source) (is_well_formed_content m.content) all in
-    record { source = (both_of (has r.parties m.lodger) (has r.sources m.source) parts.0).1; formed = parts.1 }
+    let all = not-false _ (none_at nat_cmp_total nat_cmp-IsAntisymmetric (λ n m. is_loose_mutation r m) r.mutations n m (refers r (sound Reference)).mutations is) in
+    let parts = and_parts (has r.parties m.lodger && has r.sources m.source) (is_well_formed_content m.content) all in
+    record { source = (and_parts (has r.parties m.lodger) (has r.sources m.source) parts.0).1; formed = parts.1 }
 
 module _ (r : Register) (it : Merger) (stamp : Option ℤ) (none : first_that_holds (content_refusals r (content.Merger it) stamp) ≡ None) where
   pub approved_merger_is_sound : IsSound r → (number : ℕ) (m : MutationRecord) → map.get r.mutations number ≡ Some m → is_well_formed_content (content.Merger it) ≡ true

@@ -11,6 +11,7 @@ use Rattle.std.proofs.lemmas.Bool.Decides.{nat_tests}
 use Rattle.land_acts.proofs.KeptEntries.{get-kept, kept_at}
 use Rattle.land_acts.proofs.NumberTests.{at_as_some}
 use Rattle.land_acts.proofs.Numbers.{tied_number}
+use Rattle.land_core.proofs.Booleans.{and_turned}
 use Rattle.land_core.proofs.FiniteMaps.{none_is_not_some}
 use Rattle.land_core.proofs.Reflection.{list_any-map}
 use Rattle.land_core.specs.Entries.{numbers_where, only, without}
@@ -98,12 +99,6 @@ module _ {V : Type 0} where
       ∙ swapped (map.entries m)
       ∙ sym (at_as_some m test n)
     where
-      and_turned : (b c : Bool) → (b && c) ≡ (c && b)
-      and_turned true true = refl
-      and_turned true false = refl
-      and_turned false true = refl
-      and_turned false false = refl
-
       swapped : (es : List (ℕ × V)) → list_any (λ e. test e.1 && nat_eq e.0 n) es ≡ list_any (λ e. nat_eq e.0 n && test e.1) es
       swapped [] = refl
       swapped (e ∷ es) = ap (λ b. b || list_any (λ e. test e.1 && nat_eq e.0 n) es) (and_turned (test e.1) (nat_eq e.0 n)) ∙ ap (λ b. (nat_eq e.0 n && test e.1) || b) (swapped es)

@@ -6,23 +6,21 @@ use Rattle.std.specs.Option.{option_map_or}
 use Rattle.std.specs.FinMap as map
 use Rattle.std.specs.FinMap.{is_sorted}
 use Rattle.std.specs.FinMap.Entries.{below_all}
-use Rattle.std.specs.Ordering.{is_eq, is_lt, nat_cmp}
-use Rattle.std.specs.declared.cmp.Ordering.{Ordering}
-use Rattle.std.specs.declared.cmp.Ordering.TheVariants.{Less, Equal, Greater}
-use Rattle.std.proofs.lemmas.Bool.{false≢true, ltb-true}
+use Rattle.std.specs.Ordering.{is_lt, nat_cmp}
+use Rattle.std.proofs.lemmas.Bool.{false≢true, ltb-true, and_parts, not-false, or_parts}
 use Rattle.std.proofs.lemmas.Bool.Decides.{nat_tests}
 use Rattle.land_acts.proofs.MergedParcels.{merger_limits}
 use Rattle.land_acts.proofs.Numbers.{tied_number}
-use Rattle.land_acts.proofs.Refusals.{first_none}
+use Rattle.land_acts.proofs.Refusals.{none_hold}
 use Rattle.land_acts.proofs.SameGround.{same_area, same_match}
 use Rattle.land_acts.specs.Mutations.Areas.{doubled_areas, outlines_at}
 use Rattle.land_acts.specs.Mutations.Asking.{content_refusals}
 use Rattle.land_acts.specs.Mutations.Grounds.{are_same_ground}
 use Rattle.land_acts.specs.Mutations.Merging.{has_unlike, is_named, is_parcel_named, lacks_parcel, lacks_unit, merger_change, would_have_more_parcels}
 use Rattle.land_acts.specs.Mutations.Planning.{first_that_holds, lacks_numbers}
-use Rattle.land_acts.specs.declared.mutations.refusal.Refusal.{Refusal}
 use Rattle.land_acts.specs.declared.mutations.refusal.Refusal.TheVariants.{NoSuchUnit, NoSuchParcel, UnitsUnlike, TooMany, ClockOut, NotMatched}
-use Rattle.land_core.proofs.Booleans.{T_true, both_of, not_false, or_false}
+use Rattle.land_core.proofs.Booleans.{T_true}
+use Rattle.land_core.proofs.Orders.{less_apart}
 use Rattle.land_core.proofs.SoundRegisters.{are_used, refers, used_bounds, used_from}
 use Rattle.land_core.specs.Changes.{NamesKeysOnce}
 use Rattle.land_core.specs.Contents.{is_well_formed_content}
@@ -52,18 +50,14 @@ pub unrefused_merger : (r : Register) (it : Merger) (stamp : Option ℤ) → fir
 unrefused_merger r it stamp none =
     let same = are_same_ground (outlines_at r it.parcels) (it.outline ∷ []) in
     let crowded = lacks_numbers r 1 || would_have_more_parcels r it in
-    let last : List (Refusal × Bool) = (NotMatched, not same) ∷ [] in
-    let fourth : List (Refusal × Bool) = (ClockOut, is_none stamp) ∷ last in
-    let third : List (Refusal × Bool) = (TooMany, crowded) ∷ fourth in
-    let second : List (Refusal × Bool) = (UnitsUnlike, has_unlike r it) ∷ third in
-    let unit = first_none NoSuchUnit (lacks_unit r it) ((NoSuchParcel, lacks_parcel r it) ∷ second) none in
-    let parcel = first_none NoSuchParcel (lacks_parcel r it) second unit.rest in
-    let unlike = first_none UnitsUnlike (has_unlike r it) third parcel.rest in
-    let number = first_none TooMany crowded fourth unlike.rest in
-    let many = or_false (lacks_numbers r 1) (would_have_more_parcels r it) number.first in
-    let clock = first_none ClockOut (is_none stamp) last number.rest in
-    let ground = first_none NotMatched (not same) [] clock.rest in
-    record { units = unit.first; parcels = parcel.first; alike = unlike.first; room = many.0; few = many.1; ground = not_false _ ground.first }
+    let fails = none_hold ((NoSuchUnit, lacks_unit r it) ∷ (NoSuchParcel, lacks_parcel r it) ∷ (UnitsUnlike, has_unlike r it) ∷ (TooMany, crowded) ∷ (ClockOut, is_none stamp) ∷ (NotMatched, not same) ∷ []) none in
+    let unit = fails.0 in
+    let parcel = fails.1.0 in
+    let unlike = fails.1.1.0 in
+    let number = fails.1.1.1.0 in
+    let ground = fails.1.1.1.1.1.0 in
+    let many = or_parts (lacks_numbers r 1) (would_have_more_parcels r it) number in
+    record { units = unit; parcels = parcel; alike = unlike; room = many.0; few = many.1; ground = not-false _ ground }
 
 -- the new parcel is the ground of those that it takes the place of, and has together their area
 pub merged_ground : (r : Register) (it : Merger) (stamp : Option ℤ) → first_that_holds (content_refusals r (content.Merger it) stamp) ≡ None → Match (outlines_at r it.parcels) (it.outline ∷ [])
@@ -83,7 +77,7 @@ merged_area r it stamp none =
 none_rising : (k last : ℕ) → k ≤ last → (ns : List ℕ) → rise_above last ns ≡ true → list_any (nat_eq k) ns ≡ false
 none_rising k last le [] h = refl
 none_rising k last le (n ∷ ns) h =
-    let parts = both_of (nat_lt last n) (rise_above n ns) h in
+    let parts = and_parts (nat_lt last n) (rise_above n ns) h in
     let less : last < n = ltb-true last n parts.0 in
     let apart : nat_eq k n ≡ false = grind (arith, nat_tests) in
     ap (λ b. b || list_any (nat_eq k) ns) apart ∙ none_rising k n (omega (arith, le, less)) ns parts.1
@@ -91,33 +85,28 @@ none_rising k last le (n ∷ ns) h =
 rising_once : (last : ℕ) (ns : List ℕ) → rise_above last ns ≡ true → are_distinct nat_eq ns ≡ true
 rising_once last [] h = refl
 rising_once last (n ∷ ns) h =
-    let parts = both_of (nat_lt last n) (rise_above n ns) h in
+    let parts = and_parts (nat_lt last n) (rise_above n ns) h in
     ap (λ b. not b && are_distinct nat_eq ns) (none_rising n n (omega arith) ns parts.1) ∙ rising_once n ns parts.1
 
 pub numbers_once : (ns : List ℕ) → are_rising ns ≡ true → are_distinct nat_eq ns ≡ true
-numbers_once ns h = rising_once 0 ns (both_of (rise_above 0 ns) (list_all is_number ns) h).0
+numbers_once ns h = rising_once 0 ns (and_parts (rise_above 0 ns) (list_all is_number ns) h).0
 
 -- the numbers of some entries of a map stand once each
 module _ {V : Type 0} (p : ℕ × V → Bool) where
   none_below : (k : ℕ) (es : List (ℕ × V)) → below_all nat_cmp k es ≡ true → list_any (nat_eq k) (map_list (λ e. e.0) (filter p es)) ≡ false
   none_below k [] h = refl
   none_below k (e ∷ es) h =
-      let parts = both_of (is_lt (nat_cmp k e.0)) (below_all nat_cmp k es) h in
+      let parts = and_parts (is_lt (nat_cmp k e.0)) (below_all nat_cmp k es) h in
       let rest = none_below k es parts.1 in
       elim (p e) as (λ b. list_any (nat_eq k) (map_list (λ e. e.0) (cond b (e ∷ filter p es) (filter p es))) ≡ false) [
-        | true ↦ ap (λ b. b || list_any (nat_eq k) (map_list (λ e. e.0) (filter p es))) (sym (tied_number k e.0) ∙ before_is_other (nat_cmp k e.0) parts.0) ∙ rest
+        | true ↦ ap (λ b. b || list_any (nat_eq k) (map_list (λ e. e.0) (filter p es))) (sym (tied_number k e.0) ∙ less_apart (nat_cmp k e.0) parts.0) ∙ rest
         | false ↦ rest
       ]
-    where
-      before_is_other : (o : Ordering) → is_lt o ≡ true → is_eq o ≡ false
-      before_is_other Less h = refl
-      before_is_other Equal h = absurd (false≢true h)
-      before_is_other Greater h = refl
 
   entries_once : (es : List (ℕ × V)) → is_sorted nat_cmp es ≡ true → are_distinct nat_eq (map_list (λ e. e.0) (filter p es)) ≡ true
   entries_once [] h = refl
   entries_once (e ∷ es) h =
-      let parts = both_of (below_all nat_cmp e.0 es) (is_sorted nat_cmp es) h in
+      let parts = and_parts (below_all nat_cmp e.0 es) (is_sorted nat_cmp es) h in
       let rest = entries_once es parts.1 in
       elim (p e) as (λ b. are_distinct nat_eq (map_list (λ e. e.0) (cond b (e ∷ filter p es) (filter p es))) ≡ true) [
         | true ↦ ap (λ b. not b && are_distinct nat_eq (map_list (λ e. e.0) (filter p es))) (none_below e.0 es parts.0) ∙ rest
@@ -139,8 +128,8 @@ module _ (r : Register) (source : ℕ) (it : Merger) (sound : IsSound r) where
   new_number : (ns : List ℕ) → list_any (λ n. not (is_parcel_named r it n)) ns ≡ false → list_any (nat_eq r.next) ns ≡ false
   new_number [] h = refl
   new_number (n ∷ ns) h =
-      let parts = or_false (not (is_parcel_named r it n)) (list_any (λ n. not (is_parcel_named r it n)) ns) h in
-      ap (λ b. b || list_any (nat_eq r.next) ns) (parcel_below n (not_false _ parts.0)) ∙ new_number ns parts.1
+      let parts = or_parts (not (is_parcel_named r it n)) (list_any (λ n. not (is_parcel_named r it n)) ns) h in
+      ap (λ b. b || list_any (nat_eq r.next) ns) (parcel_below n (not-false _ parts.0)) ∙ new_number ns parts.1
 
   pub merger_names_once : is_well_formed_content (content.Merger it) ≡ true → lacks_parcel r it ≡ false → NamesKeysOnce (merger_change r source it)
   merger_names_once formed parcels =

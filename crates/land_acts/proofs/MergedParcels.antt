@@ -7,17 +7,17 @@ use Rattle.std.specs.Cmp.{nat_cmp_total}
 use Rattle.std.specs.FinMap as map
 use Rattle.std.specs.FinMap.{FinMap, nat_cmp-IsAntisymmetric}
 use Rattle.std.specs.Ordering.{nat_cmp}
-use Rattle.std.proofs.lemmas.Bool.{false≢true}
+use Rattle.std.proofs.lemmas.Bool.{false≢true, and_parts, eqb-true, not-false, not-true, or_parts}
 use Rattle.std.proofs.lemmas.Bool.Decides.{nat_tests}
 use Rattle.std.proofs.lemmas.List.Elements.{filter-append}
+use Rattle.std.proofs.lemmas.Cmp.{nat_eq_equiv}
 use Rattle.land_acts.proofs.EnteredEntries.{here, there}
 use Rattle.land_acts.proofs.MergedEntries.{fewer_pass_both, filter-filter, get-without, kept_from, kept_to, none_counted, without_as_only}
 use Rattle.land_acts.proofs.NewObjects.{below_next, entries-last}
-use Rattle.land_acts.proofs.Numbers.{one_of, same_number, turned_number}
+use Rattle.land_acts.proofs.Numbers.{turned_number}
 use Rattle.land_acts.specs.Mutations.Merging.{has_unlike, is_named, is_parcel_named, is_unlike, keeps_parcel, lacks_parcel, lacks_unit, merger_change, would_have_more_parcels}
 use Rattle.land_acts.specs.Mutations.Planning.{lacks_numbers}
 use Rattle.land_acts.specs.Mutations.Subdividing.{parcels_beside}
-use Rattle.land_core.proofs.Booleans.{both_of, not_false, not_true, or_false}
 use Rattle.land_core.proofs.Reflection.{entries-only, none_at, some_at, some_passes}
 use Rattle.land_core.proofs.SoundRegisters.{are_used, refers, unused_from, used_bounds, used_from}
 use Rattle.land_core.specs.Changes.{after}
@@ -54,14 +54,14 @@ pub record IsMerger (it : Merger) : Type 0 where
 
 pub merger_limits : (it : Merger) → is_well_formed_content (content.Merger it) ≡ true → IsMerger it
 merger_limits it formed =
-    let label = both_of (is_number it.unit && are_others it.unit it.others && are_merged it.parcels) (is_label it.label) formed in
-    let merged = both_of (is_number it.unit && are_others it.unit it.others) (are_merged it.parcels) label.0 in
-    let unit = both_of (is_number it.unit) (are_others it.unit it.others) merged.0 in
-    let others = both_of (nat_le (length it.others) 15 && are_rising it.others) (not (lists_number it.others it.unit)) unit.1 in
+    let label = and_parts (is_number it.unit && are_others it.unit it.others && are_merged it.parcels) (is_label it.label) formed in
+    let merged = and_parts (is_number it.unit && are_others it.unit it.others) (are_merged it.parcels) label.0 in
+    let unit = and_parts (is_number it.unit) (are_others it.unit it.others) merged.0 in
+    let others = and_parts (nat_le (length it.others) 15 && are_rising it.others) (not (lists_number it.others it.unit)) unit.1 in
     record {
-      others = (both_of (nat_le (length it.others) 15) (are_rising it.others) others.0).1;
-      apart = not_true _ others.1;
-      parcels = (both_of (nat_le 2 (length it.parcels) && nat_le (length it.parcels) 16) (are_rising it.parcels) merged.1).1;
+      others = (and_parts (nat_le (length it.others) 15) (are_rising it.others) others.0).1;
+      apart = not-true _ others.1;
+      parcels = (and_parts (nat_le 2 (length it.parcels) && nat_le (length it.parcels) 16) (are_rising it.parcels) merged.1).1;
     }
 
 -- ---- listed numbers
@@ -70,9 +70,9 @@ merger_limits it formed =
 pub listed_fails : (test : ℕ → Bool) (ns : List ℕ) (n : ℕ) → list_any test ns ≡ false → lists_number ns n ≡ true → test n ≡ false
 listed_fails test [] n none listed = absurd (false≢true listed)
 listed_fails test (k ∷ ks) n none listed =
-    let parts = or_false (test k) (list_any test ks) none in
+    let parts = or_parts (test k) (list_any test ks) none in
     elim (nat_eq k n) as (λ b. nat_eq k n ≡ b → (b || lists_number ks n) ≡ true → test n ≡ false) [
-      | true ↦ λ same h. subst (λ (m : ℕ). test m ≡ false) (one_of k n same) parts.0
+      | true ↦ λ same h. subst (λ (m : ℕ). test m ≡ false) (eqb-true k n same) parts.0
       | false ↦ λ other h. listed_fails test ks n parts.1 h
     ] refl listed
 
@@ -90,7 +90,7 @@ module _ (r : Register) (sound : IsSound r) (source : ℕ) (it : Merger) (h : Me
 
   -- the unit stays, since it is not among the others
   pub unit_itself : has merged.units it.unit ≡ true
-  unit_itself = unit_stays it.unit (merger_limits it h.formed).apart (not_false _ (or_false (not (has r.units it.unit)) (list_any (λ n. not (has r.units n)) it.others) h.units).0)
+  unit_itself = unit_stays it.unit (merger_limits it h.formed).apart (not-false _ (or_parts (not (has r.units it.unit)) (list_any (λ n. not (has r.units n)) it.others) h.units).0)
 
   pub record Stays (n : ℕ) (u : UnitRecord) : Type 0 where
     pub before : map.get r.units n ≡ Some u
@@ -99,7 +99,7 @@ module _ (r : Register) (sound : IsSound r) (source : ℕ) (it : Merger) (h : Me
   pub unit_stood : (n : ℕ) (u : UnitRecord) → map.get merged.units n ≡ Some u → Stays n u
   unit_stood n u is =
       let it_was = kept_from (λ n u. not (lists_number it.others n)) r.units n u (ap (λ m. map.get m n) (sym (without_as_only r.units it.others)) ∙ is) in
-      record { before = it_was.before; apart = not_true _ it_was.passes }
+      record { before = it_was.before; apart = not-true _ it_was.passes }
 
   -- ---- parcels
 
@@ -107,16 +107,16 @@ module _ (r : Register) (sound : IsSound r) (source : ℕ) (it : Merger) (h : Me
   pub ends_with_unit : (n : ℕ) (p : ParcelRecord) → map.get r.parcels n ≡ Some p → lists_number it.others p.unit ≡ true → lists_number it.parcels n ≡ true
   ends_with_unit n p is other =
       let unlike = listed_fails (is_unlike r it) it.others p.unit h.alike other in
-      let keeps = (or_false (keeps_parcel r it p.unit) _ (or_false _ _ unlike).0).0 in
+      let keeps = (or_parts (keeps_parcel r it p.unit) _ (or_parts _ _ unlike).0).0 in
       let none = none_counted (λ (e : ℕ × ParcelRecord). nat_eq e.1.unit p.unit && not (lists_number it.parcels e.0)) (map.entries r.parcels) keeps in
       let here = none_at nat_cmp_total nat_cmp-IsAntisymmetric (λ k q. nat_eq q.unit p.unit && not (lists_number it.parcels k)) r.parcels n p none is in
-      not_false _ (sym (ap (λ b. b && not (lists_number it.parcels n)) (same_number p.unit)) ∙ here)
+      not-false _ (sym (ap (λ b. b && not (lists_number it.parcels n)) (nat_eq_equiv.refl p.unit)) ∙ here)
 
   -- a parcel that ends is of a unit that is named
   pub ends_in_named : (n : ℕ) (p : ParcelRecord) → map.get r.parcels n ≡ Some p → lists_number it.parcels n ≡ true → is_named it p.unit ≡ true
   ends_in_named n p is listed =
       sym (ap (λ o. option_map_or (λ p. is_named it p.unit) o false) is)
-      ∙ not_false _ (listed_fails (λ n. not (is_parcel_named r it n)) it.parcels n h.parcels listed)
+      ∙ not-false _ (listed_fails (λ n. not (is_parcel_named r it n)) it.parcels n h.parcels listed)
 
   -- a parcel that is left stood before, and is of a unit that is left
   pub record Remains (n : ℕ) (p : ParcelRecord) : Type 0 where
@@ -127,7 +127,7 @@ module _ (r : Register) (sound : IsSound r) (source : ℕ) (it : Merger) (h : Me
   pub parcel_stood : (n : ℕ) (p : ParcelRecord) → map.get (without r.parcels it.parcels) n ≡ Some p → Remains n p
   parcel_stood n p is =
       let it_was = kept_from (λ n p. not (lists_number it.parcels n)) r.parcels n p (ap (λ m. map.get m n) (sym (without_as_only r.parcels it.parcels)) ∙ is) in
-      record { before = it_was.before; unlisted = not_true _ it_was.passes; apart = not_other (lists_number it.others p.unit) refl it_was.before (not_true _ it_was.passes) }
+      record { before = it_was.before; unlisted = not-true _ it_was.passes; apart = not_other (lists_number it.others p.unit) refl it_was.before (not-true _ it_was.passes) }
     where
       not_other : (b : Bool) → lists_number it.others p.unit ≡ b → map.get r.parcels n ≡ Some p → lists_number it.parcels n ≡ false → b ≡ false
       not_other true other there unlisted = absurd (false≢true (sym unlisted ∙ ends_with_unit n p there other))
@@ -144,7 +144,7 @@ module _ (r : Register) (sound : IsSound r) (source : ℕ) (it : Merger) (h : Me
         | true ↦ λ same. some_at nat_cmp_total nat_cmp-IsAntisymmetric (λ k p. nat_eq p.unit n) merged.parcels r.next parcel (here (without r.parcels it.parcels) r.next parcel) same
         | false ↦ λ other.
             let one = some_passes nat_cmp_total nat_cmp-IsAntisymmetric (λ k p. nat_eq p.unit n) r.parcels had in
-            let left = kept_to (λ k p. not (lists_number it.parcels k)) r.parcels one.key one.value one.there (ap not (unlisted one.key one.value one.there (one_of one.value.unit n one.passes) other)) in
+            let left = kept_to (λ k p. not (lists_number it.parcels k)) r.parcels one.key one.value one.there (ap not (unlisted one.key one.value one.there (eqb-true one.value.unit n one.passes) other)) in
             let less = (used_bounds r one.key (used_from r r.parcels (are_used r (refers r (sound Reference)).numbers).parcels one.key one.value one.there)).1 in
             some_at nat_cmp_total nat_cmp-IsAntisymmetric (λ k p. nat_eq p.unit n) merged.parcels one.key one.value
             (there (without r.parcels it.parcels) r.next parcel one.key one.value less (ap (λ m. map.get m one.key) (without_as_only r.parcels it.parcels) ∙ left)) one.passes
@@ -180,7 +180,7 @@ module _ (r : Register) (sound : IsSound r) (source : ℕ) (it : Merger) (h : Me
   parcels_fit n before =
       ap (nat_lt 256) (parcels_counted n)
       ∙ elim (nat_eq it.unit n) as (λ b. nat_eq it.unit n ≡ b → nat_lt 256 (parcels_beside r n it.parcels + length {A = ℕ × ParcelRecord} (cond b ((r.next, parcel) ∷ []) [])) ≡ false) [
-        | true ↦ λ same. subst (λ (u : ℕ). nat_lt 256 (parcels_beside r u it.parcels + 1) ≡ false) (one_of it.unit n same) h.few
+        | true ↦ λ same. subst (λ (u : ℕ). nat_lt 256 (parcels_beside r u it.parcels + 1) ≡ false) (eqb-true it.unit n same) h.few
         | false ↦ λ other.
             fewer (parcels_beside r n it.parcels) (parcel_count r n) (fewer_pass_both (λ (e : ℕ × ParcelRecord). nat_eq e.1.unit n) (λ e. not (lists_number it.parcels e.0)) (map.entries r.parcels)) before
       ] refl

@@ -5,9 +5,8 @@ use Rattle.std.specs.List.{AllByRecursion, filter_map, list_any}
 use Rattle.std.specs.Cmp.{nat_cmp_total}
 use Rattle.std.specs.FinMap as map
 use Rattle.std.specs.FinMap.{nat_cmp-IsAntisymmetric}
-use Rattle.std.proofs.lemmas.Bool.{false≢true}
+use Rattle.std.proofs.lemmas.Bool.{false≢true, and_parts}
 use Rattle.land_acts.proofs.EndedEntries.{filter_map-kept, filter_within}
-use Rattle.land_core.proofs.Booleans.{both_of}
 use Rattle.land_core.proofs.Reflection.{entries-only, list_any-filter}
 use Rattle.land_core.specs.Entries.{only}
 use Rattle.land_core.specs.Units.{are_whole_or_none, has_owner, has_whole_shares, is_right_in, is_right_of, rrr_count, share_in, share_of, type_shares}
@@ -48,7 +47,7 @@ module _ (r new : Register) (kept : ℕ → RrrRecord → Bool) (left : new.rrrs
     where
       all_kept : (es : List (ℕ × RrrRecord)) → AllByRecursion (λ e. is_right_in unit Ownership e.1 ≡ true → kept e.0 e.1 ≡ true) es
       all_kept [] = tt
-      all_kept (e ∷ es) = (λ owns. keeps e.0 e.1 (both_of (nat_eq e.1.unit unit) (is_right_of Ownership e.1.class) owns).0, all_kept es)
+      all_kept (e ∷ es) = (λ owns. keeps e.0 e.1 (and_parts (nat_eq e.1.unit unit) (is_right_of Ownership e.1.class) owns).0, all_kept es)
 
   pub count_left : rrr_count new unit ≡ rrr_count r unit
   count_left =

@@ -5,15 +5,14 @@ use Rattle.std.specs.Cmp.{nat_cmp_total}
 use Rattle.std.specs.FinMap as map
 use Rattle.std.specs.FinMap.{nat_cmp-IsAntisymmetric}
 use Rattle.std.proofs.lemmas.Bool.Decides.{nat_tests}
+use Rattle.std.proofs.lemmas.Bool.{and_parts, eqb-true, not-false, not-true, or_parts}
 use Rattle.land_acts.proofs.EnteredEntries.{each_record}
 use Rattle.land_acts.proofs.Growth.{anchored, anchored_back, mutations_stay, placed, placed_back, ranks_grow, unused_grows, used_grows}
 use Rattle.land_acts.proofs.MergedEntries.{kept_from, without_where}
 use Rattle.land_acts.proofs.MergedParcels.{Merges, parcel_stays, parcel_stood, parcels_fit, unit_itself, unit_stays, unit_stood, unused_left}
 use Rattle.land_acts.proofs.MergedRights.{count_left, owner_left, whole_left}
-use Rattle.land_acts.proofs.Numbers.{one_of}
 use Rattle.land_acts.specs.Mutations.Merging.{has_unlike, lacks_parcel, lacks_unit, merger_change, would_have_more_parcels}
 use Rattle.land_acts.specs.Mutations.Planning.{lacks_numbers}
-use Rattle.land_core.proofs.Booleans.{both_of, not_false, not_true, or_false}
 use Rattle.land_core.proofs.Reflection.{none_at, none_passes}
 use Rattle.land_core.proofs.SoundRegisters.{are_used, are_used_back, next_above_zero, refers, refers_back, unused_from, used_from}
 use Rattle.land_core.specs.Changes.{after}
@@ -46,7 +45,7 @@ module _ (r : Register) (sound : IsSound r) (source : ℕ) (it : Merger) (h : Me
   entries_left = without_where r.rrrs (λ e. lists_number it.others e.unit)
 
   keeps : (unit : ℕ) → lists_number it.others unit ≡ false → (n : ℕ) (e : RrrRecord) → nat_eq e.unit unit ≡ true → kept n e ≡ true
-  keeps unit apart n e here = ap (λ u. not (lists_number it.others u)) (one_of e.unit unit here) ∙ ap not apart
+  keeps unit apart n e here = ap (λ u. not (lists_number it.others u)) (eqb-true e.unit unit here) ∙ ap not apart
 
   record Remains (n : ℕ) (e : RrrRecord) : Type 0 where
     before : map.get r.rrrs n ≡ Some e
@@ -55,7 +54,7 @@ module _ (r : Register) (sound : IsSound r) (source : ℕ) (it : Merger) (h : Me
   entry_stood : (n : ℕ) (e : RrrRecord) → map.get new.rrrs n ≡ Some e → Remains n e
   entry_stood n e is =
       let it_was = kept_from kept r.rrrs n e (sym (ap (λ m. map.get m n) entries_left) ∙ is) in
-      record { before = it_was.before; apart = not_true _ it_was.passes }
+      record { before = it_was.before; apart = not-true _ it_was.passes }
 
   -- ---- soundness
 
@@ -108,14 +107,14 @@ module _ (r : Register) (sound : IsSound r) (source : ℕ) (it : Merger) (h : Me
       none_passes nat_cmp_total nat_cmp-IsAntisymmetric (λ n u. not (has_parcel new n && has_owner new n)) new.units
       (λ n u is.
       let stood = unit_stood r sound source it h n u is in
-      let had = both_of (has_parcel r n) (has_owner r n) (not_false _ (none_at nat_cmp_total nat_cmp-IsAntisymmetric (λ n u. not (has_parcel r n && has_owner r n)) r.units n u (sound Bare) stood.before)) in
+      let had = and_parts (has_parcel r n) (has_owner r n) (not-false _ (none_at nat_cmp_total nat_cmp-IsAntisymmetric (λ n u. not (has_parcel r n && has_owner r n)) r.units n u (sound Bare) stood.before)) in
       ap (λ b. not (b && has_owner new n)) (parcel_stays r sound source it h n stood.apart had.0)
       ∙ ap not (owner_left r new kept entries_left n (keeps n stood.apart) ∙ had.1))
   sound_after Crowded =
       none_passes nat_cmp_total nat_cmp-IsAntisymmetric (λ n u. nat_lt 256 (parcel_count new n) || nat_lt 256 (rrr_count new n)) new.units
       (λ n u is.
       let stood = unit_stood r sound source it h n u is in
-      let had = or_false (nat_lt 256 (parcel_count r n)) (nat_lt 256 (rrr_count r n))
+      let had = or_parts (nat_lt 256 (parcel_count r n)) (nat_lt 256 (rrr_count r n))
       (none_at nat_cmp_total nat_cmp-IsAntisymmetric (λ n u. nat_lt 256 (parcel_count r n) || nat_lt 256 (rrr_count r n)) r.units n u (sound Crowded) stood.before) in
       ap (λ b. b || nat_lt 256 (rrr_count new n)) (parcels_fit r sound source it h n had.0)
       ∙ ap (nat_lt 256) (count_left r new kept entries_left n (keeps n stood.apart)) ∙ had.1)

@@ -3,8 +3,9 @@ use Rattle.std.proofs.Common.{◌≡◌, ◌+◌, ℕ, Bool, true, false, cond, 
 use Rattle.std.specs.Prelude.{ℤ, Option, is_none, nat_eq, nat_lt, map as map_list}
 use Rattle.std.specs.List.{list_any}
 use Rattle.std.specs.Cmp.{eq_by_cmp_equiv, nat_cmp_total}
-use Rattle.land_acts.proofs.Numbers.{same_number, tied_number}
-use Rattle.land_acts.proofs.SlicedWords.{or_right}
+use Rattle.std.proofs.lemmas.Bool.{or_right}
+use Rattle.std.proofs.lemmas.Cmp.{nat_eq_equiv}
+use Rattle.land_acts.proofs.Numbers.{tied_number}
 use Rattle.land_acts.proofs.SubdivisionSlices.{AgreeOnUnits, beside_agrees, checked_agrees, entries_agree, entries_passing_agree, later_lines, outlines_agree, parcel_agrees, stands_agrees}
 use Rattle.land_acts.specs.Mutations.Areas.{outlines_at}
 use Rattle.land_acts.specs.Mutations.Grounds.{are_same_ground}
@@ -27,7 +28,7 @@ use Rattle.land_core.specs.declared.rrr.RrrRecord.{RrrRecord}
 any_listed : (p q : ℕ → Bool) (ns : List ℕ) → ((n : ℕ) → lists_number ns n ≡ true → p n ≡ q n) → list_any p ns ≡ list_any q ns
 any_listed p q [] same = refl
 any_listed p q (n ∷ ns) same =
-    ap (λ b. b || list_any p ns) (same n (ap (λ b. b || lists_number ns n) (same_number n)))
+    ap (λ b. b || list_any p ns) (same n (ap (λ b. b || lists_number ns n) (nat_eq_equiv.refl n)))
     ∙ ap (λ b. q n || b) (any_listed p q ns (λ k listed. same k (or_right (nat_eq n k) (lists_number ns k) listed)))
 
 -- the units that are named are those that stand in the content
@@ -39,7 +40,7 @@ named_in_content it n names = ap (λ b. b || lists_number it.others n) turned �
 
 module _ (s r : Register) (it : Merger) (named : ℕ → Bool) (agree : AgreeOnUnits s r named) (names : (n : ℕ) → is_named it n ≡ true → named n ≡ true) where
   unit_named : named it.unit ≡ true
-  unit_named = names it.unit (ap (λ b. b || lists_number it.others it.unit) (same_number it.unit))
+  unit_named = names it.unit (ap (λ b. b || lists_number it.others it.unit) (nat_eq_equiv.refl it.unit))
 
   other_named : (n : ℕ) → lists_number it.others n ≡ true → named n ≡ true
   other_named n listed = names n (or_right (nat_eq n it.unit) (lists_number it.others n) listed)

@@ -6,10 +6,9 @@ use Rattle.std.specs.List.{list_any, filter_map, cons_option}
 use Rattle.std.specs.Cmp.{nat_cmp_total}
 use Rattle.std.specs.FinMap as map
 use Rattle.std.specs.FinMap.{nat_cmp-IsAntisymmetric}
-use Rattle.std.proofs.lemmas.Bool.{ltb-true}
+use Rattle.std.proofs.lemmas.Bool.{ltb-true, not-false, or_parts}
 use Rattle.std.proofs.lemmas.Bool.Decides.{nat_tests}
 use Rattle.land_acts.specs.Mutations.Mortgaging.{greatest, next_rank, rank_in, ranks_in}
-use Rattle.land_core.proofs.Booleans.{not_false, or_false}
 use Rattle.land_core.proofs.Reflection.{entries-only, none_at, none_passes}
 use Rattle.land_core.proofs.SoundRegisters.{next_above_zero}
 use Rattle.land_core.specs.Entries.{only, some}
@@ -39,7 +38,7 @@ some_reaches h bound above (x ∷ xs) = ap (λ b. reaches bound (h x) || b) (som
 none_kept : {X : Type 0} (t p : X → Bool) (xs : List X) → list_any t xs ≡ false → list_any t (filter p xs) ≡ false
 none_kept t p [] none = refl
 none_kept {X} t p (x ∷ xs) none =
-    let parts = or_false (t x) (list_any t xs) none in
+    let parts = or_parts (t x) (list_any t xs) none in
     let rest = none_kept t p xs parts.1 in
     elim (p x) as (λ b. list_any t (cond b (x ∷ filter p xs) (filter p xs)) ≡ false) [ true ↦ ap (λ b. b || list_any t (filter p xs)) parts.0 ∙ rest | false ↦ rest ]
 
@@ -54,7 +53,7 @@ module _ (r : Register) (sound : IsSound r) (unit : ℕ) where
 
       of_rank : (o : Option ℕ) → is_loose_rank r o ≡ false → reaches r.next o ≡ false
       of_rank None h = refl
-      of_rank (Some k) h = below k r.next (not_false _ h)
+      of_rank (Some k) h = below k r.next (not-false _ h)
 
   none_reaches : list_any (λ e. reaches r.next (rank_in unit e.1)) (map.entries r.rrrs) ≡ false
   none_reaches =
@@ -63,7 +62,7 @@ module _ (r : Register) (sound : IsSound r) (unit : ℕ) where
 
   fits : (es : List (ℕ × RrrRecord)) → list_any (λ e. reaches r.next (rank_in unit e.1)) es ≡ false → greatest (filter_map (λ e. rank_in unit e.1) es) + 1 ≤ r.next
   fits es none =
-      let less = ltb-true (greatest (filter_map (λ e. rank_in unit e.1) es)) r.next (not_false _ (sym (some_reaches (λ e. rank_in unit e.1) r.next (next_above_zero r sound) es) ∙ none)) in
+      let less = ltb-true (greatest (filter_map (λ e. rank_in unit e.1) es)) r.next (not-false _ (sym (some_reaches (λ e. rank_in unit e.1) r.next (next_above_zero r sound) es) ∙ none)) in
       omega (arith, less)
 
   pub next_rank_fits : next_rank r unit ≤ r.next

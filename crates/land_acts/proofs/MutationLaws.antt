@@ -1,5 +1,5 @@
 -- What becomes of mutations: they stand for good, and are decided once. And of the shares that transfers move.
-use Rattle.std.proofs.Common.{◌≡◌, ℕ, ◌+◌, ◌<◌, Bool, true, false, ◌&&◌, not, cond, List, [], ◌∷◌, Option, Some, None, refl, sym, ap, ◌∙◌, subst, arith}
+use Rattle.std.proofs.Common.{◌≡◌, ℕ, ◌+◌, ◌<◌, Bool, true, false, not, cond, List, [], ◌∷◌, Option, Some, None, refl, sym, ap, ◌∙◌, subst, arith}
 use Rattle.std.specs.Prelude.{ℤ, nat_eq, nat_lt}
 use Rattle.std.specs.List.{AllByRecursion, find}
 use Rattle.std.specs.Option.{option_map_or}
@@ -8,16 +8,17 @@ use Rattle.std.specs.Str.{bytes_eq}
 use Rattle.std.specs.Cmp.{nat_cmp_total}
 use Rattle.std.specs.FinMap as map
 use Rattle.std.specs.FinMap.{nat_cmp-IsAntisymmetric}
-use Rattle.std.proofs.lemmas.Bool.{eqb-true, false≢true}
+use Rattle.std.proofs.lemmas.Bool.{eqb-true, false≢true, and_from, and_parts, not-false}
 use Rattle.std.proofs.lemmas.Bool.Decides.{nat_tests}
 use Rattle.std.proofs.lemmas.Slice.Eq.{bytes_eq-Decides}
 use Rattle.std.specs.Cmp.Lexicographic.{pointwise}
 use Rattle.std.proofs.lemmas.Bool.Decides.{Decides-int_eq}
+use Rattle.std.proofs.lemmas.Cmp.{nat_eq_equiv}
 use Rattle.land_acts.proofs.Accepted.{planned}
 use Rattle.land_acts.proofs.EnteredEntries.{here, there}
 use Rattle.land_acts.proofs.LodgedMutations.{none_found}
-use Rattle.land_acts.proofs.Numbers.{one_number, same_number}
-use Rattle.land_acts.proofs.Refusals.{first_none}
+use Rattle.land_acts.proofs.Numbers.{one_number}
+use Rattle.land_acts.proofs.Refusals.{first_none, none_hold}
 use Rattle.land_acts.proofs.TransferLaws.{whole_law}
 use Rattle.land_acts.specs.Deciding.{decided, is_lodged, with_state}
 use Rattle.land_acts.specs.Lodging.{document_kind, in_order, is_same_lodging, lodge_repeat, lodged_record, lodged_told, lodged_under, repeat_of}
@@ -28,7 +29,6 @@ use Rattle.land_acts.specs.Mutations.Transferring.{held_at}
 use Rattle.land_acts.specs.Outcome.{change_of, done_of, refusals_of, refused_else, repeated_else, stamped}
 use Rattle.land_acts.specs.declared.mutations.refusal.Refusal.TheVariants.{ClockOut, NotLodged}
 use Rattle.land_acts.specs.declared.mutations.transfer.Held.{Held}
-use Rattle.land_core.proofs.Booleans.{both_of, not_false}
 use Rattle.land_core.proofs.FiniteMaps.{none_is_not_some}
 use Rattle.land_core.proofs.LookUps.{by_look_ups}
 use Rattle.land_core.proofs.Reflection.{each_there, some_at}
@@ -147,10 +147,10 @@ module _ (r : Register) (sound : IsSound r) where
       (x.state, there r.mutations (r.next + 1) (lodged_record caller it r.next stamp) n x (omega (arith, less)) is, λ shut. refl)
   becomes caller (act.Approve it) stamp none n x is =
       by_decision it.mutation Approved (λ m. content_change r m.source m.content) (λ m. content_touches m.source m.content) (map.get r.mutations it.mutation) refl
-      (not_false _ (first_none NotLodged (not (is_lodged r it.mutation)) (option_map_or (λ m. content_refusals r m.content (Some stamp)) (map.get r.mutations it.mutation) []) none).first) n x is
+      (not-false _ (first_none NotLodged (not (is_lodged r it.mutation)) (option_map_or (λ m. content_refusals r m.content (Some stamp)) (map.get r.mutations it.mutation) []) none).first) n x is
   becomes caller (act.Refuse it) stamp none n x is =
       by_decision it.mutation Refused (λ m. no_change r.next) (λ m. record { mutations = refl; put = refl; ended = refl }) (map.get r.mutations it.mutation) refl
-      (not_false _ (first_none NotLodged (not (is_lodged r it.mutation)) ((ClockOut, false) ∷ []) none).first) n x is
+      (not-false _ (none_hold ((NotLodged, not (is_lodged r it.mutation)) ∷ (ClockOut, false) ∷ []) none).0) n x is
 
   source_stays : (caller : Caller) (a : Act) (stamp : ℤ) (n : ℕ) (s : SourceRecord) → map.get r.sources n ≡ Some s → map.get (after (change_of r caller a stamp) r).sources n ≡ Some s
   source_stays caller (act.Enrol it) stamp n s is = is
@@ -196,40 +196,37 @@ lodgings_stay r caller it source number lodged stamp change sound h standing =
 
 -- ---- repeats
 
-all_same : (a b : Bool) → a ≡ true → b ≡ true → (a && b) ≡ true
-all_same a b x y = ap (λ t. t && b) x ∙ y
-
 -- what is compared item by item is the same as itself
 list_itself : {A : Type 0} (same : A → A → Bool) → ((x : A) → same x x ≡ true) → (xs : List A) → pointwise same xs xs ≡ true
 list_itself same each [] = refl
-list_itself same each (x ∷ xs) = all_same _ _ (each x) (list_itself same each xs)
+list_itself same each (x ∷ xs) = and_from _ _ (each x) (list_itself same each xs)
 
 text_itself : (text : List ℕ) → bytes_eq text text ≡ true
 text_itself text = (bytes_eq-Decides text text).1 refl
 
 ring_itself : (ring : List Place) → is_same_ring ring ring ≡ true
-ring_itself ring = list_itself is_same_place (λ p. all_same _ _ ((Decides-int_eq p.x p.x).1 refl) ((Decides-int_eq p.y p.y).1 refl)) ring
+ring_itself ring = list_itself is_same_place (λ p. and_from _ _ ((Decides-int_eq p.x p.x).1 refl) ((Decides-int_eq p.y p.y).1 refl)) ring
 
 name_itself : (name : Option (List ℕ)) → is_same_name name name ≡ true
 name_itself None = refl
 name_itself (Some name) = text_itself name
 
 part_itself : (part : Part) → is_same_part part part ≡ true
-part_itself part = all_same _ _ (all_same _ _ (text_itself part.label) (ring_itself part.outline)) (name_itself part.unit)
+part_itself part = and_from _ _ (and_from _ _ (text_itself part.label) (ring_itself part.outline)) (name_itself part.unit)
 
 numbers_itself : (numbers : List ℕ) → are_same_numbers numbers numbers ≡ true
-numbers_itself numbers = list_itself nat_eq same_number numbers
+numbers_itself numbers = list_itself nat_eq nat_eq_equiv.refl numbers
 
 content_itself : (c : Content) → is_same_content c c ≡ true
 content_itself (content.Transfer it) =
-    all_same _ _ (all_same _ _ (all_same _ _ (same_number it.unit) (same_number it.right)) (same_number it.receiver)) (all_same _ _ (same_number it.share.numerator) (same_number it.share.denominator))
+    and_from _ _ (and_from _ _ (and_from _ _ (nat_eq_equiv.refl it.unit) (nat_eq_equiv.refl it.right)) (nat_eq_equiv.refl it.receiver)) (and_from _ _ (nat_eq_equiv.refl it.share.numerator) (nat_eq_equiv.refl it.share.denominator))
 content_itself (content.Subdivision it) =
-    all_same _ _ (all_same _ _ (all_same _ _ (same_number it.unit) (same_number it.parcel)) (all_same _ _ (text_itself it.first.label) (ring_itself it.first.outline))) (list_itself is_same_part part_itself it.rest)
+    and_from _ _ (and_from _ _ (and_from _ _ (nat_eq_equiv.refl it.unit) (nat_eq_equiv.refl it.parcel)) (and_from _ _ (text_itself it.first.label) (ring_itself it.first.outline))) (list_itself is_same_part part_itself it.rest)
 content_itself (content.Merger it) =
-    all_same _ _ (all_same _ _ (all_same _ _ (all_same _ _ (same_number it.unit) (numbers_itself it.others)) (numbers_itself it.parcels)) (text_itself it.label)) (ring_itself it.outline)
+    and_from _ _ (and_from _ _ (and_from _ _ (and_from _ _ (nat_eq_equiv.refl it.unit) (numbers_itself it.others)) (numbers_itself it.parcels)) (text_itself it.label)) (ring_itself it.outline)
 content_itself (content.Mortgage it) =
-    all_same _ _ (all_same _ _ (all_same _ _ (same_number it.unit) (same_number it.creditor)) (same_number it.amount)) ((bytes_eq-Decides it.currency it.currency).1 refl)
-content_itself (content.Discharge it) = all_same _ _ (same_number it.unit) (same_number it.mortgage)
+    and_from _ _ (and_from _ _ (and_from _ _ (nat_eq_equiv.refl it.unit) (nat_eq_equiv.refl it.creditor)) (nat_eq_equiv.refl it.amount)) ((bytes_eq-Decides it.currency it.currency).1 refl)
+content_itself (content.Discharge it) = and_from _ _ (nat_eq_equiv.refl it.unit) (nat_eq_equiv.refl it.mortgage)
 
 found_passes : {X : Type 0} (p : X → Bool) (xs : List X) (x : X) → find p xs ≡ Some x → p x ≡ true
 found_passes p [] x e = absurd (none_is_not_some e)
@@ -258,13 +255,13 @@ module _ (later : Register) (sound : IsSound later) (caller : Caller) (it : Lodg
   p e = is_lodged_as caller.party it.reference e.1
 
   passes : is_lodged_as caller.party it.reference m ≡ true
-  passes = all_same _ _ (same_number caller.party) ((bytes_eq-Decides it.reference it.reference).1 refl)
+  passes = and_from _ _ (nat_eq_equiv.refl caller.party) ((bytes_eq-Decides it.reference it.reference).1 refl)
 
   -- there is no other mutation of the lodger under the reference
   the_one : (e : ℕ × MutationRecord) → find p (map.entries later.mutations) ≡ Some e → e ≡ (number, m)
   the_one e found =
       let looks = (by_look_ups whole_law later).0 sound in
-      let parts = both_of (nat_eq e.1.lodger caller.party) (bytes_eq e.1.reference it.reference) (found_passes p (map.entries later.mutations) e found) in
+      let parts = and_parts (nat_eq e.1.lodger caller.party) (bytes_eq e.1.reference it.reference) (found_passes p (map.entries later.mutations) e found) in
       let at_key = found_holds (λ e. map.get later.mutations e.0 ≡ Some e.1) p (map.entries later.mutations) (each_there nat_cmp_total nat_cmp-IsAntisymmetric later.mutations) e found in
       elim (nat_eq e.0 number) as (λ b. nat_eq e.0 number ≡ b → e ≡ (number, m)) [
         | true ↦ λ at.
@@ -281,7 +278,7 @@ module _ (later : Register) (sound : IsSound later) (caller : Caller) (it : Lodg
       pair_same a b x y = ap (λ k. (k, a.1)) x ∙ ap (λ v. (b.0, v)) y
 
       differ : nat_eq e.0 number ≡ false → e.0 ≡ number → ⊥
-      differ apart same = false≢true (sym apart ∙ ap (λ n. nat_eq n number) same ∙ same_number number)
+      differ apart same = false≢true (sym apart ∙ ap (λ n. nat_eq n number) same ∙ nat_eq_equiv.refl number)
 
   under : lodged_under later caller.party it.reference ≡ Some (number, m)
   under = by_case (find p (map.entries later.mutations)) refl
@@ -293,7 +290,7 @@ module _ (later : Register) (sound : IsSound later) (caller : Caller) (it : Lodg
       by_case (Some e) found = found ∙ ap Some (the_one e found)
 
   same : is_same_lodging later it m ≡ true
-  same = all_same _ _ (ap (λ o. option_map_or (λ s. bytes_eq s.title it.document) o false) standing.document ∙ (bytes_eq-Decides it.document it.document).1 refl) (content_itself it.content)
+  same = and_from _ _ (ap (λ o. option_map_or (λ s. bytes_eq s.title it.document) o false) standing.document ∙ (bytes_eq-Decides it.document it.document).1 refl) (content_itself it.content)
 
   repeated : lodge_repeat later caller it ≡ Some (lodged_told (number, m))
   repeated = ap (repeat_of later it) under ∙ ap (λ b. cond b (Some (lodged_told (number, m))) None) same

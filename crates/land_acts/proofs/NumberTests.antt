@@ -7,8 +7,8 @@ use Rattle.std.specs.Ordering.{nat_cmp}
 use Rattle.std.specs.Cmp.{nat_cmp_total}
 use Rattle.std.specs.FinMap as map
 use Rattle.std.specs.FinMap.{FinMap, nat_cmp-IsAntisymmetric}
-use Rattle.land_acts.proofs.Numbers.{same_number, one_of}
-use Rattle.land_core.proofs.Booleans.{both_of}
+use Rattle.std.proofs.lemmas.Bool.{and_parts, eqb-true}
+use Rattle.std.proofs.lemmas.Cmp.{nat_eq_equiv}
 use Rattle.land_core.proofs.FiniteMaps.{none_is_not_some}
 use Rattle.land_core.proofs.Reflection.{entries-only, list_any-filter, none_passes, some_at}
 use Rattle.land_core.specs.Entries.{only, some}
@@ -22,7 +22,7 @@ module _ {V : Type 0} (m : FinMap nat_cmp V) (test : V → Bool) (n : ℕ) where
       only_there fails =
           none_passes nat_cmp_total nat_cmp-IsAntisymmetric (λ k v. nat_eq k n && test v) m (λ k v is.
           elim (nat_eq k n) as (λ b. nat_eq k n ≡ b → (b && test v) ≡ false) [
-            | true ↦ λ at. fails v (ap (map.get m) (sym (one_of k n at)) ∙ is)
+            | true ↦ λ at. fails v (ap (map.get m) (sym (eqb-true k n at)) ∙ is)
             | false ↦ λ other. refl
           ] refl)
 
@@ -30,7 +30,7 @@ module _ {V : Type 0} (m : FinMap nat_cmp V) (test : V → Bool) (n : ℕ) where
       by_case None e = sym (only_there (λ v is. absurd (none_is_not_some (sym e ∙ is))))
       by_case (Some v) e =
           elim (test v) as (λ b. test v ≡ b → b ≡ some (λ k v. nat_eq k n && test v) m) [
-            | true ↦ λ passes. sym (some_at nat_cmp_total nat_cmp-IsAntisymmetric (λ k v. nat_eq k n && test v) m n v e (ap (λ b. b && test v) (same_number n) ∙ passes))
+            | true ↦ λ passes. sym (some_at nat_cmp_total nat_cmp-IsAntisymmetric (λ k v. nat_eq k n && test v) m n v e (ap (λ b. b && test v) (nat_eq_equiv.refl n) ∙ passes))
             | false ↦ λ fails. sym (only_there (λ w is. subst (λ (x : V). test x ≡ false) (same w (sym e ∙ is)) fails))
           ] refl
         where
@@ -49,6 +49,6 @@ at_kept {V} m kept test n keeps =
     all_kept : (es : List (ℕ × V)) → AllByRecursion (λ e. (nat_eq e.0 n && test e.1) ≡ true → kept e.0 e.1 ≡ true) es
     all_kept [] = tt
     all_kept (e ∷ es) = (
-      λ passes. let parts = both_of (nat_eq e.0 n) (test e.1) passes in subst (λ (k : ℕ). kept k e.1 ≡ true) (sym (one_of e.0 n parts.0)) (keeps e.1 parts.1),
+      λ passes. let parts = and_parts (nat_eq e.0 n) (test e.1) passes in subst (λ (k : ℕ). kept k e.1 ≡ true) (sym (eqb-true e.0 n parts.0)) (keeps e.1 parts.1),
       all_kept es,
     )

@@ -7,17 +7,11 @@ use Rattle.std.specs.FinMap.{nat_cmp-IsAntisymmetric}
 use Rattle.std.proofs.lemmas.Bool.Decides.{nat_tests}
 use Rattle.land_core.proofs.FiniteMaps.{is_equal}
 
-pub same_number : (n : ℕ) → nat_eq n n ≡ true
-same_number n = grind (arith, nat_tests)
-
 pub one_number : (n m : ℕ) → eq_by_cmp nat_cmp n m ≡ true → n ≡ m
 one_number n m at = nat_cmp-IsAntisymmetric n m (is_equal _ at)
 
 pub tied_number : (n m : ℕ) → eq_by_cmp nat_cmp n m ≡ nat_eq n m
 tied_number n m = unsigned_tied n m
-
-pub one_of : (n m : ℕ) → nat_eq n m ≡ true → n ≡ m
-one_of n m same = one_number n m (tied_number n m ∙ same)
 
 pub turned_number : (n m : ℕ) → nat_eq n m ≡ false → nat_eq m n ≡ false
 turned_number n m h = grind (arith, nat_tests)

@@ -1,5 +1,6 @@
 -- What it says of refusals that none of their conditions holds.
-use Rattle.std.proofs.Common.{◌≡◌, Bool, true, false, Some, None, List, ◌∷◌, refl}
+use Rattle.std.proofs.Common.{◌≡◌, Bool, true, false, Some, None, List, [], ◌∷◌, refl}
+use Rattle.std.specs.List.{AllByRecursion}
 use Rattle.land_acts.specs.Mutations.Planning.{first_that_holds}
 use Rattle.land_acts.specs.declared.mutations.refusal.Refusal.{Refusal}
 
@@ -14,3 +15,8 @@ first_none refusal true lines h = absurd (some_none h)
     some_none : Some refusal ≡ None → ⊥
     some_none e = cc
 first_none refusal false lines h = record { first = refl; rest = h }
+
+-- where nothing is refused, no line holds
+pub none_hold : (lines : List (Refusal × Bool)) → first_that_holds lines ≡ None → AllByRecursion (λ (line : Refusal × Bool). line.1 ≡ false) lines
+none_hold [] h = tt
+none_hold (line ∷ lines) h = let none = first_none line.0 line.1 lines h in (none.first, none_hold lines none.rest)

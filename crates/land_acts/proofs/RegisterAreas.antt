@@ -4,14 +4,13 @@ use Rattle.std.specs.Prelude.{ℤ, is_some, nat_eq, map as map_list}
 use Rattle.std.specs.List.{AllByRecursion}
 use Rattle.std.specs.Option.{option_map_or}
 use Rattle.std.specs.FinMap as map
-use Rattle.std.proofs.lemmas.Bool.{false≢true}
+use Rattle.std.proofs.lemmas.Bool.{false≢true, eqb-true, not-false}
 use Rattle.land_acts.proofs.Accepted.{planned}
 use Rattle.land_acts.proofs.AreaLaws.{approved}
 use Rattle.land_acts.proofs.MergedApprovals.{tight_mutation}
 use Rattle.land_acts.proofs.MergedKeys.{merger_names_once, unrefused_merger}
 use Rattle.land_acts.proofs.MergedParcels.{listed_fails}
 use Rattle.land_acts.proofs.NewObjects.{numbered_once}
-use Rattle.land_acts.proofs.Numbers.{one_of}
 use Rattle.land_acts.proofs.Refusals.{first_none}
 use Rattle.land_acts.proofs.ReplacedParcels.{IsReplacement, area_changes, area_in, ended_gone, new_stand, others_stay}
 use Rattle.land_acts.proofs.SameGround.{same_area, same_match}
@@ -33,7 +32,6 @@ use Rattle.land_acts.specs.RegisterAreas.{ApprovedRegistersKeepTheirArea, HaveTa
 use Rattle.land_acts.specs.Registering.{parcel_of}
 use Rattle.land_acts.specs.declared.mutations.refusal.Refusal.TheVariants.{NotLodged}
 use Rattle.land_acts.specs.declared.mutations.transfer.Held.{Held}
-use Rattle.land_core.proofs.Booleans.{not_false}
 use Rattle.land_core.proofs.SoundRegisters.{are_used, refers, used_bounds, used_from}
 use Rattle.land_core.specs.Changes.{after, no_change}
 use Rattle.land_core.specs.Contents.{is_well_formed_content}
@@ -127,7 +125,7 @@ module _ (r : Register) (sound : IsSound r) where
     where
       stood : (n : ℕ) (b : Bool) → nat_eq it.parcel n ≡ b → (b || false) ≡ true → has r.parcels n ≡ true
       stood n true same listed =
-          subst (λ (k : ℕ). has r.parcels k ≡ true) (one_of it.parcel n same) (stands_where (λ p. nat_eq p.unit it.unit) (map.get r.parcels it.parcel) here)
+          subst (λ (k : ℕ). has r.parcels k ≡ true) (eqb-true it.parcel n same) (stands_where (λ p. nat_eq p.unit it.unit) (map.get r.parcels it.parcel) here)
       stood n false other listed = absurd (false≢true listed)
 
   -- the parcel of a merger, and those that end
@@ -139,7 +137,7 @@ module _ (r : Register) (sound : IsSound r) where
         once = (merger_names_once r source it sound formed free.parcels).parcels;
         above = (omega arith, tt);
         below = below;
-        stood = λ n listed. stands_where (λ p. is_named it p.unit) (map.get r.parcels n) (not_false _ (listed_fails (λ n. not (is_parcel_named r it n)) it.parcels n free.parcels listed));
+        stood = λ n listed. stands_where (λ p. is_named it p.unit) (map.get r.parcels n) (not-false _ (listed_fails (λ n. not (is_parcel_named r it n)) it.parcels n free.parcels listed));
       }
 
   -- what is approved, by its content

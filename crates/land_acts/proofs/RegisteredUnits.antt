@@ -5,20 +5,21 @@ use Rattle.std.specs.List.{filter_map, cons_option, list_any}
 use Rattle.std.specs.Cmp.{nat_cmp_total}
 use Rattle.std.specs.FinMap as map
 use Rattle.std.specs.FinMap.{nat_cmp-IsAntisymmetric}
-use Rattle.std.proofs.lemmas.Bool.{false≢true}
+use Rattle.std.proofs.lemmas.Bool.{false≢true, and_parts, not-false, not-true, or_parts, or_right}
 use Rattle.std.proofs.lemmas.Bool.Decides.{nat_tests}
 use Rattle.std.proofs.lemmas.List.{length-map}
 use Rattle.std.proofs.lemmas.List.Elements.{filter-append, filter_map-append}
 use Rattle.std.proofs.lemmas.List.Folds.{list_any-append}
+use Rattle.std.proofs.lemmas.Cmp.{nat_eq_equiv}
 use Rattle.land_acts.proofs.EnteredEntries.{here, there, each_record}
 use Rattle.land_acts.proofs.Growth.{used_grows, unused_grows, ranks_grow, has_stays, mutations_stay, anchored, placed}
 use Rattle.land_acts.proofs.NewObjects.{below_later, entries-numbered, below_next}
-use Rattle.land_acts.proofs.Numbers.{same_number, turned_number}
+use Rattle.land_acts.proofs.Numbers.{turned_number}
 use Rattle.land_acts.specs.FirstRights.{lists_absent, listed_of_type, share_listed, are_types_whole, is_same_right, has_right_twice}
 use Rattle.land_acts.specs.Mutations.Numbering.{numbered}
 use Rattle.land_acts.specs.Mutations.Planning.{lacks_numbers}
 use Rattle.land_acts.specs.Registering.{new_count, parcel_of, right_of, register_change}
-use Rattle.land_core.proofs.Booleans.{both_of, or_false, not_false}
+use Rattle.land_core.proofs.Booleans.{and_false}
 use Rattle.land_core.proofs.Reflection.{none_passes, none_at}
 use Rattle.land_core.proofs.SoundRegisters.{refers, refers_back, are_used, are_used_back, used_from, unused_from, used_bounds, next_above_zero}
 use Rattle.land_core.specs.Acts.{is_new_unit, are_parcels, are_rights, is_first_count, have_labels, have_parties, have_owner}
@@ -40,10 +41,6 @@ use Rattle.land_core.specs.declared.source.SourceKind.TheVariants.{Administrativ
 use Rattle.land_core.specs.declared.source.SourceRecord.{SourceRecord}
 use Rattle.land_core.specs.declared.unit.UnitRecord.{UnitRecord}
 use Rattle.land_fraction.specs.Ratio.{Ratio}
-
-and_false : (b : Bool) → (b && false) ≡ false
-and_false true = refl
-and_false false = refl
 
 -- ---- tests of numbered objects
 
@@ -67,7 +64,7 @@ length-numbered first (x ∷ xs) = let rest = length-numbered (first + 1) xs in 
 filter_none : {X : Type 0} (p : X → Bool) (xs : List X) → list_any p xs ≡ false → filter p xs ≡ []
 filter_none p [] h = refl
 filter_none {X} p (x ∷ xs) h =
-    let parts = or_false (p x) (list_any p xs) h in
+    let parts = or_parts (p x) (list_any p xs) h in
     ap (λ b. cond b (x ∷ filter p xs) (filter p xs)) parts.0 ∙ filter_none p xs parts.1
 
 filter_shorter : {X : Type 0} (p : X → Bool) (xs : List X) → length (filter p xs) ≤ length xs
@@ -75,10 +72,6 @@ filter_shorter p [] = omega arith
 filter_shorter {X} p (x ∷ xs) =
     let rest = filter_shorter p xs in
     elim (p x) as (λ b. length (cond b (x ∷ filter p xs) (filter p xs)) ≤ length (x ∷ xs)) [ true ↦ omega (arith, rest) | false ↦ omega (arith, rest) ]
-
-or_right : (x y : Bool) → y ≡ true → (x || y) ≡ true
-or_right true y h = refl
-or_right false y h = h
 
 -- tests that agree
 list_any-same : {X : Type 0} (p q : X → Bool) → ((x : X) → p x ≡ q x) → (xs : List X) → list_any p xs ≡ list_any q xs
@@ -89,7 +82,7 @@ list_any-same p q h (x ∷ xs) = ap (λ b. b || list_any p xs) (h x) ∙ ap (λ 
 drop_left : {X : Type 0} (p q : X → Bool) (xs : List X) → list_any p xs ≡ false → list_any (λ x. p x || q x) xs ≡ list_any q xs
 drop_left p q [] h = refl
 drop_left p q (x ∷ xs) h =
-    let parts = or_false (p x) (list_any p xs) h in
+    let parts = or_parts (p x) (list_any p xs) h in
     ap (λ b. (b || q x) || list_any (λ x. p x || q x) xs) parts.0 ∙ ap (λ b. q x || b) (drop_left p q xs parts.1)
 
 module _ (r : Register) (it : NewUnit) (sound : IsSound r) where
@@ -189,7 +182,7 @@ module _ (r : Register) (it : NewUnit) (sound : IsSound r) where
   nothing_from : (n : ℕ) (type : RightType) (es : List (ℕ × RrrRecord)) → list_any (λ e. nat_eq e.1.unit n) es ≡ false → filter_map (λ e. share_in n type e.1) es ≡ []
   nothing_from n type [] none = refl
   nothing_from n type (e ∷ es) none =
-      let parts = or_false (nat_eq e.1.unit n) (list_any (λ e. nat_eq e.1.unit n) es) none in
+      let parts = or_parts (nat_eq e.1.unit n) (list_any (λ e. nat_eq e.1.unit n) es) none in
       ap (λ b. cons_option (cond b (share_of type e.1.class) None) (filter_map (λ (x : ℕ × RrrRecord). share_in n type x.1) es)) parts.0 ∙ nothing_from n type es parts.1
 
   shares_stay : (n : ℕ) (type : RightType) → nat_eq unit n ≡ false → type_shares more n type ≡ type_shares r n type
@@ -202,7 +195,7 @@ module _ (r : Register) (it : NewUnit) (sound : IsSound r) where
   listed_shares : (type : RightType) (first : ℕ) (rights : List NewRight) → filter_map (λ (e : ℕ × RrrRecord). share_in unit type e.1) (numbered first (map_list (right_of unit r.next) rights)) ≡ listed_of_type type rights
   listed_shares type first [] = refl
   listed_shares type first (x ∷ xs) =
-      ap (λ b. cons_option (cond b (share_listed type x) None) (filter_map (λ (e : ℕ × RrrRecord). share_in unit type e.1) (numbered (first + 1) (map_list (right_of unit r.next) xs)))) (same_number unit)
+      ap (λ b. cons_option (cond b (share_listed type x) None) (filter_map (λ (e : ℕ × RrrRecord). share_in unit type e.1) (numbered (first + 1) (map_list (right_of unit r.next) xs)))) (nat_eq_equiv.refl unit)
       ∙ ap (cons_option (share_listed type x)) (listed_shares type (first + 1) xs)
 
   new_shares : (type : RightType) → type_shares more unit type ≡ listed_of_type type it.rights
@@ -258,10 +251,10 @@ module _ (r : Register) (it : NewUnit) (sound : IsSound r) where
       → list_any (λ a. not (has more.units unit && has r.parties a.party && has more.sources r.next)) rights ≡ false
   rights_anchored [] known = refl
   rights_anchored (x ∷ xs) known =
-      let parts = or_false (not (has r.parties x.party)) (lists_absent r xs) known in
+      let parts = or_parts (not (has r.parties x.party)) (lists_absent r xs) known in
       let rest = list_any (λ a. not (has more.units unit && has r.parties a.party && has more.sources r.next)) xs in
       ap (λ b. not (b && has r.parties x.party && has more.sources r.next) || rest) unit_here
-      ∙ ap (λ b. not (b && has more.sources r.next) || rest) (not_false _ parts.0)
+      ∙ ap (λ b. not (b && has more.sources r.next) || rest) (not-false _ parts.0)
       ∙ ap (λ b. not b || rest) source_here
       ∙ rights_anchored xs parts.1
 
@@ -269,19 +262,19 @@ module _ (r : Register) (it : NewUnit) (sound : IsSound r) where
 
   has_first : (first : ℕ) (parcels : List NewParcel) → is_first_count (length parcels) ≡ true → list_any (λ e. nat_eq e.1.unit unit) (numbered first (map_list (parcel_of unit r.next) parcels)) ≡ true
   has_first first [] few = absurd (false≢true few)
-  has_first first (x ∷ xs) few = ap (λ b. b || list_any (λ e. nat_eq e.1.unit unit) (numbered (first + 1) (map_list (parcel_of unit r.next) xs))) (same_number unit)
+  has_first first (x ∷ xs) few = ap (λ b. b || list_any (λ e. nat_eq e.1.unit unit) (numbered (first + 1) (map_list (parcel_of unit r.next) xs))) (nat_eq_equiv.refl unit)
 
   new_has_parcel : are_parcels it.parcels ≡ true → has_parcel more unit ≡ true
   new_has_parcel formed =
       any_parcel (λ e. nat_eq e.1.unit unit) ∙ ap (λ b. b || list_any (λ e. nat_eq e.1.unit unit) new_parcels) no_old_parcel
-      ∙ has_first (r.next + 2) it.parcels (both_of (is_first_count (length it.parcels)) (have_labels it.parcels) formed).0
+      ∙ has_first (r.next + 2) it.parcels (and_parts (is_first_count (length it.parcels)) (have_labels it.parcels) formed).0
 
   new_has_owner : have_owner it.rights ≡ true → has_owner more unit ≡ true
   new_has_owner owned =
       any_rrr (λ e. is_right_in unit Ownership e.1)
       ∙ or_right (list_any (λ e. is_right_in unit Ownership e.1) (map.entries r.rrrs)) (list_any (λ e. is_right_in unit Ownership e.1) new_rights)
       (any_numbered (right_of unit r.next) (is_right_in unit Ownership) (r.next + 2 + length it.parcels) it.rights
-      ∙ ap (λ b. list_any (λ (a : NewRight). b && is_type a.right_type Ownership) it.rights) (same_number unit)
+      ∙ ap (λ b. list_any (λ (a : NewRight). b && is_type a.right_type Ownership) it.rights) (nat_eq_equiv.refl unit)
       ∙ owned)
 
   -- ---- no two rights clash
@@ -290,7 +283,7 @@ module _ (r : Register) (it : NewUnit) (sound : IsSound r) where
       → list_any (λ f. nat_lt low f.0 && do_clash (right_of unit r.next x) f.1) (numbered first (map_list (right_of unit r.next) xs)) ≡ false
   head_apart x low first [] apart = refl
   head_apart x low first (y ∷ ys) apart =
-      let parts = or_false (is_same_right x y) (list_any (is_same_right x) ys) apart in
+      let parts = or_parts (is_same_right x y) (list_any (is_same_right x) ys) apart in
       let rest = list_any (λ f. nat_lt low f.0 && do_clash (right_of unit r.next x) f.1) (numbered (first + 1) (map_list (right_of unit r.next) ys)) in
       ap (λ b. (nat_lt low first && (nat_eq unit unit && (b || false))) || rest) parts.0
       ∙ ap (λ b. (nat_lt low first && b) || rest) (and_false (nat_eq unit unit))
@@ -301,22 +294,18 @@ module _ (r : Register) (it : NewUnit) (sound : IsSound r) where
       → list_any (λ e. list_any (λ f. nat_lt e.0 f.0 && do_clash e.1 f.1) (numbered first (map_list (right_of unit r.next) xs))) (numbered first (map_list (right_of unit r.next) xs)) ≡ false
   rights_apart first [] distinct = refl
   rights_apart first (x ∷ xs) distinct =
-      let parts = both_of (not (list_any (is_same_right x) xs)) (are_distinct is_same_right xs) distinct in
+      let parts = and_parts (not (list_any (is_same_right x) xs)) (are_distinct is_same_right xs) distinct in
       let later : List (ℕ × RrrRecord) = numbered (first + 1) (map_list (right_of unit r.next) xs) in
       let itself : nat_lt first first ≡ false = grind (arith, nat_tests) in
       let all : List (ℕ × RrrRecord) = (first, right_of unit r.next x) ∷ later in
       let tail = list_any (λ e. list_any (λ f. nat_lt e.0 f.0 && do_clash e.1 f.1) all) later in
       ap (λ b. ((b && do_clash (right_of unit r.next x) (right_of unit r.next x)) || list_any (λ f. nat_lt first f.0 && do_clash (right_of unit r.next x) f.1) later) || tail) itself
-      ∙ ap (λ b. b || tail) (head_apart x first (first + 1) xs (not_true _ parts.0))
+      ∙ ap (λ b. b || tail) (head_apart x first (first + 1) xs (not-true _ parts.0))
       ∙ drop_left (λ e. nat_lt e.0 first && do_clash e.1 (right_of unit r.next x)) (λ e. list_any (λ f. nat_lt e.0 f.0 && do_clash e.1 f.1) later) later
       (none_numbered (right_of unit r.next) (λ n e. nat_lt n first && do_clash e (right_of unit r.next x)) (first + 1) (first + 1 + length xs)
       (λ n a low high. ap (λ b. b && do_clash (right_of unit r.next a) (right_of unit r.next x)) (not_below n first low)) xs (omega arith))
       ∙ rights_apart (first + 1) xs parts.1
     where
-      not_true : (b : Bool) → not b ≡ true → b ≡ false
-      not_true true h = absurd (false≢true h)
-      not_true false h = refl
-
       not_below : (n first : ℕ) → first + 1 ≤ n → nat_lt n first ≡ false
       not_below n first low = grind (arith, nat_tests)
 
@@ -378,24 +367,24 @@ module _ (r : Register) (it : NewUnit) (sound : IsSound r) where
           ∙ ap (λ it. are_whole_or_none (shares Ownership) && are_whole_or_none it && are_whole_or_none (type_shares new n Usufruct)) (same Lease)
           ∙ ap (λ it. are_whole_or_none (shares Ownership) && are_whole_or_none (shares Lease) && are_whole_or_none it) (same Usufruct)
   registered_is_sound formed known room whole once Bare =
-      let rights = both_of (is_name it.name && is_title it.document && are_parcels it.parcels) (are_rights it.rights) formed in
-      let parcels = both_of (is_name it.name && is_title it.document) (are_parcels it.parcels) rights.0 in
-      let owned = both_of (is_first_count (length it.rights) && have_parties it.rights) (have_owner it.rights) rights.1 in
+      let rights = and_parts (is_name it.name && is_title it.document && are_parcels it.parcels) (are_rights it.rights) formed in
+      let parcels = and_parts (is_name it.name && is_title it.document) (are_parcels it.parcels) rights.0 in
+      let owned = and_parts (is_first_count (length it.rights) && have_parties it.rights) (have_owner it.rights) rights.1 in
       none_passes nat_cmp_total nat_cmp-IsAntisymmetric (λ n u. not (has_parcel more n && has_owner more n)) more.units
       (each_record r.units unit record_of_unit (λ n u. not (has_parcel more n && has_owner more n) ≡ false)
       (ap (λ b. not (b && has_owner more unit)) (new_has_parcel parcels.1) ∙ ap not (new_has_owner owned.1))
       (λ n u is.
-      let had = both_of (has_parcel r n) (has_owner r n) (not_false _ (none_at nat_cmp_total nat_cmp-IsAntisymmetric (λ n u. not (has_parcel r n && has_owner r n)) r.units n u (sound Bare) is)) in
+      let had = and_parts (has_parcel r n) (has_owner r n) (not-false _ (none_at nat_cmp_total nat_cmp-IsAntisymmetric (λ n u. not (has_parcel r n && has_owner r n)) r.units n u (sound Bare) is)) in
       ap (λ b. not (b && has_owner more n)) (any_parcel (λ e. nat_eq e.1.unit n) ∙ ap (λ b. b || list_any (λ e. nat_eq e.1.unit n) new_parcels) had.0)
       ∙ ap not (any_rrr (λ e. is_right_in n Ownership e.1) ∙ ap (λ b. b || list_any (λ e. is_right_in n Ownership e.1) new_rights) had.1)))
   registered_is_sound formed known room whole once Crowded =
-      let rights = both_of (is_name it.name && is_title it.document && are_parcels it.parcels) (are_rights it.rights) formed in
-      let parcels = both_of (is_name it.name && is_title it.document) (are_parcels it.parcels) rights.0 in
-      let counted = both_of (is_first_count (length it.rights) && have_parties it.rights) (have_owner it.rights) rights.1 in
+      let rights = and_parts (is_name it.name && is_title it.document && are_parcels it.parcels) (are_rights it.rights) formed in
+      let parcels = and_parts (is_name it.name && is_title it.document) (are_parcels it.parcels) rights.0 in
+      let counted = and_parts (is_first_count (length it.rights) && have_parties it.rights) (have_owner it.rights) rights.1 in
       none_passes nat_cmp_total nat_cmp-IsAntisymmetric (λ n u. nat_lt 256 (parcel_count more n) || nat_lt 256 (rrr_count more n)) more.units
       (each_record r.units unit record_of_unit (λ n u. (nat_lt 256 (parcel_count more n) || nat_lt 256 (rrr_count more n)) ≡ false)
-      (ap (λ b. b || nat_lt 256 (rrr_count more unit)) (not_many (parcel_count more unit) (length it.parcels) few_parcels (both_of (is_first_count (length it.parcels)) (have_labels it.parcels) parcels.1).0)
-      ∙ not_many (rrr_count more unit) (length it.rights) few_rights (both_of (is_first_count (length it.rights)) (have_parties it.rights) counted.0).0)
+      (ap (λ b. b || nat_lt 256 (rrr_count more unit)) (not_many (parcel_count more unit) (length it.parcels) few_parcels (and_parts (is_first_count (length it.parcels)) (have_labels it.parcels) parcels.1).0)
+      ∙ not_many (rrr_count more unit) (length it.rights) few_rights (and_parts (is_first_count (length it.rights)) (have_parties it.rights) counted.0).0)
       (λ n u is.
       let same = count_stays n (stands_apart n u is) in
       ap (λ k. nat_lt 256 k || nat_lt 256 (rrr_count more n)) same.0 ∙ ap (λ k. nat_lt 256 (parcel_count r n) || nat_lt 256 k) same.1
@@ -416,7 +405,7 @@ module _ (r : Register) (it : NewUnit) (sound : IsSound r) where
       (none_numbered (right_of unit r.next) (λ n e. list_any (λ f. nat_lt n f.0 && do_clash e f.1) (map.entries r.rrrs)) (r.next + 2 + length it.parcels) (r.next + 2 + length it.parcels + length it.rights)
       (λ n a low high. none_passes nat_cmp_total nat_cmp-IsAntisymmetric (λ m f. nat_lt n m && do_clash (right_of unit r.next a) f) r.rrrs
       (λ m f at. other_clash n m unit f.unit _ (apart_turned f.unit (other_unit f.unit (anchored r before.rrrs m f at).unit)))) it.rights (omega arith))
-      ∙ rights_apart (r.next + 2 + length it.parcels) it.rights (not_false _ once))
+      ∙ rights_apart (r.next + 2 + length it.parcels) it.rights (not-false _ once))
     where
       other_clash : (n m a b : ℕ) (c : Bool) → nat_eq a b ≡ false → (nat_lt n m && (nat_eq a b && c)) ≡ false
       other_clash n m a b c apart = ap (λ t. nat_lt n m && (t && c)) apart ∙ and_false (nat_lt n m)

@@ -10,13 +10,13 @@ use Rattle.std.specs.Cmp.{nat_cmp_total}
 use Rattle.std.specs.FinMap as map
 use Rattle.std.specs.FinMap.{FinMap, find, nat_cmp-IsAntisymmetric, put}
 use Rattle.std.specs.FinMap.Entries.{by_order}
-use Rattle.std.proofs.lemmas.Bool.{false≢true}
+use Rattle.std.proofs.lemmas.Bool.{false≢true, and_parts, not-true, or_parts}
 use Rattle.std.proofs.lemmas.Bool.Decides.{nat_tests}
+use Rattle.std.proofs.lemmas.Cmp.{nat_eq_equiv}
 use Rattle.land_acts.proofs.EnteredEntries.{here}
 use Rattle.land_acts.proofs.MergedEntries.{get-without}
-use Rattle.land_acts.proofs.Numbers.{one_number, same_number, tied_number, turned_number}
+use Rattle.land_acts.proofs.Numbers.{one_number, tied_number, turned_number}
 use Rattle.land_acts.specs.Mutations.Areas.{doubled_areas}
-use Rattle.land_core.proofs.Booleans.{both_of, not_true, or_false}
 use Rattle.land_core.proofs.FiniteMaps.{none_is_not_some}
 use Rattle.land_core.specs.Entries.{are_distinct, has, updated, with_entries, without}
 use Rattle.land_core.specs.Mergers.{lists_number}
@@ -78,7 +78,7 @@ remove_takes : (m : Parcels) (k : ℕ) (p : ParcelRecord) → map.get m k ≡ So
 remove_takes m k p is = ap area (sym back) ∙ insert_adds (map.remove m k) k p gone
   where
     gone : map.get (map.remove m k) k ≡ None
-    gone = map.get-remove nat_cmp_total m k k ∙ ap (λ b. cond b None (map.get m k)) (tied_number k k ∙ same_number k)
+    gone = map.get-remove nat_cmp_total m k k ∙ ap (λ b. cond b None (map.get m k)) (tied_number k k ∙ nat_eq_equiv.refl k)
 
     back : map.insert (map.remove m k) k p ≡ m
     back = map.same_map nat_cmp_total nat_cmp-IsAntisymmetric (map.insert (map.remove m k) k p) m (λ q.
@@ -104,7 +104,7 @@ remove_nothing m k none = map.same_map nat_cmp_total nat_cmp-IsAntisymmetric (ma
 outlines_stay : (m : Parcels) (k : ℕ) (ns : List ℕ) → list_any (nat_eq k) ns ≡ false → outlines_in (map.remove m k) ns ≡ outlines_in m ns
 outlines_stay m k [] apart = refl
 outlines_stay m k (n ∷ ns) apart =
-    let parts = or_false (nat_eq k n) (list_any (nat_eq k) ns) apart in
+    let parts = or_parts (nat_eq k n) (list_any (nat_eq k) ns) apart in
     ap (λ (o : Option ParcelRecord). cons_option (option_map_or (λ p. Some p.outline) o None) (outlines_in (map.remove m k) ns))
     (map.get-remove nat_cmp_total m k n ∙ ap (λ b. cond b None (map.get m n)) (tied_number n k ∙ turned_number k n parts.0))
     ∙ ap (cons_option (option_map_or (λ p. Some p.outline) (map.get m n) None)) (outlines_stay m k ns parts.1)
@@ -113,10 +113,10 @@ outlines_stay m k (n ∷ ns) apart =
 pub without_takes : (m : Parcels) (ns : List ℕ) → are_distinct nat_eq ns ≡ true → area m ≡ doubled_areas (outlines_in m ns) + area (without m ns)
 without_takes m [] once = nothing_more (area m)
 without_takes m (k ∷ ns) once =
-    let parts = both_of (not (list_any (nat_eq k) ns)) (are_distinct nat_eq ns) once in
+    let parts = and_parts (not (list_any (nat_eq k) ns)) (are_distinct nat_eq ns) once in
     found
     (without_takes (map.remove m k) ns parts.1
-    ∙ ap (λ them. doubled_areas them + area (without (map.remove m k) ns)) (outlines_stay m k ns (not_true (list_any (nat_eq k) ns) parts.0)))
+    ∙ ap (λ them. doubled_areas them + area (without (map.remove m k) ns)) (outlines_stay m k ns (not-true (list_any (nat_eq k) ns) parts.0)))
     (map.get m k) refl
   where
     found : area (map.remove m k) ≡ doubled_areas (outlines_in m ns) + area (without (map.remove m k) ns) → (o : Option ParcelRecord) → map.get m k ≡ o
@@ -129,30 +129,30 @@ without_takes m (k ∷ ns) once =
 unlisted : (k : ℕ) (ns : List ℕ) → list_any (nat_eq k) ns ≡ false → lists_number ns k ≡ false
 unlisted k [] apart = refl
 unlisted k (n ∷ ns) apart =
-    let parts = or_false (nat_eq k n) (list_any (nat_eq k) ns) apart in
+    let parts = or_parts (nat_eq k n) (list_any (nat_eq k) ns) apart in
     ap (λ b. b || lists_number ns k) (turned_number k n parts.0) ∙ unlisted k ns parts.1
 
 still_free : (m : Parcels) (k : ℕ) (p : ParcelRecord) (es : List (ℕ × ParcelRecord)) → list_any (nat_eq k) (keys es) ≡ false
     → AllByRecursion (λ e. map.get m e.0 ≡ None) es → AllByRecursion (λ e. map.get (map.insert m k p) e.0 ≡ None) es
 still_free m k p [] apart free = tt
 still_free m k p (e ∷ es) apart free =
-    let parts = or_false (nat_eq k e.0) (list_any (nat_eq k) (keys es)) apart in
+    let parts = or_parts (nat_eq k e.0) (list_any (nat_eq k) (keys es)) apart in
     (map.get-insert nat_cmp_total m k p e.0 ∙ ap (λ b. cond b (Some p) (map.get m e.0)) (tied_number e.0 k ∙ turned_number k e.0 parts.0) ∙ free.0, still_free m k p es parts.1 free.1)
 
 -- those that are put where none stands add their areas
 pub entries_add : (m : Parcels) (es : List (ℕ × ParcelRecord)) → are_distinct nat_eq (keys es) ≡ true → AllByRecursion (λ e. map.get m e.0 ≡ None) es → area (with_entries m es) ≡ area_in es + area m
 entries_add m [] once free = nothing_more (area m)
 entries_add m (e ∷ es) once free =
-    let parts = both_of (not (list_any (nat_eq e.0) (keys es))) (are_distinct nat_eq (keys es)) once in
+    let parts = and_parts (not (list_any (nat_eq e.0) (keys es))) (are_distinct nat_eq (keys es)) once in
     let more = map.insert m e.0 e.1 in
     later (doubled_area e.1.outline) (area_in es) (area m) (area (with_entries more es)) (area more)
-    (entries_add more es parts.1 (still_free m e.0 e.1 es (not_true (list_any (nat_eq e.0) (keys es)) parts.0) free.1)) (insert_adds m e.0 e.1 free.0)
+    (entries_add more es parts.1 (still_free m e.0 e.1 es (not-true (list_any (nat_eq e.0) (keys es)) parts.0) free.1)) (insert_adds m e.0 e.1 free.0)
 
 -- at a number that is not put there is what there was
 pub get-others : (m : Parcels) (es : List (ℕ × ParcelRecord)) (n : ℕ) → lists_number (keys es) n ≡ false → map.get (with_entries m es) n ≡ map.get m n
 get-others m [] n apart = refl
 get-others m (e ∷ es) n apart =
-    let parts = or_false (nat_eq e.0 n) (lists_number (keys es) n) apart in
+    let parts = or_parts (nat_eq e.0 n) (lists_number (keys es) n) apart in
     get-others (map.insert m e.0 e.1) es n parts.1
     ∙ map.get-insert nat_cmp_total m e.0 e.1 n
     ∙ ap (λ b. cond b (Some e.1) (map.get m n)) (tied_number n e.0 ∙ turned_number e.0 n parts.0)
@@ -161,9 +161,9 @@ get-others m (e ∷ es) n apart =
 pub entries_stand : (m : Parcels) (es : List (ℕ × ParcelRecord)) → are_distinct nat_eq (keys es) ≡ true → AllByRecursion (λ e. map.get (with_entries m es) e.0 ≡ Some e.1) es
 entries_stand m [] once = tt
 entries_stand m (e ∷ es) once =
-    let parts = both_of (not (list_any (nat_eq e.0) (keys es))) (are_distinct nat_eq (keys es)) once in
+    let parts = and_parts (not (list_any (nat_eq e.0) (keys es))) (are_distinct nat_eq (keys es)) once in
     let more = map.insert m e.0 e.1 in
-    (get-others more es e.0 (unlisted e.0 (keys es) (not_true (list_any (nat_eq e.0) (keys es)) parts.0)) ∙ here m e.0 e.1, entries_stand more es parts.1)
+    (get-others more es e.0 (unlisted e.0 (keys es) (not-true (list_any (nat_eq e.0) (keys es)) parts.0)) ∙ here m e.0 e.1, entries_stand more es parts.1)
 
 -- ---- some parcels in the place of others
 
@@ -171,18 +171,18 @@ entries_stand m (e ∷ es) once =
 pub once_before : (ks ns : List ℕ) → are_distinct nat_eq (ks ++ ns) ≡ true → are_distinct nat_eq ks ≡ true
 once_before [] ns once = refl
 once_before (k ∷ ks) ns once =
-    let parts = both_of (not (list_any (nat_eq k) (ks ++ ns))) (are_distinct nat_eq (ks ++ ns)) once in
-    ap (λ b. not b && are_distinct nat_eq ks) (fewer ks (not_true (list_any (nat_eq k) (ks ++ ns)) parts.0)) ∙ once_before ks ns parts.1
+    let parts = and_parts (not (list_any (nat_eq k) (ks ++ ns))) (are_distinct nat_eq (ks ++ ns)) once in
+    ap (λ b. not b && are_distinct nat_eq ks) (fewer ks (not-true (list_any (nat_eq k) (ks ++ ns)) parts.0)) ∙ once_before ks ns parts.1
   where
     fewer : (js : List ℕ) → list_any (nat_eq k) (js ++ ns) ≡ false → list_any (nat_eq k) js ≡ false
     fewer [] h = refl
     fewer (j ∷ js) h =
-        let parts = or_false (nat_eq k j) (list_any (nat_eq k) (js ++ ns)) h in
+        let parts = or_parts (nat_eq k j) (list_any (nat_eq k) (js ++ ns)) h in
         ap (λ b. b || list_any (nat_eq k) js) parts.0 ∙ fewer js parts.1
 
 pub once_after : (ks ns : List ℕ) → are_distinct nat_eq (ks ++ ns) ≡ true → are_distinct nat_eq ns ≡ true
 once_after [] ns once = once
-once_after (k ∷ ks) ns once = once_after ks ns (both_of (not (list_any (nat_eq k) (ks ++ ns))) (are_distinct nat_eq (ks ++ ns)) once).1
+once_after (k ∷ ks) ns once = once_after ks ns (and_parts (not (list_any (nat_eq k) (ks ++ ns))) (are_distinct nat_eq (ks ++ ns)) once).1
 
 -- what is put and what ends: no number twice, what is put under new numbers, and what ends stands
 pub record IsReplacement (m : Parcels) (next : ℕ) (new : List (ℕ × ParcelRecord)) (ended : List ℕ) : Type 0 where

@@ -3,11 +3,10 @@ use Rattle.std.proofs.Common.{◌≡◌, ℕ, true, false, cond, ◌&&◌, not, 
 use Rattle.std.specs.Prelude.{nat_eq}
 use Rattle.std.specs.Ordering.{eq_by_cmp}
 use Rattle.std.specs.FinMap as map
-use Rattle.std.proofs.lemmas.Bool.{false≢true}
-use Rattle.land_acts.proofs.Numbers.{same_number}
+use Rattle.std.proofs.lemmas.Bool.{false≢true, and_parts, not-false}
+use Rattle.std.proofs.lemmas.Cmp.{nat_eq_equiv}
 use Rattle.land_acts.specs.Granting.{grant_change}
 use Rattle.land_acts.specs.Revoking.{has_administrator_beside, revoke_change}
-use Rattle.land_core.proofs.Booleans.{both_of, not_false}
 use Rattle.land_core.proofs.FiniteMaps.{is_equal, none_is_not_some}
 use Rattle.land_core.proofs.FiniteSets.{grants_total, exact_grants}
 use Rattle.land_core.proofs.Reflection.{Passes, some_passes, list_any-map}
@@ -58,7 +57,7 @@ granted_is_sound r it sound single Reference =
     })
 granted_is_sound r it sound single Administrator =
     let new = after (grant_change r it) r in
-    let one = administrator_from r (not_false _ (sound Administrator)) in
+    let one = administrator_from r (not-false _ (sound Administrator)) in
     ap not (administrator_at new one.key
     (map.get-insert grants_total r.roles it tt one.key
     ∙ elim (eq_by_cmp grant_cmp one.key it) as (λ b. cond b (Some tt) (map.get r.roles one.key) ≡ Some tt) [ true ↦ refl | false ↦ one.there ])
@@ -92,16 +91,16 @@ one_beside : (r : Register) (it : Grant) → IsSound r → (is_role it.role Stat
 one_beside r it sound last =
     elim (is_role it.role StateAdministrator) as (λ b. is_role it.role StateAdministrator ≡ b → (b && not (has_administrator_beside r it.party)) ≡ false → IsBeside r it) [
       | true ↦ λ role last.
-          let one = beside_from r it.party (not_false _ last) in
-          let parts = both_of _ _ one.passes in
+          let one = beside_from r it.party (not-false _ last) in
+          let parts = and_parts _ _ one.passes in
           record {
             key = one.key;
             there = one.there ∙ ap Some (unit_is one.value);
             passes = parts.0;
-            other = λ same. false≢true (ap not (sym (subst (λ (x : Grant). nat_eq one.key.party x.party ≡ true) same (same_number one.key.party))) ∙ parts.1);
+            other = λ same. false≢true (ap not (sym (subst (λ (x : Grant). nat_eq one.key.party x.party ≡ true) same (nat_eq_equiv.refl one.key.party))) ∙ parts.1);
           }
       | false ↦ λ role last.
-          let one = administrator_from r (not_false _ (sound Administrator)) in
+          let one = administrator_from r (not-false _ (sound Administrator)) in
           record {
             key = one.key;
             there = one.there ∙ ap Some (unit_is one.value);

@@ -4,9 +4,9 @@ use Rattle.std.specs.List.{AllByRecursion, list_all}
 use Rattle.std.proofs.lemmas.Int.{ints}
 use Rattle.std.proofs.lemmas.List.Folds.{list_all-append}
 use Rattle.std.proofs.lemmas.List.Sums.{sum_by-cons}
+use Rattle.std.proofs.lemmas.Bool.{and_parts}
 use Rattle.land_acts.specs.Mutations.Areas.{doubled_areas}
 use Rattle.land_acts.specs.Mutations.Grounds.{are_same_ground}
-use Rattle.land_core.proofs.Booleans.{both_of}
 use Rattle.land_shape.proofs.MatchingLaw.{matching_law}
 use Rattle.land_shape.proofs.MatchingTest.{test_law}
 use Rattle.land_shape.specs.Matching.{IsCounterclockwise, Match, do_match, runs_counterclockwise}
@@ -17,7 +17,7 @@ use Rattle.land_shape.specs.Place.{Place}
 all_left : (rings : List (List Place)) → list_all runs_counterclockwise rings ≡ true → AllByRecursion IsCounterclockwise rings
 all_left [] h = tt
 all_left (ring ∷ rings) h =
-    let parts = both_of (runs_counterclockwise ring) (list_all runs_counterclockwise rings) h in
+    let parts = and_parts (runs_counterclockwise ring) (list_all runs_counterclockwise rings) h in
     let left = parts.0 in
     (omega (arith, ints), all_left rings parts.1)
 
@@ -28,15 +28,15 @@ area_sums (ring ∷ rings) = ap (λ n. doubled_area ring + n) (area_sums rings) 
 -- the same ground has the same area
 pub same_area : (old new : List (List Place)) → are_same_ground old new ≡ true → doubled_areas old ≡ doubled_areas new
 same_area old new same =
-    let parts = both_of (list_all runs_counterclockwise (old ++ new)) (do_match old new) same in
-    let left = both_of (list_all runs_counterclockwise old) (list_all runs_counterclockwise new) (sym (list_all-append runs_counterclockwise old new) ∙ parts.0) in
+    let parts = and_parts (list_all runs_counterclockwise (old ++ new)) (do_match old new) same in
+    let left = and_parts (list_all runs_counterclockwise old) (list_all runs_counterclockwise new) (sym (list_all-append runs_counterclockwise old new) ∙ parts.0) in
     area_sums old
     ∙ matching_law old new (all_left old left.0) (all_left new left.1) ((test_law old new).0 parts.1)
     ∙ sym (area_sums new)
 
 -- the same ground matches
 pub same_match : (old new : List (List Place)) → are_same_ground old new ≡ true → Match old new
-same_match old new same = (test_law old new).0 (both_of (list_all runs_counterclockwise (old ++ new)) (do_match old new) same).1
+same_match old new same = (test_law old new).0 (and_parts (list_all runs_counterclockwise (old ++ new)) (do_match old new) same).1
 
 -- two tests of one fact are one
 one_test : {P : Type 0} (b t : Bool) → (IsTrue b ↔ P) → (IsTrue t ↔ P) → b ≡ t

@@ -6,10 +6,11 @@ use Rattle.std.proofs.lemmas.Bool.{or_left}
 use Rattle.std.specs.Cmp.{nat_cmp_total}
 use Rattle.std.specs.FinMap as map
 use Rattle.std.specs.FinMap.{nat_cmp-IsAntisymmetric}
+use Rattle.std.proofs.lemmas.Cmp.{nat_eq_equiv}
 use Rattle.land_acts.proofs.DischargeSlices.{discharge_change_agrees, discharge_refusal_agrees}
 use Rattle.land_acts.proofs.MergerSlices.{merger_change_agrees, merger_refusal_agrees, named_in_content}
 use Rattle.land_acts.proofs.MortgageSlices.{AgreeOnUnit, mortgage_change_agrees, mortgage_refusals_agree}
-use Rattle.land_acts.proofs.Numbers.{one_number, same_number, tied_number}
+use Rattle.land_acts.proofs.Numbers.{one_number, tied_number}
 use Rattle.land_acts.proofs.SlicedWords.{holds_same, stands_same, unit_same}
 use Rattle.land_acts.proofs.SubdivisionSlices.{AgreeOnUnits, subdivision_change_agrees, subdivision_made_agrees, subdivision_refusal_agrees}
 use Rattle.land_acts.proofs.TransferSlices.{transfer_agrees}
@@ -88,12 +89,12 @@ module _ (r : Register) (caller : Caller) (it : Decision) (m : MutationRecord) (
 
   content_same : (c : Content) → m.content ≡ c → (stamp : Option ℤ) → IsSameContent c stamp
   content_same (content.Transfer it) is stamp =
-      let unit : content_names_unit it.unit m.content ≡ true = ap (content_names_unit it.unit) is ∙ same_number it.unit in
-      let party : content_names_party it.receiver m.content ≡ true = ap (content_names_party it.receiver) is ∙ same_number it.receiver in
+      let unit : content_names_unit it.unit m.content ≡ true = ap (content_names_unit it.unit) is ∙ nat_eq_equiv.refl it.unit in
+      let party : content_names_party it.receiver m.content ≡ true = ap (content_names_party it.receiver) is ∙ nat_eq_equiv.refl it.receiver in
       let same = transfer_agrees s r it (agree it.unit unit) (stands_same r caller a it.receiver (party_named it.receiver party)) (checked_same it.unit unit) in
       record { refusal = ap first_that_holds (same.refusals stamp); change = same.change m.source; made = same.made }
   content_same (content.Subdivision it) is stamp =
-      let unit : content_names_unit it.unit m.content ≡ true = ap (content_names_unit it.unit) is ∙ same_number it.unit in
+      let unit : content_names_unit it.unit m.content ≡ true = ap (content_names_unit it.unit) is ∙ nat_eq_equiv.refl it.unit in
       let named : ℕ → Bool = λ n. content_names_unit n m.content in
       record {
         refusal = subdivision_refusal_agrees s r it named agree_on_units unit stamp;
@@ -109,15 +110,15 @@ module _ (r : Register) (caller : Caller) (it : Decision) (m : MutationRecord) (
         made = refl;
       }
   content_same (content.Mortgage it) is stamp =
-      let unit : content_names_unit it.unit m.content ≡ true = ap (content_names_unit it.unit) is ∙ same_number it.unit in
-      let party = party_named it.creditor (ap (content_names_party it.creditor) is ∙ same_number it.creditor) in
+      let unit : content_names_unit it.unit m.content ≡ true = ap (content_names_unit it.unit) is ∙ nat_eq_equiv.refl it.unit in
+      let party = party_named it.creditor (ap (content_names_party it.creditor) is ∙ nat_eq_equiv.refl it.creditor) in
       record {
         refusal = ap first_that_holds (mortgage_refusals_agree s r it (agree it.unit unit) (stands_same r caller a it.creditor party) (holds_same r caller a it.creditor Bank party) stamp);
         change = mortgage_change_agrees s r it (agree it.unit unit) m.source;
         made = refl;
       }
   content_same (content.Discharge it) is stamp =
-      let unit : content_names_unit it.unit m.content ≡ true = ap (content_names_unit it.unit) is ∙ same_number it.unit in
+      let unit : content_names_unit it.unit m.content ≡ true = ap (content_names_unit it.unit) is ∙ nat_eq_equiv.refl it.unit in
       record {
         refusal = discharge_refusal_agrees s r it (agree it.unit unit) stamp;
         change = discharge_change_agrees s r it (agree it.unit unit);
@@ -140,7 +141,7 @@ slice_for r caller it = slice_of r caller (act.Approve it)
 
 pub approve_same : (r : Register) (caller : Caller) (it : Decision) (stamp : Option ℤ) → outcome_of (slice_of r caller (act.Approve it)) caller (act.Approve it) stamp ≡ outcome_of r caller (act.Approve it) stamp
 approve_same r caller it stamp =
-    ap (approved_by (slice_for r caller it) it.mutation stamp) (mutation_same r caller (act.Approve it) it.mutation (λ m. same_number it.mutation))
+    ap (approved_by (slice_for r caller it) it.mutation stamp) (mutation_same r caller (act.Approve it) it.mutation (λ m. nat_eq_equiv.refl it.mutation))
     ∙ by_case (map.get r.mutations it.mutation) refl
   where
     by_case : (o : Option MutationRecord) → map.get r.mutations it.mutation ≡ o → approved_by (slice_for r caller it) it.mutation stamp o ≡ approved_by r it.mutation stamp o
@@ -162,4 +163,4 @@ refused_by r n stamp o =
 
 pub refuse_same : (r : Register) (caller : Caller) (it : Decision) (stamp : Option ℤ) → outcome_of (slice_of r caller (act.Refuse it)) caller (act.Refuse it) stamp ≡ outcome_of r caller (act.Refuse it) stamp
 refuse_same r caller it stamp =
-    ap (refused_by (slice_of r caller (act.Refuse it)) it.mutation stamp) (mutation_same r caller (act.Refuse it) it.mutation (λ m. same_number it.mutation))
+    ap (refused_by (slice_of r caller (act.Refuse it)) it.mutation stamp) (mutation_same r caller (act.Refuse it) it.mutation (λ m. nat_eq_equiv.refl it.mutation))

@@ -7,7 +7,7 @@ use Rattle.std.specs.Str.{bytes_eq}
 use Rattle.std.specs.Cmp.{nat_cmp_total}
 use Rattle.std.specs.FinMap as map
 use Rattle.std.specs.FinMap.{nat_cmp-IsAntisymmetric}
-use Rattle.land_acts.proofs.Numbers.{same_number}
+use Rattle.std.proofs.lemmas.Cmp.{nat_eq_equiv}
 use Rattle.land_acts.specs.Lodging.{has_lodged_other, is_same_lodging, lodge_repeat, lodged_under, lodged_told, repeat_of}
 use Rattle.land_acts.specs.Slices.{looks_at_source, slice_of}
 use Rattle.land_core.proofs.Reflection.{entries-only, get-only}
@@ -56,7 +56,7 @@ module _ (r : Register) (caller : Caller) (it : Lodging) where
   looked_at : (e : ℕ × MutationRecord) → lodged_under r caller.party it.reference ≡ Some e → looks_at_source r caller (act.Lodge it) e.1.source ≡ true
   looked_at e is =
       ap (list_any (λ f. nat_eq f.1.source e.1.source)) (entries-only nat_cmp_total nat_cmp-IsAntisymmetric (λ n m. is_lodged_as caller.party it.reference m) r.mutations)
-      ∙ found_among_kept (λ f. is_lodged_as caller.party it.reference f.1) (λ f. nat_eq f.1.source e.1.source) (map.entries r.mutations) e is (same_number e.1.source)
+      ∙ found_among_kept (λ f. is_lodged_as caller.party it.reference f.1) (λ f. nat_eq f.1.source e.1.source) (map.entries r.mutations) e is (nat_eq_equiv.refl e.1.source)
 
   title_same : (e : ℕ × MutationRecord) → lodged_under r caller.party it.reference ≡ Some e → is_same_lodging slice it e.1 ≡ is_same_lodging r it e.1
   title_same e is =

@@ -6,15 +6,14 @@ use Rattle.std.specs.List.{list_any, AllByRecursion}
 use Rattle.std.specs.Cmp.{nat_cmp_total}
 use Rattle.std.specs.FinMap as map
 use Rattle.std.specs.FinMap.{nat_cmp-IsAntisymmetric}
-use Rattle.std.proofs.lemmas.Bool.{false≢true}
+use Rattle.std.proofs.lemmas.Bool.{false≢true, and_parts, eqb-true, or_left, or_right}
+use Rattle.std.proofs.lemmas.Cmp.{nat_eq_equiv}
 use Rattle.land_acts.proofs.EndedEntries.{filter_within}
-use Rattle.land_acts.proofs.Numbers.{same_number, one_number, tied_number}
 use Rattle.land_acts.specs.FirstRights.{have_party, lists_absent}
 use Rattle.land_acts.specs.Lifting.{has_burden, is_burden}
 use Rattle.land_acts.specs.Revoking.{has_administrator_beside}
 use Rattle.land_acts.specs.Sharing.{lists_party, lists_stranger}
 use Rattle.land_acts.specs.Slices.{slice_of, is_mandate, looks_at_party, looks_at_rrr, names_mandate, names_party, names_rrr, names_unit}
-use Rattle.land_core.proofs.Booleans.{both_of}
 use Rattle.land_core.proofs.FiniteSets.{grants_total, exact_grants, mandates_total, exact_mandates}
 use Rattle.land_core.proofs.Reflection.{get-only, entries-only, each_there, list_any-filter, list_any-map}
 use Rattle.land_core.specs.Entries.{only, has}
@@ -35,10 +34,6 @@ use Rattle.land_core.specs.declared.role.Role.{Role}
 use Rattle.land_core.specs.declared.role.Role.TheVariants.{StateAdministrator, Citizen, Conveyancer, Notary, Bank, CertifiedSurveyor}
 use Rattle.land_core.specs.declared.roles.Grant.{Grant}
 
-pub or_right : (x y : Bool) → y ≡ true → (x || y) ≡ true
-or_right true y h = refl
-or_right false y h = h
-
 pub administrator_is : (role : Role) → is_role role StateAdministrator ≡ true → role ≡ StateAdministrator
 administrator_is StateAdministrator h = refl
 administrator_is Citizen h = absurd (false≢true h)
@@ -49,7 +44,7 @@ administrator_is CertifiedSurveyor h = absurd (false≢true h)
 
 -- a regrouping names its group and its members
 pub names_group : (r : Register) (it : Regroup) → names_party r (act.Regroup it) it.group ≡ true
-names_group r it = ap (λ b. b || lists_party it.members it.group) (same_number it.group)
+names_group r it = ap (λ b. b || lists_party it.members it.group) (nat_eq_equiv.refl it.group)
 
 pub names_members : (r : Register) (it : Regroup) (n : ℕ) → lists_party it.members n ≡ true → names_party r (act.Regroup it) n ≡ true
 names_members r it n listed = or_right (nat_eq n it.group) (lists_party it.members n) listed
@@ -73,7 +68,7 @@ module _ (r : Register) (caller : Caller) (a : Act) where
   stranger_same [] named = refl
   stranger_same (member ∷ members) named =
       ap (λ b. not b || lists_stranger (slice_of r caller a) members)
-      (single_same member.party (named member.party (ap (λ b. b || lists_party members member.party) (same_number member.party))))
+      (single_same member.party (named member.party (ap (λ b. b || lists_party members member.party) (nat_eq_equiv.refl member.party))))
       ∙ ap (λ b. not (has_single_party r member.party) || b)
       (stranger_same members (λ n listed. named n (or_right (nat_eq n member.party) (lists_party members n) listed)))
 
@@ -91,7 +86,7 @@ module _ (r : Register) (caller : Caller) (a : Act) where
       kept [] h = tt
       kept (e ∷ es) h = (
         λ passes. or_right (names_party r a e.0.party) _
-            (subst (λ (role : Role). has_grant r.roles (grant_of e.0.party role) ≡ true) (administrator_is e.0.role (both_of _ _ passes).0) (ap is_some h.0)),
+            (subst (λ (role : Role). has_grant r.roles (grant_of e.0.party role) ≡ true) (administrator_is e.0.role (and_parts _ _ passes).0) (ap is_some h.0)),
         kept es h.1,
       )
 
@@ -99,16 +94,13 @@ module _ (r : Register) (caller : Caller) (a : Act) where
 
 -- a mandate is itself
 pub same_mandate : (it : Mandate) → is_mandate it it ≡ true
-same_mandate it = ap (λ b. b && nat_eq it.agent it.agent) (same_number it.principal) ∙ same_number it.agent
+same_mandate it = ap (λ b. b && nat_eq it.agent it.agent) (nat_eq_equiv.refl it.principal) ∙ nat_eq_equiv.refl it.agent
 
 module _ (r : Register) (caller : Caller) (a : Act) where
   pub mandated_same : (m : Mandate) → names_mandate caller a m ≡ true → has_mandate (slice_of r caller a).mandates m ≡ has_mandate r.mandates m
   mandated_same m named = ap is_some (get-only mandates_total exact_mandates (λ k u. names_mandate caller a k) r.mandates m (λ u. named))
 
 -- ---- units and entries
-
-or_left : (x y : Bool) → x ≡ true → (x || y) ≡ true
-or_left x y h = ap (λ b. b || y) h
 
 module _ (r : Register) (caller : Caller) (a : Act) where
   pub stands_same : (n : ℕ) → names_party r a n ≡ true → has (slice_of r caller a).parties n ≡ has r.parties n
@@ -119,7 +111,7 @@ module _ (r : Register) (caller : Caller) (a : Act) where
   absent_same [] named = refl
   absent_same (right ∷ rights) named =
       ap (λ b. not b || lists_absent (slice_of r caller a) rights)
-      (stands_same right.party (named right.party (ap (λ b. b || have_party rights right.party) (same_number right.party))))
+      (stands_same right.party (named right.party (ap (λ b. b || have_party rights right.party) (nat_eq_equiv.refl right.party))))
       ∙ ap (λ b. not (has r.parties right.party) || b)
       (absent_same rights (λ n listed. named n (or_right (nat_eq n right.party) (have_party rights n) listed)))
 
@@ -130,10 +122,7 @@ module _ (r : Register) (caller : Caller) (a : Act) where
   count_same unit named =
       ap (λ es. length (filter (λ e. nat_eq e.1.unit unit) es)) (entries-only nat_cmp_total nat_cmp-IsAntisymmetric (λ n e. looks_at_rrr r a n e) r.rrrs)
       ∙ ap length (filter_within (λ e. nat_eq e.1.unit unit) (λ e. looks_at_rrr r a e.0 e.1)
-      (λ e same. or_left (names_unit r a e.1.unit) (names_rrr r a e.0) (subst (λ (n : ℕ). names_unit r a n ≡ true) (sym (one_unit e.1.unit unit same)) named)) (map.entries r.rrrs))
-    where
-      one_unit : (n m : ℕ) → nat_eq n m ≡ true → n ≡ m
-      one_unit n m same = one_number n m (tied_number n m ∙ same)
+      (λ e same. or_left (names_unit r a e.1.unit) (names_rrr r a e.0) (subst (λ (n : ℕ). names_unit r a n ≡ true) (sym (eqb-true e.1.unit unit same)) named)) (map.entries r.rrrs))
 
   pub burden_same : (n : ℕ) → names_rrr r a n ≡ true → has_burden (slice_of r caller a) n ≡ has_burden r n
   burden_same n named =

@@ -8,10 +8,11 @@ use Rattle.std.specs.FinMap.{nat_cmp-IsAntisymmetric}
 use Rattle.std.proofs.lemmas.List.{length-map, map-append}
 use Rattle.std.proofs.lemmas.List.Elements.{filter-append}
 use Rattle.std.proofs.lemmas.List.Folds.{list_any-append}
-use Rattle.land_acts.proofs.Numbers.{one_number, same_number, tied_number}
+use Rattle.std.proofs.lemmas.Bool.{or_parts}
+use Rattle.std.proofs.lemmas.Cmp.{nat_eq_equiv}
+use Rattle.land_acts.proofs.Numbers.{one_number, tied_number}
 use Rattle.land_acts.specs.Mutations.Numbering.{numbered}
 use Rattle.land_acts.specs.Mutations.Subdividing.{entries_of, in_unit}
-use Rattle.land_core.proofs.Booleans.{or_false}
 use Rattle.land_core.proofs.Pairs.{some_pair}
 use Rattle.land_core.proofs.Reflection.{each_there}
 use Rattle.land_core.specs.Units.{share_in, share_of, is_right_in, is_right_of, do_clash, are_of_one_type, are_of_one_rank, type_of, rank_of, type_shares, are_whole_or_none, has_owner, rrr_count, has_whole_shares}
@@ -98,7 +99,7 @@ module _ (unit : ℕ) where
   listed_copies first (e ∷ es) =
       let rest = listed_copies (first + 1) es in
       let others = filter (λ (x : ℕ × RrrRecord). nat_eq x.1.unit unit) (numbered (first + 1) (map_list (in_unit unit) es)) in
-      ap (λ b. map_list (λ (x : ℕ × RrrRecord). x.1) (cond b ((first, in_unit unit e) ∷ others) others)) (same_number unit) ∙ ap (λ it. in_unit unit e ∷ it) rest
+      ap (λ b. map_list (λ (x : ℕ × RrrRecord). x.1) (cond b ((first, in_unit unit e) ∷ others) others)) (nat_eq_equiv.refl unit) ∙ ap (λ it. in_unit unit e ∷ it) rest
 
   pub none_copied : (other first : ℕ) → nat_eq unit other ≡ false → (es : List RrrRecord) → listed_in other (numbered first (map_list (in_unit unit) es)) ≡ []
   none_copied other first apart [] = refl
@@ -116,7 +117,7 @@ listed-append unit xs ys =
 pub none_listed : (unit : ℕ) (es : List (ℕ × RrrRecord)) → list_any (λ e. nat_eq e.1.unit unit) es ≡ false → listed_in unit es ≡ []
 none_listed unit [] none = refl
 none_listed unit (e ∷ es) none =
-    let parts = or_false (nat_eq e.1.unit unit) (list_any (λ (x : ℕ × RrrRecord). nat_eq x.1.unit unit) es) none in
+    let parts = or_parts (nat_eq e.1.unit unit) (list_any (λ (x : ℕ × RrrRecord). nat_eq x.1.unit unit) es) none in
     let others = filter (λ (x : ℕ × RrrRecord). nat_eq x.1.unit unit) es in
     ap (λ b. map_list (λ (x : ℕ × RrrRecord). x.1) (cond b (e ∷ others) others)) parts.0 ∙ none_listed unit es parts.1
 
@@ -127,13 +128,13 @@ abbrev do_contents_clash : RrrRecord → RrrRecord → Bool
 do_contents_clash e f = nat_eq e.party f.party && are_of_one_type (type_of e.class) (type_of f.class) || are_of_one_rank (rank_of e.class) (rank_of f.class)
 
 clash_copied : (unit : ℕ) (e f : RrrRecord) → nat_eq e.unit f.unit ≡ true → do_clash e f ≡ false → do_clash (in_unit unit e) (in_unit unit f) ≡ false
-clash_copied unit e f same none = ap (λ b. b && do_contents_clash e f) (same_number unit) ∙ sym (ap (λ b. b && do_contents_clash e f) same) ∙ none
+clash_copied unit e f same none = ap (λ b. b && do_contents_clash e f) (nat_eq_equiv.refl unit) ∙ sym (ap (λ b. b && do_contents_clash e f) same) ∙ none
 
 in_one_unit : (a b unit : ℕ) → nat_eq a unit ≡ true → nat_eq b unit ≡ true → nat_eq a b ≡ true
 in_one_unit a b unit x y =
     let first : a ≡ unit = one_number a unit (tied_number a unit ∙ x) in
     let second : b ≡ unit = one_number b unit (tied_number b unit ∙ y) in
-    ap (λ n. nat_eq n b) first ∙ ap (nat_eq unit) second ∙ same_number unit
+    ap (λ n. nat_eq n b) first ∙ ap (nat_eq unit) second ∙ nat_eq_equiv.refl unit
 
 module _ (unit old : ℕ) where
   abbrev copies : (first : ℕ) → List (ℕ × RrrRecord) → List (ℕ × RrrRecord)
@@ -143,7 +144,7 @@ module _ (unit old : ℕ) where
       → list_any (λ (f : ℕ × RrrRecord). do_clash (in_unit unit e) f.1) (copies first es) ≡ false
   copy_apart e here first [] none = refl
   copy_apart e here first (f ∷ fs) none =
-      let parts = or_false (do_clash e f.1) (list_any (λ (x : ℕ × RrrRecord). do_clash e x.1) fs) none in
+      let parts = or_parts (do_clash e f.1) (list_any (λ (x : ℕ × RrrRecord). do_clash e x.1) fs) none in
       let others = filter (λ (x : ℕ × RrrRecord). nat_eq x.1.unit old) fs in
       elim (nat_eq f.1.unit old) as (λ b. nat_eq f.1.unit old ≡ b
       → list_any (λ (x : ℕ × RrrRecord). do_clash (in_unit unit e) x.1) (numbered first (map_list (in_unit unit) (map_list (λ (x : ℕ × RrrRecord). x.1) (cond b (f ∷ others) others)))) ≡ false) [
@@ -156,7 +157,7 @@ module _ (unit old : ℕ) where
   pub copies_apart : (first : ℕ) (es : List (ℕ × RrrRecord)) → some_pair do_clash es ≡ false → some_pair do_clash (copies first es) ≡ false
   copies_apart first [] none = refl
   copies_apart first (e ∷ es) none =
-      let parts = or_false (list_any (λ (x : ℕ × RrrRecord). do_clash e.1 x.1) es) (some_pair do_clash es) none in
+      let parts = or_parts (list_any (λ (x : ℕ × RrrRecord). do_clash e.1 x.1) es) (some_pair do_clash es) none in
       let others = filter (λ (x : ℕ × RrrRecord). nat_eq x.1.unit old) es in
       elim (nat_eq e.1.unit old) as (λ b. nat_eq e.1.unit old ≡ b
       → some_pair do_clash (numbered first (map_list (in_unit unit) (map_list (λ (x : ℕ × RrrRecord). x.1) (cond b (e ∷ others) others)))) ≡ false) [
@@ -176,7 +177,7 @@ pub no_pair-append : {V : Type 0} (test : V → V → Bool) (xs ys : List (ℕ �
     → some_pair test (xs ++ ys) ≡ false
 no_pair-append test [] ys left right across = right
 no_pair-append {V} test (x ∷ xs) ys left right across =
-    let parts = or_false (list_any (λ (y : ℕ × V). test x.1 y.1) xs) (some_pair test xs) left in
+    let parts = or_parts (list_any (λ (y : ℕ × V). test x.1 y.1) xs) (some_pair test xs) left in
     ap (λ b. b || some_pair test (xs ++ ys)) (list_any-append (λ (y : ℕ × V). test x.1 y.1) xs ys ∙ ap (λ b. b || list_any (λ (y : ℕ × V). test x.1 y.1) ys) parts.0 ∙ across.0)
     ∙ no_pair-append test xs ys parts.1 right across.1
 

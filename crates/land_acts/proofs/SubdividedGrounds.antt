@@ -1,19 +1,18 @@
 -- What holds where a subdivision is not refused: the parcels that it puts are the ground of the one that ends, and have its area.
-use Rattle.std.proofs.Common.{◌≡◌, ℕ, ◌+◌, Bool, true, false, ◌||◌, not, Some, None, Option, List, [], ◌∷◌, ◌++◌, length, refl, sym, ap, ◌∙◌, arith, subst}
+use Rattle.std.proofs.Common.{◌≡◌, ℕ, ◌+◌, true, false, ◌||◌, not, Some, None, Option, List, [], ◌∷◌, ◌++◌, length, refl, sym, ap, ◌∙◌, arith, subst}
 use Rattle.std.specs.Prelude.{ℤ, is_none, map as map_list}
 use Rattle.std.specs.List.{cons_option}
 use Rattle.std.specs.Option.{option_map_or}
 use Rattle.std.specs.FinMap as map
-use Rattle.land_acts.proofs.Refusals.{first_none}
+use Rattle.std.proofs.lemmas.Bool.{not-false, or_parts}
+use Rattle.land_acts.proofs.Refusals.{none_hold}
 use Rattle.land_acts.proofs.SameGround.{same_area, same_match}
 use Rattle.land_acts.specs.Mutations.Areas.{doubled_areas, outlines_at}
 use Rattle.land_acts.specs.Mutations.Asking.{content_refusals}
 use Rattle.land_acts.specs.Mutations.Grounds.{are_same_ground}
 use Rattle.land_acts.specs.Mutations.Planning.{first_that_holds, lacks_numbers}
 use Rattle.land_acts.specs.Mutations.Subdividing.{Origin, all_parts, has_parcel_in, numbers_for, origin_of, outlines_of, parcel_made, parcels_made, subdivision_change, subdivision_count, would_have_many_parcels}
-use Rattle.land_acts.specs.declared.mutations.refusal.Refusal.{Refusal}
 use Rattle.land_acts.specs.declared.mutations.refusal.Refusal.TheVariants.{NoSuchUnit, NoSuchParcel, TooMany, ClockOut, NotMatched}
-use Rattle.land_core.proofs.Booleans.{not_false, or_false}
 use Rattle.land_core.specs.Entries.{has}
 use Rattle.land_core.specs.declared.content.Content.TheVariants as content
 use Rattle.land_core.specs.declared.parcel.ParcelRecord.{ParcelRecord}
@@ -36,16 +35,13 @@ pub unrefused_subdivision : (r : Register) (it : Subdivision) (stamp : Option �
 unrefused_subdivision r it stamp none =
     let same = are_same_ground (outlines_at r (it.parcel ∷ [])) (outlines_of (all_parts it)) in
     let many = lacks_numbers r (subdivision_count r it) || would_have_many_parcels r it in
-    let last : List (Refusal × Bool) = (NotMatched, not same) ∷ [] in
-    let third : List (Refusal × Bool) = (ClockOut, is_none stamp) ∷ last in
-    let second : List (Refusal × Bool) = (TooMany, many) ∷ third in
-    let unit = first_none NoSuchUnit (not (has r.units it.unit)) ((NoSuchParcel, not (has_parcel_in r it.unit it.parcel)) ∷ second) none in
-    let parcel = first_none NoSuchParcel (not (has_parcel_in r it.unit it.parcel)) second unit.rest in
-    let number = first_none TooMany many third parcel.rest in
-    let room = or_false (lacks_numbers r (subdivision_count r it)) (would_have_many_parcels r it) number.first in
-    let clock = first_none ClockOut (is_none stamp) last number.rest in
-    let ground = first_none NotMatched (not same) [] clock.rest in
-    record { unit = not_false _ unit.first; parcel = not_false _ parcel.first; room = room.0; few = room.1; ground = not_false _ ground.first }
+    let fails = none_hold ((NoSuchUnit, not (has r.units it.unit)) ∷ (NoSuchParcel, not (has_parcel_in r it.unit it.parcel)) ∷ (TooMany, many) ∷ (ClockOut, is_none stamp) ∷ (NotMatched, not same) ∷ []) none in
+    let unit = fails.0 in
+    let parcel = fails.1.0 in
+    let number = fails.1.1.0 in
+    let ground = fails.1.1.1.1.0 in
+    let room = or_parts (lacks_numbers r (subdivision_count r it)) (would_have_many_parcels r it) number in
+    record { unit = not-false _ unit; parcel = not-false _ parcel; room = room.0; few = room.1; ground = not-false _ ground }
 
 -- the parcels that are put have the outlines of the parts
 pub outlines_made : (origin : Origin) (first : ℕ) (parts : List Part) → map_list (λ e. e.1.outline) (parcels_made origin first parts) ≡ outlines_of parts

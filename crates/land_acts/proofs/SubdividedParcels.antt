@@ -5,17 +5,18 @@ use Rattle.std.specs.Ordering.{nat_cmp, eq_by_cmp}
 use Rattle.std.specs.Cmp.{nat_cmp_total}
 use Rattle.std.specs.FinMap as map
 use Rattle.std.specs.FinMap.{FinMap, nat_cmp-IsAntisymmetric}
-use Rattle.std.proofs.lemmas.Bool.{false≢true}
+use Rattle.std.proofs.lemmas.Bool.{false≢true, and_parts, not-false, or_parts}
 use Rattle.std.proofs.lemmas.Bool.Decides.{nat_tests}
 use Rattle.std.proofs.lemmas.List.Elements.{filter-append}
+use Rattle.std.proofs.lemmas.Cmp.{nat_eq_equiv}
 use Rattle.land_acts.proofs.EndedEntries.{removed_before, removed_stays, entries_removed, fewer}
 use Rattle.land_acts.proofs.EnteredEntries.{here, there, each_record}
 use Rattle.land_acts.proofs.Growth.{used_grows, unused_grows, ranks_grow, mutations_stay, placed, placed_back}
 use Rattle.land_acts.proofs.NewObjects.{below_next, entries-last}
-use Rattle.land_acts.proofs.Numbers.{one_number, same_number, tied_number}
+use Rattle.land_acts.proofs.Numbers.{one_number, tied_number}
 use Rattle.land_acts.specs.Mutations.Planning.{lacks_numbers}
 use Rattle.land_acts.specs.Mutations.Subdividing.{parcels_beside}
-use Rattle.land_core.proofs.Booleans.{both_of, or_false, not_false}
+use Rattle.land_core.proofs.Booleans.{and_false, or_nothing}
 use Rattle.land_core.proofs.Reflection.{none_passes, none_at, some_passes, some_at}
 use Rattle.land_core.proofs.SoundRegisters.{refers, refers_back, are_used, are_used_back, used_from, unused_from, used_bounds, next_above_zero}
 use Rattle.land_core.specs.Entries.{has, count_where}
@@ -65,7 +66,7 @@ module _ (r : Register) (sound : IsSound r) (left : FinMap nat_cmp ParcelRecord)
 
   -- its unit has one parcel more than were left
   pub one_more : parcel_count (parcelled r left parcel) parcel.unit ≡ parcels_in left parcel.unit + 1
-  one_more = counted parcel.unit ∙ ap (λ b. parcels_in left parcel.unit + length {A = ℕ × ParcelRecord} (cond b ((r.next, parcel) ∷ []) [])) (same_number parcel.unit)
+  one_more = counted parcel.unit ∙ ap (λ b. parcels_in left parcel.unit + length {A = ℕ × ParcelRecord} (cond b ((r.next, parcel) ∷ []) [])) (nat_eq_equiv.refl parcel.unit)
 
   few : parcels_in left parcel.unit + 1 ≤ 256 → (unit : ℕ) → nat_lt 256 (parcel_count r unit) ≡ false → nat_lt 256 (parcel_count more unit) ≡ false
   few room unit before =
@@ -131,12 +132,12 @@ module _ (r : Register) (sound : IsSound r) (left : FinMap nat_cmp ParcelRecord)
   parcelled_is_sound unit source room fits Bare =
       none_passes nat_cmp_total nat_cmp-IsAntisymmetric (λ n u. not (has_parcel more n && has_owner more n)) r.units
       (λ n u is.
-      let had = both_of (has_parcel r n) (has_owner r n) (not_false _ (none_at nat_cmp_total nat_cmp-IsAntisymmetric (λ n u. not (has_parcel r n && has_owner r n)) r.units n u (sound Bare) is)) in
+      let had = and_parts (has_parcel r n) (has_owner r n) (not-false _ (none_at nat_cmp_total nat_cmp-IsAntisymmetric (λ n u. not (has_parcel r n && has_owner r n)) r.units n u (sound Bare) is)) in
       ap (λ b. not (b && has_owner more n)) (parcel_stays n had.0) ∙ ap not had.1)
   parcelled_is_sound unit source room fits Crowded =
       none_passes nat_cmp_total nat_cmp-IsAntisymmetric (λ n u. nat_lt 256 (parcel_count more n) || nat_lt 256 (rrr_count more n)) r.units
       (λ n u is.
-      let had = or_false (nat_lt 256 (parcel_count r n)) (nat_lt 256 (rrr_count r n)) (none_at nat_cmp_total nat_cmp-IsAntisymmetric (λ n u. nat_lt 256 (parcel_count r n) || nat_lt 256 (rrr_count r n)) r.units n u (sound Crowded) is) in
+      let had = or_parts (nat_lt 256 (parcel_count r n)) (nat_lt 256 (rrr_count r n)) (none_at nat_cmp_total nat_cmp-IsAntisymmetric (λ n u. nat_lt 256 (parcel_count r n) || nat_lt 256 (rrr_count r n)) r.units n u (sound Crowded) is) in
       ap (λ b. b || nat_lt 256 (rrr_count more n)) (few fits n had.0) ∙ had.1)
 
 -- ---- a parcel of the unit ends
@@ -154,10 +155,6 @@ filter-filter {X} p q both is (x ∷ xs) =
       ] at
       | false ↦ λ at. rest ∙ ends false (at ∙ and_false (p x))
     ] (is x)
-  where
-    and_false : (b : Bool) → (b && false) ≡ false
-    and_false true = refl
-    and_false false = refl
 
 module _ (r : Register) (unit ended : ℕ) where
   -- those that are left are those beside the one that ends
@@ -167,10 +164,6 @@ module _ (r : Register) (unit ended : ℕ) where
       ∙ ap length (filter-filter (λ (e : ℕ × ParcelRecord). nat_eq e.1.unit unit) (λ e. not (eq_by_cmp nat_cmp ended e.0)) (λ e. nat_eq e.1.unit unit && not (lists_number (ended ∷ []) e.0))
       (λ e. ap (λ b. nat_eq e.1.unit unit && not b) (alone e.0)) (map.entries r.parcels))
     where
-      or_nothing : (b : Bool) → (b || false) ≡ b
-      or_nothing true = refl
-      or_nothing false = refl
-
       alone : (n : ℕ) → lists_number (ended ∷ []) n ≡ eq_by_cmp nat_cmp ended n
       alone n = or_nothing (nat_eq ended n) ∙ sym (tied_number ended n)
 

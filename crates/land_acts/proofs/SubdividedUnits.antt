@@ -5,19 +5,19 @@ use Rattle.std.specs.List.{list_any, AllByRecursion}
 use Rattle.std.specs.Cmp.{nat_cmp_total}
 use Rattle.std.specs.FinMap as map
 use Rattle.std.specs.FinMap.{nat_cmp-IsAntisymmetric}
-use Rattle.std.proofs.lemmas.Bool.{false≢true}
+use Rattle.std.proofs.lemmas.Bool.{false≢true, and_parts, not-false, or_parts}
 use Rattle.std.proofs.lemmas.Bool.Decides.{nat_tests}
 use Rattle.std.proofs.lemmas.List.{length-map}
 use Rattle.std.proofs.lemmas.List.Elements.{filter-append}
 use Rattle.std.proofs.lemmas.List.Folds.{list_any-append}
+use Rattle.std.proofs.lemmas.Cmp.{nat_eq_equiv}
 use Rattle.land_acts.proofs.EnteredEntries.{here, there, each_record}
 use Rattle.land_acts.proofs.Growth.{used_grows, unused_grows, ranks_grow, has_stays, mutations_stay, anchored, placed, placed_back}
 use Rattle.land_acts.proofs.NewObjects.{below_later, below_next, entries-last, entries-numbered}
-use Rattle.land_acts.proofs.Numbers.{same_number, turned_number}
+use Rattle.land_acts.proofs.Numbers.{turned_number}
 use Rattle.land_acts.proofs.SubdividedEntries.{Stood, all_stood, are_shares_whole, copies_apart, count_among, has_right_among, listed-append, listed_copies, listed_in, no_pair-append, none_copied, none_listed, none_made, other_apart, owner_among, right_copied, whole_among, whole_copied}
 use Rattle.land_acts.specs.Mutations.Numbering.{numbered}
 use Rattle.land_acts.specs.Mutations.Subdividing.{entries_of, in_unit}
-use Rattle.land_core.proofs.Booleans.{both_of, or_false, not_false}
 use Rattle.land_core.proofs.Pairs.{some_pair, later_pairs}
 use Rattle.land_core.proofs.Reflection.{each_there, none_passes, none_at, some_passes, some_at}
 use Rattle.land_core.proofs.SoundRegisters.{refers, refers_back, are_used, are_used_back, used_from, unused_from, used_bounds, next_above_zero}
@@ -152,13 +152,13 @@ module _ (r : Register) (sound : IsSound r) (unit : ℕ) (new : UnitRecord) (par
   one_parcel : parcel_count more r.next ≡ 1
   one_parcel =
       counted r.next
-      ∙ ap (λ b. parcel_count r r.next + length {A = ℕ × ParcelRecord} (cond b ((r.next + 1, parcel) ∷ []) [])) (ap (λ k. nat_eq k r.next) copy.in_new ∙ same_number r.next)
+      ∙ ap (λ b. parcel_count r r.next + length {A = ℕ × ParcelRecord} (cond b ((r.next + 1, parcel) ∷ []) [])) (ap (λ k. nat_eq k r.next) copy.in_new ∙ nat_eq_equiv.refl r.next)
       ∙ ap (λ k. k + 1) (ap length (filter_none (map.entries r.parcels) no_old_parcel))
     where
       filter_none : (es : List (ℕ × ParcelRecord)) → list_any (λ e. nat_eq e.1.unit r.next) es ≡ false → filter (λ (e : ℕ × ParcelRecord). nat_eq e.1.unit r.next) es ≡ []
       filter_none [] none = refl
       filter_none (e ∷ es) none =
-          let parts = or_false (nat_eq e.1.unit r.next) (list_any (λ (x : ℕ × ParcelRecord). nat_eq x.1.unit r.next) es) none in
+          let parts = or_parts (nat_eq e.1.unit r.next) (list_any (λ (x : ℕ × ParcelRecord). nat_eq x.1.unit r.next) es) none in
           let others = filter (λ (x : ℕ × ParcelRecord). nat_eq x.1.unit r.next) es in
           ap (λ b. cond b (e ∷ others) others) parts.0 ∙ filter_none es parts.1
 
@@ -169,7 +169,7 @@ module _ (r : Register) (sound : IsSound r) (unit : ℕ) (new : UnitRecord) (par
       (there r.parcels (r.next + 1) parcel one.key one.value (parcel_below one.key one.value one.there) one.there) one.passes
 
   new_parcel : has_parcel more r.next ≡ true
-  new_parcel = some_at nat_cmp_total nat_cmp-IsAntisymmetric (λ k p. nat_eq p.unit r.next) more.parcels (r.next + 1) parcel (here r.parcels (r.next + 1) parcel) (ap (λ k. nat_eq k r.next) copy.in_new ∙ same_number r.next)
+  new_parcel = some_at nat_cmp_total nat_cmp-IsAntisymmetric (λ k p. nat_eq p.unit r.next) more.parcels (r.next + 1) parcel (here r.parcels (r.next + 1) parcel) (ap (λ k. nat_eq k r.next) copy.in_new ∙ nat_eq_equiv.refl r.next)
 
   -- ---- what is said of the units
 
@@ -237,11 +237,11 @@ module _ (r : Register) (sound : IsSound r) (unit : ℕ) (new : UnitRecord) (par
     where
       had : (n : ℕ) (u : UnitRecord) → map.get r.units n ≡ Some u → (has_parcel r n ≡ true) × (has_owner r n ≡ true)
       had n u is =
-          both_of (has_parcel r n) (has_owner r n) (not_false _ (none_at nat_cmp_total nat_cmp-IsAntisymmetric (λ n u. not (has_parcel r n && has_owner r n)) r.units n u (sound Bare) is))
+          and_parts (has_parcel r n) (has_owner r n) (not-false _ (none_at nat_cmp_total nat_cmp-IsAntisymmetric (λ n u. not (has_parcel r n && has_owner r n)) r.units n u (sound Bare) is))
   copied_is_sound Crowded =
       none_passes nat_cmp_total nat_cmp-IsAntisymmetric (λ n u. nat_lt 256 (parcel_count more n) || nat_lt 256 (rrr_count more n)) more.units
       (each_record r.units r.next new (λ n u. (nat_lt 256 (parcel_count more n) || nat_lt 256 (rrr_count more n)) ≡ false)
-      (ap (λ k. nat_lt 256 k || nat_lt 256 (rrr_count more r.next)) one_parcel ∙ ap (nat_lt 256) new_count ∙ (or_false _ _ (had unit copy.original copy.stands)).1)
+      (ap (λ k. nat_lt 256 k || nat_lt 256 (rrr_count more r.next)) one_parcel ∙ ap (nat_lt 256) new_count ∙ (or_parts _ _ (had unit copy.original copy.stands)).1)
       (λ n u is.
       ap (λ k. nat_lt 256 k || nat_lt 256 (rrr_count more n)) (count_stays n (stands_apart n u is))
       ∙ ap (λ k. nat_lt 256 (parcel_count r n) || nat_lt 256 k) (rrr_count_stays n (stands_apart n u is))

@@ -6,10 +6,10 @@ use Rattle.std.specs.List.{cons_option, list_any}
 use Rattle.std.specs.Cmp.{nat_cmp_total}
 use Rattle.std.specs.FinMap as map
 use Rattle.std.specs.FinMap.{nat_cmp-IsAntisymmetric}
+use Rattle.std.proofs.lemmas.Bool.{and_parts, eqb-true, not-false, or_parts}
 use Rattle.land_acts.proofs.EndedEntries.{filter_within}
 use Rattle.land_acts.proofs.KeptEntries.{get-kept, kept_at}
 use Rattle.land_acts.proofs.NumberTests.{at_kept}
-use Rattle.land_acts.proofs.Numbers.{one_of}
 use Rattle.land_acts.specs.Mutations.Areas.{outlines_at}
 use Rattle.land_acts.specs.Mutations.Grounds.{are_same_ground}
 use Rattle.land_acts.specs.Mutations.Numbering.{numbers_from}
@@ -18,7 +18,6 @@ use Rattle.land_acts.specs.Mutations.Subdividing.{all_parts, count_for, cut_chan
 use Rattle.land_acts.specs.Mutations.Transferring.{is_checked}
 use Rattle.land_acts.specs.declared.mutations.refusal.Refusal.{Refusal}
 use Rattle.land_acts.specs.declared.mutations.refusal.Refusal.TheVariants.{NoSuchUnit, NoSuchParcel, TooMany, ClockOut, NotMatched}
-use Rattle.land_core.proofs.Booleans.{both_of, not_false, or_false}
 use Rattle.land_core.proofs.Reflection.{entries-only}
 use Rattle.land_core.specs.Entries.{has, only}
 use Rattle.land_core.specs.Mergers.{lists_number}
@@ -62,7 +61,7 @@ module _ (s r : Register) (named : ℕ → Bool) (agree : AgreeOnUnits s r named
       ∙ filter_within test (λ e. agree.kept_entries e.0 e.1) (λ e passes. agree.keeps_entries e.0 e.1 (names e passes)) (map.entries r.rrrs)
 
   named_as : (unit n : ℕ) → named unit ≡ true → nat_eq n unit ≡ true → named n ≡ true
-  named_as unit n names same = ap named (one_of n unit same) ∙ names
+  named_as unit n names same = ap named (eqb-true n unit same) ∙ names
 
   pub entries_agree : (unit : ℕ) → named unit ≡ true → entries_of s unit ≡ entries_of r unit
   entries_agree unit names = ap (map_list (λ e. e.1)) (entries_passing_agree (λ e. nat_eq e.1.unit unit) (λ e here. named_as unit e.1.unit names here))
@@ -76,7 +75,7 @@ module _ (s r : Register) (named : ℕ → Bool) (agree : AgreeOnUnits s r named
       ∙ ap length (filter_within (λ e. nat_eq e.1.unit unit && not (lists_number ended e.0)) (λ e. agree.kept_parcels e.0 e.1) (λ e passes. keeps e.0 e.1 passes) (map.entries r.parcels))
     where
       keeps : (n : ℕ) (p : ParcelRecord) → (nat_eq p.unit unit && not (lists_number ended n)) ≡ true → agree.kept_parcels n p ≡ true
-      keeps n p passes = agree.keeps_parcels n p (named_as unit p.unit names (both_of (nat_eq p.unit unit) (not (lists_number ended n)) passes).0)
+      keeps n p passes = agree.keeps_parcels n p (named_as unit p.unit names (and_parts (nat_eq p.unit unit) (not (lists_number ended n)) passes).0)
 
   -- a test that only parcels of named units pass
   module _ (test : ParcelRecord → Bool) (names : (p : ParcelRecord) → test p ≡ true → named p.unit ≡ true) where
@@ -100,8 +99,8 @@ module _ (s r : Register) (named : ℕ → Bool) (agree : AgreeOnUnits s r named
     pub outlines_agree : (ns : List ℕ) → list_any (λ n. not (option_map_or test (map.get r.parcels n) false)) ns ≡ false → outlines_at s ns ≡ outlines_at r ns
     outlines_agree [] none = refl
     outlines_agree (n ∷ ns) none =
-        let parts = or_false (not (option_map_or test (map.get r.parcels n) false)) (list_any (λ n. not (option_map_or test (map.get r.parcels n) false)) ns) none in
-        ap (λ o. cons_option (option_map_or (λ p. Some p.outline) o None) (outlines_at s ns)) (parcel_same n (not_false _ parts.0))
+        let parts = or_parts (not (option_map_or test (map.get r.parcels n) false)) (list_any (λ n. not (option_map_or test (map.get r.parcels n) false)) ns) none in
+        ap (λ o. cons_option (option_map_or (λ p. Some p.outline) o None) (outlines_at s ns)) (parcel_same n (not-false _ parts.0))
         ∙ ap (cons_option (option_map_or (λ p. Some p.outline) (map.get r.parcels n) None)) (outlines_agree ns parts.1)
 
 -- ---- the refusals, the change and the new numbers of a subdivision
@@ -114,7 +113,7 @@ module _ (s r : Register) (it : Subdivision) (named : ℕ → Bool) (agree : Agr
   count_agrees = ap (λ origin. count_for origin (all_parts it)) (origin_agrees 0)
 
   in_named : (p : ParcelRecord) → nat_eq p.unit it.unit ≡ true → named p.unit ≡ true
-  in_named p here = ap named (one_of p.unit it.unit here) ∙ names
+  in_named p here = ap named (eqb-true p.unit it.unit here) ∙ names
 
   has_parcel_agrees : has_parcel_in s it.unit it.parcel ≡ has_parcel_in r it.unit it.parcel
   has_parcel_agrees = parcel_agrees s r named agree (λ p. nat_eq p.unit it.unit) in_named it.parcel
@@ -152,7 +151,7 @@ module _ (s r : Register) (it : Subdivision) (named : ℕ → Bool) (agree : Agr
       rest : not (has_parcel_in r it.unit it.parcel) ≡ false → first_that_holds of_slice ≡ first_that_holds of_register
       rest there =
           ap (λ b. first_that_holds ((TooMany, b) ∷ (ClockOut, is_none stamp) ∷ (NotMatched, is_lost s) ∷ [])) many_agrees
-          ∙ ap (λ b. first_that_holds ((TooMany, is_many r) ∷ (ClockOut, is_none stamp) ∷ (NotMatched, b) ∷ [])) (lost_agrees (not_false _ there))
+          ∙ ap (λ b. first_that_holds ((TooMany, is_many r) ∷ (ClockOut, is_none stamp) ∷ (NotMatched, b) ∷ [])) (lost_agrees (not-false _ there))
 
       parcel : first_that_holds ((NoSuchParcel, not (has_parcel_in s it.unit it.parcel)) ∷ of_slice) ≡ first_that_holds ((NoSuchParcel, not (has_parcel_in r it.unit it.parcel)) ∷ of_register)
       parcel =

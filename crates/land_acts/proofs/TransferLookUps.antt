@@ -4,14 +4,13 @@ use Rattle.std.specs.Prelude.{nat_eq}
 use Rattle.std.specs.Ordering.{nat_cmp, eq_by_cmp}
 use Rattle.std.specs.FinMap as map
 use Rattle.std.specs.FinMap.{FinMap}
-use Rattle.std.proofs.lemmas.Bool.{eqb-true}
+use Rattle.std.proofs.lemmas.Bool.{eqb-true, and_parts}
 use Rattle.land_acts.proofs.Numbers.{one_number}
 use Rattle.land_acts.proofs.TransferMoves.{IsBefore, IsMoved, each_entry, moved_count, none_other, other_whole}
 use Rattle.land_acts.proofs.TransferShares.{same_some}
 use Rattle.land_acts.proofs.TransferSums.{apart_from, length-filter, weigh_map, weight_of}
 use Rattle.land_acts.specs.Mutations.Transferring.{right_entry}
 use Rattle.land_acts.specs.declared.mutations.transfer.Held.{Held}
-use Rattle.land_core.proofs.Booleans.{both_of}
 use Rattle.land_core.proofs.FiniteMaps.{none_is_not_some}
 use Rattle.land_core.proofs.LookUps.{one_type}
 use Rattle.land_core.specs.Entries.{has}
@@ -193,7 +192,7 @@ module _ (r : Register) (rrrs : FinMap nat_cmp RrrRecord) (unit receiver source 
     whole_moved n u before here checked t some =
         elim (nat_eq unit n && is_type from.right_type t) as (λ b. (nat_eq unit n && is_type from.right_type t) ≡ b → IsWhole (type_shares new n t)) [
           | true ↦ λ same.
-              let parts = both_of (nat_eq unit n) (is_type from.right_type t) same in
+              let parts = and_parts (nat_eq unit n) (is_type from.right_type t) same in
               let in_unit : unit ≡ n = eqb-true unit n parts.0 in
               subst (λ (k : ℕ). IsWhole (type_shares new k t)) in_unit
               (subst (λ (x : RightType). IsWhole (type_shares new unit x)) (one_type from.right_type t parts.1) (here (sym in_unit) checked))

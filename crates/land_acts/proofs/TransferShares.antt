@@ -8,12 +8,11 @@ use Rattle.std.specs.Ordering.{nat_cmp}
 use Rattle.std.specs.Cmp.{nat_cmp_total}
 use Rattle.std.specs.FinMap as map
 use Rattle.std.specs.FinMap.{FinMap, nat_cmp-IsAntisymmetric}
-use Rattle.std.proofs.lemmas.Bool.{false≢true, eqb-true, eq-eqb}
+use Rattle.std.proofs.lemmas.Bool.{false≢true, eqb-true, eq-eqb, and_parts}
 use Rattle.std.proofs.lemmas.List.Elements.{All-from_recursion, recursion_from_All}
 use Rattle.land_acts.proofs.TransferSums.{at_each}
 use Rattle.land_acts.specs.Mutations.Transferring.{held_of, held_in, held_at, held_by, is_held_by}
 use Rattle.land_acts.specs.declared.mutations.transfer.Held.{Held}
-use Rattle.land_core.proofs.Booleans.{both_of}
 use Rattle.land_core.proofs.FiniteMaps.{none_is_not_some}
 use Rattle.land_core.proofs.LookUps.{one_type, type_itself}
 use Rattle.land_core.proofs.Reflection.{each_there}
@@ -173,7 +172,7 @@ pub record IsHeldBy (rrrs : FinMap nat_cmp RrrRecord) (unit party : ℕ) (type :
 pub held_by_there : (r : Register) (unit party : ℕ) (type : RightType) (held : Held) → held_by r unit party type ≡ Some held → IsHeldBy r.rrrs unit party type held
 held_by_there r unit party type held h =
     let it = first_found r.rrrs unit (is_held_by party type) held (map.entries r.rrrs) (each_there nat_cmp_total nat_cmp-IsAntisymmetric r.rrrs) h in
-    let parts = both_of (nat_eq held.party party) (is_type held.right_type type) it.passes in
+    let parts = and_parts (nat_eq held.party party) (is_type held.right_type type) it.passes in
     record {
       held_right = held_from r.rrrs unit it.number it.entry held it.there it.is_held;
       by_party = eqb-true held.party party parts.0;

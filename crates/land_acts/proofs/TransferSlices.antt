@@ -8,10 +8,10 @@ use Rattle.std.specs.FinMap as map
 use Rattle.std.specs.FinMap.{FinMap, nat_cmp-IsAntisymmetric}
 use Rattle.std.specs.Ordering.{nat_cmp}
 use Rattle.std.proofs.lemmas.Bool.{false≢true}
+use Rattle.std.proofs.lemmas.Cmp.{nat_eq_equiv}
 use Rattle.land_acts.proofs.EndedEntries.{filter_map-kept, filter_within}
 use Rattle.land_acts.proofs.KeptEntries.{get-kept, kept_at, updated-kept}
 use Rattle.land_acts.proofs.MortgageSlices.{AgreeOnUnit}
-use Rattle.land_acts.proofs.Numbers.{same_number}
 use Rattle.land_acts.specs.Mutations.Asking.{transfer_change, transfer_made}
 use Rattle.land_acts.specs.Mutations.Transferring.{are_too_fine, are_too_many, given_up, grown, grows_at, has_right_where, held_at, held_in, held_of, is_held_by, is_itself, is_too_large, kept, move_change, received, share_grown, share_left, transfer_refusals}
 use Rattle.land_acts.specs.declared.mutations.transfer.Held.{Held}
@@ -75,7 +75,7 @@ module _ (s r : Register) (it : Transfer) (agree : AgreeOnUnit s r it.unit) wher
   -- ---- what stands in the unit after the transfer
 
   kept_entry : (n : ℕ) (e : RrrRecord) → e.unit ≡ it.unit → agree.kept n e ≡ true
-  kept_entry n e here = agree.keeps n e (ap (λ u. nat_eq u it.unit) here ∙ same_number it.unit)
+  kept_entry n e here = agree.keeps n e (ap (λ u. nat_eq u it.unit) here ∙ nat_eq_equiv.refl it.unit)
 
   grown_kept : (source : ℕ) (to : Held) (share : Result Ratio FractionFault) → AllByRecursion (λ e. agree.kept e.0 e.1 ≡ true) (grown source it to share)
   grown_kept source to (Ok share) = (kept_entry to.number _ refl, tt)

@@ -2,19 +2,18 @@
 use Rattle.std.proofs.Common.{◌≡◌, ◌≢◌, ℕ, ◌+◌, ◌*◌, ◌/◌, Bool, true, false, cond, not, Option, Some, None, List, [], ◌∷◌, length, refl, sym, ap, ◌∙◌, subst, arith}
 use Rattle.std.specs.Prelude.{filter}
 use Rattle.std.specs.List.{filter_map, cons_option, AllByRecursion}
-use Rattle.std.specs.Ordering.{nat_cmp, eq_by_cmp, is_eq, is_lt}
+use Rattle.std.specs.Ordering.{nat_cmp, eq_by_cmp, is_lt}
 use Rattle.std.specs.Cmp.{nat_cmp_total}
-use Rattle.std.specs.declared.cmp.Ordering.{Ordering}
-use Rattle.std.specs.declared.cmp.Ordering.TheVariants.{Less, Equal, Greater}
 use Rattle.std.specs.FinMap as map
 use Rattle.std.specs.FinMap.{FinMap, find, is_sorted, nat_cmp-IsAntisymmetric}
 use Rattle.std.specs.FinMap.Entries.{below_all}
-use Rattle.std.proofs.lemmas.Bool.{false≢true, eq-eqb}
+use Rattle.std.proofs.lemmas.Bool.{false≢true, eq-eqb, and_parts}
 use Rattle.std.proofs.lemmas.List.Recursion.{is_sum_by}
 use Rattle.land_acts.proofs.EndedEntries.{entries_removed}
 use Rattle.land_acts.proofs.Numbers.{one_number, tied_number}
-use Rattle.land_core.proofs.Booleans.{T_true, both_of}
+use Rattle.land_core.proofs.Booleans.{T_true}
 use Rattle.land_core.proofs.FiniteMaps.{none_is_not_some}
+use Rattle.land_core.proofs.Orders.{less_apart}
 use Rattle.land_fraction.specs.Ratio.{Ratio}
 use Rattle.land_fraction.specs.Wholeness.{parts_of}
 
@@ -69,24 +68,19 @@ parts-weighed m shares = sym (is_sum_by (weigh (part_of m)) (part_of m) refl (λ
 abbrev pub weigh_map : {V : Type 0} → (V → ℕ) → FinMap nat_cmp V → ℕ
 weigh_map w m = weigh (λ e. w e.1) (map.entries m)
 
-less_apart : (o : Ordering) → is_lt o ≡ true → is_eq o ≡ false
-less_apart Less h = refl
-less_apart Equal h = absurd (false≢true h)
-less_apart Greater h = absurd (false≢true h)
-
 abbrev others : {V : Type 0} → ℕ → List (ℕ × V) → List (ℕ × V)
 others k es = filter (λ e. not (eq_by_cmp nat_cmp k e.0)) es
 
 all_others : {V : Type 0} (k : ℕ) (es : List (ℕ × V)) → below_all nat_cmp k es ≡ true → others k es ≡ es
 all_others k [] h = refl
 all_others {V} k (e ∷ es) h =
-    let parts = both_of (is_lt (nat_cmp k e.0)) (below_all nat_cmp k es) h in
+    let parts = and_parts (is_lt (nat_cmp k e.0)) (below_all nat_cmp k es) h in
     ap (λ b. cond (not b) (e ∷ others k es) (others k es)) (less_apart (nat_cmp k e.0) parts.0) ∙ ap (λ (it : List (ℕ × V)). e ∷ it) (all_others k es parts.1)
 
 split : {V : Type 0} (w : V → ℕ) (k : ℕ) (es : List (ℕ × V)) → is_sorted nat_cmp es ≡ true → weigh (λ e. w e.1) es ≡ weigh (λ e. w e.1) (others k es) + weight_of w (find nat_cmp k es)
 split w k [] s = refl
 split {V} w k (e ∷ es) s =
-    let parts = both_of (below_all nat_cmp e.0 es) (is_sorted nat_cmp es) s in
+    let parts = and_parts (below_all nat_cmp e.0 es) (is_sorted nat_cmp es) s in
     let rest = split w k es parts.1 in
     elim (eq_by_cmp nat_cmp k e.0) as (λ b. eq_by_cmp nat_cmp k e.0 ≡ b → w e.1 + weigh (λ e. w e.1) es ≡ weigh (λ e. w e.1) (cond (not b) (e ∷ others k es) (others k es)) + weight_of w (cond b (Some e.1) (find nat_cmp k es))) [
       | true ↦ λ at.

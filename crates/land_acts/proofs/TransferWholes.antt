@@ -10,7 +10,7 @@ use Rattle.std.proofs.Math.Nat.{dvd-mul_left, dvd-mul_right, div-mul_cancel, eq_
 use Rattle.std.proofs.lemmas.Bool.{false≢true, ltb-false}
 use Rattle.std.proofs.lemmas.List.Elements.{All-weaker}
 use Rattle.std.proofs.lemmas.Nat.Gcd.{dvd_trans}
-use Rattle.land_acts.proofs.Numbers.{same_number}
+use Rattle.std.proofs.lemmas.Cmp.{nat_eq_equiv}
 use Rattle.land_acts.proofs.TransferMoves.{IsBefore, IsMoved, each_entry, moved_sum, right_left, share_at}
 use Rattle.land_acts.proofs.TransferShares.{each_share, multiple_at, multiple_from}
 use Rattle.land_acts.proofs.TransferSums.{part_of, parts-weighed, weigh, weigh-filter_map, weigh_map, weight_of, without_one}
@@ -130,7 +130,7 @@ module _ (r : Register) (rrrs : FinMap nat_cmp RrrRecord) (unit receiver source 
   type = from.right_type
 
   is_here : (nat_eq unit unit && is_type type type) ≡ true
-  is_here = ap (λ b. b && is_type type type) (same_number unit) ∙ type_itself type
+  is_here = ap (λ b. b && is_type type type) (nat_eq_equiv.refl unit) ∙ type_itself type
 
   share_here : (e : RrrRecord) (s : Ratio) → e.unit ≡ unit → e.class ≡ class.Right type s → share_in unit type e ≡ Some s
   share_here e s in_unit is = share_at unit type e unit type s in_unit is ∙ ap (λ b. cond b (Some s) None) is_here

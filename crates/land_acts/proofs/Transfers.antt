@@ -6,7 +6,7 @@ use Rattle.std.specs.Ordering.{nat_cmp, is_eq}
 use Rattle.std.specs.Cmp.{nat_cmp_total, tied_itself}
 use Rattle.std.specs.FinMap as map
 use Rattle.std.specs.FinMap.{FinMap}
-use Rattle.std.proofs.lemmas.Bool.{false≢true, eq-eqb, eqb-true, ltb-false}
+use Rattle.std.proofs.lemmas.Bool.{false≢true, eq-eqb, eqb-true, ltb-false, ne_eqb, or_parts}
 use Rattle.land_acts.proofs.EnteredEntries.{here}
 use Rattle.land_acts.proofs.TransferLookUps.{moved_is_sound, pairs_moved}
 use Rattle.land_acts.proofs.TransferMoves.{IsBefore, IsMoved, moved_count, right_left}
@@ -17,7 +17,6 @@ use Rattle.land_acts.specs.Mutations.Planning.{lacks_numbers}
 use Rattle.land_acts.specs.Mutations.TransferLaws.{HasOneRight, IsRightOf}
 use Rattle.land_acts.specs.Mutations.Transferring.{are_too_fine, are_too_many, given_up, grown, grows_at, held_at, is_above, is_above_one, is_checked, is_itself, is_too_fine, is_too_large, kept, move_change, number_after, received, right_entry, share_grown, share_left}
 use Rattle.land_acts.specs.declared.mutations.transfer.Held.{Held}
-use Rattle.land_core.proofs.Booleans.{or_false}
 use Rattle.land_core.proofs.FiniteMaps.{none_is_not_some}
 use Rattle.land_core.proofs.LookUps.{by_look_ups}
 use Rattle.land_core.proofs.SoundRegisters.{are_used, refers, used_bounds, used_from}
@@ -50,10 +49,6 @@ module _ (m : FinMap nat_cmp RrrRecord) (k : ℕ) where
 
   removed_else : (n : ℕ) → n ≢ k → map.get (map.remove m k) n ≡ map.get m n
   removed_else n apart = map.get-remove nat_cmp_total m k n ∙ ap (λ b. cond b None (map.get m n)) (apart_to n k apart)
-
-true_from : (b : Bool) → not b ≡ false → b ≡ true
-true_from true h = refl
-true_from false h = absurd (false≢true (sym h))
 
 -- the number of the receiver's right
 abbrev pub number_of_right : Register → Option Held → ℕ
@@ -133,13 +128,13 @@ module _ (r : Register) (it : Transfer) (from : Held) where
 
   allowed : (to : Option Held) → is_itself it from ≡ false → too_large to ≡ false → too_fine to ≡ false → IsAllowed to
   allowed to other large fine =
-      let sizes = or_false (is_above it from) (not (is_itself it from) && option_map_or (λ held. is_above_one (share_grown it held)) to false) large in
+      let sizes = or_parts (is_above it from) (not (is_itself it from) && option_map_or (λ held. is_above_one (share_grown it held)) to false) large in
       let all = sym (ap (λ b. not b
       && (is_too_fine (share_left it from) || option_map_or (λ held. is_too_fine (share_grown it held)) to false
       || is_checked r it.unit && is_none (common_of (type_shares (register_after 0 to) it.unit from.right_type)))) other) ∙ fine in
-      let parts = or_false (is_too_fine (share_left it from) || option_map_or (λ held. is_too_fine (share_grown it held)) to false)
+      let parts = or_parts (is_too_fine (share_left it from) || option_map_or (λ held. is_too_fine (share_grown it held)) to false)
       (is_checked r it.unit && is_none (common_of (type_shares (register_after 0 to) it.unit from.right_type))) all in
-      let changed = or_false (is_too_fine (share_left it from)) (option_map_or (λ held. is_too_fine (share_grown it held)) to false) parts.0 in
+      let changed = or_parts (is_too_fine (share_left it from)) (option_map_or (λ held. is_too_fine (share_grown it held)) to false) parts.0 in
       record {
         not_above = sizes.0;
         within_one = sym (ap (λ b. not b && option_map_or (λ held. is_above_one (share_grown it held)) to false) other) ∙ sizes.1;
@@ -316,7 +311,7 @@ module _ (r : Register) (it : Transfer) (from : Held) where
 
       sound_after : (to : Option Held) → IsTransferred to → IsAllowed to → too_many to ≡ false → IsSound (register_after source to)
       sound_after None h allow many =
-          let limits = or_false (lacks_numbers r 1) (nat_lt 256 (rrr_count (register_after 0 None) it.unit)) many in
+          let limits = or_parts (lacks_numbers r 1) (nat_lt 256 (rrr_count (register_after 0 None) it.unit)) many in
           sound_with None h allow (below_end limits.0) (λ is. ltb-false 256 (rrr_count (register_after 0 None) it.unit) limits.1)
         where
           below_end : lacks_numbers r 1 ≡ false → r.next + 1 ≤ 1000000001
@@ -352,11 +347,8 @@ receiver_has_one_right law r source it from sound held large fine other =
 
 -- ---- keys
 
-different : (k j : ℕ) → k ≢ j → nat_eq k j ≡ false
-different k j apart = elim (nat_eq k j) as (λ b. nat_eq k j ≡ b → b ≡ false) [ true ↦ λ same. absurd (apart (eqb-true k j same)) | false ↦ λ other. refl ] refl
-
 two_apart : (k j : ℕ) → k ≢ j → are_distinct nat_eq (k ∷ j ∷ []) ≡ true
-two_apart k j apart = ap (λ b. not (b || false) && true) (different k j apart)
+two_apart k j apart = ap (λ b. not (b || false) && true) (ne_eqb k j apart)
 
 module _ (r : Register) (source : ℕ) (it : Transfer) (from : Held) where
   abbrev numbers : Result Ratio FractionFault → List (ℕ × RrrRecord) → List ℕ

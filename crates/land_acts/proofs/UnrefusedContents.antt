@@ -1,17 +1,15 @@
 -- What holds where a transfer, a mortgage or a discharge is not refused.
-use Rattle.std.proofs.Common.{◌≡◌, Bool, true, false, ◌||◌, not, Option, Some, None, List, [], ◌∷◌, refl, sym, ap, ◌∙◌}
+use Rattle.std.proofs.Common.{◌≡◌, Bool, true, false, ◌||◌, not, Option, Some, None, [], ◌∷◌, refl, sym, ap, ◌∙◌}
 use Rattle.std.specs.Prelude.{ℤ, is_none}
 use Rattle.std.specs.Option.{option_map_or}
-use Rattle.std.proofs.lemmas.Bool.{false≢true}
-use Rattle.land_acts.proofs.Refusals.{first_none}
+use Rattle.std.proofs.lemmas.Bool.{false≢true, not-false, or_parts}
+use Rattle.land_acts.proofs.Refusals.{none_hold}
 use Rattle.land_acts.specs.Mutations.Asking.{content_refusals}
 use Rattle.land_acts.specs.Mutations.Discharging.{has_entry_in, has_mortgage}
 use Rattle.land_acts.specs.Mutations.Planning.{would_crowd, first_that_holds, lacks_numbers}
 use Rattle.land_acts.specs.Mutations.Transferring.{are_too_fine, are_too_many, has_right_where, held_at, is_itself, is_too_large}
-use Rattle.land_acts.specs.declared.mutations.refusal.Refusal.{Refusal}
 use Rattle.land_acts.specs.declared.mutations.refusal.Refusal.TheVariants.{NoSuchUnit, NoSuchRight, NoSuchParty, ShareTooLarge, SharesTooFine, TooMany, NotBank, NotMortgage, ClockOut, SameParty}
 use Rattle.land_acts.specs.declared.mutations.transfer.Held.{Held}
-use Rattle.land_core.proofs.Booleans.{not_false, or_false}
 use Rattle.land_core.specs.Entries.{has}
 use Rattle.land_core.specs.Register.{holds}
 use Rattle.land_core.specs.declared.content.Content.TheVariants as content
@@ -37,20 +35,17 @@ fails_at r it test from e fails = sym (ap (λ o. option_map_or test o false) e) 
 
 pub unrefused_move : (r : Register) (it : Transfer) (stamp : Option ℤ) → first_that_holds (content_refusals r (content.Transfer it) stamp) ≡ None → IsUnrefusedMove r it
 unrefused_move r it stamp none =
-    let last : List (Refusal × Bool) = (ClockOut, is_none stamp) ∷ (SameParty, has_right_where (is_itself it) r it) ∷ [] in
-    let fourth : List (Refusal × Bool) = (TooMany, has_right_where (are_too_many r it) r it) ∷ last in
-    let third : List (Refusal × Bool) = (SharesTooFine, has_right_where (are_too_fine r it) r it) ∷ fourth in
-    let second : List (Refusal × Bool) = (ShareTooLarge, has_right_where (is_too_large r it) r it) ∷ third in
-    let first : List (Refusal × Bool) = (NoSuchParty, not (has r.parties it.receiver)) ∷ second in
-    let unit = first_none NoSuchUnit (not (has r.units it.unit)) ((NoSuchRight, is_none (held_at r it.unit it.right)) ∷ first) none in
-    let right = first_none NoSuchRight (is_none (held_at r it.unit it.right)) first unit.rest in
-    let party = first_none NoSuchParty (not (has r.parties it.receiver)) second right.rest in
-    let large = first_none ShareTooLarge (has_right_where (is_too_large r it) r it) third party.rest in
-    let fine = first_none SharesTooFine (has_right_where (are_too_fine r it) r it) fourth large.rest in
-    let many = first_none TooMany (has_right_where (are_too_many r it) r it) last fine.rest in
-    let late = first_none ClockOut (is_none stamp) ((SameParty, has_right_where (is_itself it) r it) ∷ []) many.rest in
-    let itself = first_none SameParty (has_right_where (is_itself it) r it) [] late.rest in
-    found (not_false _ unit.first) right.first (not_false _ party.first) large.first fine.first many.first itself.first (held_at r it.unit it.right) refl
+    let fails = none_hold ((NoSuchUnit, not (has r.units it.unit)) ∷ (NoSuchRight, is_none (held_at r it.unit it.right)) ∷ (NoSuchParty, not (has r.parties it.receiver))
+    ∷ (ShareTooLarge, has_right_where (is_too_large r it) r it) ∷ (SharesTooFine, has_right_where (are_too_fine r it) r it) ∷ (TooMany, has_right_where (are_too_many r it) r it)
+    ∷ (ClockOut, is_none stamp) ∷ (SameParty, has_right_where (is_itself it) r it) ∷ []) none in
+    let unit = fails.0 in
+    let right = fails.1.0 in
+    let party = fails.1.1.0 in
+    let large = fails.1.1.1.0 in
+    let fine = fails.1.1.1.1.0 in
+    let many = fails.1.1.1.1.1.0 in
+    let itself = fails.1.1.1.1.1.1.1.0 in
+    found (not-false _ unit) right (not-false _ party) large fine many itself (held_at r it.unit it.right) refl
   where
     found : has r.units it.unit ≡ true → is_none (held_at r it.unit it.right) ≡ false → has r.parties it.receiver ≡ true → has_right_where (is_too_large r it) r it ≡ false
         → has_right_where (are_too_fine r it) r it ≡ false → has_right_where (are_too_many r it) r it ≡ false → has_right_where (is_itself it) r it ≡ false
@@ -79,14 +74,16 @@ pub unrefused_mortgage : (r : Register) (it : Mortgage) (stamp : Option ℤ) →
 unrefused_mortgage r it stamp none =
     let many = lacks_numbers r 1 || would_crowd r it.unit 1 in
     let bank = not (holds r it.creditor Bank) in
-    let unit = first_none NoSuchUnit (not (has r.units it.unit)) ((NoSuchParty, not (has r.parties it.creditor)) ∷ (TooMany, many) ∷ (NotBank, bank) ∷ (ClockOut, is_none stamp) ∷ []) none in
-    let party = first_none NoSuchParty (not (has r.parties it.creditor)) ((TooMany, many) ∷ (NotBank, bank) ∷ (ClockOut, is_none stamp) ∷ []) unit.rest in
-    let room = or_false (lacks_numbers r 1) (would_crowd r it.unit 1) (first_none TooMany many ((NotBank, bank) ∷ (ClockOut, is_none stamp) ∷ []) party.rest).first in
-    record { unit = not_false _ unit.first; creditor = not_false _ party.first; room = room.0; few = room.1 }
+    let fails = none_hold ((NoSuchUnit, not (has r.units it.unit)) ∷ (NoSuchParty, not (has r.parties it.creditor)) ∷ (TooMany, many) ∷ (NotBank, bank) ∷ (ClockOut, is_none stamp) ∷ []) none in
+    let unit = fails.0 in
+    let party = fails.1.0 in
+    let crowded = fails.1.1.0 in
+    let room = or_parts (lacks_numbers r 1) (would_crowd r it.unit 1) crowded in
+    record { unit = not-false _ unit; creditor = not-false _ party; room = room.0; few = room.1 }
 
 pub unrefused_discharge : (r : Register) (it : Discharge) (stamp : Option ℤ) → first_that_holds (content_refusals r (content.Discharge it) stamp) ≡ None → has_mortgage r it.mortgage ≡ true
 unrefused_discharge r it stamp none =
     let mortgage = not (has_mortgage r it.mortgage) in
-    let unit = first_none NoSuchUnit (not (has r.units it.unit)) ((NoSuchRight, not (has_entry_in r it.unit it.mortgage)) ∷ (NotMortgage, mortgage) ∷ (ClockOut, is_none stamp) ∷ []) none in
-    let entry = first_none NoSuchRight (not (has_entry_in r it.unit it.mortgage)) ((NotMortgage, mortgage) ∷ (ClockOut, is_none stamp) ∷ []) unit.rest in
-    not_false _ (first_none NotMortgage mortgage ((ClockOut, is_none stamp) ∷ []) entry.rest).first
+    let fails = none_hold ((NoSuchUnit, not (has r.units it.unit)) ∷ (NoSuchRight, not (has_entry_in r it.unit it.mortgage)) ∷ (NotMortgage, mortgage) ∷ (ClockOut, is_none stamp) ∷ []) none in
+    let found = fails.1.1.0 in
+    not-false _ found

@@ -6,6 +6,7 @@ use Rattle.std.specs.List.{list_any}
 use Rattle.std.specs.Str.{bytes_eq}
 use Rattle.std.specs.Str.Parse.{signed_digits_value}
 use Rattle.std.proofs.lemmas.Slice.Eq.{bytes_eq-Decides}
+use Rattle.std.proofs.lemmas.Bool.{or_cases, or_parts}
 use Rattle.clap.specs.Faults.{level_fault}
 use Rattle.clap.specs.Simple.{filled, help_rule, rows_at}
 use Rattle.clap.specs.Values.{Accepts}
@@ -13,7 +14,7 @@ use Rattle.clap.specs.Walk.{Row, Rule, Text, first_of, nothing_held, rows_after,
 use Rattle.clap.specs.declared.builder.value_parser.ValueParser.{ValueParser}
 use Rattle.clap.specs.declared.builder.value_parser.ValueParser.TheVariants as parser
 use Rattle.land_commands.proofs.BuiltCommands.{extract_built}
-use Rattle.land_commands.proofs.GivenOptions.{Each, HasNoDefault, Keeps, given_passes, help_keeps, neither, option_keeps, passes_if_any, required_given}
+use Rattle.land_commands.proofs.GivenOptions.{Each, HasNoDefault, Keeps, given_passes, help_keeps, option_keeps, passes_if_any, required_given}
 use Rattle.land_commands.proofs.NumberRows.{AllPass}
 use Rattle.land_commands.specs.Words.Choices.{AreSpelled, Places, kind_word, kind_words, role_word, role_words}
 use Rattle.land_commands.specs.Words.Names.{HasMaybe, IsFoundAs}
@@ -58,7 +59,7 @@ module _ (name : Text) (Passes : Text → Type 0) where
   others_suit : (options : List Told) → list_any (λ o. bytes_eq o.name name) options ≡ false → Suits options
   others_suit [] e = tt
   others_suit (o ∷ options) e =
-      let parts = neither (bytes_eq o.name name) _ e in
+      let parts = or_parts (bytes_eq o.name name) _ e in
       let other = parts.0 in
       ((λ same. cc), others_suit options parts.1)
 
@@ -67,7 +68,7 @@ module _ (name : Text) (Passes : Text → Type 0) where
       → list_any (λ o. bytes_eq o.name name) after ≡ false → ((text : Text) → Accepts false o.values text → Passes text) → Suits (before ++ o ∷ after)
   one_suits [] o after e f h = ((λ same. h), others_suit after f)
   one_suits (x ∷ before) o after e f h =
-      let parts = neither (bytes_eq x.name name) _ e in
+      let parts = or_parts (bytes_eq x.name name) _ e in
       let other = parts.0 in
       ((λ same. cc), one_suits before o after parts.1 f h)
 
@@ -78,10 +79,6 @@ module _ (name : Text) (Passes : Text → Type 0) where
 
 -- ---- words that are chosen
 
-either : (a b : Bool) → (a || b) ≡ true → (a ≡ true) ⊎ (b ≡ true)
-either true b e = inl refl
-either false b e = inr e
-
 pub any_text : (text : Text) (words : List (Bor Text)) → list_any (λ word. bytes_eq word.now text) words ≡ list_any (λ word. bytes_eq word text) (texts words)
 any_text text [] = refl
 any_text text (word ∷ words) = ap (λ b. bytes_eq word.now text || b) (any_text text words)
@@ -90,7 +87,7 @@ any_text text (word ∷ words) = ap (λ b. bytes_eq word.now text || b) (any_tex
 module _ {A : Type 0} (spell : A → Text) where
   spelled_so : (all : List A) (text : Text) → list_any (λ a. bytes_eq (spell a) text) all ≡ true → (a : A) × (text ≡ spell a)
   spelled_so [] text e = cc
-  spelled_so (a ∷ all) text e = go (either (bytes_eq (spell a) text) _ e) (spelled_so all text)
+  spelled_so (a ∷ all) text e = go (or_cases (bytes_eq (spell a) text) _ e) (spelled_so all text)
     where
       go : (bytes_eq (spell a) text ≡ true) ⊎ (list_any (λ a. bytes_eq (spell a) text) all ≡ true)
           → (list_any (λ a. bytes_eq (spell a) text) all ≡ true → (a : A) × (text ≡ spell a)) → (a : A) × (text ≡ spell a)

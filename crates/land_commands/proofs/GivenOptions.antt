@@ -1,8 +1,9 @@
 -- Options over words without a fault: those that are required are given, and their first values pass.
-use Rattle.std.proofs.Common.{◌≡◌, ◌∙◌, ◌⊎◌, ◌&&◌, ◌||◌, not, ap, refl, sym, subst, Bool, true, false, List, [], ◌∷◌, Some, None, cond, length}
+use Rattle.std.proofs.Common.{◌≡◌, ◌∙◌, ◌⊎◌, ◌&&◌, not, ap, refl, sym, subst, Bool, true, false, List, [], ◌∷◌, Some, None, cond, length}
 use Rattle.std.specs.Prelude.{find, fold}
 use Rattle.std.specs.List.{list_any}
 use Rattle.std.specs.Str.{bytes_eq}
+use Rattle.std.proofs.lemmas.Bool.{or_parts}
 use Rattle.clap.specs.Faults.{defaults_fault, level_fault, repeat_fault, settle_fault, use_fault, walk_fault}
 use Rattle.clap.specs.Kinds.{check_kinds, range_kinds, value_kinds}
 use Rattle.clap.specs.Simple.{Shape, filled, help_rule}
@@ -63,10 +64,6 @@ undefaulted : (rules : List Rule) (rows : List Row) → Each HasNoDefault rules 
 undefaulted [] rows none = refl
 undefaulted (a ∷ rules) rows none = ap (λ r. fold with_default r rules) (no_default rows a none.0) ∙ undefaulted rules rows none.1
 
-pub neither : (a b : Bool) → (a || b) ≡ false → (a ≡ false) × (b ≡ false)
-neither false b e = (refl, e)
-neither true b e = cc
-
 given_where : (required given : Bool) → (required && not given) ≡ false → required ≡ true → given ≡ true
 given_where true true e r = refl
 given_where true false e r = cc
@@ -75,7 +72,7 @@ given_where false given e r = cc
 each_given : (rows : List Row) (rules : List Rule) → list_any (λ a. a.required && not (is_given a.id rows)) rules ≡ false → Each (IsGiven rows) rules
 each_given rows [] e = tt
 each_given rows (a ∷ rules) e =
-    let parts = neither (a.required && not (is_given a.id rows)) _ e in
+    let parts = or_parts (a.required && not (is_given a.id rows)) _ e in
     (given_where a.required (is_given a.id rows) parts.0, each_given rows rules parts.1)
 
 none_wanted : (help command negates wanted : Bool) → check_kinds help command (not (negates && false) && wanted) ≡ [] → wanted ≡ false

@@ -4,6 +4,7 @@ pub mod FiniteSets
 pub mod LookUps
 pub mod LooseMandates
 pub mod NewRegister
+pub mod Orders
 pub mod Pairs
 pub mod References
 pub mod Reflection

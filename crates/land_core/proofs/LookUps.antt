@@ -1,6 +1,6 @@
 -- A register is sound exactly where its look-ups say so.
 use Rattle.std.proofs.Common.{◌≡◌, ◌≢◌, ℕ, ◌<◌, ◌≤◌, Bool, true, false, not, ◌||◌, ◌&&◌, nat_eq, nat_lt, List, [], ◌∷◌, length, Option, Some, None, is_some, refl, sym, ap, ◌∙◌, subst, arith}
-use Rattle.std.proofs.lemmas.Bool.{false≢true, lt-ltb, le-ltb, ltb-true, ltb-false, eqb-true, eq-eqb}
+use Rattle.std.proofs.lemmas.Bool.{false≢true, lt-ltb, le-ltb, ltb-true, ltb-false, eqb-true, eq-eqb, and_from, and_parts, false_from_ne_true, not-false, not-true, or_from, or_parts}
 use Rattle.std.proofs.lemmas.Bool.Decides.{nat_tests}
 use Rattle.std.specs.Cmp.{nat_cmp_total}
 use Rattle.std.proofs.lemmas.Slice.Eq.{bytes_eq-Decides}
@@ -8,7 +8,6 @@ use Rattle.std.specs.Str.{bytes_eq}
 use Rattle.std.specs.FinMap as map
 use Rattle.std.specs.FinMap.{FinMap, nat_cmp-IsAntisymmetric}
 use Rattle.std.specs.Ordering.{nat_cmp}
-use Rattle.land_core.proofs.Booleans.{both_of, not_false, not_true, or_false}
 use Rattle.land_core.proofs.LooseMandates.{loose_mandates_from, mandates_from}
 use Rattle.land_core.proofs.Reflection.{none_at, none_passes, some_at, some_passes}
 use Rattle.land_core.proofs.SoundRegisters.{are_used, are_used_back, administrator_at, administrator_from, loose_from, loose_members_from, members_from, refers, refers_back, single_from, unbroken_from, unused_from, used_bounds, used_from, whole_from}
@@ -49,17 +48,11 @@ at p m none n v is = none_at nat_cmp_total nat_cmp-IsAntisymmetric p m n v none 
 each : {V : Type 0} (p : ℕ → V → Bool) (m : FinMap nat_cmp V) → ((n : ℕ) (v : V) → map.get m n ≡ Some v → p n v ≡ false) → some p m ≡ false
 each p m h = none_passes nat_cmp_total nat_cmp-IsAntisymmetric p m h
 
-both : (a b : Bool) → a ≡ true → b ≡ true → (a && b) ≡ true
-both a b x y = ap (λ t. t && b) x ∙ y
-
-neither : (a b : Bool) → a ≡ false → b ≡ false → (a || b) ≡ false
-neither a b x y = ap (λ t. t || b) x ∙ y
-
 in_use : (r : Register) (n : ℕ) → is_used r n ≡ true → IsInUse r n
 in_use r n h = let it = used_bounds r n h in record { positive = it.0; below = it.1 }
 
 used : (r : Register) (n : ℕ) → IsInUse r n → is_used r n ≡ true
-used r n h = both (nat_lt 0 n) (nat_lt n r.next) (lt-ltb 0 n h.positive) (lt-ltb n r.next h.below)
+used r n h = and_from (nat_lt 0 n) (nat_lt n r.next) (lt-ltb 0 n h.positive) (lt-ltb n r.next h.below)
 
 -- types of rights are one where the test says so
 pub one_type : (a b : RightType) → is_type a b ≡ true → a ≡ b
@@ -77,11 +70,6 @@ pub type_itself : (a : RightType) → is_type a a ≡ true
 type_itself Ownership = refl
 type_itself Lease = refl
 type_itself Usufruct = refl
-
--- a test that is not passed
-untrue : (b : Bool) → (b ≡ true → ⊥) → b ≡ false
-untrue true h = absurd (h refl)
-untrue false h = refl
 
 -- rights of one type, and mortgages of one rank
 types_from : (a b : Option RightType) → are_of_one_type a b ≡ true → (type : RightType) × (a ≡ Some type) × (b ≡ Some type)
@@ -105,9 +93,9 @@ together : (e f : RrrRecord) → e.unit ≡ f.unit → do_clash e f ≡ false �
 together e f unit h =
     let one = are_of_one_type (type_of e.class) (type_of f.class) in
     let rank = are_of_one_rank (rank_of e.class) (rank_of f.class) in
-    let parts = or_false (nat_eq e.party f.party && one) rank (sym (ap (λ t. t && (nat_eq e.party f.party && one || rank)) (eq-eqb e.unit f.unit unit)) ∙ h) in
+    let parts = or_parts (nat_eq e.party f.party && one) rank (sym (ap (λ t. t && (nat_eq e.party f.party && one || rank)) (eq-eqb e.unit f.unit unit)) ∙ h) in
     record {
-      rights = λ type party x y. false≢true (sym parts.0 ∙ both (nat_eq e.party f.party) one (eq-eqb e.party f.party party) (types_to type (type_of e.class) (type_of f.class) x y));
+      rights = λ type party x y. false≢true (sym parts.0 ∙ and_from (nat_eq e.party f.party) one (eq-eqb e.party f.party party) (types_to type (type_of e.class) (type_of f.class) x y));
       ranks = λ place x y. false≢true (sym parts.1 ∙ ranks_to place (rank_of e.class) (rank_of f.class) x y);
     }
 
@@ -118,17 +106,17 @@ turned e f h = record {
 }
 
 apart : (e f : RrrRecord) → (e.unit ≡ f.unit → GoTogether e f) → do_clash e f ≡ false
-apart e f h = untrue (do_clash e f) (λ clash.
+apart e f h = false_from_ne_true (do_clash e f) (λ clash.
     let one = are_of_one_type (type_of e.class) (type_of f.class) in
     let rank = are_of_one_rank (rank_of e.class) (rank_of f.class) in
-    let parts = both_of (nat_eq e.unit f.unit) (nat_eq e.party f.party && one || rank) clash in
+    let parts = and_parts (nat_eq e.unit f.unit) (nat_eq e.party f.party && one || rank) clash in
     let go = h (eqb-true e.unit f.unit parts.0) in
-    let rights : (nat_eq e.party f.party && one) ≡ false = untrue (nat_eq e.party f.party && one) (λ it.
-    let those = both_of (nat_eq e.party f.party) one it in
+    let rights : (nat_eq e.party f.party && one) ≡ false = false_from_ne_true (nat_eq e.party f.party && one) (λ it.
+    let those = and_parts (nat_eq e.party f.party) one it in
     let type = types_from (type_of e.class) (type_of f.class) those.1 in
     go.rights type.0 (eqb-true e.party f.party those.0) type.1 type.2) in
-    let ranks : rank ≡ false = untrue rank (λ it. let place = ranks_from (rank_of e.class) (rank_of f.class) it in go.ranks place.0 place.1 place.2) in
-    false≢true (sym (neither (nat_eq e.party f.party && one) rank rights ranks) ∙ parts.1))
+    let ranks : rank ≡ false = false_from_ne_true rank (λ it. let place = ranks_from (rank_of e.class) (rank_of f.class) it in go.ranks place.0 place.1 place.2) in
+    false≢true (sym (or_from (nat_eq e.party f.party && one) rank rights ranks) ∙ parts.1))
 
 -- an entry that is a right of a type
 right_from : (type : RightType) (class : Class) → is_right_of type class ≡ true → type_of class ≡ Some type
@@ -164,13 +152,13 @@ parcel_to r unit h = some_at nat_cmp_total nat_cmp-IsAntisymmetric (λ n p. nat_
 owner_from : (r : Register) (unit : ℕ) → has_owner r unit ≡ true → HasOwner r unit
 owner_from r unit h =
     let it = some_passes nat_cmp_total nat_cmp-IsAntisymmetric (λ n e. is_right_in unit Ownership e) r.rrrs h in
-    let parts = both_of (nat_eq it.value.unit unit) (is_right_of Ownership it.value.class) it.passes in
+    let parts = and_parts (nat_eq it.value.unit unit) (is_right_of Ownership it.value.class) it.passes in
     record { number = it.key; entry = it.value; there = it.there; in_unit = eqb-true it.value.unit unit parts.0; owns = right_from Ownership it.value.class parts.1 }
 
 owner_to : (r : Register) (unit : ℕ) → HasOwner r unit → has_owner r unit ≡ true
 owner_to r unit h =
     some_at nat_cmp_total nat_cmp-IsAntisymmetric (λ n e. is_right_in unit Ownership e) r.rrrs h.number h.entry h.there
-    (both (nat_eq h.entry.unit unit) (is_right_of Ownership h.entry.class) (eq-eqb h.entry.unit unit h.in_unit) (right_to Ownership h.entry.class h.owns))
+    (and_from (nat_eq h.entry.unit unit) (is_right_of Ownership h.entry.class) (eq-eqb h.entry.unit unit h.in_unit) (right_to Ownership h.entry.class h.owns))
 
 size_from : (n : ℕ) → is_group_size n ≡ true → (2 ≤ n) × (n ≤ 64)
 size_from n h = (grind (arith, nat_tests), grind (arith, nat_tests))
@@ -188,39 +176,39 @@ administers role h = sym (role_at_place role) ∙ ap role_at (eqb-true (place_of
 
 -- what a parcel and an entry refer to
 parcel_refers : (r : Register) (p : ParcelRecord) → not (has r.units p.unit && has r.sources p.source) ≡ false → ParcelRefers r p
-parcel_refers r p h = let it = both_of (has r.units p.unit) (has r.sources p.source) (not_false _ h) in record { unit = it.0; source = it.1 }
+parcel_refers r p h = let it = and_parts (has r.units p.unit) (has r.sources p.source) (not-false _ h) in record { unit = it.0; source = it.1 }
 
 entry_refers : (r : Register) (e : RrrRecord) → not (has r.units e.unit && has r.parties e.party && has r.sources e.source) ≡ false → EntryRefers r e
 entry_refers r e h =
-    let it = both_of (has r.units e.unit && has r.parties e.party) (has r.sources e.source) (not_false _ h) in
-    let first = both_of (has r.units e.unit) (has r.parties e.party) it.0 in
+    let it = and_parts (has r.units e.unit && has r.parties e.party) (has r.sources e.source) (not-false _ h) in
+    let first = and_parts (has r.units e.unit) (has r.parties e.party) it.0 in
     record { unit = first.0; party = first.1; source = it.1 }
 
 mutation_refers : (r : Register) (m : MutationRecord) → is_loose_mutation r m ≡ false → MutationRefers r m
 mutation_refers r m h =
-    let it = both_of (has r.parties m.lodger && has r.sources m.source) (is_well_formed_content m.content) (not_false _ h) in
-    let first = both_of (has r.parties m.lodger) (has r.sources m.source) it.0 in
+    let it = and_parts (has r.parties m.lodger && has r.sources m.source) (is_well_formed_content m.content) (not-false _ h) in
+    let first = and_parts (has r.parties m.lodger) (has r.sources m.source) it.0 in
     record { lodger = first.0; source = first.1; content = it.1 }
 
 mutation_fast : (r : Register) (m : MutationRecord) → MutationRefers r m → is_loose_mutation r m ≡ false
 mutation_fast r m h =
-    ap not (both (has r.parties m.lodger && has r.sources m.source) (is_well_formed_content m.content) (both (has r.parties m.lodger) (has r.sources m.source) h.lodger h.source) h.content)
+    ap not (and_from (has r.parties m.lodger && has r.sources m.source) (is_well_formed_content m.content) (and_from (has r.parties m.lodger) (has r.sources m.source) h.lodger h.source) h.content)
 
 mandate_refers : (r : Register) (m : Mandate) → is_loose_mandate r m ≡ false → MandateRefers r m.principal m.agent
 mandate_refers r m h =
-    let it = both_of (has_single_party r m.principal && has_single_party r m.agent) (not (nat_eq m.principal m.agent)) (not_false _ h) in
-    let single = both_of (has_single_party r m.principal) (has_single_party r m.agent) it.0 in
+    let it = and_parts (has_single_party r m.principal && has_single_party r m.agent) (not (nat_eq m.principal m.agent)) (not-false _ h) in
+    let single = and_parts (has_single_party r m.principal) (has_single_party r m.agent) it.0 in
     record {
       principal_single = single.0;
       agent_single = single.1;
-      apart = λ same. false≢true (sym (not_true (nat_eq m.principal m.agent) it.1) ∙ eq-eqb m.principal m.agent same);
+      apart = λ same. false≢true (sym (not-true (nat_eq m.principal m.agent) it.1) ∙ eq-eqb m.principal m.agent same);
     }
 
 mandate_tight : (r : Register) (m : Mandate) → MandateRefers r m.principal m.agent → is_loose_mandate r m ≡ false
 mandate_tight r m h =
-    let apart = untrue (nat_eq m.principal m.agent) (λ same. h.apart (eqb-true m.principal m.agent same)) in
-    ap not (both (has_single_party r m.principal && has_single_party r m.agent) (not (nat_eq m.principal m.agent))
-    (both (has_single_party r m.principal) (has_single_party r m.agent) h.principal_single h.agent_single) (ap not apart))
+    let apart = false_from_ne_true (nat_eq m.principal m.agent) (λ same. h.apart (eqb-true m.principal m.agent same)) in
+    ap not (and_from (has_single_party r m.principal && has_single_party r m.agent) (not (nat_eq m.principal m.agent))
+    (and_from (has_single_party r m.principal) (has_single_party r m.agent) h.principal_single h.agent_single) (ap not apart))
 
 -- pairs of mutations, the lesser number first or last
 references_from : (r : Register) → has_reused_reference r ≡ false → (m n : ℕ) (it other : MutationRecord) → map.get r.mutations m ≡ Some it → map.get r.mutations n ≡ Some other → m ≢ n
@@ -237,14 +225,14 @@ references_from r none m n it other is that apart lodger reference =
     clash : (m n : ℕ) (it other : MutationRecord) → map.get r.mutations m ≡ Some it → map.get r.mutations n ≡ Some other → nat_lt m n ≡ true → it.lodger ≡ other.lodger → it.reference ≡ other.reference → ⊥
     clash m n it other is that before lodger reference =
         false≢true (sym (at (λ n other. nat_lt m n && share_a_reference it other) r.mutations (at (λ m it. is_reused_later r m it) r.mutations none m it is) n other that)
-        ∙ both (nat_lt m n) (share_a_reference it other) before (both (nat_eq it.lodger other.lodger) (bytes_eq it.reference other.reference) (eq-eqb it.lodger other.lodger lodger) ((bytes_eq-Decides it.reference other.reference).1 reference)))
+        ∙ and_from (nat_lt m n) (share_a_reference it other) before (and_from (nat_eq it.lodger other.lodger) (bytes_eq it.reference other.reference) (eq-eqb it.lodger other.lodger lodger) ((bytes_eq-Decides it.reference other.reference).1 reference)))
 
 reference_to : (n m : ℕ) (it other : MutationRecord) → (n ≢ m → it.lodger ≡ other.lodger → it.reference ≢ other.reference) → (nat_lt n m && share_a_reference it other) ≡ false
-reference_to n m it other h = untrue (nat_lt n m && share_a_reference it other) (λ both_hold.
-    let parts = both_of (nat_lt n m) (share_a_reference it other) both_hold in
+reference_to n m it other h = false_from_ne_true (nat_lt n m && share_a_reference it other) (λ both_hold.
+    let parts = and_parts (nat_lt n m) (share_a_reference it other) both_hold in
     let before : n < m = ltb-true n m parts.0 in
     let apart : n ≢ m = omega arith in
-    let same = both_of (nat_eq it.lodger other.lodger) (bytes_eq it.reference other.reference) parts.1 in
+    let same = and_parts (nat_eq it.lodger other.lodger) (bytes_eq it.reference other.reference) parts.1 in
     h apart (eqb-true it.lodger other.lodger same.0) ((bytes_eq-Decides it.reference other.reference).0 same.1))
 
 -- pairs of entries, the lesser number first or last
@@ -262,8 +250,8 @@ pairs_from r none m n e f is that other unit =
     in_order m n e f is that = at (λ n f. nat_lt m n && do_clash e f) r.rrrs (at (λ m e. clashes_later r m e) r.rrrs none m e is) n f that
 
 pair_to : (n m : ℕ) (e f : RrrRecord) → (n ≢ m → e.unit ≡ f.unit → GoTogether e f) → (nat_lt n m && do_clash e f) ≡ false
-pair_to n m e f h = untrue (nat_lt n m && do_clash e f) (λ it.
-    let parts = both_of (nat_lt n m) (do_clash e f) it in
+pair_to n m e f h = false_from_ne_true (nat_lt n m && do_clash e f) (λ it.
+    let parts = and_parts (nat_lt n m) (do_clash e f) it in
     let before : n < m = ltb-true n m parts.0 in
     let other : n ≢ m = omega arith in
     false≢true (sym (apart e f (h other)) ∙ parts.1))
@@ -287,12 +275,12 @@ module _ (law : WholenessLaw) where
 
   group_from : (shares : List Ratio) → are_group_shares shares ≡ true → AreOfGroup shares
   group_from shares h =
-      let parts = both_of (is_group_size (length shares)) (is_yes (wholeness shares)) h in
+      let parts = and_parts (is_group_size (length shares)) (is_yes (wholeness shares)) h in
       let size = size_from (length shares) parts.0 in
       record { least = size.0; most = size.1; whole = whole_from_yes shares parts.1 }
 
   group_to : (shares : List Ratio) → AreOfGroup shares → are_group_shares shares ≡ true
-  group_to shares h = both (is_group_size (length shares)) (is_yes (wholeness shares)) (size_to (length shares) h.least h.most) (yes_from_whole shares h.whole)
+  group_to shares h = and_from (is_group_size (length shares)) (is_yes (wholeness shares)) (size_to (length shares) h.least h.most) (yes_from_whole shares h.whole)
 
   whole_from_none : (shares : List Ratio) → are_whole_or_none shares ≡ true → shares ≢ [] → IsWhole shares
   whole_from_none [] h some = absurd (some refl)
@@ -307,8 +295,8 @@ module _ (law : WholenessLaw) where
 
   shares_from : (r : Register) (n : ℕ) → has_whole_shares r n ≡ true → (type : RightType) → are_whole_or_none (type_shares r n type) ≡ true
   shares_from r n h type =
-      let both_types = both_of (are_whole_or_none (type_shares r n Ownership) && are_whole_or_none (type_shares r n Lease)) (are_whole_or_none (type_shares r n Usufruct)) h in
-      let first = both_of (are_whole_or_none (type_shares r n Ownership)) (are_whole_or_none (type_shares r n Lease)) both_types.0 in
+      let both_types = and_parts (are_whole_or_none (type_shares r n Ownership) && are_whole_or_none (type_shares r n Lease)) (are_whole_or_none (type_shares r n Usufruct)) h in
+      let first = and_parts (are_whole_or_none (type_shares r n Ownership)) (are_whole_or_none (type_shares r n Lease)) both_types.0 in
       of_type type first.0 first.1 both_types.1
     where
       of_type : (type : RightType) → are_whole_or_none (type_shares r n Ownership) ≡ true → are_whole_or_none (type_shares r n Lease) ≡ true → are_whole_or_none (type_shares r n Usufruct) ≡ true
@@ -319,13 +307,13 @@ module _ (law : WholenessLaw) where
 
   shares_to : (r : Register) (n : ℕ) → ((type : RightType) → are_whole_or_none (type_shares r n type) ≡ true) → has_whole_shares r n ≡ true
   shares_to r n h =
-      both (are_whole_or_none (type_shares r n Ownership) && are_whole_or_none (type_shares r n Lease)) (are_whole_or_none (type_shares r n Usufruct))
-      (both (are_whole_or_none (type_shares r n Ownership)) (are_whole_or_none (type_shares r n Lease)) (h Ownership) (h Lease)) (h Usufruct)
+      and_from (are_whole_or_none (type_shares r n Ownership) && are_whole_or_none (type_shares r n Lease)) (are_whole_or_none (type_shares r n Usufruct))
+      (and_from (are_whole_or_none (type_shares r n Ownership)) (are_whole_or_none (type_shares r n Lease)) (h Ownership) (h Lease)) (h Usufruct)
 
   unit_from : (r : Register) → IsSound r → (n : ℕ) (u : UnitRecord) → map.get r.units n ≡ Some u → IsSoundUnit r n u
   unit_from r sound n u is =
-      let bare = both_of (has_parcel r n) (has_owner r n) (not_false _ (at (λ n u. not (has_parcel r n && has_owner r n)) r.units (sound Bare) n u is)) in
-      let crowded = or_false (nat_lt 256 (parcel_count r n)) (nat_lt 256 (rrr_count r n)) (at (λ n u. nat_lt 256 (parcel_count r n) || nat_lt 256 (rrr_count r n)) r.units (sound Crowded) n u is) in
+      let bare = and_parts (has_parcel r n) (has_owner r n) (not-false _ (at (λ n u. not (has_parcel r n && has_owner r n)) r.units (sound Bare) n u is)) in
+      let crowded = or_parts (nat_lt 256 (parcel_count r n)) (nat_lt 256 (rrr_count r n)) (at (λ n u. nat_lt 256 (parcel_count r n) || nat_lt 256 (rrr_count r n)) r.units (sound Crowded) n u is) in
       let parts = at (λ n u. u.checked && not (has_whole_shares r n)) r.units (sound Shares) n u is in
       record {
         parcel = parcel_from r n bare.0;
@@ -333,7 +321,7 @@ module _ (law : WholenessLaw) where
         parcels = ltb-false 256 (parcel_count r n) crowded.0;
         entries = ltb-false 256 (rrr_count r n) crowded.1;
         whole = λ checked type some. whole_from_none (type_shares r n type)
-            (shares_from r n (not_false _ (sym (ap (λ t. t && not (has_whole_shares r n)) checked) ∙ parts)) type) some;
+            (shares_from r n (not-false _ (sym (ap (λ t. t && not (has_whole_shares r n)) checked) ∙ parts)) type) some;
       }
 
   unit_in_parts : (r : Register) (n : ℕ) (u : UnitRecord) → IsSoundUnit r n u → (u.checked && not (has_whole_shares r n)) ≡ false
@@ -348,7 +336,7 @@ module _ (law : WholenessLaw) where
   look_ups_from r sound =
       let parts = refers r (sound Reference) in
       let numbers = are_used r parts.numbers in
-      let administrator = administrator_from r (not_false _ (sound Administrator)) in
+      let administrator = administrator_from r (not-false _ (sound Administrator)) in
       record {
         room = ltb-false 1000000001 r.next parts.room;
         numbers_of_parties = λ n v is. in_use r n (used_from r r.parties numbers.parties n v is);
@@ -367,7 +355,7 @@ module _ (law : WholenessLaw) where
         groups = λ n p is group. group_from (shares_of r n) (whole_from r (sound Group) n p is group);
         units = unit_from r sound;
         pairs = pairs_from r (sound Twice);
-        ranks = λ n e rank is at_rank. in_use r rank (not_false _ (sym (ap (is_loose_rank r) at_rank) ∙ at (λ n e. is_loose_rank r (rank_of e.class)) r.rrrs (sound Rank) n e is));
+        ranks = λ n e rank is at_rank. in_use r rank (not-false _ (sym (ap (is_loose_rank r) at_rank) ∙ at (λ n e. is_loose_rank r (rank_of e.class)) r.rrrs (sound Rank) n e is));
         references = references_from r (sound Reused);
         administrator = (
           administrator.key.party,
@@ -391,10 +379,10 @@ module _ (law : WholenessLaw) where
         grants = loose_from r (λ g is. h.roles g.party g.role (ap is_some is));
         members = loose_members_from r (λ group members is. let it = h.members group members is in record { grouped = it.grouped; single = it.single });
         parcels = each (λ n p. not (has r.units p.unit && has r.sources p.source)) r.parcels (λ n p is.
-            let it = h.parcels n p is in ap not (both (has r.units p.unit) (has r.sources p.source) it.unit it.source));
+            let it = h.parcels n p is in ap not (and_from (has r.units p.unit) (has r.sources p.source) it.unit it.source));
         rrrs = each (λ n e. not (has r.units e.unit && has r.parties e.party && has r.sources e.source)) r.rrrs (λ n e is.
             let it = h.entries n e is in
-            ap not (both (has r.units e.unit && has r.parties e.party) (has r.sources e.source) (both (has r.units e.unit) (has r.parties e.party) it.unit it.party) it.source));
+            ap not (and_from (has r.units e.unit && has r.parties e.party) (has r.sources e.source) (and_from (has r.units e.unit) (has r.parties e.party) it.unit it.party) it.source));
         mutations = each (λ n m. is_loose_mutation r m) r.mutations (λ n m is. mutation_fast r m (h.mutations n m is));
         mandates = loose_mandates_from r (λ m is. mandate_tight r m (h.mandates m.principal m.agent (ap is_some is)));
       })
@@ -402,11 +390,11 @@ module _ (law : WholenessLaw) where
   look_ups_to r h Group = unbroken_from r (λ n p is group. group_to (shares_of r n) (h.groups n p is group))
   look_ups_to r h Bare =
       each (λ n u. not (has_parcel r n && has_owner r n)) r.units (λ n u is.
-      let it = h.units n u is in ap not (both (has_parcel r n) (has_owner r n) (parcel_to r n it.parcel) (owner_to r n it.owner)))
+      let it = h.units n u is in ap not (and_from (has_parcel r n) (has_owner r n) (parcel_to r n it.parcel) (owner_to r n it.owner)))
   look_ups_to r h Crowded =
       each (λ n u. nat_lt 256 (parcel_count r n) || nat_lt 256 (rrr_count r n)) r.units (λ n u is.
       let it = h.units n u is in
-      neither (nat_lt 256 (parcel_count r n)) (nat_lt 256 (rrr_count r n)) (le-ltb 256 (parcel_count r n) it.parcels) (le-ltb 256 (rrr_count r n) it.entries))
+      or_from (nat_lt 256 (parcel_count r n)) (nat_lt 256 (rrr_count r n)) (le-ltb 256 (parcel_count r n) it.parcels) (le-ltb 256 (rrr_count r n) it.entries))
   look_ups_to r h Twice =
       each (λ n e. clashes_later r n e) r.rrrs (λ n e is. each (λ m f. nat_lt n m && do_clash e f) r.rrrs (λ m f later. pair_to n m e f (h.pairs n m e f is later)))
   look_ups_to r h Rank = each (λ n e. is_loose_rank r (rank_of e.class)) r.rrrs (λ n e is. rank_to r (rank_of e.class) (λ rank at_rank. h.ranks n e rank is at_rank))

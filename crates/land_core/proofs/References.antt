@@ -9,6 +9,7 @@ use Rattle.std.specs.FinMap as map
 use Rattle.std.specs.List.{list_any}
 use Rattle.std.specs.Ordering.{nat_cmp, ordering_then}
 use Rattle.std.specs.declared.cmp.Ordering.{Ordering}
+use Rattle.land_core.proofs.Booleans.{or_four}
 use Rattle.land_core.proofs.Pairs.{later_pairs, list_any_same, some_pair}
 use Rattle.land_core.specs.Mutations.{share_a_reference}
 use Rattle.land_core.specs.Soundness.{has_reused_reference}
@@ -57,13 +58,7 @@ true_or false b = refl
 
 any_or : {X : Type 0} (p q : X → Bool) (xs : List X) → list_any (λ x. p x || q x) xs ≡ (list_any p xs || list_any q xs)
 any_or p q [] = refl
-any_or p q (x ∷ xs) = ap (λ b. (p x || q x) || b) (any_or p q xs) ∙ turned (p x) (q x) (list_any p xs) (list_any q xs)
-  where
-    turned : (a b c d : Bool) → ((a || b) || (c || d)) ≡ ((a || c) || (b || d))
-    turned true b c d = refl
-    turned false true true d = refl
-    turned false true false d = refl
-    turned false false c d = refl
+any_or p q (x ∷ xs) = ap (λ b. (p x || q x) || b) (any_or p q xs) ∙ or_four (p x) (q x) (list_any p xs) (list_any q xs)
 
 none_met : (met : BTreeSet Lodging) → met.keys ≡ [] → (es : List (ℕ × MutationRecord)) → list_any (λ e. has_met met e.1) es ≡ false
 none_met met h [] = refl

@@ -1,6 +1,6 @@
 -- What the entries of a finite map say of its look-ups, and the other way round.
 use Rattle.std.proofs.Common.{◌≡◌, Bool, true, false, cond, ◌||◌, ◌&&◌, List, [], ◌∷◌, ◌++◌, Some, None, refl, sym, ap, ◌∙◌, subst, append_assoc, append-nil}
-use Rattle.std.proofs.lemmas.Bool.{false≢true}
+use Rattle.std.proofs.lemmas.Bool.{false≢true, and_parts}
 use Rattle.std.specs.Prelude.{filter, map as map_list}
 use Rattle.std.specs.List.{list_any, AllByRecursion}
 use Rattle.std.specs.Ordering.{eq_by_cmp, is_eq, is_lt, ordering_reverse}
@@ -9,14 +9,10 @@ use Rattle.std.specs.declared.cmp.Ordering.TheVariants.{Less, Equal, Greater}
 use Rattle.std.specs.Cmp.{IsTotalOrder, tied_itself, eq_by_cmp_equiv}
 use Rattle.std.specs.FinMap as map
 use Rattle.std.specs.FinMap.{FinMap, find, put, is_sorted, IsAntisymmetric}
-use Rattle.land_core.proofs.Booleans.{T_true, both_of, or_true}
+use Rattle.land_core.proofs.Booleans.{T_true, or_true}
 use Rattle.land_core.proofs.FiniteMaps.{is_equal, nothing_from_length}
+use Rattle.land_core.proofs.Orders.{less_apart}
 use Rattle.land_core.specs.Entries.{with_entries, only}
-
-less_apart : (r : Ordering) → is_lt r ≡ true → is_eq r ≡ false
-less_apart Less h = refl
-less_apart Equal h = absurd (false≢true h)
-less_apart Greater h = absurd (false≢true h)
 
 reversed_less : (r s : Ordering) → r ≡ ordering_reverse s → is_lt s ≡ true → r ≡ Greater
 reversed_less r Less e h = e
@@ -44,8 +40,8 @@ module _ {K : Type 0} {R : K → K → Ordering} (same : IsAntisymmetric R) {V :
       none_some e = cc
   not_below_itself x k v (e ∷ es) b f =
       elim (eq_by_cmp R k e.0) as (λ t. eq_by_cmp R k e.0 ≡ t → cond t (Some e.1) (find R k es) ≡ Some v → is_lt (R x k) ≡ true) [
-        | true ↦ λ at f. subst (λ (y : K). is_lt (R x y) ≡ true) (sym (same k e.0 (is_equal _ at))) (both_of _ _ b).0
-        | false ↦ λ at f. not_below_itself x k v es (both_of _ _ b).1 f
+        | true ↦ λ at f. subst (λ (y : K). is_lt (R x y) ≡ true) (sym (same k e.0 (is_equal _ at))) (and_parts _ _ b).0
+        | false ↦ λ at f. not_below_itself x k v es (and_parts _ _ b).1 f
       ] refl f
 
 module _ {K : Type 0} {R : K → K → Ordering} (o : IsTotalOrder R) (same : IsAntisymmetric R) {V : Type 0} (p : K → V → Bool) where
@@ -79,12 +75,12 @@ module _ {K : Type 0} {R : K → K → Ordering} (o : IsTotalOrder R) (same : Is
       elim (p e.0 e.1) as (λ b. p e.0 e.1 ≡ b → (b || list_any (λ e. p e.0 e.1) es) ≡ true → Found (e ∷ es)) [
         | true ↦ λ here h. record { key = e.0; value = e.1; found = ap (λ t. cond t (Some e.1) (find R e.0 es)) (ap is_eq (tied_itself o e.0)); passes = here }
         | false ↦ λ here h.
-            let it = entry_found es (both_of _ _ s).1 h in
+            let it = entry_found es (and_parts _ _ s).1 h in
             record {
               key = it.key;
               value = it.value;
               found =
-                  ap (λ t. cond t (Some e.1) (find R it.key es)) ((eq_by_cmp_equiv o).symm it.key e.0 ∙ less_apart _ (not_below_itself same e.0 it.key it.value es (both_of _ _ s).0 it.found))
+                  ap (λ t. cond t (Some e.1) (find R it.key es)) ((eq_by_cmp_equiv o).symm it.key e.0 ∙ less_apart _ (not_below_itself same e.0 it.key it.value es (and_parts _ _ s).0 it.found))
                   ∙ it.found;
               passes = it.passes;
             }
@@ -112,12 +108,12 @@ module _ {K : Type 0} {R : K → K → Ordering} (o : IsTotalOrder R) (same : Is
   put_last : (xs : List (K × V)) (e : K × V) (es : List (K × V)) → is_sorted R (xs ++ e ∷ es) ≡ true → put R e.0 e.1 xs ≡ xs ++ e ∷ []
   put_last [] e es h = refl
   put_last (x ∷ xs) e es h =
-      rw (reversed_less (R e.0 x.0) (R x.0 e.0) (o.antisymm e.0 x.0) (below_last xs (both_of _ _ h).0))
-      (ap (λ it. x ∷ it) (put_last xs e es (both_of _ _ h).1))
+      rw (reversed_less (R e.0 x.0) (R x.0 e.0) (o.antisymm e.0 x.0) (below_last xs (and_parts _ _ h).0))
+      (ap (λ it. x ∷ it) (put_last xs e es (and_parts _ _ h).1))
     where
       below_last : (ys : List (K × V)) → below_each same x.0 (ys ++ e ∷ es) ≡ true → is_lt (R x.0 e.0) ≡ true
-      below_last [] b = (both_of _ _ b).0
-      below_last (y ∷ ys) b = below_last ys (both_of _ _ b).1
+      below_last [] b = (and_parts _ _ b).0
+      below_last (y ∷ ys) b = below_last ys (and_parts _ _ b).1
 
   -- to put in entries that come after all others is to append them
   pub entries-with_entries : (m : FinMap R V) (es : List (K × V)) → is_sorted R (map.entries m ++ es) ≡ true → map.entries (with_entries m es) ≡ map.entries m ++ es
@@ -130,18 +126,18 @@ module _ {K : Type 0} {R : K → K → Ordering} (o : IsTotalOrder R) (same : Is
   sorted-filter : (p : K × V → Bool) (es : List (K × V)) → is_sorted R es ≡ true → is_sorted R (filter p es) ≡ true
   sorted-filter p [] h = refl
   sorted-filter p (e ∷ es) h =
-      let rest = sorted-filter p es (both_of _ _ h).1 in
+      let rest = sorted-filter p es (and_parts _ _ h).1 in
       elim (p e) as (λ b. is_sorted R (cond b (e ∷ filter p es) (filter p es)) ≡ true) [
-        | true ↦ ap (λ b. b && is_sorted R (filter p es)) (below-filter es (both_of _ _ h).0) ∙ rest
+        | true ↦ ap (λ b. b && is_sorted R (filter p es)) (below-filter es (and_parts _ _ h).0) ∙ rest
         | false ↦ rest
       ]
     where
       below-filter : (ys : List (K × V)) → below_each same e.0 ys ≡ true → below_each same e.0 (filter p ys) ≡ true
       below-filter [] b = refl
       below-filter (y ∷ ys) b =
-          let rest = below-filter ys (both_of _ _ b).1 in
+          let rest = below-filter ys (and_parts _ _ b).1 in
           elim (p y) as (λ t. below_each same e.0 (cond t (y ∷ filter p ys) (filter p ys)) ≡ true) [
-            | true ↦ ap (λ t. t && below_each same e.0 (filter p ys)) (both_of _ _ b).0 ∙ rest
+            | true ↦ ap (λ t. t && below_each same e.0 (filter p ys)) (and_parts _ _ b).0 ∙ rest
             | false ↦ rest
           ]
 
@@ -175,13 +171,13 @@ module _ {K : Type 0} {R : K → K → Ordering} (o : IsTotalOrder R) (same : Is
   each_found [] h = tt
   each_found (e ∷ es) h = (
     ap (λ t. cond t (Some e.1) (find R e.0 es)) (ap is_eq (tied_itself o e.0)),
-    later es (each_found es (both_of _ _ h).1),
+    later es (each_found es (and_parts _ _ h).1),
   )
     where
       later : (ys : List (K × V)) → AllByRecursion (λ y. find R y.0 es ≡ Some y.1) ys → AllByRecursion (λ y. cond (eq_by_cmp R y.0 e.0) (Some e.1) (find R y.0 es) ≡ Some y.1) ys
       later [] a = tt
       later (y ∷ ys) a = (
-        ap (λ t. cond t (Some e.1) (find R y.0 es)) ((eq_by_cmp_equiv o).symm y.0 e.0 ∙ less_apart _ (not_below_itself same e.0 y.0 y.1 es (both_of _ _ h).0 a.0)) ∙ a.0,
+        ap (λ t. cond t (Some e.1) (find R y.0 es)) ((eq_by_cmp_equiv o).symm y.0 e.0 ∙ less_apart _ (not_below_itself same e.0 y.0 y.1 es (and_parts _ _ h).0 a.0)) ∙ a.0,
         later ys a.1,
       )
 

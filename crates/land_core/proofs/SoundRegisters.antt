@@ -5,9 +5,8 @@ use Rattle.std.specs.Ordering.{nat_cmp, eq_by_cmp, is_eq}
 use Rattle.std.specs.Cmp.{nat_cmp_total, tied_itself}
 use Rattle.std.specs.FinMap as map
 use Rattle.std.specs.FinMap.{FinMap, nat_cmp-IsAntisymmetric}
-use Rattle.std.proofs.lemmas.Bool.{false≢true}
+use Rattle.std.proofs.lemmas.Bool.{false≢true, not-false, or_parts}
 use Rattle.std.proofs.lemmas.Bool.Decides.{nat_tests}
-use Rattle.land_core.proofs.Booleans.{or_false, not_false}
 use Rattle.land_core.proofs.FiniteMaps.{none_is_not_some}
 use Rattle.land_core.proofs.FiniteSets.{grants_total, exact_grants}
 use Rattle.land_core.proofs.Reflection.{Passes, some_passes, some_at, none_passes, none_at, list_any-map}
@@ -37,13 +36,13 @@ pub record Refers (r : Register) : Type 0 where
 
 pub refers : (r : Register) → has_fault Reference r ≡ false → Refers r
 refers r h =
-    let mandates = or_false (is_past_the_numbers r || has_unused_number r || has_loose_grant r || has_loose_members r || has_loose_parcel r || has_loose_rrr r || has_loose_mutation r) (has_loose_mandate r) h in
-    let mutations = or_false (is_past_the_numbers r || has_unused_number r || has_loose_grant r || has_loose_members r || has_loose_parcel r || has_loose_rrr r) (has_loose_mutation r) mandates.0 in
-    let rrrs = or_false (is_past_the_numbers r || has_unused_number r || has_loose_grant r || has_loose_members r || has_loose_parcel r) (has_loose_rrr r) mutations.0 in
-    let parcels = or_false (is_past_the_numbers r || has_unused_number r || has_loose_grant r || has_loose_members r) (has_loose_parcel r) rrrs.0 in
-    let members = or_false (is_past_the_numbers r || has_unused_number r || has_loose_grant r) (has_loose_members r) parcels.0 in
-    let grants = or_false (is_past_the_numbers r || has_unused_number r) (has_loose_grant r) members.0 in
-    let numbers = or_false (is_past_the_numbers r) (has_unused_number r) grants.0 in
+    let mandates = or_parts (is_past_the_numbers r || has_unused_number r || has_loose_grant r || has_loose_members r || has_loose_parcel r || has_loose_rrr r || has_loose_mutation r) (has_loose_mandate r) h in
+    let mutations = or_parts (is_past_the_numbers r || has_unused_number r || has_loose_grant r || has_loose_members r || has_loose_parcel r || has_loose_rrr r) (has_loose_mutation r) mandates.0 in
+    let rrrs = or_parts (is_past_the_numbers r || has_unused_number r || has_loose_grant r || has_loose_members r || has_loose_parcel r) (has_loose_rrr r) mutations.0 in
+    let parcels = or_parts (is_past_the_numbers r || has_unused_number r || has_loose_grant r || has_loose_members r) (has_loose_parcel r) rrrs.0 in
+    let members = or_parts (is_past_the_numbers r || has_unused_number r || has_loose_grant r) (has_loose_members r) parcels.0 in
+    let grants = or_parts (is_past_the_numbers r || has_unused_number r) (has_loose_grant r) members.0 in
+    let numbers = or_parts (is_past_the_numbers r) (has_unused_number r) grants.0 in
     record { room = numbers.0; numbers = numbers.1; grants = grants.1; members = members.1; parcels = parcels.1; rrrs = rrrs.1; mutations = mutations.1; mandates = mandates.1 }
 
 pub refers_back : (r : Register) → Refers r → has_fault Reference r ≡ false
@@ -68,11 +67,11 @@ pub record AreUsed (r : Register) : Type 0 where
 
 pub are_used : (r : Register) → has_unused_number r ≡ false → AreUsed r
 are_used r h =
-    let mutations = or_false (has_unused r r.parties || has_unused r r.units || has_unused r r.parcels || has_unused r r.rrrs || has_unused r r.sources) (has_unused r r.mutations) h in
-    let sources = or_false (has_unused r r.parties || has_unused r r.units || has_unused r r.parcels || has_unused r r.rrrs) (has_unused r r.sources) mutations.0 in
-    let rrrs = or_false (has_unused r r.parties || has_unused r r.units || has_unused r r.parcels) (has_unused r r.rrrs) sources.0 in
-    let parcels = or_false (has_unused r r.parties || has_unused r r.units) (has_unused r r.parcels) rrrs.0 in
-    let units = or_false (has_unused r r.parties) (has_unused r r.units) parcels.0 in
+    let mutations = or_parts (has_unused r r.parties || has_unused r r.units || has_unused r r.parcels || has_unused r r.rrrs || has_unused r r.sources) (has_unused r r.mutations) h in
+    let sources = or_parts (has_unused r r.parties || has_unused r r.units || has_unused r r.parcels || has_unused r r.rrrs) (has_unused r r.sources) mutations.0 in
+    let rrrs = or_parts (has_unused r r.parties || has_unused r r.units || has_unused r r.parcels) (has_unused r r.rrrs) sources.0 in
+    let parcels = or_parts (has_unused r r.parties || has_unused r r.units) (has_unused r r.parcels) rrrs.0 in
+    let units = or_parts (has_unused r r.parties) (has_unused r r.units) parcels.0 in
     record { parties = units.0; units = units.1; parcels = parcels.1; rrrs = rrrs.1; sources = sources.1; mutations = mutations.1 }
 
 pub are_used_back : (r : Register) → AreUsed r → has_unused_number r ≡ false
@@ -97,7 +96,7 @@ loose_from r h =
 pub single_from : (r : Register) → has_loose_grant r ≡ false → (g : Grant) → map.get r.roles g ≡ Some tt → has_single_party r g.party ≡ true
 unfolding grants_in
 single_from r none g is =
-    not_false _ (none_at grants_total exact_grants (λ g u. not (has_single_party r g.party)) r.roles g tt
+    not-false _ (none_at grants_total exact_grants (λ g u. not (has_single_party r g.party)) r.roles g tt
     (sym (list_any-map (λ (g : Grant). not (has_single_party r g.party)) (λ e. e.0) (map.entries r.roles)) ∙ none) is)
 
 pub administrator_from : (r : Register) → has_administrator r ≡ true → Passes (λ (g : Grant) (u : Unit {0}). is_role g.role StateAdministrator) r.roles
@@ -114,7 +113,7 @@ administrator_at r g is role =
 
 -- the numbers of records are in use, where none is not
 pub used_from : {V : Type 0} (r : Register) (records : FinMap nat_cmp V) → has_unused r records ≡ false → (n : ℕ) (v : V) → map.get records n ≡ Some v → is_used r n ≡ true
-used_from r records none n v is = not_false _ (none_at nat_cmp_total nat_cmp-IsAntisymmetric (λ n v. not (is_used r n)) records n v none is)
+used_from r records none n v is = not-false _ (none_at nat_cmp_total nat_cmp-IsAntisymmetric (λ n v. not (is_used r n)) records n v none is)
 
 pub unused_from : {V : Type 0} (r : Register) (records : FinMap nat_cmp V) → ((n : ℕ) (v : V) → map.get records n ≡ Some v → is_used r n ≡ true) → has_unused r records ≡ false
 unused_from r records h = none_passes nat_cmp_total nat_cmp-IsAntisymmetric (λ n v. not (is_used r n)) records (λ n v is. ap not (h n v is))
@@ -134,10 +133,10 @@ loose_members_from r h = none_passes nat_cmp_total nat_cmp-IsAntisymmetric (λ g
 
 pub members_from : (r : Register) → has_loose_members r ≡ false → (group : ℕ) (members : Members) → map.get r.members group ≡ Some members → AreTight r group members
 members_from r none group members is =
-    let parts = or_false (not (has_group r group)) (has_loose_member r members) (none_at nat_cmp_total nat_cmp-IsAntisymmetric (λ group members. are_loose r group members) r.members group members none is) in
+    let parts = or_parts (not (has_group r group)) (has_loose_member r members) (none_at nat_cmp_total nat_cmp-IsAntisymmetric (λ group members. are_loose r group members) r.members group members none is) in
     record {
-      grouped = not_false _ parts.0;
-      single = λ n share at. not_false _ (none_at nat_cmp_total nat_cmp-IsAntisymmetric (λ n share. not (has_single_party r n)) members n share parts.1 at);
+      grouped = not-false _ parts.0;
+      single = λ n share at. not-false _ (none_at nat_cmp_total nat_cmp-IsAntisymmetric (λ n share. not (has_single_party r n)) members n share parts.1 at);
     }
 
 -- groups are whole, where none is broken
@@ -154,7 +153,7 @@ unbroken_from r h =
 
 pub whole_from : (r : Register) → has_broken_group r ≡ false → (n : ℕ) (p : PartyRecord) → map.get r.parties n ≡ Some p → is_single p.kind ≡ false → are_group_shares (shares_of r n) ≡ true
 whole_from r none n p is group =
-    not_false _ (sym (ap (λ b. not b && not (are_group_shares (shares_of r n))) group) ∙ none_at nat_cmp_total nat_cmp-IsAntisymmetric (is_broken r) r.parties n p none is)
+    not-false _ (sym (ap (λ b. not b && not (are_group_shares (shares_of r n))) group) ∙ none_at nat_cmp_total nat_cmp-IsAntisymmetric (is_broken r) r.parties n p none is)
 
 -- a single party that stands has a record
 pub record Stands (r : Register) (n : ℕ) : Type 0 where
@@ -178,7 +177,7 @@ unit_is u = refl
 pub next_above_zero : (r : Register) → IsSound r → 0 < r.next
 next_above_zero r sound =
     let parts = refers r (sound Reference) in
-    let one = administrator_from r (not_false _ (sound Administrator)) in
+    let one = administrator_from r (not-false _ (sound Administrator)) in
     let stands = stands_from r one.key.party (single_from r parts.grants one.key (one.there ∙ ap Some (unit_is one.value))) in
     let bounds = used_bounds r one.key.party (used_from r r.parties (are_used r parts.numbers).parties one.key.party stands.party stands.there) in
     omega arith

@@ -1,15 +1,15 @@
 -- What is listed under the units of a register says what the whole register says.
-use Rattle.std.proofs.Common.{◌≡◌, ℕ, Bool, true, false, cond, not, ◌||◌, ◌&&◌, nat_eq, nat_lt, List, [], ◌∷◌, length, suc, Option, Some, None, is_some, refl, sym, ap, ◌∙◌, subst, arith}
+use Rattle.std.proofs.Common.{◌≡◌, ℕ, Bool, true, false, cond, not, ◌||◌, ◌&&◌, nat_eq, nat_lt, List, [], ◌∷◌, length, suc, Option, Some, None, is_some, refl, sym, ap, ◌∙◌, subst}
 use Rattle.std.proofs.Math.Dec.{eqb-suc-zero}
-use Rattle.std.proofs.lemmas.Bool.{false≢true, eqb-true, eq-eqb}
-use Rattle.std.proofs.lemmas.Bool.Decides.{nat_tests}
+use Rattle.std.proofs.lemmas.Bool.{false≢true, eqb-true, eq-eqb, and_parts, not-false}
 use Rattle.std.specs.Cmp.{nat_cmp_total}
 use Rattle.std.specs.FinMap as map
 use Rattle.std.specs.FinMap.{FinMap, nat_cmp-IsAntisymmetric}
 use Rattle.std.specs.List.{filter_map, list_any, cons_option}
 use Rattle.std.specs.Ordering.{nat_cmp}
 use Rattle.std.specs.Prelude.{filter}
-use Rattle.land_core.proofs.Booleans.{both_of, not_false, or_true}
+use Rattle.std.proofs.lemmas.Cmp.{nat_eq_equiv}
+use Rattle.land_core.proofs.Booleans.{or_true, or_nothing, same_tests}
 use Rattle.land_core.proofs.Pairs.{later_pairs, list_any_same, some_pair}
 use Rattle.land_core.proofs.Reflection.{none_at, some_at, some_passes}
 use Rattle.land_core.specs.ByUnit.{IsByUnit, claim_in, claim_of, claimed_share, claimed_shares, claims_in, do_claims_clash, have_clash, is_bare, is_claim_of, is_crowded, is_in_parts, placed, under}
@@ -88,13 +88,9 @@ no_type : (a b : Bool) → (a && false || b) ≡ b
 no_type true b = refl
 no_type false b = refl
 
-no_rank : (a : Bool) → (a || false) ≡ a
-no_rank true = refl
-no_rank false = refl
-
 -- two claims clash where two entries of one unit do
 clash_claimed : (p q : ℕ) (c d : Class) → (nat_eq p q && are_of_one_type (type_of c) (type_of d) || are_of_one_rank (rank_of c) (rank_of d)) ≡ do_claims_clash (claim_in p c) (claim_in q d)
-clash_claimed p q (Right type share) (Right other part) = no_rank (nat_eq p q && is_type type other)
+clash_claimed p q (Right type share) (Right other part) = or_nothing (nat_eq p q && is_type type other)
 clash_claimed p q (Right type share) (Restriction words) = no_type (nat_eq p q) false
 clash_claimed p q (Right type share) (Responsibility words) = no_type (nat_eq p q) false
 clash_claimed p q (Right type share) (Mortgage amount currency rank) = no_type (nat_eq p q) false
@@ -110,15 +106,12 @@ some_same : {V : Type 0} (p q : ℕ → V → Bool) → ((n : ℕ) (v : V) → p
 some_same p q h m = list_any_same (λ e. p e.0 e.1) (λ e. q e.0 e.1) (λ e. h e.0 e.1) (map.entries m)
 
 -- an entry clashes with the later ones of its unit
-same_number : (a b : ℕ) → nat_eq a b ≡ nat_eq b a
-same_number a b = grind (arith, nat_tests)
-
 in_its_unit : (e : ℕ × RrrRecord) (es : List (ℕ × RrrRecord)) → list_any (do_claims_clash (claim_of e.1)) (claims_in es e.1.unit) ≡ list_any (λ f. do_clash e.1 f.1) es
 in_its_unit e es =
     list_any-placed (λ f. f.1.unit) (λ f. claim_of f.1) e.1.unit (do_claims_clash (claim_of e.1)) es
     ∙ list_any_same (λ f. nat_eq f.1.unit e.1.unit && do_claims_clash (claim_of e.1) (claim_of f.1)) (λ f. do_clash e.1 f.1)
     (λ f.
-    ap (λ t. t && do_claims_clash (claim_of e.1) (claim_of f.1)) (same_number f.1.unit e.1.unit)
+    ap (λ t. t && do_claims_clash (claim_of e.1) (claim_of f.1)) (nat_eq_equiv.symm f.1.unit e.1.unit)
     ∙ ap (λ t. nat_eq e.1.unit f.1.unit && t) (sym (clash_claimed e.1.party f.1.party e.1.class f.1.class))) es
 
 -- the claims of a unit clash only where entries do
@@ -163,12 +156,6 @@ to_unit (e ∷ es) h =
             ];
           }
     ] refl h
-
--- tests that pass together are the same
-alike : (a b : Bool) → (a ≡ true → b ≡ true) → (b ≡ true → a ≡ true) → a ≡ b
-alike true b to back = sym (to refl)
-alike false true to back = back refl
-alike false false to back = refl
 
 -- of two tests one is not passed
 not_both : (a b : Bool) → (not a || not b) ≡ not (a && b)
@@ -230,7 +217,7 @@ module _ (b : ByUnit) (r : Register) (listed : IsByUnit b r) where
 
   -- where each entry is in a unit that stands
   pub clash_same : has_loose_rrr r ≡ false → some (λ n (u : UnitRecord). have_clash (under b.claims n)) r.units ≡ has_clash r
-  clash_same refers = alike _ _ to back
+  clash_same refers = same_tests _ _ to back
     where
       to : some (λ n (u : UnitRecord). have_clash (under b.claims n)) r.units ≡ true → has_clash r ≡ true
       to h =
@@ -241,7 +228,7 @@ module _ (b : ByUnit) (r : Register) (listed : IsByUnit b r) where
       back h =
           let it = to_unit (map.entries r.rrrs) (sym clashes ∙ h) in
           let entry = some_passes nat_cmp_total nat_cmp-IsAntisymmetric (λ n e. nat_eq e.unit it.unit) r.rrrs it.has in
-          let tight = not_false _ (none_at nat_cmp_total nat_cmp-IsAntisymmetric (λ n e. not (has r.units e.unit && has r.parties e.party && has r.sources e.source)) r.rrrs entry.key entry.value refers entry.there) in
-          let stands = (both_of _ _ (both_of _ _ tight).0).0 in
+          let tight = not-false _ (none_at nat_cmp_total nat_cmp-IsAntisymmetric (λ n e. not (has r.units e.unit && has r.parties e.party && has r.sources e.source)) r.rrrs entry.key entry.value refers entry.there) in
+          let stands = (and_parts _ _ (and_parts _ _ tight).0).0 in
           let unit = has_from r.units it.unit (subst (λ (n : ℕ). has r.units n ≡ true) (eqb-true entry.value.unit it.unit entry.passes) stands) in
           some_at nat_cmp_total nat_cmp-IsAntisymmetric (λ n (u : UnitRecord). have_clash (under b.claims n)) r.units it.unit unit.value unit.there (ap have_clash (listed.claims it.unit) ∙ it.clash)

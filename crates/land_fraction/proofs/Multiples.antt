@@ -1,11 +1,12 @@
 -- Common multiples of denominators, and the parts that shares have of them.
-use Rattle.std.proofs.Common.{◌≡◌, ℕ, ◌+◌, ◌*◌, ◌/◌, ◌<◌, ◌≤◌, refl, sym, ap, subst, arith, ◌∙◌, Bool, true, false, ◌&&◌, List, [], ◌∷◌, length, take, All, get_or, ◌++◌, Some}
+use Rattle.std.proofs.Common.{◌≡◌, ℕ, ◌+◌, ◌*◌, ◌/◌, ◌<◌, ◌≤◌, refl, sym, ap, subst, arith, ◌∙◌, true, List, [], ◌∷◌, length, take, All, get_or, ◌++◌, Some}
 use Rattle.std.specs.Int.{◌∣◌}
 use Rattle.std.proofs.Math.Nat.{dvd-mul_left, dvd-mul_right, pos_of_dvd_of_pos, div-mul_cancel, dvd_of_mul-dvd-mul_right, eq_of_mul-eq-mul_left, mul-div_assoc, mul-dvd-mul_left, mul-dvd-mul_right, mul-le-mul_right, mul-div-le, mul-pos, one-dvd}
 use Rattle.std.proofs.lemmas.Nat.Gcd.{le_of_dvd, dvd_trans}
 use Rattle.std.proofs.lemmas.List.Elements.{All-nil, All-cons, All-head, All-tail, All-take, All-weaker, All-push, All-pop}
 use Rattle.std.proofs.lemmas.List.{take_more, take_all}
 use Rattle.std.proofs.lemmas.List.Sums.{sum_by-cons}
+use Rattle.std.proofs.lemmas.Bool.{and_parts}
 use Rattle.land_fraction.specs.Divisor.{IsGreatestDivisor, IsLeastMultiple}
 use Rattle.land_fraction.specs.Ratio.{Ratio, finest, IsFraction}
 use Rattle.land_fraction.specs.Answer.{is_multiple}
@@ -74,14 +75,10 @@ common_multiple-passes m (s ∷ shares) all =
     let rest : is_common_multiple m shares ≡ true = common_multiple-passes m shares (All-tail (λ (share : Ratio). share.denominator ∣ m) s shares all) in
     rw (here, rest) refl
 
-pub both_true : (a b : Bool) → (a && b) ≡ true → (a ≡ true) × (b ≡ true)
-both_true true b e = (refl, e)
-both_true false b e = absurd (cc)
-
 pub common_multiple_of-passing : (m : ℕ) (shares : List Ratio) → is_common_multiple m shares ≡ true → All (λ (share : Ratio). share.denominator ∣ m) shares
 common_multiple_of-passing m [] e = All-nil (λ (share : Ratio). share.denominator ∣ m)
 common_multiple_of-passing m (s ∷ shares) e =
-    let both = both_true (is_multiple m s.denominator) (is_common_multiple m shares) e in
+    let both = and_parts (is_multiple m s.denominator) (is_common_multiple m shares) e in
     All-cons (λ (share : Ratio). share.denominator ∣ m) s shares (dvd_of_multiple m s.denominator both.0) (common_multiple_of-passing m shares both.1)
 
 -- ---- the loop over a list

@@ -1,13 +1,13 @@
 -- The one right answer to a list of shares.
 use Rattle.std.proofs.Common.{◌≡◌, ℕ, ◌<◌, ◌≤◌, refl, subst, arith, Bool, true, false, ◌&&◌, nat_eq, List, Option, Some, None, is_some, is_none, if◌then◌else◌, ◌⊎◌, inl, inr, eq-eqb}
-use Rattle.std.proofs.lemmas.Bool.{cases_lt, cases_eq, eqb-true}
+use Rattle.std.proofs.lemmas.Bool.{cases_lt, cases_eq, eqb-true, and_parts}
 use Rattle.land_fraction.specs.Least.{least_to}
 use Rattle.land_fraction.specs.Ratio.{Ratio, finest}
 use Rattle.land_fraction.specs.Wholeness.{IsCommonMultiple, IsTooFine, IsWhole, IsWholeness, IsCommon, parts_of, is_common_multiple, common_of, wholeness}
 use Rattle.land_fraction.specs.declared.lists.Whole.{Whole}
 use Rattle.land_fraction.specs.declared.lists.Whole.TheVariants.{Yes, No, TooFine}
 use Rattle.land_fraction.proofs.LeastLemmas.{IsLeastTo, least_to-is, one_least_to, found}
-use Rattle.land_fraction.proofs.Multiples.{common_multiple-passes, common_multiple_of-passing, both_true, all_parts}
+use Rattle.land_fraction.proofs.Multiples.{common_multiple-passes, common_multiple_of-passing, all_parts}
 
 abbrev divides_all : List Ratio → ℕ → Bool
 divides_all shares m = is_common_multiple m shares
@@ -97,7 +97,7 @@ filled m shares h e =
 whole_of : (shares : List Ratio) (o : Option ℕ) → IsLeastTo finest (fills_all shares) o → is_some o ≡ true → IsWhole shares
 whole_of shares None h e = absurd (cc)
 whole_of shares (Some m) h e =
-    let both = both_true (is_common_multiple m shares) (nat_eq (parts_of m shares) m) h.0.passing in
+    let both = and_parts (is_common_multiple m shares) (nat_eq (parts_of m shares) m) h.0.passing in
     (m, h.1, common_multiple m shares h.0.positive both.0, eqb-true (parts_of m shares) m both.1)
 
 -- the right answer is the function's

@@ -8,7 +8,6 @@ use Rattle.std.specs.List.{AllByRecursion}
 use Rattle.std.specs.Option.{option_map, option_map_or}
 use Rattle.std.specs.Ordering.{nat_cmp}
 use Rattle.std.proofs.lemmas.Bool.{false≢true}
-use Rattle.land_core.proofs.Booleans.{both_of}
 use Rattle.land_core.proofs.Reflection.{each_there}
 use Rattle.land_core.specs.Entries.{has}
 use Rattle.land_core.specs.Register.{nothing, object_at, parcel_at, party_at, unit_at}

@@ -6,7 +6,7 @@ use Rattle.std.specs.Option.{option_map}
 use Rattle.std.specs.Cmp.{nat_cmp_total}
 use Rattle.std.specs.FinMap.{get-empty, nat_cmp-IsAntisymmetric}
 use Rattle.std.specs.Ordering.{nat_cmp}
-use Rattle.land_core.proofs.Booleans.{not_false}
+use Rattle.std.proofs.lemmas.Bool.{not-false}
 use Rattle.land_core.proofs.Reflection.{none_at}
 use Rattle.land_core.specs.Members.{are_group_shares}
 use Rattle.land_core.specs.Register.{is_single, nothing, shares_of}
@@ -23,9 +23,9 @@ use Rattle.land_keep.specs.declared.timeline.Version.{Version}
 -- a sound register has whole shares, and so has one that holds nothing
 sound_whole : (r : Register) → IsSound r → HasWholeShares r
 sound_whole r sound = record {
-  units = λ n u is checked. not_false (has_whole_shares r n)
+  units = λ n u is checked. not-false (has_whole_shares r n)
       (sym (ap (λ b. b && not (has_whole_shares r n)) checked) ∙ none_at nat_cmp_total nat_cmp-IsAntisymmetric (λ n u. u.checked && not (has_whole_shares r n)) r.units n u (sound Shares) is);
-  groups = λ n p is group. not_false (are_group_shares (shares_of r n))
+  groups = λ n p is group. not-false (are_group_shares (shares_of r n))
       (sym (ap (λ b. not b && not (are_group_shares (shares_of r n))) group)
       ∙ none_at nat_cmp_total nat_cmp-IsAntisymmetric (λ n p. not (is_single p.kind) && not (are_group_shares (shares_of r n))) r.parties n p (sound Group) is);
 }

@@ -6,8 +6,9 @@ use Rattle.std.specs.FinMap as map
 use Rattle.std.specs.FinMap.{nat_cmp-IsAntisymmetric}
 use Rattle.std.specs.List.{list_any}
 use Rattle.std.specs.Option.{option_map, option_map_or}
-use Rattle.std.proofs.lemmas.Bool.{false≢true}
-use Rattle.land_core.proofs.Booleans.{both_of}
+use Rattle.std.proofs.lemmas.Bool.{false≢true, and_from, and_parts, eqb-true}
+use Rattle.std.proofs.lemmas.Cmp.{nat_eq_equiv}
+use Rattle.land_core.proofs.Booleans.{same_tests}
 use Rattle.land_core.proofs.Reflection.{some_at, some_passes}
 use Rattle.land_core.specs.Entries.{has}
 use Rattle.land_core.specs.Register.{mutation_at, object_at}
@@ -22,9 +23,7 @@ use Rattle.land_core.specs.declared.register.Register.{Register}
 use Rattle.land_core.specs.declared.role.Role.{Role}
 use Rattle.land_core.specs.declared.role.Role.TheVariants.{Citizen, Conveyancer, Notary, Bank, CertifiedSurveyor, StateAdministrator}
 use Rattle.land_core.specs.declared.rrr.RrrRecord.{RrrRecord}
-use Rattle.land_rules.proofs.Booleans.{same_tests}
-use Rattle.land_rules.proofs.Denied.{eq-itself}
-use Rattle.land_rules.proofs.Seeing.{number_is, seen_exactly}
+use Rattle.land_rules.proofs.Seeing.{seen_exactly}
 use Rattle.land_rules.proofs.SightDenials.{party_stands, told_by_references}
 use Rattle.land_rules.proofs.SightLaws.{sees_lodged}
 use Rattle.land_rules.specs.Alike.{LookAlike, VerdictsTellNothingUnseen}
@@ -53,7 +52,7 @@ module _ {X : Type 0} where
   under f g [] n e h = absurd (false≢true h)
   under f g (k ∷ ks) n e h =
       elim (nat_eq n k) as (λ b. nat_eq n k ≡ b → (b || list_any (nat_eq n) ks) ≡ true → f n ≡ g n) [
-        | true ↦ λ here h. subst (λ (m : ℕ). f m ≡ g m) (sym (number_is n k here)) (ap (λ p. p.1) (head_is e))
+        | true ↦ λ here h. subst (λ (m : ℕ). f m ≡ g m) (sym (eqb-true n k here)) (ap (λ p. p.1) (head_is e))
         | false ↦ λ gone h. under f g ks n (tail_is e) h
       ] refl h
 
@@ -103,7 +102,7 @@ conveyancer party = record { party = party; role = Conveyancer }
 lodger_forth : (one other : Register) (party unit : ℕ) → LookAlike one other (conveyancer party) → is_lodger_on one party unit ≡ true → is_lodger_on other party unit ≡ true
 lodger_forth one other party unit alike h =
     let it = some_passes nat_cmp_total nat_cmp-IsAntisymmetric (λ n m. is_pending_on party unit m) one.mutations h in
-    let own : is_lodger_of party it.value ≡ true = (both_of _ _ (both_of _ _ it.passes).0).1 in
+    let own : is_lodger_of party it.value ≡ true = (and_parts _ _ (and_parts _ _ it.passes).0).1 in
     let seen : sees one (conveyancer party) kind.Mutation it.key ≡ true = sees_lodged one party Conveyancer it.key refl ∙ ap (λ o. option_map_or (is_lodger_of party) o false) it.there ∙ own in
     let there = sym (mutation_is one other it.key (same_objects one other (conveyancer party) alike kind.Mutation it.key seen)) ∙ it.there in
     some_at nat_cmp_total nat_cmp-IsAntisymmetric (λ n m. is_pending_on party unit m) other.mutations it.key it.value there it.passes
@@ -176,15 +175,11 @@ last_there : (there : Bool) → there ≡ true → is_allowed (cond (not there) 
 last_there true e = refl
 last_there false e = e
 
-both : (a b : Bool) → a ≡ true → b ≡ true → (a && b) ≡ true
-both true b e f = f
-both false b e f = absurd (false≢true e)
-
 module _ (at : Register) (sound : IsSoundOrNothing at) (n : ℕ) (e : RrrRecord) (there : map.get at.rrrs n ≡ Some e) where
   met : (caller : Caller) → sees at caller kind.Rrr n ≡ true → is_party_in_sight at caller e.party ≡ true
   met caller seen =
       some_at nat_cmp_total nat_cmp-IsAntisymmetric (λ k x. nat_eq x.party e.party && is_rrr_in_sight at caller k) at.rrrs n e there
-      (both _ _ (eq-itself e.party) seen)
+      (and_from _ _ (nat_eq_equiv.refl e.party) seen)
 
   seen_by_role : (party : ℕ) (role : Role) → let caller : Caller = record { party = party; role = role } in
       sees at caller kind.Rrr n ≡ true → sees at caller kind.Party e.party ≡ true

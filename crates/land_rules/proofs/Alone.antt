@@ -3,17 +3,17 @@ use Rattle.std.proofs.Common.{◌≡◌, ℕ, Bool, ap, ◌∙◌}
 use Rattle.std.specs.Prelude.{nat_eq}
 use Rattle.std.specs.FinMap as map
 use Rattle.std.specs.List.{list_any}
+use Rattle.land_core.proofs.Booleans.{or_nothing}
 use Rattle.land_core.specs.declared.register.Register.{Register}
 use Rattle.land_core.specs.declared.rrr.RrrRecord.{RrrRecord}
 use Rattle.land_rules.proofs.InCircles.{alone, told_together}
-use Rattle.land_rules.proofs.SomeOf.{or_none}
 use Rattle.land_rules.specs.Circles.{circle_of, is_group_of, is_held_by, is_in_circle, is_name_of, is_told_to_circle}
 use Rattle.land_rules.specs.Relations.{holds_as, is_holder, is_member_of, is_told_to_holder}
 
 module _ (at : Register) (none : at.mandates ≡ map.empty) (party : ℕ) where
   -- a test that one of the circle passes
   one_alone : (passes : ℕ → Bool) → list_any passes (circle_of at party) ≡ passes party
-  one_alone passes = ap (list_any passes) (alone at party none) ∙ or_none (passes party)
+  one_alone passes = ap (list_any passes) (alone at party none) ∙ or_nothing (passes party)
 
   pub in_circle_alone : (number : ℕ) → is_in_circle at party number ≡ nat_eq number party
   in_circle_alone number = one_alone (nat_eq number)

@@ -3,8 +3,7 @@ use Rattle.std.proofs.Common.{◌≡◌, inl, inr, ℕ, Bool, true, false, not, 
 use Rattle.std.specs.Prelude.{◌≢◌, ◌||◌}
 use Rattle.std.specs.Option.{option_map_or}
 use Rattle.std.specs.FinMap as map
-use Rattle.std.proofs.lemmas.Bool.{false≢true}
-use Rattle.land_core.proofs.Booleans.{both_of, not_true, or_false}
+use Rattle.std.proofs.lemmas.Bool.{false≢true, and_from, and_parts, eq-eqb, eqb-true, false_from_ne_true, not-true, or_from, or_parts}
 use Rattle.land_core.specs.declared.act.Act.{Act}
 use Rattle.land_core.specs.declared.act.Act.TheVariants as act
 use Rattle.land_core.specs.declared.ask.Ask.{Ask}
@@ -20,7 +19,7 @@ use Rattle.land_rules.specs.ActLaws.{to_approve, to_refuse}
 use Rattle.land_rules.specs.Acts.{decides, is_discharge_of_another, is_mortgage_of, is_mortgage_of_another, is_of_a_mortgage, is_of_mandates, is_of_outlines, is_office_act, is_transfer, lodges, withdraws}
 use Rattle.land_rules.specs.Relations.{has_lodged, is_rrr_where}
 use Rattle.land_rules.specs.StandingLaws.{HasMortgage, IsOfTheOffice, Lodges, LodgesMortgageOrDischarge, LodgesSubdivisionOrMerger, LodgesTransfer, is_lodging}
-use Rattle.land_rules.proofs.StandingTests.{both, neither, never, not_both, number_at, number_is}
+use Rattle.land_rules.proofs.StandingTests.{not_both}
 
 -- whether what is asked for is an act that passes a test
 abbrev pub asks_for : (Act → Bool) → Ask → Bool
@@ -73,12 +72,12 @@ office_lodges_nothing passes other h = refl
 
 pub of_the_office : (a : Ask) → asks_for is_office_act a ≡ true → IsOfTheOffice a
 of_the_office (ask.Do it) h =
-    let parts = or_false _ _ (not_true _ (sym (lodging_or_office it) ∙ h)) in
+    let parts = or_parts _ _ (not-true _ (sym (lodging_or_office it) ∙ h)) in
     record { act = it; asked = refl; no_lodging = parts.0; no_mandate = parts.1 }
 of_the_office other h = absurd (false≢true h)
 
 pub asks_the_office : (a : Ask) → IsOfTheOffice a → asks_for is_office_act a ≡ true
-asks_the_office a it = subst (λ (x : Ask). asks_for is_office_act x ≡ true) (sym it.asked) (lodging_or_office it.act ∙ ap not (neither _ _ it.no_lodging it.no_mandate))
+asks_the_office a it = subst (λ (x : Ask). asks_for is_office_act x ≡ true) (sym it.asked) (lodging_or_office it.act ∙ ap not (or_from _ _ it.no_lodging it.no_mandate))
 
 -- an act that is not on a mandate withdraws none
 pub withdraws_nothing : (passes : Mandate → Bool) (it : Act) → is_of_mandates it ≡ false → withdraws passes it ≡ false
@@ -89,8 +88,8 @@ withdraws_nothing passes other h = refl
 pub decides_for_others : (now : Register) (party : ℕ) (it : Act)
     → ((number : ℕ) → has_lodged now party number ≡ true → (ask.Do it ≢ to_approve number) × (ask.Do it ≢ to_refuse number))
     → decides (has_lodged now party) it ≡ false
-decides_for_others now party (act.Approve it) others = never _ (λ h. (others it.mutation h).0 refl)
-decides_for_others now party (act.Refuse it) others = never _ (λ h. (others it.mutation h).1 refl)
+decides_for_others now party (act.Approve it) others = false_from_ne_true _ (λ h. (others it.mutation h).0 refl)
+decides_for_others now party (act.Refuse it) others = false_from_ne_true _ (λ h. (others it.mutation h).1 refl)
 decides_for_others now party other others = refl
 
 pub outlines_are_no_transfer : (c : Content) → is_of_outlines c ≡ true → is_transfer c ≡ false
@@ -153,7 +152,7 @@ mortgage_of_another party a h = let it = lodging_of (is_mortgage_of_another part
     by_content (content.Mortgage it) lodged h = record {
       mortgage = it;
       lodged = lodged;
-      other = λ same. not_both _ (number_at it.creditor party same) (not_true _ h);
+      other = λ same. not_both _ (eq-eqb it.creditor party same) (not-true _ h);
     }
     by_content other lodged h = absurd (false≢true h)
 
@@ -167,7 +166,7 @@ pub discharge_of_another : (now : Register) (party : ℕ) (a : Ask)
 discharge_of_another now party a h = let it = lodging_of (is_discharge_of_another now party) a h in by_content it.content it.lodged it.meets
   where
     by_content : (c : Content) → Lodges c a → is_discharge_of_another now party c ≡ true → EndsForAnother now party a
-    by_content (content.Discharge it) lodged h = record { discharge = it; lodged = lodged; other = not_true _ h }
+    by_content (content.Discharge it) lodged h = record { discharge = it; lodged = lodged; other = not-true _ h }
     by_content other lodged h = absurd (false≢true h)
 
 -- what a discharge asks for is a mortgage of the party, or it is none
@@ -178,14 +177,14 @@ mortgage_found now party number h = found (map.get now.rrrs number) refl h
         → HasMortgage now party number
     found None e h = absurd (false≢true h)
     found (Some entry) e h =
-        let parts = both_of _ _ h in
-        record { entry = entry; there = e; class = parts.0; creditor = number_is entry.party party parts.1 }
+        let parts = and_parts _ _ h in
+        record { entry = entry; there = e; class = parts.0; creditor = eqb-true entry.party party parts.1 }
 
 pub mortgage_is_found : (now : Register) (party number : ℕ) → HasMortgage now party number
     → is_rrr_where (is_mortgage_of party) now number ≡ true
 mortgage_is_found now party number h =
-    ap (λ o. option_map_or (is_mortgage_of party) o false) h.there ∙ both _ _ h.class (number_at h.entry.party party h.creditor)
+    ap (λ o. option_map_or (is_mortgage_of party) o false) h.there ∙ and_from _ _ h.class (eq-eqb h.entry.party party h.creditor)
 
 pub no_mortgage_found : (now : Register) (party number : ℕ) → (HasMortgage now party number → ⊥)
     → is_rrr_where (is_mortgage_of party) now number ≡ false
-no_mortgage_found now party number none = never _ (λ h. none (mortgage_found now party number h))
+no_mortgage_found now party number none = false_from_ne_true _ (λ h. none (mortgage_found now party number h))

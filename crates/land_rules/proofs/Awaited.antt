@@ -3,6 +3,7 @@ use Rattle.std.proofs.Common.{◌≡◌, ℕ, Bool, true, false, ◌&&◌, Optio
 use Rattle.std.proofs.lemmas.Bool.{false≢true}
 use Rattle.std.specs.FinMap as map
 use Rattle.std.specs.Option.{option_map_or}
+use Rattle.land_core.proofs.Booleans.{and_true}
 use Rattle.land_core.specs.Entries.{has}
 use Rattle.land_core.specs.Laws.{SoundnessByLookUps}
 use Rattle.land_core.specs.declared.caller.Caller.{Caller}
@@ -12,7 +13,7 @@ use Rattle.land_core.specs.declared.register.Register.{Register}
 use Rattle.land_core.specs.declared.role.Role.{Role}
 use Rattle.land_core.specs.declared.role.Role.TheVariants as roles
 use Rattle.land_core.specs.declared.rrr.RrrRecord.{RrrRecord}
-use Rattle.land_rules.proofs.SightByInterest.{UnitsStand, and_true, passes_both, units_stand}
+use Rattle.land_rules.proofs.SightByInterest.{UnitsStand, passes_both, units_stand}
 use Rattle.land_rules.specs.Denials.Sight.{WhatIsAwaitedIsSeen, is_awaited, sees_by_awaiting}
 use Rattle.land_rules.specs.Relations.{is_lodger_on, is_rrr_where}
 use Rattle.land_rules.specs.Rules.{is_told_to_conveyancer, sees}

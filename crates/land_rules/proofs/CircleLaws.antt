@@ -5,6 +5,7 @@ use Rattle.std.specs.FinMap as map
 use Rattle.std.specs.List.{list_any}
 use Rattle.std.specs.Option.{option_map_or}
 use Rattle.std.proofs.lemmas.Bool.{false≢true}
+use Rattle.land_core.proofs.Booleans.{and_true, or_nothing}
 use Rattle.land_core.specs.Entries.{some}
 use Rattle.land_core.specs.Register.{stands}
 use Rattle.land_core.specs.Role.{is_role}
@@ -15,7 +16,7 @@ use Rattle.land_core.specs.declared.role.Role.{Role}
 use Rattle.land_core.specs.declared.role.Role.TheVariants.{Bank, CertifiedSurveyor, Citizen, Conveyancer, Notary, StateAdministrator}
 use Rattle.land_rules.proofs.InCircles.{named_together, no_principals, told_together}
 use Rattle.land_rules.proofs.Seeing.{seen_exactly}
-use Rattle.land_rules.proofs.SomeOf.{and_any, any_alike, any_and, any_either, any_none, any_or, any_same, or_none}
+use Rattle.land_rules.proofs.SomeOf.{and_any, any_alike, any_and, any_either, any_none, any_or, any_same}
 use Rattle.land_rules.specs.CircleLaws.{CirclesSeeTogether, MandatesServeCitizens, without_mandates}
 use Rattle.land_rules.specs.Circles.{circle_of, is_group_of, is_held_by, is_told_to_circle, names_held_by, principals_of}
 use Rattle.land_rules.specs.Laws.{citizen}
@@ -34,10 +35,6 @@ passes_there : {V : Type 0} (passes : V → Bool) (found : Option V) (k : ℕ)
     → is_allowed (cond (not (option_map_or passes found false)) (Denied k) (cond (not (is_some found)) (Denied 27) Allowed)) ≡ option_map_or passes found false
 passes_there passes None k = refl
 passes_there passes (Some v) k = passes_both (passes v) true k ∙ and_true (passes v)
-  where
-    and_true : (b : Bool) → (b && true) ≡ b
-    and_true true = refl
-    and_true false = refl
 
 -- where a test of a record passes for a circle exactly if it does for one of it
 any_there : {V : Type 0} (all : V → Bool) (one : ℕ → V → Bool) (circle : List ℕ) → ((v : V) → all v ≡ list_any (λ p. one p v) circle) → (found : Option V)
@@ -98,7 +95,7 @@ module _ (at : Register) where
 
   -- so a circle sees what one of it sees that is a circle alone
   singly : (all : List ℕ → Bool) (one : ℕ → Bool) → ((circle : List ℕ) → all circle ≡ list_any one circle) → (circle : List ℕ) → all circle ≡ list_any (λ p. all (p ∷ [])) circle
-  singly all one same circle = same circle ∙ any_alike one (λ p. all (p ∷ [])) (λ p. sym (same (p ∷ []) ∙ or_none (one p))) circle
+  singly all one same circle = same circle ∙ any_alike one (λ p. all (p ∷ [])) (λ p. sym (same (p ∷ []) ∙ or_nothing (one p))) circle
 
   together : (party : ℕ) (principals : List ℕ) (k : Kind) (n : ℕ) → circle_sees (party ∷ principals) k n ≡ list_any (λ p. circle_sees (p ∷ []) k n) (party ∷ principals)
   together party principals kind.Party n = singly (λ circle. circle_sees circle kind.Party n) (λ p. sees_party p n) (parties_together n) (party ∷ principals)

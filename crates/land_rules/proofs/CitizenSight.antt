@@ -1,8 +1,8 @@
 -- What a citizen sees of units, by what its circle holds, and who meets parties of them, by its names.
 use Rattle.std.proofs.Common.{◌≡◌, ℕ, Bool, true, false, ◌||◌, ◌&&◌, not, cond, refl, ap, ◌∙◌}
 use Rattle.std.specs.Prelude.{nat_eq}
-use Rattle.std.proofs.lemmas.Bool.{false≢true}
-use Rattle.land_core.proofs.Booleans.{both_of}
+use Rattle.std.proofs.lemmas.Bool.{false≢true, and_parts}
+use Rattle.land_core.proofs.Booleans.{and_turned}
 use Rattle.land_core.specs.Register.{stands}
 use Rattle.land_core.specs.declared.caller.Caller.{Caller}
 use Rattle.land_core.specs.declared.kind.Kind.TheVariants as kind
@@ -23,15 +23,9 @@ and_implied : (a b : Bool) → (a ≡ true → b ≡ true) → (a && b) ≡ a
 and_implied true b h = h refl
 and_implied false b h = refl
 
-turned : (a b : Bool) → (a && b) ≡ (b && a)
-turned true true = refl
-turned true false = refl
-turned false true = refl
-turned false false = refl
-
 -- what is held stands
 held_stands : (at : Register) (party unit : ℕ) → is_held_by at (circle_of at party) unit ≡ true → stands at kind.Unit unit ≡ true
-held_stands at party unit = any_says (λ p. is_holder at p unit) (λ p h. (both_of _ _ h).0) (circle_of at party)
+held_stands at party unit = any_says (λ p. is_holder at p unit) (λ p h. (and_parts _ _ h).0) (circle_of at party)
 
 unit_of_citizen : (at : Register) (party n : ℕ) → sees at (citizen party) kind.Unit n ≡ is_held_by at (circle_of at party) n
 unit_of_citizen at party n =
@@ -41,7 +35,7 @@ party_of_citizen : (at : Register) (party n : ℕ) → sees at (citizen party) k
 party_of_citizen at party n =
     passes_both (is_in_circle at party n || is_group_of at (circle_of at party) n || is_party_in_sight at (citizen party) n) (stands at kind.Party n) 13
     ∙ ap (λ b. (b || is_party_in_sight at (citizen party) n) && stands at kind.Party n) (names_in_parts at (circle_of at party) n)
-    ∙ turned (is_name_of at (circle_of at party) n || is_party_in_sight at (citizen party) n) (stands at kind.Party n)
+    ∙ and_turned (is_name_of at (circle_of at party) n || is_party_in_sight at (citizen party) n) (stands at kind.Party n)
 
 module _ (at : Register) (caller : Caller) (role : caller.role ≡ Citizen) where
   abbrev with_role : Role → Caller
@@ -53,7 +47,7 @@ module _ (at : Register) (caller : Caller) (role : caller.role ≡ Citizen) wher
 -- ---- in the roles that see the parties of entries
 
 of_others : (itself met there : Bool) (k : ℕ) → is_allowed (cond (not (itself || met)) (Denied k) (cond (not there) (Denied 27) Allowed)) ≡ (there && (itself || met))
-of_others itself met there k = passes_both (itself || met) there k ∙ turned (itself || met) there
+of_others itself met there k = passes_both (itself || met) there k ∙ and_turned (itself || met) there
 
 by_role : (at : Register) (party : ℕ) (role : Role) → let caller : Caller = record { party = party; role = role } in meets_parties caller ≡ true → (n : ℕ)
     → sees at caller kind.Party n ≡ (stands at kind.Party n && (is_its_name role at party n || is_party_in_sight at caller n))

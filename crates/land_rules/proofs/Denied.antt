@@ -1,9 +1,9 @@
 -- The first rule that denies is the least one.
 use Rattle.std.proofs.Common.{◌≡◌, ℕ, ◌<◌, ◌≤◌, Bool, true, false, ◌||◌, ◌&&◌, cond, [], ◌∷◌, refl, sym, ap, ◌∙◌, subst, arith}
 use Rattle.std.specs.Prelude.{nat_eq, nat_lt}
-use Rattle.std.proofs.lemmas.Bool.{false≢true}
+use Rattle.std.proofs.lemmas.Bool.{false≢true, and_parts}
 use Rattle.std.proofs.lemmas.Bool.Decides.{nat_tests}
-use Rattle.land_core.proofs.Booleans.{both_of}
+use Rattle.std.proofs.lemmas.Cmp.{nat_eq_equiv}
 use Rattle.land_core.specs.declared.ask.Ask.TheVariants as ask
 use Rattle.land_core.specs.declared.kind.Kind.TheVariants as kind
 use Rattle.land_rules.specs.Laws.{RulesRise, VerdictsAreLeast}
@@ -15,9 +15,9 @@ use Rattle.land_rules.specs.declared.verdict.Verdict.TheVariants.{Allowed, Denie
 none_below : (low : ℕ) (rules : Rules) → rise_above low rules ≡ true → (k : ℕ) → k ≤ low → denies k rules ≡ false
 none_below low [] h k le = refl
 none_below low (rule ∷ rules) h k le =
-    let above : nat_lt low rule.0 ≡ true = (both_of _ _ h).0 in
+    let above : nat_lt low rule.0 ≡ true = (and_parts _ _ h).0 in
     let apart : nat_eq rule.0 k ≡ false = other low rule.0 k above le in
-    let later = none_below rule.0 rules (both_of _ _ h).1 k (below low rule.0 k above le) in
+    let later = none_below rule.0 rules (and_parts _ _ h).1 k (below low rule.0 k above le) in
     ap (λ b. (b && rule.1) || denies k rules) apart ∙ later
   where
     other : (low n k : ℕ) → nat_lt low n ≡ true → k ≤ low → nat_eq n k ≡ false
@@ -34,9 +34,6 @@ pub record IsLeast (rules : Rules) (k : ℕ) : Type 0 where
 denied_is_not_allowed : (k : ℕ) → Allowed ≡ Denied k → ⊥
 denied_is_not_allowed k e = cc
 
-pub eq-itself : (n : ℕ) → nat_eq n n ≡ true
-eq-itself n = grind (arith, nat_tests)
-
 eq-other : (n j : ℕ) → j < n → nat_eq n j ≡ false
 eq-other n j h = grind (arith, nat_tests)
 
@@ -47,11 +44,11 @@ least_from_first low (rule ∷ rules) h k e =
       | true ↦ λ here e.
           let k_is : rule.0 ≡ k = cc in
           subst (λ (n : ℕ). IsLeast (rule ∷ rules) n) k_is (record {
-            holds = ap (λ b. (b && rule.1) || denies rule.0 rules) (eq-itself rule.0) ∙ ap (λ b. b || denies rule.0 rules) here;
-            least = λ j less. ap (λ b. (b && rule.1) || denies j rules) (eq-other rule.0 j less) ∙ none_below rule.0 rules (both_of _ _ h).1 j (omega arith);
+            holds = ap (λ b. (b && rule.1) || denies rule.0 rules) (nat_eq_equiv.refl rule.0) ∙ ap (λ b. b || denies rule.0 rules) here;
+            least = λ j less. ap (λ b. (b && rule.1) || denies j rules) (eq-other rule.0 j less) ∙ none_below rule.0 rules (and_parts _ _ h).1 j (omega arith);
           })
       | false ↦ λ gone e.
-          let later = least_from_first rule.0 rules (both_of _ _ h).1 k e in
+          let later = least_from_first rule.0 rules (and_parts _ _ h).1 k e in
           record {
             holds = ap (λ b. (nat_eq rule.0 k && b) || denies k rules) gone ∙ skip (nat_eq rule.0 k) (denies k rules) ∙ later.holds;
             least = λ j less. ap (λ b. (nat_eq rule.0 j && b) || denies j rules) gone ∙ skip (nat_eq rule.0 j) (denies j rules) ∙ later.least j less;

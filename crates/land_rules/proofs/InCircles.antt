@@ -6,8 +6,9 @@ use Rattle.std.specs.FinMap.{nat_cmp-IsAntisymmetric}
 use Rattle.std.specs.List.{list_any}
 use Rattle.std.specs.Cmp.{nat_cmp_total}
 use Rattle.std.specs.Option.{option_map_or}
-use Rattle.std.proofs.lemmas.Bool.{false≢true}
-use Rattle.land_core.proofs.Booleans.{both_of}
+use Rattle.std.proofs.lemmas.Bool.{false≢true, and_parts, eqb-true}
+use Rattle.std.proofs.lemmas.Cmp.{nat_eq_equiv}
+use Rattle.land_core.proofs.Booleans.{same_tests}
 use Rattle.land_core.proofs.FiniteMaps.{nothing_from_length}
 use Rattle.land_core.proofs.FiniteSets.{exact_mandates, mandates_total}
 use Rattle.land_core.proofs.Reflection.{list_any-map, some_at, some_passes}
@@ -24,9 +25,6 @@ use Rattle.land_core.specs.declared.mandates.Mandate.{Mandate}
 use Rattle.land_core.specs.declared.register.Register.{Register}
 use Rattle.land_core.specs.declared.rrr.RightType.TheVariants.{Ownership}
 use Rattle.land_core.specs.declared.rrr.RrrRecord.{RrrRecord}
-use Rattle.land_rules.proofs.Booleans.{same_tests}
-use Rattle.land_rules.proofs.Denied.{eq-itself}
-use Rattle.land_rules.proofs.Seeing.{number_is}
 use Rattle.land_rules.proofs.SightLaws.{owner_is_holder}
 use Rattle.land_rules.proofs.SomeOf.{and_any, any_alike, any_and, any_either, any_implied, any_kept, any_none, any_or}
 use Rattle.land_rules.specs.CircleLaws.{AloneWithoutMandates, CirclesAreOfMandates}
@@ -52,8 +50,8 @@ held_there at party number = same_tests _ _ forth (back (map.get at.mandates (ma
     forth : list_any (λ e. is_of party number e.0 e.1) (map.entries at.mandates) ≡ true → has_mandate at.mandates (mandate_of number party) ≡ true
     forth h =
         let it = some_passes mandates_total exact_mandates (is_of party number) at.mandates h in
-        let parts = both_of (nat_eq it.key.agent party) (nat_eq number it.key.principal) it.passes in
-        let key : mandate_of number party ≡ it.key = ap (λ n. mandate_of n party) (number_is number it.key.principal parts.1) ∙ ap (mandate_of it.key.principal) (sym (number_is it.key.agent party parts.0)) in
+        let parts = and_parts (nat_eq it.key.agent party) (nat_eq number it.key.principal) it.passes in
+        let key : mandate_of number party ≡ it.key = ap (λ n. mandate_of n party) (eqb-true number it.key.principal parts.1) ∙ ap (mandate_of it.key.principal) (sym (eqb-true it.key.agent party parts.0)) in
         ap (λ m. has_mandate at.mandates m) key ∙ ap is_some it.there
 
     back : (found : Option (Unit {0})) → map.get at.mandates (mandate_of number party) ≡ found → has_mandate at.mandates (mandate_of number party) ≡ true
@@ -61,7 +59,7 @@ held_there at party number = same_tests _ _ forth (back (map.get at.mandates (ma
     back None is h = absurd (false≢true (sym (ap is_some is) ∙ h))
     back (Some u) is h =
         some_at mandates_total exact_mandates (is_of party number) at.mandates (mandate_of number party) u is
-        (ap (λ b. b && nat_eq number number) (eq-itself party) ∙ eq-itself number)
+        (ap (λ b. b && nat_eq number number) (nat_eq_equiv.refl party) ∙ nat_eq_equiv.refl number)
 
 pub is_principal : (at : Register) (party number : ℕ) → list_any (nat_eq number) (principals_of at party) ≡ has_mandate at.mandates (mandate_of number party)
 unfolding mandates_in
@@ -139,11 +137,11 @@ module _ (at : Register) (circle : List ℕ) where
       forth : some (λ party share. nat_eq party p) members ≡ true → has members p ≡ true
       forth h =
           let it = some_passes nat_cmp_total nat_cmp-IsAntisymmetric (λ party share. nat_eq party p) members h in
-          ap (has members) (sym (number_is it.key p it.passes)) ∙ ap is_some it.there
+          ap (has members) (sym (eqb-true it.key p it.passes)) ∙ ap is_some it.there
 
       back : (found : Option _) → map.get members p ≡ found → has members p ≡ true → some (λ party share. nat_eq party p) members ≡ true
       back None is h = absurd (false≢true (sym (ap is_some is) ∙ h))
-      back (Some share) is h = some_at nat_cmp_total nat_cmp-IsAntisymmetric (λ party share. nat_eq party p) members p share is (eq-itself p)
+      back (Some share) is h = some_at nat_cmp_total nat_cmp-IsAntisymmetric (λ party share. nat_eq party p) members p share is (nat_eq_equiv.refl p)
 
   members_among : (found : Option Members) → option_map_or (has_member_among (λ n. list_any (nat_eq n) circle)) found false ≡ list_any (λ p. option_map_or (λ members. has members p) found false) circle
   members_among None = sym (any_none circle)

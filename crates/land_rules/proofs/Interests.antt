@@ -1,6 +1,6 @@
 -- What interest a party has in a unit, by the names in which it has it.
-use Rattle.std.proofs.Common.{◌≡◌, ℕ, Bool, true, false, ◌&&◌, ◌||◌, Option, Some, None, refl, sym, subst, ap, ap₂, ◌∙◌}
-use Rattle.std.proofs.lemmas.Bool.{false≢true}
+use Rattle.std.proofs.Common.{◌≡◌, ℕ, Bool, true, false, ◌&&◌, ◌||◌, Option, Some, None, refl, sym, ap, ap₂, ◌∙◌}
+use Rattle.std.proofs.lemmas.Bool.{false≢true, and_parts, eqb-true}
 use Rattle.std.specs.BTreeSet.{BTreeSet}
 use Rattle.std.specs.Cmp.{nat_cmp_total}
 use Rattle.std.specs.FinMap as map
@@ -8,7 +8,8 @@ use Rattle.std.specs.FinMap.{nat_cmp-IsAntisymmetric}
 use Rattle.std.specs.List.{list_any}
 use Rattle.std.specs.Option.{option_map_or}
 use Rattle.std.specs.Prelude.{nat_eq}
-use Rattle.land_core.proofs.Booleans.{both_of}
+use Rattle.std.proofs.lemmas.Cmp.{nat_eq_equiv}
+use Rattle.land_core.proofs.Booleans.{same_tests}
 use Rattle.land_core.proofs.Pairs.{list_any_same}
 use Rattle.land_core.proofs.Reflection.{some_at, some_passes}
 use Rattle.land_core.specs.Entries.{some}
@@ -19,10 +20,8 @@ use Rattle.land_core.specs.declared.kind.Kind.TheVariants as kind
 use Rattle.land_core.specs.declared.mandates.Mandate.{Mandate}
 use Rattle.land_core.specs.declared.register.Register.{Register}
 use Rattle.land_core.specs.declared.rrr.RrrRecord.{RrrRecord}
-use Rattle.land_rules.proofs.Booleans.{any_where, same_tests}
+use Rattle.land_rules.proofs.Booleans.{any_where}
 use Rattle.land_rules.proofs.InCircles.{held_by_names, names_among, owned_by_names, some_principal}
-use Rattle.land_rules.proofs.Denied.{eq-itself}
-use Rattle.land_rules.proofs.Seeing.{number_is}
 use Rattle.land_rules.specs.Circles.{circle_of, is_in_circle, is_name_of}
 use Rattle.land_rules.specs.Holdings.{AreNames, gives_interest, has_interest, has_interest_as, has_interest_by, has_member_among, has_number, is_name_among}
 use Rattle.land_rules.specs.declared.rules.holdings.Interest.{Interest}
@@ -52,12 +51,6 @@ interest_by_names interest at party names are unit =
 
 -- ---- the names of a citizen
 
-pub eq_turned : (a b : ℕ) → nat_eq a b ≡ nat_eq b a
-eq_turned a b = same_tests (nat_eq a b) (nat_eq b a) (turned a b) (turned b a)
-  where
-    turned : (n k : ℕ) → nat_eq n k ≡ true → nat_eq k n ≡ true
-    turned n k h = subst (λ (m : ℕ). nat_eq m n ≡ true) (number_is n k h) (eq-itself n)
-
 -- whether a group is the one that is named, and its members pass a test
 abbrev pub is_group_where : (passes : Members → Bool) → (named : ℕ) → ℕ × Members → Bool
 is_group_where passes named e = nat_eq e.0 named && passes e.1
@@ -73,15 +66,15 @@ group_where passes at named = same_tests _ _ forth (back (map.get at.members nam
     forth : list_any (is_group_where passes named) (map.entries at.members) ≡ true → option_map_or passes (map.get at.members named) false ≡ true
     forth h =
         let it = some_passes nat_cmp_total nat_cmp-IsAntisymmetric (is_its_group passes named) at.members h in
-        let parts = both_of (nat_eq it.key named) (passes it.value) it.passes in
-        ap (λ o. option_map_or passes o false) (ap (map.get at.members) (sym (number_is it.key named parts.0)) ∙ it.there) ∙ parts.1
+        let parts = and_parts (nat_eq it.key named) (passes it.value) it.passes in
+        ap (λ o. option_map_or passes o false) (ap (map.get at.members) (sym (eqb-true it.key named parts.0)) ∙ it.there) ∙ parts.1
 
     back : (found : Option Members) → map.get at.members named ≡ found → option_map_or passes (map.get at.members named) false ≡ true
         → list_any (is_group_where passes named) (map.entries at.members) ≡ true
     back None is h = absurd (false≢true (sym (ap (λ o. option_map_or passes o false) is) ∙ h))
     back (Some members) is h =
         some_at nat_cmp_total nat_cmp-IsAntisymmetric (is_its_group passes named) at.members named members is
-        (ap (λ b. b && passes members) (eq-itself named) ∙ sym (ap (λ o. option_map_or passes o false) is) ∙ h)
+        (ap (λ b. b && passes members) (nat_eq_equiv.refl named) ∙ sym (ap (λ o. option_map_or passes o false) is) ∙ h)
 
 -- so these are the names of some parties: their own, and those of the groups that have one of them for a member
 pub names_grouped : (at : Register) (is_one : ℕ → Bool) (named : ℕ)
@@ -105,7 +98,7 @@ names_of_circle at party circle are named = names_alike at (has_number circle) (
 pub circle_held : (at : Register) (party number : ℕ)
     → (nat_eq party number || list_any (λ m. nat_eq m.agent party && nat_eq m.principal number) (mandates_in at.mandates)) ≡ is_in_circle at party number
 circle_held at party number =
-    ap₂ (λ a b. a || b) (eq_turned party number)
+    ap₂ (λ a b. a || b) (nat_eq_equiv.symm party number)
     (list_any_same (λ (m : Mandate). nat_eq m.agent party && nat_eq m.principal number) (λ m. nat_eq m.agent party && nat_eq number m.principal)
-    (λ m. ap (λ b. nat_eq m.agent party && b) (eq_turned m.principal number)) (mandates_in at.mandates)
+    (λ m. ap (λ b. nat_eq m.agent party && b) (nat_eq_equiv.symm m.principal number)) (mandates_in at.mandates)
     ∙ sym (some_principal (nat_eq number) at party))

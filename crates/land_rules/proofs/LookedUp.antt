@@ -1,18 +1,15 @@
 -- What is looked up is enough to judge who asks.
-use Rattle.std.proofs.Common.{◌≡◌, ℕ, true, nat_eq, cond, is_some, None, Option, Some, refl, ap, ◌∙◌}
-use Rattle.std.proofs.lemmas.Bool.Decides.{Decides-eqb}
+use Rattle.std.proofs.Common.{◌≡◌, ℕ, nat_eq, cond, is_some, None, Option, Some, refl, ap, ◌∙◌}
 use Rattle.std.specs.Cmp.{nat_cmp_total, tied_itself}
 use Rattle.std.specs.FinMap as map
 use Rattle.std.specs.FinMap.{FinMap}
 use Rattle.std.specs.Ordering.{is_eq, nat_cmp}
 use Rattle.std.specs.Prelude.{IfSome}
+use Rattle.std.proofs.lemmas.Cmp.{nat_eq_equiv}
 use Rattle.land_core.proofs.FiniteSets.{exact_grants, grants_total}
 use Rattle.land_core.proofs.Reflection.{get-only}
 use Rattle.land_core.specs.Grants.{grant_of}
 use Rattle.land_rules.specs.Denials.Standing.{LookedUpIsEnough, one_at}
-
-its_own : (n : ℕ) → nat_eq n n ≡ true
-its_own n = (Decides-eqb n n).1 refl
 
 -- what was put in is there
 there : {V : Type 0} (n : ℕ) (found : Option V) → map.get (one_at (Some n) found) n ≡ found
@@ -28,7 +25,7 @@ pub looked_up_is_enough : LookedUpIsEnough
 looked_up_is_enough now caller a party roles entry mutation are = record {
   party = ap is_some (there caller.party party ∙ are.party_is);
   role = ap (λ grants. is_some (map.get grants (grant_of caller.party caller.role))) are.roles_are
-      ∙ ap is_some (get-only grants_total exact_grants (λ grant u. nat_eq grant.party caller.party) now.roles (grant_of caller.party caller.role) (λ v. its_own caller.party));
+      ∙ ap is_some (get-only grants_total exact_grants (λ grant u. nat_eq grant.party caller.party) now.roles (grant_of caller.party caller.role) (λ v. nat_eq_equiv.refl caller.party));
   entry = named _ entry now.rrrs are.entry_is;
   mutation = named _ mutation now.mutations are.mutation_is;
 }

@@ -2,9 +2,9 @@
 use Rattle.std.proofs.Common.{◌≡◌, ℕ, Bool, true, false, ◌||◌, ◌&&◌, not, cond, [], ◌∷◌, ◌++◌, inl, inr, refl, sym, ap, ◌∙◌, subst, arith}
 use Rattle.std.specs.Prelude.{nat_eq}
 use Rattle.std.specs.List.{list_any}
-use Rattle.std.proofs.lemmas.Bool.{false≢true}
+use Rattle.std.proofs.lemmas.Bool.{false≢true, and_from, and_left, and_parts, and_right, eq-eqb, eqb-true, false_from_ne_true, not-false, not-true, or_from, or_parts, or_right}
 use Rattle.std.proofs.lemmas.List.Folds.{list_any-append}
-use Rattle.land_core.proofs.Booleans.{both_of, not_false, not_true, or_false}
+use Rattle.land_core.proofs.Booleans.{or_nothing, second_false}
 use Rattle.land_core.specs.Role.{is_role}
 use Rattle.land_core.specs.declared.act.Act.{Act}
 use Rattle.land_core.specs.declared.act.Act.TheVariants as act
@@ -20,7 +20,7 @@ use Rattle.land_rules.proofs.Asked.{asks_for}
 use Rattle.land_rules.proofs.Denied.{none_from_allowed, verdicts_least}
 use Rattle.land_rules.proofs.StandingLaws.{none_of_three}
 use Rattle.land_rules.proofs.StandingRules.{allows, may}
-use Rattle.land_rules.proofs.StandingTests.{both, first_fails, last_fails, neither, never, not_both, number_at, number_is, or_nothing}
+use Rattle.land_rules.proofs.StandingTests.{not_both}
 use Rattle.land_rules.specs.Acts.{decides, is_between_others, is_discharge_of_another, is_mortgage_of_another, is_of_a_mortgage, is_of_mandates, is_of_mortgages, is_of_outlines, is_of_transfers, is_office_act, is_transfer, lodges, withdraws}
 use Rattle.land_rules.specs.Relations.{has_lodged}
 use Rattle.land_rules.specs.Rules.{Rules, caller_rules, denies, first_denial, rules_on, verdict_of}
@@ -32,8 +32,8 @@ first_of : (before : Rules) (k : ℕ) (b : Bool) (later : Rules) → list_any (�
     → first_denial (before ++ ((k, b) ∷ later)) ≡ Denied k
 first_of [] k b later none here = ap (λ x. cond x (Denied k) (first_denial later)) here
 first_of (rule ∷ before) k b later none here =
-    ap (λ x. cond x (Denied rule.0) (first_denial (before ++ ((k, b) ∷ later)))) (or_false _ _ none).0
-    ∙ first_of before k b later (or_false _ _ none).1 here
+    ap (λ x. cond x (Denied rule.0) (first_denial (before ++ ((k, b) ∷ later)))) (or_parts _ _ none).0
+    ∙ first_of before k b later (or_parts _ _ none).1 here
 
 -- ---- what is done with a mandate is no act of the office, no lodging and no decision
 
@@ -63,17 +63,13 @@ is_on a (inr (it, asked)) = subst (λ (x : Ask). asks_for is_of_mandates x ≡ t
 
 -- ---- principals and agents
 
-last_holds : (a b : Bool) → b ≡ true → (a || b) ≡ true
-last_holds true b h = refl
-last_holds false b h = h
-
 not_between : (party : ℕ) (it : Mandate) → IsPartyTo party it → is_between_others party it ≡ false
-not_between party it (inl own) = ap (λ b. not (b || nat_eq it.agent party)) (number_at it.principal party own)
-not_between party it (inr own) = ap not (last_holds (nat_eq it.principal party) (nat_eq it.agent party) (number_at it.agent party own))
+not_between party it (inl own) = ap (λ b. not (b || nat_eq it.agent party)) (eq-eqb it.principal party own)
+not_between party it (inr own) = ap not (or_right (nat_eq it.principal party) (nat_eq it.agent party) (eq-eqb it.agent party own))
 
 between : (party : ℕ) (it : Mandate) → (IsPartyTo party it → ⊥) → is_between_others party it ≡ true
 between party it others =
-    ap not (neither _ _ (never _ (λ h. others (inl (number_is it.principal party h)))) (never _ (λ h. others (inr (number_is it.agent party h)))))
+    ap not (or_from _ _ (false_from_ne_true _ (λ h. others (inl (eqb-true it.principal party h)))) (false_from_ne_true _ (λ h. others (inr (eqb-true it.agent party h)))))
 
 -- a withdrawal of a mandate between others
 record Withdraws (party : ℕ) (a : Ask) : Type 0 where
@@ -84,10 +80,6 @@ record Withdraws (party : ℕ) (a : Ask) : Type 0 where
 withdrawal : (party : ℕ) (a : Ask) → asks_for (withdraws (is_between_others party)) a ≡ true → Withdraws party a
 withdrawal party (ask.Do (act.Withdraw it)) h = record { mandate = it; asked = refl; others = λ own. not_both _ h (not_between party it own) }
 withdrawal party other h = absurd (false≢true h)
-
-second_false : (a b : Bool) → a ≡ true → (a && b) ≡ false → b ≡ false
-second_false true b e f = f
-second_false false b e f = absurd (false≢true e)
 
 module _ (now at : Register) (caller : Caller) (past : Bool) where
   -- ---- rules 28 and 29 on any ask
@@ -137,24 +129,24 @@ module _ (now at : Register) (caller : Caller) (past : Bool) where
   quiet : (it : Act) → is_of_mandates it ≡ true → may_ask now caller past ≡ true → list_any (λ rule. rule.1) (earlier it) ≡ false
   quiet it is asker =
       none_of_three now at caller past asker _
-      (neither _ _ (first_fails _ _ (no_office it is))
-      (neither _ _ (first_fails _ _ (no_lodging is_transfer it is))
-      (neither _ _ (first_fails _ _ (no_lodging is_of_outlines it is))
-      (neither _ _ (first_fails _ _ (no_lodging is_of_a_mortgage it is))
-      (neither _ _ (last_fails _ _ (no_lodging (is_mortgage_of_another caller.party) it is))
-      (neither _ _ (last_fails _ _ (no_lodging (is_discharge_of_another now caller.party) it is))
-      (neither _ _ (no_decision (has_lodged now caller.party) it is) refl)))))))
+      (or_from _ _ (and_left _ _ (no_office it is))
+      (or_from _ _ (and_left _ _ (no_lodging is_transfer it is))
+      (or_from _ _ (and_left _ _ (no_lodging is_of_outlines it is))
+      (or_from _ _ (and_left _ _ (no_lodging is_of_a_mortgage it is))
+      (or_from _ _ (and_right _ _ (no_lodging (is_mortgage_of_another caller.party) it is))
+      (or_from _ _ (and_right _ _ (no_lodging (is_discharge_of_another now caller.party) it is))
+      (or_from _ _ (no_decision (has_lodged now caller.party) it is) refl)))))))
 
   out_of_role : (it : Act) → is_of_mandates it ≡ true → may_ask now caller past ≡ true → is_role caller.role Citizen ≡ false
       → verdict_of now at caller (ask.Do it) past ≡ Denied 28
   out_of_role it is asker other =
-      first_of (earlier it) 28 (is_of_mandates it && not (is_role caller.role Citizen)) (of_parties it ∷ []) (quiet it is asker) (both _ _ is (ap not other))
+      first_of (earlier it) 28 (is_of_mandates it && not (is_role caller.role Citizen)) (of_parties it ∷ []) (quiet it is asker) (and_from _ _ is (ap not other))
 
   quiet_in_role : (it : Act) → is_of_mandates it ≡ true → may_ask now caller past ≡ true → is_role caller.role Citizen ≡ true
       → list_any (λ rule. rule.1) (earlier it ++ (of_role it ∷ [])) ≡ false
   quiet_in_role it is asker citizen =
       list_any-append (λ rule. rule.1) (earlier it) (of_role it ∷ [])
-      ∙ neither _ _ (quiet it is asker) (neither _ _ (last_fails _ _ (ap not citizen)) refl)
+      ∙ or_from _ _ (quiet it is asker) (or_from _ _ (and_right _ _ (ap not citizen)) refl)
 
   of_others : (it : Act) → is_of_mandates it ≡ true → may_ask now caller past ≡ true → is_role caller.role Citizen ≡ true
       → withdraws (is_between_others caller.party) it ≡ true → verdict_of now at caller (ask.Do it) past ≡ Denied 29
@@ -166,7 +158,7 @@ module _ (now at : Register) (caller : Caller) (past : Bool) where
   its_own it is asker citizen own =
       allows (rules_on now at caller (ask.Do it) past)
       (list_any-append (λ rule. rule.1) (earlier it ++ (of_role it ∷ [])) (of_parties it ∷ [])
-      ∙ neither _ _ (quiet_in_role it is asker citizen) (neither _ _ own refl))
+      ∙ or_from _ _ (quiet_in_role it is asker citizen) (or_from _ _ own refl))
 
   -- ---- the parts of the law
 
@@ -182,16 +174,16 @@ module _ (now at : Register) (caller : Caller) (past : Bool) where
     denied = (
       λ e.
           let it = ((verdicts_least now at caller a past).denied 28).0 e in
-          let parts = both_of _ _ (sym (rule_28 a) ∙ it.holds) in
+          let parts = and_parts _ _ (sym (rule_28 a) ∙ it.holds) in
           record {
             asker = may now at caller past a 28 (omega arith) it.least;
             asked = on_mandate a parts.0;
-            other = or_nothing _ ∙ not_true _ parts.1;
+            other = or_nothing _ ∙ not-true _ parts.1;
           },
       λ h. elsewhere a h.asked h.asker (sym (or_nothing _) ∙ h.other),
     );
     allowed = λ asked e.
-        or_nothing _ ∙ not_false _ (second_false _ _ (is_on a asked) (sym (rule_28 a) ∙ none_from_allowed (rules_on now at caller a past) e 28));
+        or_nothing _ ∙ not-false _ (second_false _ _ (is_on a asked) (sym (rule_28 a) ∙ none_from_allowed (rules_on now at caller a past) e 28));
   }
 
   given_to_each : (a : Ask) → may_ask now caller past ≡ true → is_role caller.role Citizen ≡ true → IsOnItsMandate caller.party a
@@ -214,7 +206,7 @@ citizens_give now at caller a past = record {
           asker = may now at caller past a 29 (omega arith) least.least;
           citizen =
               or_nothing _
-              ∙ not_false _ (second_false _ _ (is_on a (inr (it.mandate, it.asked))) (sym (rule_28 now at caller past a) ∙ least.least 28 (omega arith)));
+              ∙ not-false _ (second_false _ _ (is_on a (inr (it.mandate, it.asked))) (sym (rule_28 now at caller past a) ∙ least.least 28 (omega arith)));
           mandate = it.mandate;
           asked = it.asked;
           others = it.others;

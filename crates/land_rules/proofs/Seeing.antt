@@ -1,8 +1,7 @@
 -- What is seen is exactly what no rule denies.
-use Rattle.std.proofs.Common.{◌≡◌, ℕ, Bool, true, false, ◌||◌, ◌&&◌, cond, List, [], ◌∷◌, Option, Some, None, refl, sym, ap, ◌∙◌, subst, arith}
+use Rattle.std.proofs.Common.{◌≡◌, ℕ, Bool, true, false, ◌||◌, ◌&&◌, cond, List, [], ◌∷◌, Option, Some, None, refl, sym, ap, ◌∙◌, subst}
 use Rattle.std.specs.Prelude.{nat_eq, nat_lt}
-use Rattle.std.proofs.lemmas.Bool.{false≢true}
-use Rattle.std.proofs.lemmas.Bool.Decides.{nat_tests}
+use Rattle.std.proofs.lemmas.Bool.{false≢true, and_parts, eqb-true, not-false, or_parts}
 use Rattle.std.specs.Prelude.{filter, is_some, map as map_list}
 use Rattle.std.specs.List.{list_any, list_all}
 use Rattle.std.specs.Ordering.{nat_cmp, is_lt}
@@ -11,7 +10,8 @@ use Rattle.std.specs.Cmp.{nat_cmp_total}
 use Rattle.std.specs.FinMap as map
 use Rattle.std.specs.FinMap.{FinMap, nat_cmp-IsAntisymmetric}
 use Rattle.std.specs.FinMap.Entries.{is_sorted, below_all}
-use Rattle.land_core.proofs.Booleans.{T_true, both_of, or_false, not_false}
+use Rattle.std.proofs.lemmas.Cmp.{nat_eq_equiv}
+use Rattle.land_core.proofs.Booleans.{T_true, and_false}
 use Rattle.land_core.proofs.Reflection.{some_at, none_passes, list_any-map}
 use Rattle.land_core.specs.Entries.{has, numbers_where}
 use Rattle.land_core.specs.Register.{stands}
@@ -19,7 +19,7 @@ use Rattle.land_core.specs.declared.caller.Caller.{Caller}
 use Rattle.land_core.specs.declared.kind.Kind.{Kind}
 use Rattle.land_core.specs.declared.kind.Kind.TheVariants as kind
 use Rattle.land_core.specs.declared.register.Register.{Register}
-use Rattle.land_rules.proofs.Denied.{none_from_allowed, eq-itself}
+use Rattle.land_rules.proofs.Denied.{none_from_allowed}
 use Rattle.land_rules.specs.Laws.{SeenIsExactly}
 use Rattle.land_rules.specs.Rules.{denies, first_denial, view_rules, ascends, sees, is_allowed}
 use Rattle.land_rules.specs.declared.verdict.Verdict.{Verdict}
@@ -35,12 +35,12 @@ list_any-filter_and t p (x ∷ xs) =
 
 -- rule 27 is among the rules on every view
 denies_absent : (at : Register) (caller : Caller) (k : Kind) (n : ℕ) → denies 27 (view_rules at caller k n) ≡ false → stands at k n ≡ true
-denies_absent at caller kind.Party n h = not_false _ (or_false _ _ h).0
-denies_absent at caller kind.Unit n h = not_false _ (or_false _ _ h).0
-denies_absent at caller kind.Parcel n h = not_false _ (or_false _ _ h).0
-denies_absent at caller kind.Rrr n h = not_false _ (or_false _ _ h).0
-denies_absent at caller kind.Source n h = not_false _ (or_false _ _ h).0
-denies_absent at caller kind.Mutation n h = not_false _ (or_false _ _ h).0
+denies_absent at caller kind.Party n h = not-false _ (or_parts _ _ h).0
+denies_absent at caller kind.Unit n h = not-false _ (or_parts _ _ h).0
+denies_absent at caller kind.Parcel n h = not-false _ (or_parts _ _ h).0
+denies_absent at caller kind.Rrr n h = not-false _ (or_parts _ _ h).0
+denies_absent at caller kind.Source n h = not-false _ (or_parts _ _ h).0
+denies_absent at caller kind.Mutation n h = not-false _ (or_parts _ _ h).0
 
 -- what a caller sees stands
 sees_what_stands : (at : Register) (caller : Caller) (k : Kind) (n : ℕ) → sees at caller k n ≡ true → stands at k n ≡ true
@@ -49,13 +49,6 @@ sees_what_stands at caller k n h = denies_absent at caller k n (none_from_allowe
     allowed_from : (v : Verdict) → is_allowed v ≡ true → v ≡ Allowed
     allowed_from Allowed e = refl
     allowed_from (Denied k) e = absurd (false≢true e)
-
-pub number_is : (n k : ℕ) → nat_eq n k ≡ true → n ≡ k
-number_is n k h = grind (arith, nat_tests)
-
-and_nothing : (b : Bool) → (b && false) ≡ false
-and_nothing true = refl
-and_nothing false = refl
 
 less_is : (n k : ℕ) → is_lt (nat_cmp n k) ≡ true → nat_lt n k ≡ true
 less_is n k h = by_test (nat_lt n k) (nat_eq n k) h
@@ -70,7 +63,7 @@ module _ {V : Type 0} (p : ℕ → Bool) where
   above : (n : ℕ) (es : List (ℕ × V)) → below_all nat_cmp n es ≡ true → list_all (nat_lt n) (map_list (λ e. e.0) (filter (λ e. p e.0) es)) ≡ true
   above n [] h = refl
   above n (e ∷ es) h =
-      let parts = both_of _ _ h in
+      let parts = and_parts _ _ h in
       elim (p e.0) as (λ b. list_all (nat_lt n) (map_list (λ e. e.0) (cond b (e ∷ filter (λ e. p e.0) es) (filter (λ e. p e.0) es))) ≡ true) [
         | true ↦ ap (λ b. b && list_all (nat_lt n) (map_list (λ e. e.0) (filter (λ e. p e.0) es))) (less_is n e.0 parts.0) ∙ above n es parts.1
         | false ↦ above n es parts.1
@@ -79,7 +72,7 @@ module _ {V : Type 0} (p : ℕ → Bool) where
   ascending : (es : List (ℕ × V)) → is_sorted nat_cmp es ≡ true → ascends (map_list (λ e. e.0) (filter (λ e. p e.0) es)) ≡ true
   ascending [] h = refl
   ascending (e ∷ es) h =
-      let parts = both_of _ _ h in
+      let parts = and_parts _ _ h in
       elim (p e.0) as (λ b. ascends (map_list (λ e. e.0) (cond b (e ∷ filter (λ e. p e.0) es) (filter (λ e. p e.0) es))) ≡ true) [
         | true ↦ ap (λ b. b && ascends (map_list (λ e. e.0) (filter (λ e. p e.0) es))) (above e.0 es parts.0) ∙ ascending es parts.1
         | false ↦ ascending es parts.1
@@ -107,12 +100,12 @@ module _ {V : Type 0} (m : FinMap nat_cmp V) (p : ℕ → Bool) where
       by_test : (b : Bool) → p n ≡ b → list_any (λ e. p e.0 && nat_eq n e.0) (map.entries m) ≡ p n
       by_test true e =
           let it = is_there n (stand e) in
-          some_at nat_cmp_total nat_cmp-IsAntisymmetric (λ k v. p k && nat_eq n k) m n it.value it.there (ap (λ b. b && nat_eq n n) e ∙ eq-itself n) ∙ sym e
+          some_at nat_cmp_total nat_cmp-IsAntisymmetric (λ k v. p k && nat_eq n k) m n it.value it.there (ap (λ b. b && nat_eq n n) e ∙ nat_eq_equiv.refl n) ∙ sym e
       by_test false e =
           none_passes nat_cmp_total nat_cmp-IsAntisymmetric (λ k v. p k && nat_eq n k) m (λ k v there.
           elim (nat_eq n k) as (λ b. nat_eq n k ≡ b → (p k && b) ≡ false) [
-            | true ↦ λ same. ap (λ b. b && true) (subst (λ (i : ℕ). p i ≡ false) (number_is n k same) e)
-            | false ↦ λ apart. and_nothing (p k)
+            | true ↦ λ same. ap (λ b. b && true) (subst (λ (i : ℕ). p i ≡ false) (eqb-true n k same) e)
+            | false ↦ λ apart. and_false (p k)
           ] refl)
           ∙ sym e
 

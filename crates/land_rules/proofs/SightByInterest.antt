@@ -1,6 +1,6 @@
 -- What a citizen or a bank sees of a unit and of its entries, and a citizen of what names the unit, is told by its interest in the unit.
 use Rattle.std.proofs.Common.{◌≡◌, ◌↔◌, inl, inr, ℕ, Bool, true, false, not, ◌&&◌, ◌||◌, cond, nat_eq, List, [], ◌∷◌, filter, Option, Some, None, is_some, refl, sym, ap, ap₂, subst, ◌∙◌}
-use Rattle.std.proofs.lemmas.Bool.{eqb-true, false≢true}
+use Rattle.std.proofs.lemmas.Bool.{eqb-true, false≢true, and_parts}
 use Rattle.std.proofs.lemmas.Bool.Decides.{Decides-eqb}
 use Rattle.std.proofs.lemmas.Map.Views.{Contains-from_any, list_any-from_Contains}
 use Rattle.std.specs.Cmp.{nat_cmp_total, nat_eq_equiv}
@@ -9,7 +9,7 @@ use Rattle.std.specs.FinMap.{nat_cmp-IsAntisymmetric}
 use Rattle.std.specs.List.{Contains, list_any}
 use Rattle.std.specs.Option.{option_map_or}
 use Rattle.std.specs.Ordering.{nat_cmp}
-use Rattle.land_core.proofs.Booleans.{both_of, or_true}
+use Rattle.land_core.proofs.Booleans.{or_true, and_true, or_nothing, same_tests}
 use Rattle.land_core.proofs.FiniteMaps.{none_is_not_some}
 use Rattle.land_core.proofs.Pairs.{list_any_same}
 use Rattle.land_core.proofs.Reflection.{entries-only, some_passes}
@@ -30,7 +30,6 @@ use Rattle.land_core.specs.declared.role.Role.TheVariants as roles
 use Rattle.land_core.specs.declared.rrr.Class.{Class}
 use Rattle.land_core.specs.declared.rrr.RightType.TheVariants.{Ownership}
 use Rattle.land_core.specs.declared.rrr.RrrRecord.{RrrRecord}
-use Rattle.land_rules.proofs.Booleans.{same_tests}
 use Rattle.land_rules.proofs.InCircles.{held_by_names, owned_by_names}
 use Rattle.land_rules.specs.Circles.{circle_of, is_held_by, is_name_of, is_owned_by, is_told_to_circle, names_held_by}
 use Rattle.land_rules.specs.Denials.Interests.{AreNamesOf, Entries, InterestsTellSight, NamesTellInterests, entries_of, interest_at, interest_of, is_shown_by_interest, names_shown, sees_by_interest, shows_entry, shows_unit}
@@ -46,14 +45,6 @@ use Rattle.land_rules.specs.declared.verdict.Verdict.TheVariants.{Allowed, Denie
 and_assoc : (a b c : Bool) → (a && (b && c)) ≡ ((a && b) && c)
 and_assoc true b c = refl
 and_assoc false b c = refl
-
-pub and_true : (b : Bool) → (b && true) ≡ b
-and_true true = refl
-and_true false = refl
-
-or_none : (b : Bool) → (b || false) ≡ b
-or_none true = refl
-or_none false = refl
 
 -- what follows from a test adds nothing to it
 implied : (a b : Bool) → (b ≡ true → a ≡ true) → (a && b) ≡ b
@@ -113,8 +104,8 @@ module _ (r : Register) (refers : UnitsStand r) (is_of : Class → Bool) (is_his
   unit_there : some (λ n e. is_one_there e) r.rrrs ≡ true → has r.units unit ≡ true
   unit_there h =
       let it = some_passes nat_cmp_total nat_cmp-IsAntisymmetric (λ n e. is_one_there e) r.rrrs h in
-      let both = both_of (nat_eq it.value.unit unit && is_of it.value.class) (is_his it.value.party) it.passes in
-      let same : it.value.unit ≡ unit = (Decides-eqb it.value.unit unit).0 (both_of (nat_eq it.value.unit unit) (is_of it.value.class) both.0).0 in
+      let both = and_parts (nat_eq it.value.unit unit && is_of it.value.class) (is_his it.value.party) it.passes in
+      let same : it.value.unit ≡ unit = (Decides-eqb it.value.unit unit).0 (and_parts (nat_eq it.value.unit unit) (is_of it.value.class) both.0).0 in
       subst (λ u. has r.units u ≡ true) same (refers it.key it.value it.there)
 
   pub in_unit : (has r.units unit && some (λ n e. is_one_there e) r.rrrs) ≡ some (λ n e. is_one e) (entries_of r unit)
@@ -139,7 +130,7 @@ unit_to_bank false = refl
 
 entry_to_citizen : (holds owns : Bool) (party : ℕ) (e : RrrRecord) → (holds && (not (is_mortgage e.class) || owns)) ≡ shows_entry (of_citizen holds owns) party e
 entry_to_citizen true true party e = or_true (not (is_mortgage e.class))
-entry_to_citizen true false party e = or_none (not (is_mortgage e.class))
+entry_to_citizen true false party e = or_nothing (not (is_mortgage e.class))
 entry_to_citizen false owns party e = refl
 
 entry_to_bank : (credits : Bool) (party : ℕ) (e : RrrRecord) → (credits && is_told_to_creditor party e) ≡ shows_entry (of_bank credits) party e

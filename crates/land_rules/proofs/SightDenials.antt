@@ -1,14 +1,12 @@
 -- What the denial of a view tells.
-use Rattle.std.proofs.Common.{◌≡◌, inl, inr, ℕ, Bool, true, false, ◌||◌, ◌&&◌, not, cond, Option, Some, None, refl, sym, subst, ◌∙◌, arith}
+use Rattle.std.proofs.Common.{◌≡◌, inl, inr, ℕ, Bool, true, false, ◌||◌, ◌&&◌, not, cond, Option, Some, None, refl, sym, subst, ◌∙◌}
 use Rattle.std.specs.Prelude.{is_some, nat_eq}
 use Rattle.std.specs.Option.{option_map_or}
 use Rattle.std.specs.Cmp.{nat_cmp_total}
 use Rattle.std.specs.FinMap as map
 use Rattle.std.specs.List.{list_any}
 use Rattle.std.specs.FinMap.{nat_cmp-IsAntisymmetric}
-use Rattle.std.proofs.lemmas.Bool.{false≢true}
-use Rattle.std.proofs.lemmas.Bool.Decides.{nat_tests}
-use Rattle.land_core.proofs.Booleans.{both_of, or_false, not_false}
+use Rattle.std.proofs.lemmas.Bool.{false≢true, and_parts, eqb-true, not-false, or_parts}
 use Rattle.land_core.proofs.FiniteMaps.{none_is_not_some}
 use Rattle.land_core.proofs.Reflection.{none_at, some_passes}
 use Rattle.land_core.proofs.LooseMandates.{mandates_from, no_mandates_are_tight}
@@ -97,9 +95,6 @@ apart true true k = refl
 apart true false k = refl
 apart false there k = refl
 
-number_is : (n k : ℕ) → nat_eq n k ≡ true → n ≡ k
-number_is n k h = grind (arith, nat_tests)
-
 -- nothing refers to anything
 refers_nothing : Refers nothing
 refers_nothing = record {
@@ -138,7 +133,7 @@ module _ (at : Register) (sound : IsSoundOrNothing at) where
       found None e h = absurd (false≢true h)
       found (Some members) e h =
           let whole = none_at nat_cmp_total nat_cmp-IsAntisymmetric (λ n m. are_loose at n m) at.members group members (references at sound).members e in
-          is_there (map.get at.parties group) (not_false _ (or_false _ _ whole).0)
+          is_there (map.get at.parties group) (not-false _ (or_parts _ _ whole).0)
 
   -- principals stand
   principal_stands : (party number : ℕ) → list_any (nat_eq number) (principals_of at party) ≡ true → has at.parties number ≡ true
@@ -151,8 +146,8 @@ module _ (at : Register) (sound : IsSoundOrNothing at) where
       found : (o : Option (Unit {0})) → map.get at.mandates (mandate_of number party) ≡ o → is_some o ≡ true → has at.parties number ≡ true
       found None e h = absurd (false≢true h)
       found (Some u) e h =
-          let tight = not_false _ (mandates_from at (references at sound).mandates (mandate_of number party) e) in
-          is_there (map.get at.parties number) (both_of _ _ (both_of _ _ tight).0).0
+          let tight = not-false _ (mandates_from at (references at sound).mandates (mandate_of number party) e) in
+          is_there (map.get at.parties number) (and_parts _ _ (and_parts _ _ tight).0).0
 
   -- parties of entries stand
   pub party_stands : (caller : Caller) (party : ℕ) → is_party_in_sight at caller party ≡ true → has at.parties party ≡ true
@@ -160,14 +155,14 @@ module _ (at : Register) (sound : IsSoundOrNothing at) where
       let it = some_passes nat_cmp_total nat_cmp-IsAntisymmetric (λ n e. nat_eq e.party party && is_rrr_in_sight at caller n) at.rrrs h in
       let stands =
       none_at nat_cmp_total nat_cmp-IsAntisymmetric (λ n e. not (has at.units e.unit && has at.parties e.party && has at.sources e.source)) at.rrrs it.key it.value (references at sound).rrrs it.there in
-      subst (λ (n : ℕ). has at.parties n ≡ true) (number_is it.value.party party (both_of _ _ it.passes).0) (both_of _ _ (both_of _ _ (not_false _ stands)).0).1
+      subst (λ (n : ℕ). has at.parties n ≡ true) (eqb-true it.value.party party (and_parts _ _ it.passes).0) (and_parts _ _ (and_parts _ _ (not-false _ stands)).0).1
 
   told : (party : ℕ) (role : Role) (k : Kind) (n : ℕ) → let caller : Caller = record { party = party; role = role } in first_denial (view_rules at caller k n) ≡ told_by_sight at caller k n
   told party Citizen kind.Party n = let caller : Caller = record { party = party; role = Citizen } in
       met_thrice (nat_eq n party) (list_any (nat_eq n) (principals_of at party)) (is_group_of at (circle_of at party) n) (is_party_in_sight at caller n) (has at.parties n) 13
       (principal_stands party n) (any_says (λ p. is_member_of at p n) (λ p. group_stands p n) (circle_of at party)) (party_stands caller n)
   told party Citizen kind.Unit n =
-      related_together (is_held_by at (circle_of at party) n) (has at.units n) 11 (any_says (λ p. is_holder at p n) (λ p h. (both_of _ _ h).0) (circle_of at party))
+      related_together (is_held_by at (circle_of at party) n) (has at.units n) 11 (any_says (λ p. is_holder at p n) (λ p h. (and_parts _ _ h).0) (circle_of at party))
   told party Citizen kind.Parcel n = absent (has at.parcels n)
   told party Citizen kind.Rrr n = tested (is_told_to_circle at (circle_of at party)) (map.get at.rrrs n) 12
   told party Citizen kind.Source n = refl

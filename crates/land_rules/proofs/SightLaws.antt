@@ -1,13 +1,11 @@
 -- What holdings, ended entries, mortgages and lodgings give to see.
-use Rattle.std.proofs.Common.{◌≡◌, ℕ, Bool, true, false, ◌||◌, ◌&&◌, not, cond, Option, Some, None, refl, sym, ap, ◌∙◌, subst, arith}
+use Rattle.std.proofs.Common.{◌≡◌, ℕ, Bool, true, false, ◌||◌, ◌&&◌, not, cond, Option, Some, None, refl, sym, ap, ◌∙◌, subst}
 use Rattle.std.specs.Prelude.{◌≢◌, is_some, nat_eq}
 use Rattle.std.specs.Option.{option_map_or}
 use Rattle.std.specs.Cmp.{nat_cmp_total}
 use Rattle.std.specs.FinMap as map
 use Rattle.std.specs.FinMap.{nat_cmp-IsAntisymmetric}
-use Rattle.std.proofs.lemmas.Bool.{false≢true}
-use Rattle.std.proofs.lemmas.Bool.Decides.{nat_tests}
-use Rattle.land_core.proofs.Booleans.{both_of}
+use Rattle.std.proofs.lemmas.Bool.{false≢true, and_from, and_parts, and_right, eq-eqb, eqb-true, ne_eqb, or_right}
 use Rattle.land_core.proofs.Reflection.{some_at, some_passes, none_passes}
 use Rattle.land_core.specs.Entries.{has, some}
 use Rattle.land_core.specs.Register.{stands, is_member}
@@ -22,7 +20,6 @@ use Rattle.land_core.specs.declared.rrr.Class.{Class}
 use Rattle.land_core.specs.declared.rrr.Class.TheVariants.{Right, Restriction, Responsibility, Mortgage}
 use Rattle.land_core.specs.declared.rrr.RightType.TheVariants.{Ownership}
 use Rattle.land_core.specs.declared.rrr.RrrRecord.{RrrRecord}
-use Rattle.land_rules.proofs.Denied.{eq-itself}
 use Rattle.land_rules.proofs.SomeOf.{any_at, none_at_all}
 use Rattle.land_rules.specs.Circles.{circle_of, is_group_of, is_held_by, is_in_circle, is_owned_by, is_told_to_circle}
 use Rattle.land_rules.specs.Laws.{MembersSeeGroups, citizen}
@@ -34,38 +31,17 @@ use Rattle.land_rules.specs.declared.verdict.Verdict.TheVariants.{Allowed, Denie
 
 -- ---- tests
 
-number_is : (n k : ℕ) → nat_eq n k ≡ true → n ≡ k
-number_is n k h = grind (arith, nat_tests)
-
-number_at : (n k : ℕ) → n ≡ k → nat_eq n k ≡ true
-number_at n k e = subst (λ (m : ℕ). nat_eq n m ≡ true) e (eq-itself n)
-
-number_apart : (n k : ℕ) → n ≢ k → nat_eq n k ≡ false
-number_apart n k h = elim (nat_eq n k) as (λ b. nat_eq n k ≡ b → b ≡ false) [ true ↦ λ e. absurd (h (number_is n k e)) | false ↦ λ e. refl ] refl
-
 all_three : (a b c : Bool) → a ≡ true → b ≡ true → c ≡ true → (a && b && c) ≡ true
 all_three true true true e f g = refl
 all_three true true false e f g = absurd (false≢true g)
 all_three true false c e f g = absurd (false≢true f)
 all_three false b c e f g = absurd (false≢true e)
 
-both : (a b : Bool) → a ≡ true → b ≡ true → (a && b) ≡ true
-both true b e f = f
-both false b e f = absurd (false≢true e)
-
-or_right : (a b : Bool) → b ≡ true → (a || b) ≡ true
-or_right true b e = refl
-or_right false b e = e
-
 -- a conjunction fails where its last part fails whenever the others hold
 last_fails : (a b c : Bool) → (a ≡ true → b ≡ true → c ≡ false) → (a && b && c) ≡ false
 last_fails true true c h = h refl refl
 last_fails true false c h = refl
 last_fails false b c h = refl
-
-and_false : (a b : Bool) → b ≡ false → (a && b) ≡ false
-and_false true b e = e
-and_false false b e = refl
 
 -- ---- a citizen that may ask is told what the sight rules say
 
@@ -86,22 +62,22 @@ module _ (at : Register) (party : ℕ) where
   holds_as_member group named member is = or_right (nat_eq named party) (is_member at named party) (subst (λ (g : ℕ). is_member at g party ≡ true) (sym is) member)
 
   holds_as_other : (named : ℕ) → IsOfOthers at party named → holds_as at party named ≡ false
-  holds_as_other named h = ap (λ b. b || is_member at named party) (number_apart named party h.other) ∙ h.outside
+  holds_as_other named h = ap (λ b. b || is_member at named party) (ne_eqb named party h.other) ∙ h.outside
 
   member_is_holder : (group unit : ℕ) → is_member at group party ≡ true → stands at kind.Unit unit ≡ true → HasEntry is_right at group unit → is_holder at party unit ≡ true
   member_is_holder group unit member there it =
-      both _ _ there (some_at nat_cmp_total nat_cmp-IsAntisymmetric (λ n e. is_held_right at party unit e) at.rrrs it.number it.entry it.stands.there
-      (all_three _ _ _ (number_at it.entry.unit unit it.stands.of_unit) it.class (holds_as_member group it.entry.party member it.name)))
+      and_from _ _ there (some_at nat_cmp_total nat_cmp-IsAntisymmetric (λ n e. is_held_right at party unit e) at.rrrs it.number it.entry it.stands.there
+      (all_three _ _ _ (eq-eqb it.entry.unit unit it.stands.of_unit) it.class (holds_as_member group it.entry.party member it.name)))
 
   no_holder : (unit : ℕ) → HoldsNone is_right at party unit → is_holder at party unit ≡ false
   no_holder unit none =
-      and_false _ _ (none_passes nat_cmp_total nat_cmp-IsAntisymmetric (λ n e. is_held_right at party unit e) at.rrrs (λ n e there.
-      last_fails _ _ _ (λ here right. holds_as_other e.party (none n e (record { there = there; of_unit = number_is e.unit unit here }) right))))
+      and_right _ _ (none_passes nat_cmp_total nat_cmp-IsAntisymmetric (λ n e. is_held_right at party unit e) at.rrrs (λ n e there.
+      last_fails _ _ _ (λ here right. holds_as_other e.party (none n e (record { there = there; of_unit = eqb-true e.unit unit here }) right))))
 
   no_owner : (unit : ℕ) → HoldsNone (is_right_of Ownership) at party unit → is_owner at party unit ≡ false
   no_owner unit none =
-      and_false _ _ (none_passes nat_cmp_total nat_cmp-IsAntisymmetric (λ n e. is_held_ownership at party unit e) at.rrrs (λ n e there.
-      last_fails _ _ _ (λ here right. holds_as_other e.party (none n e (record { there = there; of_unit = number_is e.unit unit here }) right))))
+      and_right _ _ (none_passes nat_cmp_total nat_cmp-IsAntisymmetric (λ n e. is_held_ownership at party unit e) at.rrrs (λ n e there.
+      last_fails _ _ _ (λ here right. holds_as_other e.party (none n e (record { there = there; of_unit = eqb-true e.unit unit here }) right))))
 
   -- an ownership is a right
   right_from_ownership : (class : Class) → is_right_of Ownership class ≡ true → is_right class ≡ true
@@ -112,18 +88,18 @@ module _ (at : Register) (party : ℕ) where
 
   pub owner_is_holder : (unit : ℕ) → is_owner at party unit ≡ true → is_holder at party unit ≡ true
   owner_is_holder unit h =
-      let parts = both_of _ _ h in
+      let parts = and_parts _ _ h in
       let it = some_passes nat_cmp_total nat_cmp-IsAntisymmetric (λ n e. is_held_ownership at party unit e) at.rrrs parts.1 in
-      let tests = both_of _ _ it.passes in
-      both _ _ parts.0 (some_at nat_cmp_total nat_cmp-IsAntisymmetric (λ n e. is_held_right at party unit e) at.rrrs it.key it.value it.there
-      (all_three _ _ _ (both_of _ _ tests.0).0 (right_from_ownership it.value.class (both_of _ _ tests.0).1) tests.1))
+      let tests = and_parts _ _ it.passes in
+      and_from _ _ parts.0 (some_at nat_cmp_total nat_cmp-IsAntisymmetric (λ n e. is_held_right at party unit e) at.rrrs it.key it.value it.there
+      (all_three _ _ _ (and_parts _ _ tests.0).0 (right_from_ownership it.value.class (and_parts _ _ tests.0).1) tests.1))
 
 -- ---- what one of its circle is tells what a citizen is told
 
 module _ (at : Register) (party : ℕ) where
   unit_shown : (one unit : ℕ) → is_in_circle at party one ≡ true → is_holder at one unit ≡ true → first_denial (unit_rules at (citizen party) unit) ≡ Allowed
   unit_shown one unit among h =
-      shown_by (is_held_by at (circle_of at party) unit) (stands at kind.Unit unit) 11 (any_at (λ p. is_holder at p unit) one (circle_of at party) among h) (both_of _ _ h).0
+      shown_by (is_held_by at (circle_of at party) unit) (stands at kind.Unit unit) 11 (any_at (λ p. is_holder at p unit) one (circle_of at party) among h) (and_parts _ _ h).0
 
   unit_denied : (unit : ℕ) → CircleHoldsNone is_right at party unit → first_denial (unit_rules at (citizen party) unit) ≡ Denied 11
   unit_denied unit none =
@@ -149,18 +125,18 @@ module _ (at : Register) (party : ℕ) where
   told_no_mortgage : (one unit : ℕ) (e : RrrRecord) → is_in_circle at party one ≡ true → is_holder at one unit ≡ true → e.unit ≡ unit → is_mortgage e.class ≡ false
       → is_told_to_circle at (circle_of at party) e ≡ true
   told_no_mortgage one unit e among holder of_unit class =
-      both _ _ (held one unit e among holder of_unit) (ap (λ b. not b || is_owned_by at (circle_of at party) e.unit) class)
+      and_from _ _ (held one unit e among holder of_unit) (ap (λ b. not b || is_owned_by at (circle_of at party) e.unit) class)
 
   told_as_owner : (one unit : ℕ) (e : RrrRecord) → is_in_circle at party one ≡ true → is_owner at one unit ≡ true → e.unit ≡ unit
       → is_told_to_circle at (circle_of at party) e ≡ true
   told_as_owner one unit e among owner of_unit =
       let owns : is_owner at one e.unit ≡ true = subst (λ (n : ℕ). is_owner at one n ≡ true) (sym of_unit) owner in
-      both _ _ (held one unit e among (owner_is_holder at one unit owner) of_unit) (or_right _ _ (any_at (λ p. is_owner at p e.unit) one (circle_of at party) among owns))
+      and_from _ _ (held one unit e among (owner_is_holder at one unit owner) of_unit) (or_right _ _ (any_at (λ p. is_owner at p e.unit) one (circle_of at party) among owns))
 
   not_told : (unit : ℕ) (e : RrrRecord) → CircleHoldsNone (is_right_of Ownership) at party unit → e.unit ≡ unit → is_mortgage e.class ≡ true
       → is_told_to_circle at (circle_of at party) e ≡ false
   not_told unit e none of_unit class =
-      and_false _ _ (ap (λ b. not b || is_owned_by at (circle_of at party) e.unit) class
+      and_right _ _ (ap (λ b. not b || is_owned_by at (circle_of at party) e.unit) class
       ∙ subst (λ (n : ℕ). is_owned_by at (circle_of at party) n ≡ false) (sym of_unit)
       (none_at_all (λ p. is_owner at p unit) (circle_of at party) (λ one among. no_owner at one unit (none one among))))
 
@@ -177,12 +153,12 @@ told_by_none false false in_sight e f g = g
 pub members_see : MembersSeeGroups
 members_see now at party group moment past there role = record {
   member = λ one among member stands_then.
-      may_ask _ _ past _ (both _ _ there role)
+      may_ask _ _ past _ (and_from _ _ there role)
       ∙ shown_by _ (stands at kind.Party group) 13
       (told_as_group (is_in_circle at party group) (is_group_of at (circle_of at party) group) (is_party_in_sight at (citizen party) group)
       (any_at (λ p. is_member_of at p group) one (circle_of at party) among member)) stands_then;
   other = λ outside no_group out_of_sight.
-      may_ask _ _ past _ (both _ _ there role)
+      may_ask _ _ past _ (and_from _ _ there role)
       ∙ ap (λ b. cond (not b) (Denied 13) (cond (not (stands at kind.Party group)) (Denied 27) Allowed))
       (told_by_none (is_in_circle at party group) (is_group_of at (circle_of at party) group) (is_party_in_sight at (citizen party) group) outside no_group out_of_sight);
 }
@@ -224,24 +200,24 @@ module _ (at : Register) (party : ℕ) where
 
   has_mortgage : (unit : ℕ) → is_creditor_on at party unit ≡ true → (stands at kind.Unit unit ≡ true) × HasEntry is_mortgage at party unit
   has_mortgage unit h =
-      let parts = both_of _ _ h in
+      let parts = and_parts _ _ h in
       let it = some_passes nat_cmp_total nat_cmp-IsAntisymmetric (λ n e. is_credit party unit e) at.rrrs parts.1 in
-      let tests = both_of _ _ it.passes in
-      let more = both_of _ _ tests.0 in (
+      let tests = and_parts _ _ it.passes in
+      let more = and_parts _ _ tests.0 in (
         parts.0,
         record {
           number = it.key;
           entry = it.value;
-          stands = record { there = it.there; of_unit = number_is it.value.unit unit more.0 };
+          stands = record { there = it.there; of_unit = eqb-true it.value.unit unit more.0 };
           class = more.1;
-          name = number_is it.value.party party tests.1;
+          name = eqb-true it.value.party party tests.1;
         },
       )
 
   is_creditor : (unit : ℕ) → stands at kind.Unit unit ≡ true → HasEntry is_mortgage at party unit → is_creditor_on at party unit ≡ true
   is_creditor unit there it =
-      both _ _ there (some_at nat_cmp_total nat_cmp-IsAntisymmetric (λ n e. is_credit party unit e) at.rrrs it.number it.entry it.stands.there
-      (all_three _ _ _ (number_at it.entry.unit unit it.stands.of_unit) it.class (number_at it.entry.party party it.name)))
+      and_from _ _ there (some_at nat_cmp_total nat_cmp-IsAntisymmetric (λ n e. is_credit party unit e) at.rrrs it.number it.entry it.stands.there
+      (all_three _ _ _ (eq-eqb it.entry.unit unit it.stands.of_unit) it.class (eq-eqb it.entry.party party it.name)))
 
   sees_entry : (number : ℕ) → sees at (bank party) kind.Rrr number ≡ option_map_or (is_told_to_bank at (bank party)) (map.get at.rrrs number) false
   sees_entry number = record_passes (is_told_to_bank at (bank party)) (map.get at.rrrs number) 16
@@ -261,18 +237,18 @@ module _ (at : Register) (party : ℕ) where
       found : (o : Option RrrRecord) → map.get at.rrrs number ≡ o → option_map_or (is_told_to_bank at (bank party)) o false ≡ true → IsOpenToBank at party number
       found None e h = absurd (false≢true h)
       found (Some entry) e h =
-          let parts = both_of (is_unit_in_sight at (bank party) entry.unit) (is_told_to_creditor party entry) h in
+          let parts = and_parts (is_unit_in_sight at (bank party) entry.unit) (is_told_to_creditor party entry) h in
           record {
             entry = entry;
             there = e;
             in_sight = parts.0;
-            own = λ class. number_is entry.party party (own_from (is_mortgage entry.class) _ parts.1 class);
+            own = λ class. eqb-true entry.party party (own_from (is_mortgage entry.class) _ parts.1 class);
           }
 
   sees_open : (number : ℕ) → IsOpenToBank at party number → sees at (bank party) kind.Rrr number ≡ true
   sees_open number it =
       sees_entry number ∙ ap (λ o. option_map_or (is_told_to_bank at (bank party)) o false) it.there
-      ∙ both _ _ it.in_sight (own_back (is_mortgage it.entry.class) _ (λ class. number_at it.entry.party party (it.own class)))
+      ∙ and_from _ _ it.in_sight (own_back (is_mortgage it.entry.class) _ (λ class. eq-eqb it.entry.party party (it.own class)))
 
 pub banks_see : BanksSeeByTheirMortgages
 banks_see at party = record {
@@ -298,10 +274,10 @@ module _ (at : Register) (party : ℕ) where
     where
       found : (o : Option MutationRecord) → map.get at.mutations number ≡ o → option_map_or (is_lodger_of party) o false ≡ true → HasLodged at party number
       found None e h = absurd (false≢true h)
-      found (Some m) e h = record { mutation = m; there = e; lodger = number_is m.lodger party h }
+      found (Some m) e h = record { mutation = m; there = e; lodger = eqb-true m.lodger party h }
 
   is_lodged : (number : ℕ) → HasLodged at party number → is_mutation_where (is_lodger_of party) at number ≡ true
-  is_lodged number it = ap (λ o. option_map_or (is_lodger_of party) o false) it.there ∙ number_at it.mutation.lodger party it.lodger
+  is_lodged number it = ap (λ o. option_map_or (is_lodger_of party) o false) it.there ∙ eq-eqb it.mutation.lodger party it.lodger
 
   -- a conveyancer is shown a unit where it is a lodger on it and it stands
   lodger_passes : (lodged there : Bool) → is_allowed (cond (not lodged) (Denied 19) (cond (not there) (Denied 27) Allowed)) ≡ (there && lodged)
@@ -316,11 +292,11 @@ module _ (at : Register) (party : ℕ) where
   has_pending : (unit : ℕ) → is_lodger_on at party unit ≡ true → HasPending at party unit
   has_pending unit h =
       let it = some_passes nat_cmp_total nat_cmp-IsAntisymmetric (λ n m. is_pending_on party unit m) at.mutations h in
-      let tests = both_of _ _ it.passes in
-      let own = both_of _ _ tests.0 in
+      let tests = and_parts _ _ it.passes in
+      let own = and_parts _ _ tests.0 in
       record {
         number = it.key;
-        lodged = record { mutation = it.value; there = it.there; lodger = number_is it.value.lodger party own.1 };
+        lodged = record { mutation = it.value; there = it.there; lodger = eqb-true it.value.lodger party own.1 };
         undecided = own.0;
         names = tests.1;
       }
@@ -328,7 +304,7 @@ module _ (at : Register) (party : ℕ) where
   is_pending : (unit : ℕ) → HasPending at party unit → is_lodger_on at party unit ≡ true
   is_pending unit it =
       some_at nat_cmp_total nat_cmp-IsAntisymmetric (λ n m. is_pending_on party unit m) at.mutations it.number it.lodged.mutation it.lodged.there
-      (both _ _ (both _ _ it.undecided (number_at it.lodged.mutation.lodger party it.lodged.lodger)) it.names)
+      (and_from _ _ (and_from _ _ it.undecided (eq-eqb it.lodged.mutation.lodger party it.lodged.lodger)) it.names)
 
 pub lodgers_see : LodgersSeeTheirMutations
 lodgers_see at caller present number =
@@ -337,6 +313,6 @@ lodgers_see at caller present number =
 
 pub conveyancers_see : ConveyancersSeeByTheirLodgings
 conveyancers_see at party unit = (
-  λ h. let parts = both_of _ _ (sym (sees_lodged_on at party unit) ∙ h) in (parts.0, has_pending at party unit parts.1),
-  λ it. sees_lodged_on at party unit ∙ both _ _ it.0 (is_pending at party unit it.1),
+  λ h. let parts = and_parts _ _ (sym (sees_lodged_on at party unit) ∙ h) in (parts.0, has_pending at party unit parts.1),
+  λ it. sees_lodged_on at party unit ∙ and_from _ _ it.0 (is_pending at party unit it.1),
 )

@@ -1,9 +1,9 @@
 -- When some item of a list passes a test.
 use Rattle.std.proofs.Common.{◌≡◌, ℕ, Bool, true, false, ◌||◌, ◌&&◌, cond, nat_eq, List, [], ◌∷◌, filter, refl, sym, ap, ap₂, subst, ◌∙◌}
 use Rattle.std.specs.List.{list_any}
-use Rattle.std.proofs.lemmas.Bool.{false≢true}
-use Rattle.land_rules.proofs.Denied.{eq-itself}
-use Rattle.land_rules.proofs.Seeing.{number_is}
+use Rattle.std.proofs.lemmas.Bool.{false≢true, eqb-true, or_right}
+use Rattle.std.proofs.lemmas.Cmp.{nat_eq_equiv}
+use Rattle.land_core.proofs.Booleans.{or_four, or_nothing}
 
 and_over : (a b c : Bool) → ((a || b) && c) ≡ ((a && c) || (b && c))
 and_over true b true = refl
@@ -11,25 +11,9 @@ and_over true true false = refl
 and_over true false false = refl
 and_over false b c = refl
 
-or_four : (a b c d : Bool) → ((a || b) || (c || d)) ≡ ((a || c) || (b || d))
-or_four true b true d = refl
-or_four true b false d = refl
-or_four false true true d = refl
-or_four false true false d = refl
-or_four false false true d = refl
-or_four false false false d = refl
-
 or_same : (b : Bool) → (b || b) ≡ b
 or_same true = refl
 or_same false = refl
-
-pub or_none : (b : Bool) → (b || false) ≡ b
-or_none true = refl
-or_none false = refl
-
-or_right : (a b : Bool) → b ≡ true → (a || b) ≡ true
-or_right true b e = refl
-or_right false b e = e
 
 either_implied : (a b c d : Bool) → (c ≡ true → a ≡ true) → (d ≡ true → b ≡ true) → (c || d) ≡ true → (a || b) ≡ true
 either_implied true b c d f g e = refl
@@ -63,7 +47,7 @@ module _ {X : Type 0} where
 
   -- what holds of all holds of one
   pub any_same : (b : Bool) (x : X) (xs : List X) → list_any (λ y. b) (x ∷ xs) ≡ b
-  any_same b x [] = or_none b
+  any_same b x [] = or_nothing b
   any_same b x (y ∷ ys) = ap (λ c. b || c) (any_same b y ys) ∙ or_same b
 
   -- where one passes the second test it passes the first
@@ -97,7 +81,7 @@ pub any_at : (p : ℕ → Bool) (n : ℕ) (ns : List ℕ) → list_any (nat_eq n
 any_at p n [] h e = absurd (false≢true h)
 any_at p n (m ∷ ms) h e =
     elim (nat_eq n m) as (λ b. nat_eq n m ≡ b → (b || list_any (nat_eq n) ms) ≡ true → (p m || list_any p ms) ≡ true) [
-      | true ↦ λ here h. ap (λ b. b || list_any p ms) (subst (λ (k : ℕ). p k ≡ true) (number_is n m here) e)
+      | true ↦ λ here h. ap (λ b. b || list_any p ms) (subst (λ (k : ℕ). p k ≡ true) (eqb-true n m here) e)
       | false ↦ λ gone h. or_right (p m) (list_any p ms) (any_at p n ms h e)
     ] refl h
 
@@ -105,4 +89,4 @@ any_at p n (m ∷ ms) h e =
 pub none_at_all : (p : ℕ → Bool) (ns : List ℕ) → ((n : ℕ) → list_any (nat_eq n) ns ≡ true → p n ≡ false) → list_any p ns ≡ false
 none_at_all p [] h = refl
 none_at_all p (m ∷ ms) h =
-    ap₂ (λ a b. a || b) (h m (ap (λ b. b || list_any (nat_eq m) ms) (eq-itself m))) (none_at_all p ms (λ n e. h n (or_right (nat_eq n m) (list_any (nat_eq n) ms) e)))
+    ap₂ (λ a b. a || b) (h m (ap (λ b. b || list_any (nat_eq m) ms) (nat_eq_equiv.refl m))) (none_at_all p ms (λ n e. h n (or_right (nat_eq n m) (list_any (nat_eq n) ms) e)))

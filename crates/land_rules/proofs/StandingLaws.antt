@@ -1,8 +1,8 @@
 -- Who may ask, of which moments, and which acts are left to which roles.
 use Rattle.std.proofs.Common.{◌≡◌, inl, inr, ℕ, ◌≤◌, Bool, true, false, ◌||◌, ◌&&◌, not, List, [], ◌∷◌, refl, sym, ap, ◌∙◌, subst, arith}
 use Rattle.std.specs.Prelude.{◌≢◌, is_some, nat_eq}
-use Rattle.std.proofs.lemmas.Bool.{false≢true}
-use Rattle.land_core.proofs.Booleans.{both_of, not_false, not_true}
+use Rattle.std.proofs.lemmas.Bool.{false≢true, and_from, and_left, and_parts, and_right, eq-eqb, ne_eqb, not-false, not-true, or_from}
+use Rattle.land_core.proofs.Booleans.{and_false, or_nothing, second_false}
 use Rattle.land_core.specs.Register.{stands, holds}
 use Rattle.land_core.specs.Role.{is_role}
 use Rattle.land_core.specs.declared.act.Act.{Act}
@@ -30,7 +30,7 @@ use Rattle.land_rules.specs.Rules.{Rules, act_rules, denies, first_denial, is_of
 use Rattle.land_rules.specs.StandingLaws.{ActsOfTheOfficeAreReserved, BanksAndNotariesLodgeMortgages, BanksDischargeTheirOwnMortgages, BanksLodgeTheirOwnMortgages, ConveyancersAndNotariesLodgeTransfers, IsGivenTo, IsLeftTo, IsOfTheOffice, IsOfTheOfficeForOthers, Lodges, LodgesMortgageOrDischarge, LodgesSubdivisionOrMerger, LodgesTransfer, RolesAreHeld, StrangersAreDeniedEverything, SurveyorsLodgeSubdivisionsAndMergers, ThePastIsClosedToThreeRoles, asks_in, is_in_role, is_lodging, may_ask, roles_of_the_past}
 use Rattle.land_rules.specs.declared.verdict.Verdict.{Verdict}
 use Rattle.land_rules.specs.declared.verdict.Verdict.TheVariants.{Allowed}
-use Rattle.land_rules.proofs.StandingTests.{and_nothing, both, first_fails, last_fails, neither, not_both, nothing_there, number_apart, number_at, or_nothing}
+use Rattle.land_rules.proofs.StandingTests.{not_both, nothing_there}
 use Rattle.land_rules.proofs.Asked.{asks_for, asks_the_office, decides_for_others, discharge_of_another, lodges_it, lodges_mortgage_or_discharge, lodges_outlines, lodges_transfer, mortgage_is_found, mortgage_of_another, mortgage_or_discharge_of, no_mortgage_found, of_the_office, office_lodges_nothing, outlines_are_no_transfer, outlines_of, transfer_of, withdraws_nothing}
 use Rattle.land_rules.proofs.StandingRules.{allows, as_bank, closed_from, from_rule_1, from_rule_2, from_rule_3, from_rule_4, from_rule_5, from_rule_6, from_rule_7, from_rule_8, from_rule_9, in_role, late_is_allowed, may, no_past_from, none_before, past_from, present_from, rule_1, rule_2, rule_3, rule_4, rule_5, rule_6, rule_7, rule_8, rule_9}
 
@@ -45,21 +45,17 @@ module _ (now at : Register) (caller : Caller) (past : Bool) where
     denied = (
       λ e.
           let it = ((verdicts_least now at caller a past).denied k).0 e in
-          let parts = both_of _ _ (sym says ∙ it.holds) in
-          record { asker = may now at caller past a k le it.least; asked = is parts.0; other = not_true _ parts.1 },
+          let parts = and_parts _ _ (sym says ∙ it.holds) in
+          record { asker = may now at caller past a k le it.least; asked = is parts.0; other = not-true _ parts.1 },
       λ h.
           let asked = passes h.asked in
           ((verdicts_least now at caller a past).denied k).1 (record {
-            holds = says ∙ both _ _ asked (ap not h.other);
+            holds = says ∙ and_from _ _ asked (ap not h.other);
             least = before asked (from_rule_4 now at caller past a h.asker);
           }),
     );
-    allowed = λ asked e. not_false _ (second_false _ _ (passes asked) (sym says ∙ none_from_allowed (rules_on now at caller a past) e k));
+    allowed = λ asked e. not-false _ (second_false _ _ (passes asked) (sym says ∙ none_from_allowed (rules_on now at caller a past) e k));
   }
-    where
-      second_false : (a b : Bool) → a ≡ true → (a && b) ≡ false → b ≡ false
-      second_false true b e f = f
-      second_false false b e f = absurd (false≢true e)
 
   office_left : (a : Ask) → IsLeftTo (StateAdministrator ∷ []) 4 IsOfTheOffice now at caller a past
   office_left a =
@@ -98,9 +94,9 @@ module _ (now at : Register) (caller : Caller) (past : Bool) where
       → (not (stands now kind.Party caller.party) || (not (holds now caller.party caller.role) || (past && is_of_the_present caller || others)))
       ≡ false
   none_of_three asker others none =
-      let parts = both_of (is_in_role now caller) (not past || asks_in roles_of_the_past caller) asker in
-      let held = both_of (stands now kind.Party caller.party) (holds now caller.party caller.role) parts.0 in
-      neither _ _ (ap not held.0) (neither _ _ (ap not held.1) (neither _ _ (late_is_allowed past _ _ (present_from caller) parts.1) none))
+      let parts = and_parts (is_in_role now caller) (not past || asks_in roles_of_the_past caller) asker in
+      let held = and_parts (stands now kind.Party caller.party) (holds now caller.party caller.role) parts.0 in
+      or_from _ _ (ap not held.0) (or_from _ _ (ap not held.1) (or_from _ _ (late_is_allowed past _ _ (present_from caller) parts.1) none))
 
   -- an act of the office that decides nothing of the caller's
   office_given : (a : Ask) → IsGivenTo (StateAdministrator ∷ []) (IsOfTheOfficeForOthers now caller.party) now at caller a past
@@ -115,15 +111,15 @@ module _ (now at : Register) (caller : Caller) (past : Bool) where
       given it no_lodging no_mandate others =
           let nothing : (passes : Content → Bool) → lodges passes it ≡ false = λ passes. office_lodges_nothing passes it no_lodging in
           allows (rules_on now at caller (ask.Do it) past) (none_of_three asker _
-          (neither _ _ (last_fails _ _ (ap not (sym (or_nothing _) ∙ role)))
-          (neither _ _ (first_fails _ _ (nothing is_transfer))
-          (neither _ _ (first_fails _ _ (nothing is_of_outlines))
-          (neither _ _ (first_fails _ _ (nothing is_of_a_mortgage))
-          (neither _ _ (last_fails _ _ (nothing (is_mortgage_of_another caller.party)))
-          (neither _ _ (last_fails _ _ (nothing (is_discharge_of_another now caller.party)))
-          (neither _ _ others
-          (neither _ _ (first_fails _ _ no_mandate)
-          (neither _ _ (withdraws_nothing (is_between_others caller.party) it no_mandate) refl))))))))))
+          (or_from _ _ (and_right _ _ (ap not (sym (or_nothing _) ∙ role)))
+          (or_from _ _ (and_left _ _ (nothing is_transfer))
+          (or_from _ _ (and_left _ _ (nothing is_of_outlines))
+          (or_from _ _ (and_left _ _ (nothing is_of_a_mortgage))
+          (or_from _ _ (and_right _ _ (nothing (is_mortgage_of_another caller.party)))
+          (or_from _ _ (and_right _ _ (nothing (is_discharge_of_another now caller.party)))
+          (or_from _ _ others
+          (or_from _ _ (and_left _ _ no_mandate)
+          (or_from _ _ (withdraws_nothing (is_between_others caller.party) it no_mandate) refl))))))))))
 
   -- what rules 5 to 9 say of a content that is lodged
   record IsFree (c : Content) : Type 0 where
@@ -141,16 +137,16 @@ module _ (now at : Register) (caller : Caller) (past : Bool) where
       given : (lodging : Lodging) → IsFree lodging.content → verdict_of now at caller (ask.Do (act.Lodge lodging)) past ≡ Allowed
       given lodging free =
           allows (rules_on now at caller (ask.Do (act.Lodge lodging)) past) (none_of_three asker _
-          (neither _ _ free.transfer (neither _ _ free.outlines (neither _ _ free.mortgage
-          (neither _ _ free.lent (neither _ _ free.discharged refl))))))
+          (or_from _ _ free.transfer (or_from _ _ free.outlines (or_from _ _ free.mortgage
+          (or_from _ _ free.lent (or_from _ _ free.discharged refl))))))
 
   free_transfer : (it : Transfer) → is_of_transfers caller ≡ true → IsFree (content.Transfer it)
   free_transfer it role = record {
     transfer = ap not role;
     outlines = refl;
     mortgage = refl;
-    lent = and_nothing _;
-    discharged = and_nothing _;
+    lent = and_false _;
+    discharged = and_false _;
   }
 
   free_subdivision : (it : Subdivision) → is_role caller.role CertifiedSurveyor ≡ true → IsFree (content.Subdivision it)
@@ -158,8 +154,8 @@ module _ (now at : Register) (caller : Caller) (past : Bool) where
     transfer = refl;
     outlines = ap not role;
     mortgage = refl;
-    lent = and_nothing _;
-    discharged = and_nothing _;
+    lent = and_false _;
+    discharged = and_false _;
   }
 
   free_merger : (it : Merger) → is_role caller.role CertifiedSurveyor ≡ true → IsFree (content.Merger it)
@@ -167,8 +163,8 @@ module _ (now at : Register) (caller : Caller) (past : Bool) where
     transfer = refl;
     outlines = ap not role;
     mortgage = refl;
-    lent = and_nothing _;
-    discharged = and_nothing _;
+    lent = and_false _;
+    discharged = and_false _;
   }
 
   free_mortgage : (it : Mortgage) → is_of_mortgages caller ≡ true
@@ -179,7 +175,7 @@ module _ (now at : Register) (caller : Caller) (past : Bool) where
     outlines = refl;
     mortgage = ap not role;
     lent = lent;
-    discharged = and_nothing _;
+    discharged = and_false _;
   }
 
   free_discharge : (it : Discharge) → is_of_mortgages caller ≡ true
@@ -189,7 +185,7 @@ module _ (now at : Register) (caller : Caller) (past : Bool) where
     transfer = refl;
     outlines = refl;
     mortgage = ap not role;
-    lent = and_nothing _;
+    lent = and_false _;
     discharged = discharged;
   }
 
@@ -201,7 +197,7 @@ module _ (now at : Register) (caller : Caller) (past : Bool) where
 
 pub strangers_are_denied : StrangersAreDeniedEverything
 strangers_are_denied now at caller a past = (
-  λ e. nothing_there _ (not_true _ (sym (rule_1 now at caller past a) ∙ (((verdicts_least now at caller a past).denied 1).0 e).holds)),
+  λ e. nothing_there _ (not-true _ (sym (rule_1 now at caller past a) ∙ (((verdicts_least now at caller a past).denied 1).0 e).holds)),
   λ none. ((verdicts_least now at caller a past).denied 1).1 (record {
     holds = rule_1 now at caller past a ∙ ap (λ o. not (is_some o)) none;
     least = from_rule_1 now at caller past a;
@@ -214,8 +210,8 @@ roles_are_held now at caller a past = record {
     λ e.
         let it = ((verdicts_least now at caller a past).denied 2).0 e in
         record {
-          party = not_false _ (sym (rule_1 now at caller past a) ∙ it.least 1 (omega arith));
-          no_grant = nothing_there _ (not_true _ (sym (rule_2 now at caller past a) ∙ it.holds));
+          party = not-false _ (sym (rule_1 now at caller past a) ∙ it.least 1 (omega arith));
+          no_grant = nothing_there _ (not-true _ (sym (rule_2 now at caller past a) ∙ it.holds));
         },
     λ h. ((verdicts_least now at caller a past).denied 2).1 (record {
       holds = rule_2 now at caller past a ∙ ap (λ o. not (is_some o)) h.no_grant;
@@ -246,14 +242,14 @@ past_is_closed now at caller a = record {
   denied = λ past. (
     λ e.
         let it = ((verdicts_least now at caller a past).denied 3).0 e in
-        let parts = both_of _ _ (sym (rule_3 now at caller past a) ∙ it.holds) in
+        let parts = and_parts _ _ (sym (rule_3 now at caller past a) ∙ it.holds) in
         record {
           asker = in_role now at caller past a (it.least 1 (omega arith)) (it.least 2 (omega arith));
           late = parts.0;
           closed = no_past_from caller parts.1;
         },
     λ h. ((verdicts_least now at caller a past).denied 3).1 (record {
-      holds = rule_3 now at caller past a ∙ both _ _ h.late (closed_from caller h.closed);
+      holds = rule_3 now at caller past a ∙ and_from _ _ h.late (closed_from caller h.closed);
       least = from_rule_3 now at caller past a h.asker;
     }),
   );
@@ -307,23 +303,23 @@ mortgages_are_left now at caller a past = record {
     given : may_ask now caller past ≡ true → IsNotary caller → LodgesMortgageOrDischarge a → verdict_of now at caller a past ≡ Allowed
     given asker role (inl (it, lodged)) =
         lodging_given now at caller past a (content.Mortgage it) lodged asker
-        (free_mortgage now at caller past it role.mortgages (first_fails _ _ role.no_bank))
+        (free_mortgage now at caller past it role.mortgages (and_left _ _ role.no_bank))
     given asker role (inr (it, lodged)) =
         lodging_given now at caller past a (content.Discharge it) lodged asker
-        (free_discharge now at caller past it role.mortgages (first_fails _ _ role.no_bank))
+        (free_discharge now at caller past it role.mortgages (and_left _ _ role.no_bank))
 
 pub own_mortgages : BanksLodgeTheirOwnMortgages
 own_mortgages now at caller a past = record {
   own = λ bank it.
-      let parts = both_of _ _ bank in
+      let parts = and_parts _ _ bank in
       let role : is_role caller.role Bank ≡ true = sym (or_nothing _) ∙ parts.1 in
       lodging_given now at caller past a (content.Mortgage it.mortgage) it.lodged parts.0
       (free_mortgage now at caller past it.mortgage (bank_lodges now at caller past role)
-      (last_fails _ _ (ap not (number_at _ _ it.lender))));
+      (and_right _ _ (ap not (eq-eqb _ _ it.lender))));
   denied = (
     λ e.
         let least = ((verdicts_least now at caller a past).denied 8).0 e in
-        let parts = both_of _ _ (sym (rule_8 now at caller past a) ∙ least.holds) in
+        let parts = and_parts _ _ (sym (rule_8 now at caller past a) ∙ least.holds) in
         let it = mortgage_of_another caller.party a parts.1 in
         record {
           bank = as_bank now at caller past a 8 (omega arith) least.least parts.0;
@@ -332,14 +328,14 @@ own_mortgages now at caller a past = record {
           other = it.other;
         },
     λ h.
-        let bank = both_of _ _ h.bank in
+        let bank = and_parts _ _ h.bank in
         let role : is_role caller.role Bank ≡ true = sym (or_nothing _) ∙ bank.1 in
         let it = h.lodged in
         let lodged : (passes : Content → Bool) (b : Bool) → passes (content.Mortgage it.mortgage) ≡ b → asks_for (lodges passes) a ≡ b
         = λ passes b. lodges_it passes a (content.Mortgage it.mortgage) it.lodged b in
-        let other = number_apart it.mortgage.creditor caller.party (λ same. h.other (sym it.lender ∙ same)) in
+        let other = ne_eqb it.mortgage.creditor caller.party (λ same. h.other (sym it.lender ∙ same)) in
         ((verdicts_least now at caller a past).denied 8).1 (record {
-          holds = rule_8 now at caller past a ∙ both _ _ role (lodged (is_mortgage_of_another caller.party) true (ap not other));
+          holds = rule_8 now at caller past a ∙ and_from _ _ role (lodged (is_mortgage_of_another caller.party) true (ap not other));
           least = from_rule_8 now at caller past a role (lodged is_of_a_mortgage true refl) (from_rule_4 now at caller past a bank.0);
         }),
   );
@@ -348,16 +344,16 @@ own_mortgages now at caller a past = record {
 pub own_discharges : BanksDischargeTheirOwnMortgages
 own_discharges now at caller a past = record {
   own = λ number bank it has.
-      let parts = both_of _ _ bank in
+      let parts = and_parts _ _ bank in
       let role : is_role caller.role Bank ≡ true = sym (or_nothing _) ∙ parts.1 in
       let found = ap (λ n. is_rrr_where (is_mortgage_of caller.party) now n) it.ends ∙ mortgage_is_found now caller.party number has in
       lodging_given now at caller past a (content.Discharge it.discharge) it.lodged parts.0
       (free_discharge now at caller past it.discharge (bank_lodges now at caller past role)
-      (last_fails _ _ (ap not found)));
+      (and_right _ _ (ap not found)));
   denied = (
     λ e.
         let least = ((verdicts_least now at caller a past).denied 9).0 e in
-        let parts = both_of _ _ (sym (rule_9 now at caller past a) ∙ least.holds) in
+        let parts = and_parts _ _ (sym (rule_9 now at caller past a) ∙ least.holds) in
         let it = discharge_of_another now caller.party a parts.1 in
         record {
           bank = as_bank now at caller past a 9 (omega arith) least.least parts.0;
@@ -366,14 +362,14 @@ own_discharges now at caller a past = record {
           none = λ has. not_both _ (mortgage_is_found now caller.party it.discharge.mortgage has) it.other;
         },
     λ h.
-        let bank = both_of _ _ h.bank in
+        let bank = and_parts _ _ h.bank in
         let role : is_role caller.role Bank ≡ true = sym (or_nothing _) ∙ bank.1 in
         let it = h.lodged in
         let lodged : (passes : Content → Bool) (b : Bool) → passes (content.Discharge it.discharge) ≡ b → asks_for (lodges passes) a ≡ b
         = λ passes b. lodges_it passes a (content.Discharge it.discharge) it.lodged b in
         let none = ap (λ n. is_rrr_where (is_mortgage_of caller.party) now n) it.ends ∙ no_mortgage_found now caller.party h.number h.none in
         ((verdicts_least now at caller a past).denied 9).1 (record {
-          holds = rule_9 now at caller past a ∙ both _ _ role (lodged (is_discharge_of_another now caller.party) true (ap not none));
+          holds = rule_9 now at caller past a ∙ and_from _ _ role (lodged (is_discharge_of_another now caller.party) true (ap not none));
           least = from_rule_9 now at caller past a role (lodged is_of_a_mortgage true refl)
               (lodged (is_mortgage_of_another caller.party) false refl) (from_rule_4 now at caller past a bank.0);
         }),

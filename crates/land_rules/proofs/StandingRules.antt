@@ -4,7 +4,8 @@ use Rattle.std.specs.Prelude.{nat_eq, nat_lt}
 use Rattle.std.specs.List.{list_any}
 use Rattle.std.proofs.lemmas.Bool.Decides.{nat_tests}
 use Rattle.std.proofs.lemmas.List.Folds.{list_any-append}
-use Rattle.land_core.proofs.Booleans.{both_of, not_false, not_true, or_false}
+use Rattle.std.proofs.lemmas.Bool.{and_from, and_left, and_parts, and_right, eqb-true, not-false, not-true, or_from, or_parts}
+use Rattle.land_core.proofs.Booleans.{and_false, or_nothing}
 use Rattle.land_core.specs.Register.{stands, holds}
 use Rattle.land_core.specs.Role.{is_role}
 use Rattle.land_core.specs.declared.act.Act.{Act}
@@ -20,7 +21,6 @@ use Rattle.land_rules.specs.Acts.{is_discharge_of_another, is_mortgage_of_anothe
 use Rattle.land_rules.specs.Rules.{Rules, act_rules, caller_rules, denies, first_denial, is_of_the_present, rise_above, rules_on, sight_rules, standing_rules}
 use Rattle.land_rules.specs.StandingLaws.{asks_as_bank, asks_in, is_in_role, may_ask, roles_of_the_past}
 use Rattle.land_rules.specs.declared.verdict.Verdict.TheVariants.{Allowed, Denied}
-use Rattle.land_rules.proofs.StandingTests.{and_nothing, both, first_fails, last_fails, neither, number_is, or_nothing}
 use Rattle.land_rules.proofs.Asked.{asks_for, lodges_as_no_office, lodges_no_other, mortgages_are_no_outlines, mortgages_are_no_transfer}
 
 -- ---- rules in rising order
@@ -29,8 +29,8 @@ use Rattle.land_rules.proofs.Asked.{asks_for, lodges_as_no_office, lodges_no_oth
 none_up_to : (low : ℕ) (rules : Rules) → rise_above low rules ≡ true → (k : ℕ) → k ≤ low → denies k rules ≡ false
 none_up_to low [] h k le = refl
 none_up_to low (rule ∷ rules) h k le =
-    let above : nat_lt low rule.0 ≡ true = (both_of _ _ h).0 in
-    neither _ _ (first_fails _ _ (other low rule.0 k above le)) (none_up_to rule.0 rules (both_of _ _ h).1 k (below low rule.0 k above le))
+    let above : nat_lt low rule.0 ≡ true = (and_parts _ _ h).0 in
+    or_from _ _ (and_left _ _ (other low rule.0 k above le)) (none_up_to rule.0 rules (and_parts _ _ h).1 k (below low rule.0 k above le))
   where
     other : (low n k : ℕ) → nat_lt low n ≡ true → k ≤ low → nat_eq n k ≡ false
     other low n k h le = grind (arith, nat_tests)
@@ -52,13 +52,13 @@ sight_rises at caller (ask.Do it) = refl
 -- where no rule denies, the verdict allows
 pub allows : (rules : Rules) → list_any (λ rule. rule.1) rules ≡ false → first_denial rules ≡ Allowed
 allows [] h = refl
-allows (rule ∷ rules) h = ap (λ b. cond b (Denied rule.0) (first_denial rules)) (or_false _ _ h).0 ∙ allows rules (or_false _ _ h).1
+allows (rule ∷ rules) h = ap (λ b. cond b (Denied rule.0) (first_denial rules)) (or_parts _ _ h).0 ∙ allows rules (or_parts _ _ h).1
 
 -- a test of numbers that holds below a number and at it
 one_more : (test : ℕ → Bool) (k : ℕ) → test k ≡ false → ((j : ℕ) → j < k → test j ≡ false) → (j : ℕ) → j < k + 1 → test j ≡ false
 one_more test k here before j less =
     elim (nat_eq j k) as (λ b. nat_eq j k ≡ b → test j ≡ false) [
-      | true ↦ λ same. subst (λ (n : ℕ). test n ≡ false) (sym (number_is j k same)) here
+      | true ↦ λ same. subst (λ (n : ℕ). test n ≡ false) (sym (eqb-true j k same)) here
       | false ↦ λ apart. before j (lower j k less apart)
     ] refl
   where
@@ -79,13 +79,13 @@ past_by_role party Citizen = refl
 past_by_role party other = refl
 
 pub present_from : (caller : Caller) → asks_in roles_of_the_past caller ≡ true → is_of_the_present caller ≡ false
-present_from caller h = not_true _ (sym (past_by_role caller.party caller.role) ∙ h)
+present_from caller h = not-true _ (sym (past_by_role caller.party caller.role) ∙ h)
 
 pub past_from : (caller : Caller) → is_of_the_present caller ≡ false → asks_in roles_of_the_past caller ≡ true
 past_from caller h = past_by_role caller.party caller.role ∙ ap not h
 
 pub closed_from : (caller : Caller) → asks_in roles_of_the_past caller ≡ false → is_of_the_present caller ≡ true
-closed_from caller h = not_false _ (sym (past_by_role caller.party caller.role) ∙ h)
+closed_from caller h = not-false _ (sym (past_by_role caller.party caller.role) ∙ h)
 
 pub no_past_from : (caller : Caller) → is_of_the_present caller ≡ true → asks_in roles_of_the_past caller ≡ false
 no_past_from caller h = past_by_role caller.party caller.role ∙ ap not h
@@ -132,7 +132,7 @@ module _ (now at : Register) (caller : Caller) (past : Bool) where
   there : (these : Act → Bool) (role : Bool) (a : Ask)
       → asks_for (λ it. role && these it || false) a ≡ (role && asks_for these a)
   there these role (ask.Do it) = or_nothing _
-  there these role read = sym (and_nothing role)
+  there these role read = sym (and_false role)
 
   rule_0 : (a : Ask) → denies 0 (rules_on now at caller a past) ≡ false
   rule_0 a = standing_alone a 0 (omega arith) ∙ by_caller 0 (λ it. refl) a
@@ -190,46 +190,46 @@ module _ (now at : Register) (caller : Caller) (past : Bool) where
   from_rule_2 a s = next a 1 (rule_1 a ∙ ap not s) (from_rule_1 a)
 
   pub from_rule_3 : (a : Ask) → is_in_role now caller ≡ true → none_before a 3
-  from_rule_3 a h = let parts = both_of _ _ h in next a 2 (rule_2 a ∙ ap not parts.1) (from_rule_2 a parts.0)
+  from_rule_3 a h = let parts = and_parts _ _ h in next a 2 (rule_2 a ∙ ap not parts.1) (from_rule_2 a parts.0)
 
   pub from_rule_4 : (a : Ask) → may_ask now caller past ≡ true → none_before a 4
   from_rule_4 a h =
-      let parts = both_of _ _ h in
+      let parts = and_parts _ _ h in
       next a 3 (rule_3 a ∙ late_is_allowed past _ _ (present_from caller) parts.1) (from_rule_3 a parts.0)
 
   pub in_role : (a : Ask) → denies 1 (rules_on now at caller a past) ≡ false → denies 2 (rules_on now at caller a past) ≡ false
       → is_in_role now caller ≡ true
-  in_role a one two = both _ _ (not_false _ (sym (rule_1 a) ∙ one)) (not_false _ (sym (rule_2 a) ∙ two))
+  in_role a one two = and_from _ _ (not-false _ (sym (rule_1 a) ∙ one)) (not-false _ (sym (rule_2 a) ∙ two))
 
   pub may : (a : Ask) (k : ℕ) → 4 ≤ k → none_before a k → may_ask now caller past ≡ true
   may a k le none =
-      both _ _ (in_role a (none 1 (omega arith)) (none 2 (omega arith)))
+      and_from _ _ (in_role a (none 1 (omega arith)) (none 2 (omega arith)))
       (late_may past _ _ (past_from caller) (sym (rule_3 a) ∙ none 3 (omega arith)))
 
   -- lodgings: rule 4 does not deny them, nor rules 5 and 6 those of mortgages and discharges
   pub from_rule_5 : (passes : Content → Bool) (a : Ask) → asks_for (lodges passes) a ≡ true → none_before a 4 → none_before a 5
-  from_rule_5 passes a h before = next a 4 (rule_4 a ∙ first_fails _ _ (lodges_as_no_office passes a h)) before
+  from_rule_5 passes a h before = next a 4 (rule_4 a ∙ and_left _ _ (lodges_as_no_office passes a h)) before
 
   pub from_rule_6 : (passes : Content → Bool) → ((c : Content) → passes c ≡ true → is_transfer c ≡ false) → (a : Ask)
       → asks_for (lodges passes) a ≡ true → none_before a 4 → none_before a 6
   from_rule_6 passes apart a h before =
-      next a 5 (rule_5 a ∙ first_fails _ _ (lodges_no_other passes is_transfer apart a h))
+      next a 5 (rule_5 a ∙ and_left _ _ (lodges_no_other passes is_transfer apart a h))
       (from_rule_5 passes a h before)
 
   pub from_rule_7 : (a : Ask) → asks_for (lodges is_of_a_mortgage) a ≡ true → none_before a 4 → none_before a 7
   from_rule_7 a h before =
-      next a 6 (rule_6 a ∙ first_fails _ _ (lodges_no_other is_of_a_mortgage is_of_outlines mortgages_are_no_outlines a h))
+      next a 6 (rule_6 a ∙ and_left _ _ (lodges_no_other is_of_a_mortgage is_of_outlines mortgages_are_no_outlines a h))
       (from_rule_6 is_of_a_mortgage mortgages_are_no_transfer a h before)
 
   -- a bank's lodgings: rule 7 does not deny those of mortgages and discharges, nor rule 8 those that are no mortgages of others
   pub from_rule_8 : (a : Ask) → is_role caller.role Bank ≡ true → asks_for (lodges is_of_a_mortgage) a ≡ true
       → none_before a 4 → none_before a 8
   from_rule_8 a bank h before =
-      next a 7 (rule_7 a ∙ last_fails _ _ (ap (λ b. not (b || is_role caller.role Notary)) bank)) (from_rule_7 a h before)
+      next a 7 (rule_7 a ∙ and_right _ _ (ap (λ b. not (b || is_role caller.role Notary)) bank)) (from_rule_7 a h before)
 
   pub from_rule_9 : (a : Ask) → is_role caller.role Bank ≡ true → asks_for (lodges is_of_a_mortgage) a ≡ true
       → asks_for (lodges (is_mortgage_of_another caller.party)) a ≡ false → none_before a 4 → none_before a 9
-  from_rule_9 a bank h own before = next a 8 (rule_8 a ∙ last_fails _ _ own) (from_rule_8 a bank h before)
+  from_rule_9 a bank h own before = next a 8 (rule_8 a ∙ and_right _ _ own) (from_rule_8 a bank h before)
 
   pub as_bank : (a : Ask) (k : ℕ) → 4 ≤ k → none_before a k → is_role caller.role Bank ≡ true → asks_as_bank now caller past ≡ true
-  as_bank a k le none bank = both _ _ (may a k le none) (or_nothing _ ∙ bank)
+  as_bank a k le none bank = and_from _ _ (may a k le none) (or_nothing _ ∙ bank)

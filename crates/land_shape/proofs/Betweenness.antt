@@ -8,6 +8,7 @@ use Rattle.std.specs.Cmp.{int_ranks}
 use Rattle.std.specs.declared.cmp.Ordering.{Ordering}
 use Rattle.std.specs.declared.cmp.Ordering.TheVariants.{Less, Equal, Greater}
 use Rattle.std.specs.Ordering.{int_eq, int_cmp, MatchOrdering}
+use Rattle.std.proofs.lemmas.Bool.{and_from}
 use lib.IntN.{ℤ, pos, ◌-ℤ◌, ◌*ℤ◌, nat_abs}
 use lib.Signed.{◌≤ℤ◌, ◌<ℤ◌}
 use Rattle.land_shape.specs.Coordinate.{cross_of}
@@ -16,7 +17,7 @@ use Rattle.land_shape.specs.Segment.{HaveCommonPoint}
 use Rattle.land_shape.specs.Matching.{is_between, is_on_line, is_in_box, lies_on, lies_inside}
 use Rattle.land_shape.proofs.Expressions.{var, num, ◌⊕◌, ◌⊖◌, ◌⊗◌, by_parts, parts_eq}
 use Rattle.land_shape.proofs.Meeting.{common-boxes, cross_expr, nat_of}
-use Rattle.land_shape.proofs.MatchingLaw.{and_left, and_right, and_true, same_place_is, same_place_itself}
+use Rattle.land_shape.proofs.MatchingLaw.{and_left, and_right, same_place_is, same_place_itself}
 use Rattle.land_shape.proofs.LiesLaw.{in_box}
 use Rattle.land_shape.proofs.Order.{Before, never_itself, place_is}
 
@@ -122,7 +123,7 @@ on_end a b = by_parts (cross_expr (var b.x ⊖ var a.x) (var b.y ⊖ var a.y) (v
 overlap_of : (a b p : Place) → HaveCommonPoint a b p p → is_in_box p (edge a b) ≡ true
 overlap_of a b p h =
     let boxes = common-boxes a b p p h in
-    and_true (is_between a.x b.x p.x) (is_between a.y b.y p.y) ((in_box a.x b.x p.x).1 boxes.0) ((in_box a.y b.y p.y).1 boxes.1)
+    and_from (is_between a.x b.x p.x) (is_between a.y b.y p.y) ((in_box a.x b.x p.x).1 boxes.0) ((in_box a.y b.y p.y).1 boxes.1)
 
 -- a place on the line whose coordinate to the right lies between those of the ends is one of the edge's
 common_at : (a b p : Place) → a.x <ℤ b.x → a.x ≤ℤ p.x → p.x ≤ℤ b.x → On a b p → HaveCommonPoint a b p p
@@ -146,7 +147,7 @@ common_at a b p wide low high on =
     }
 
 between_up : (a b x : ℤ) → a ≤ℤ x → x ≤ℤ b → is_between a b x ≡ true
-between_up a b x l h = and_true (int_le (int_min a b) x) (int_le x (int_max a b)) (sym (omega (arith, ints, clamps))) (sym (omega (arith, ints, clamps)))
+between_up a b x l h = and_from (int_le (int_min a b) x) (int_le x (int_max a b)) (sym (omega (arith, ints, clamps))) (sym (omega (arith, ints, clamps)))
 
 between_low : (a b x : ℤ) → a ≤ℤ b → is_between a b x ≡ true → a ≤ℤ x
 between_low a b x up h = let l = and_left (int_le (int_min a b) x) (int_le x (int_max a b)) h in omega (arith, ints, clamps)
@@ -166,7 +167,7 @@ box_between a b p (inr level) (inl ap) (inr pb) on = let e = level.0 in let f = 
 box_between a b p (inr level) (inr ap) (inl pb) on = let e = level.0 in let f = ap.0 in absurd (omega (arith, ints))
 box_between a b p (inr level) (inr ap) (inr pb) on =
     let e = level.0 in let l = level.1 in let f = ap.0 in let m = ap.1 in let g = pb.0 in let n = pb.1 in
-    and_true (is_between a.x b.x p.x) (is_between a.y b.y p.y) (between_up a.x b.x p.x (omega (arith, ints)) (omega (arith, ints))) (between_up a.y b.y p.y (omega (arith, ints)) (omega (arith, ints)))
+    and_from (is_between a.x b.x p.x) (is_between a.y b.y p.y) (between_up a.x b.x p.x (omega (arith, ints)) (omega (arith, ints))) (between_up a.y b.y p.y (omega (arith, ints)) (omega (arith, ints)))
 
 not_same : (p q : Place) → ¬ (p ≡ q) → not (is_same_place p q) ≡ true
 not_same p q n = elim (is_same_place p q) as (λ b. is_same_place p q ≡ b → not b ≡ true) [
@@ -177,11 +178,11 @@ not_same p q n = elim (is_same_place p q) as (λ b. is_same_place p q ≡ b → 
 -- what lies on a line, and between two places of it, lies inside the edge between those
 pub inside_of : (a b p : Place) → Before a b → On a b p → Before a p → Before p b → lies_inside p (edge a b) ≡ true
 inside_of a b p up on ap pb =
-    and_true (not (is_same_place p a) && not (is_same_place p b)) (lies_on p (edge a b))
-    (and_true (not (is_same_place p a)) (not (is_same_place p b))
+    and_from (not (is_same_place p a) && not (is_same_place p b)) (lies_on p (edge a b))
+    (and_from (not (is_same_place p a)) (not (is_same_place p b))
     (not_same p a (λ e. never_itself a (subst (λ (q : Place). Before a q) e ap)))
     (not_same p b (λ e. never_itself b (subst (λ (q : Place). Before q b) e pb))))
-    (and_true (is_on_line p (edge a b)) (is_in_box p (edge a b)) ((Decides-int_eq _ _).1 on) (box_between a b p up ap pb on))
+    (and_from (is_on_line p (edge a b)) (is_in_box p (edge a b)) ((Decides-int_eq _ _).1 on) (box_between a b p up ap pb on))
 
 abbrev IsInside : Place → Place → Place → Type 0
 IsInside a b p = On a b p × (¬ (p ≡ a)) × (¬ (p ≡ b)) × (is_between a.x b.x p.x ≡ true) × (is_between a.y b.y p.y ≡ true)

@@ -5,6 +5,7 @@ use Rattle.std.proofs.lemmas.List.Sums.{sum_by-cons}
 use Rattle.std.proofs.lemmas.Bool.Decides.{Decides-int_eq}
 use Rattle.std.specs.List.{AllByRecursion}
 use Rattle.std.specs.Ordering.{int_eq}
+use Rattle.std.proofs.lemmas.Bool.{and_from}
 use lib.IntN.{ℤ, pos, ◌+ℤ◌, ◌-ℤ◌}
 use Rattle.land_shape.specs.Coordinate.{cross_of}
 use Rattle.land_shape.specs.Place.{Place, Edge, is_same_place, ring_edges, edge_area, area_of}
@@ -27,9 +28,6 @@ and_comm true false = refl
 and_comm false true = refl
 and_comm false false = refl
 
-pub and_true : (a b : Bool) → a ≡ true → b ≡ true → (a && b) ≡ true
-and_true a b h k = rw (h, k) refl
-
 pub same_place_is : (p q : Place) → is_same_place p q ≡ true → p ≡ q
 same_place_is p q h =
     let ex : p.x ≡ q.x = (Decides-int_eq p.x q.x).0 (and_left (int_eq p.x q.x) (int_eq p.y q.y) h) in
@@ -40,7 +38,7 @@ same_place_is p q h =
     place_of e f = cc
 
 pub same_place_itself : (p : Place) → is_same_place p p ≡ true
-same_place_itself p = and_true _ _ ((Decides-int_eq p.x p.x).1 refl) ((Decides-int_eq p.y p.y).1 refl)
+same_place_itself p = and_from _ _ ((Decides-int_eq p.x p.x).1 refl) ((Decides-int_eq p.y p.y).1 refl)
 
 pub same_edge_is : (e f : Edge) → is_same_edge e f ≡ true → e ≡ f
 same_edge_is e f h =
@@ -52,7 +50,7 @@ same_edge_is e f h =
     edge_of e f = cc
 
 pub same_edge_itself : (e : Edge) → is_same_edge e e ≡ true
-same_edge_itself e = and_true _ _ (same_place_itself e.from) (same_place_itself e.to)
+same_edge_itself e = and_from _ _ (same_place_itself e.from) (same_place_itself e.to)
 
 -- ---- counts
 

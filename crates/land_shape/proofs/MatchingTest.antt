@@ -3,9 +3,10 @@ use Rattle.std.proofs.Common.{◌≡◌, ◌↔◌, ℕ, ◌+◌, ◌≤◌, tru
 use Rattle.std.specs.List.{list_all}
 use Rattle.std.proofs.lemmas.Bool.Decides.{Decides-int_eq}
 use Rattle.std.proofs.lemmas.Int.{ints}
+use Rattle.std.proofs.lemmas.Bool.{and_from}
 use Rattle.land_shape.specs.Matching.{LeadAlike, Match, TestLaw, count_along, do_agree, do_match, edges_of, is_same_edge, pieces, places_of, reversed}
 use Rattle.land_shape.specs.Place.{Place, Edge}
-use Rattle.land_shape.proofs.MatchingLaw.{and_left, and_right, and_true, same_edge_is, tally-count}
+use Rattle.land_shape.proofs.MatchingLaw.{and_left, and_right, same_edge_is, tally-count}
 use Rattle.land_shape.proofs.Tallies.{either_way, tally, tally-append}
 
 abbrev LeadAlikeAlong : List Edge → List Edge → Edge → Type 0
@@ -42,7 +43,7 @@ everywhere ours theirs all e =
 at_each : (ours theirs es : List Edge) → LeadAlike ours theirs → list_all (do_agree ours theirs) es ≡ true
 at_each ours theirs [] agree = refl
 at_each ours theirs (e ∷ es) agree =
-    and_true (do_agree ours theirs e) (list_all (do_agree ours theirs) es)
+    and_from (do_agree ours theirs e) (list_all (do_agree ours theirs) es)
     ((Decides-int_eq (count_along e ours) (count_along e theirs)).1 (agree e))
     (at_each ours theirs es agree)
 

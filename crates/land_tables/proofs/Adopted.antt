@@ -1,13 +1,12 @@
 -- What is found in the tables of a store says whether it is a register's, and why not.
 use Rattle.std.proofs.Common.{◌≡◌, ℕ, ℤ, pos, ◌&&◌, if◌then◌else◌, Bool, true, false, List, [], ◌∷◌, map, Some, Ok, Err, IfErr, IfOk, IsErrAnd, Result, refl, sym, ap, ◌∙◌, subst, arith, IsPermutation}
 use Rattle.std.specs.Prelude.{◌≤ℤ◌, int_le}
-use Rattle.std.proofs.lemmas.Bool.{false≢true}
+use Rattle.std.proofs.lemmas.Bool.{false≢true, and_parts}
 use Rattle.std.proofs.lemmas.Int.{ints}
 use Rattle.std.proofs.lemmas.List.Elements.{All-cons, All-nil, All-from_recursion, recursion_from_All}
 use Rattle.std.proofs.lemmas.List.Sorted.{All-permutation, IsPermutation-refl, IsPermutation-sym, length_permutation}
 use Rattle.std.specs.List.{All, AllByRecursion, IsDistinct}
 use Rattle.std.specs.Ordering.{int_eq}
-use Rattle.land_core.proofs.Booleans.{both_of}
 use Rattle.land_core.specs.declared.mandates.Mandate.{Mandate}
 use Rattle.land_keep.specs.Moments.{IsMoment, last_moment}
 use Rattle.land_keep.specs.Timeline.{last_register, last_stamp}
@@ -65,7 +64,7 @@ one_is_alone (e ∷ (f ∷ es)) fs one p = absurd (false≢true one)
 -- ---- moments
 
 within : (z : ℤ) (b : Bool) → (int_le (pos 0) z && int_le z last_moment) ≡ b → ◌≡◌ {A = Result ℤ WireFault} (if b then Ok z else Err wire.Number) (Ok z) → IsMoment z
-within z true is h = let parts = both_of (int_le (pos 0) z) (int_le z last_moment) is in (least z parts.0, most z parts.1)
+within z true is h = let parts = and_parts (int_le (pos 0) z) (int_le z last_moment) is in (least z parts.0, most z parts.1)
   where
     least : (z : ℤ) → int_le (pos 0) z ≡ true → pos 0 ≤ℤ z
     least z h = grind (arith, ints)

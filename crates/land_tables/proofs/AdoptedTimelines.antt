@@ -1,14 +1,13 @@
 -- Lawful versions stand for a timeline, the one that they lead to.
 use Rattle.std.proofs.Common.{◌≡◌, ℕ, Bool, true, false, cond, ◌&&◌, List, [], ◌∷◌, flat_map, map as map_list, Option, Some, None, refl, sym, ap, ◌∙◌, subst, arith, IsPermutation}
 use Rattle.std.specs.Prelude.{ℤ, ◌<ℤ◌, ◌≤ℤ◌, int_le, nat_lt, length}
-use Rattle.std.proofs.lemmas.Bool.{false≢true}
+use Rattle.std.proofs.lemmas.Bool.{false≢true, and_parts}
 use Rattle.std.proofs.lemmas.Int.{ints}
 use Rattle.std.proofs.lemmas.List.Elements.{recursion_from_All}
 use Rattle.std.proofs.lemmas.List.Sorted.{All-permutation, IsPermutation-refl, IsPermutation-sym, length_permutation}
 use Rattle.std.specs.FinMap as map
 use Rattle.std.specs.List.{AllByRecursion, list_all}
 use Rattle.std.specs.Ordering.{int_eq, nat_cmp}
-use Rattle.land_core.proofs.Booleans.{both_of}
 use Rattle.land_core.specs.Entries.{are_distinct}
 use Rattle.land_core.specs.Grants.{grant_cmp, grants_in}
 use Rattle.land_core.specs.Mandates.{mandate_cmp, mandates_in}
@@ -30,6 +29,7 @@ use Rattle.land_tables.specs.Timelines.Laws.{LawfulVersionsStand}
 use Rattle.land_tables_history.proofs.Distinct.{distinct_standing}
 use Rattle.land_tables_history.proofs.Entered.{made_mandates, made_part, made_roles, no_entries}
 use Rattle.land_tables_history.proofs.MadeGroups.{made_groups, no_groups}
+use Rattle.land_tables_history.proofs.MomentOrder.{le_from}
 use Rattle.land_tables_history.proofs.NamingLists.{namings_distinct, same_namings}
 use Rattle.land_tables_history.proofs.Permutations.{any_permuted}
 use Rattle.land_tables_history.proofs.Proper.{AllProper, Proper, all_proper}
@@ -112,9 +112,6 @@ nothing_stands moments h t p none = record {
 late : (s t : ℤ) → int_le s t ≡ false → t <ℤ s
 late s t h = grind (arith, ints)
 
-no_later : (s t : ℤ) → int_le s t ≡ true → s ≤ℤ t
-no_later s t h = grind (arith, ints)
-
 -- at each moment the versions stand for the register of the latest stamp up to then
 stands_at : (moments : List Moment) (h : History) (ms : List Moment) (t : ℤ) → AllProper moments h → Orderly h ms → AllByRecursion (IsLawfulAt h) ms → t ≤ℤ last_moment
     → ((u : ℤ) → is_stamp moments u ≡ true → is_stamp ms u ≡ true) → StandsAt t h (registered (found_at t None (map_list (version_of h) ms)))
@@ -126,7 +123,7 @@ stands_at moments h (m ∷ ms) t p rises lawful most all = go (int_le m.stamp t)
 
     go : (b : Bool) → int_le m.stamp t ≡ b → StandsAt t h (registered (found_at t (cond b (Some (version_of h m)) None) (map_list (version_of h) ms)))
     go true on =
-        let r = reached (IsLawfulAt h) h t m ms climbs lawful (no_later m.stamp t on) in
+        let r = reached (IsLawfulAt h) h t m ms climbs lawful (le_from m.stamp t on) in
         subst (λ (o : Option Begun). StandsAt t h (registered o)) (sym r.is)
         (stands_still moments h r.moment.stamp t (history.register_at r.moment.stamp h r.moment.next) p r.before most (λ u is. r.same u (all u is)) (stands_there moments h r.moment p r.holds))
     go false on =
@@ -186,8 +183,8 @@ lawful_stands moments h at_moments intervals lawful =
     let p = all_proper moments h intervals in
     let ms = in_order moments in
     let sorted : IsPermutation moments ms = IsPermutation-sym ms moments (in_order_permuted moments) in
-    let two = both_of (nat_lt 0 (length moments) && are_distinct is_same_stamp moments) (never_falls moments) lawful.moments in
-    let one = both_of (nat_lt 0 (length moments)) (are_distinct is_same_stamp moments) two.0 in
+    let two = and_parts (nat_lt 0 (length moments) && are_distinct is_same_stamp moments) (never_falls moments) lawful.moments in
+    let one = and_parts (nat_lt 0 (length moments)) (are_distinct is_same_stamp moments) two.0 in
     let rises = orderly h moments one.1 two.1 in
     let each = recursion_from_All (IsLawfulAt h) ms (All-permutation (IsLawfulAt h) moments ms sorted lawful.each) in
     let stamps : AllByRecursion (λ m. IsMoment m.stamp) ms = recursion_from_All (λ m. IsMoment m.stamp) ms (All-permutation (λ m. IsMoment m.stamp) moments ms sorted at_moments) in

@@ -1,16 +1,17 @@
 -- Between stamps nothing changes.
 use Rattle.std.proofs.Common.{◌≡◌, Bool, true, false, cond, not, ◌||◌, ◌&&◌, List, [], ◌∷◌, filter, map, Option, Some, refl, sym, ap, ◌∙◌, arith}
 use Rattle.std.specs.Prelude.{ℤ, pos, ◌<ℤ◌, ◌≤ℤ◌, int_le, int_lt}
-use Rattle.std.proofs.lemmas.Bool.{false≢true}
+use Rattle.std.proofs.lemmas.Bool.{false≢true, and_parts}
 use Rattle.std.proofs.lemmas.Int.{ints}
 use Rattle.std.specs.List.{AllByRecursion, list_all}
 use Rattle.std.specs.Ordering.{int_eq}
-use Rattle.land_core.proofs.Booleans.{both_of}
+use Rattle.std.proofs.lemmas.Cmp.{int_eq_equiv}
 use Rattle.land_keep.specs.Moments.{last_moment}
 use Rattle.land_keep.specs.Timeline.{Rises, last_from}
 use Rattle.land_keep.specs.declared.timeline.Version.{Version as Begun}
 use Rattle.land_tables.proofs.One.{found_at, none_later}
 use Rattle.land_tables.specs.Timelines.{version_of}
+use Rattle.land_tables_history.proofs.MomentOrder.{le_from, le_itself, lt_is_le, lt_through}
 use Rattle.land_tables_history.specs.Intervals.{is_interval, is_stamp}
 use Rattle.land_tables_history.specs.Open.{has_ended}
 use Rattle.land_tables_history.specs.Standing.{standing, stands}
@@ -31,12 +32,6 @@ pub record Reached (P : Moment → Type 0) (versions : History) (moments : List 
 late : (s t : ℤ) → int_le s t ≡ false → t <ℤ s
 late s t h = grind (arith, ints)
 
-weaker : (s t : ℤ) → s <ℤ t → s ≤ℤ t
-weaker s t h = omega (arith, ints)
-
-chained : (r s t : ℤ) → r <ℤ s → s <ℤ t → r <ℤ t
-chained r s t h g = omega (arith, ints)
-
 at_stamp : (s t u : ℤ) → int_eq s u ≡ true → t <ℤ s → int_le u t ≡ false
 at_stamp s t u is less = grind (arith, ints)
 
@@ -52,7 +47,7 @@ all_later versions t m [] less rises u is = at_stamp m.stamp t u (one (int_eq m.
     one : (a : Bool) → (a || false) ≡ true → a ≡ true
     one true h = refl
     one false h = h
-all_later versions t m (n ∷ ns) less rises u is = go (int_eq m.stamp u) refl is (all_later versions t n ns (chained t m.stamp n.stamp less rises.0) rises.2 u)
+all_later versions t m (n ∷ ns) less rises u is = go (int_eq m.stamp u) refl is (all_later versions t n ns (lt_through t m.stamp n.stamp less rises.0) rises.2 u)
   where
     go : (a : Bool) → int_eq m.stamp u ≡ a → (a || is_stamp (n ∷ ns) u) ≡ true → (is_stamp (n ∷ ns) u ≡ true → int_le u t ≡ false) → int_le u t ≡ false
     go true here is rest = at_stamp m.stamp t u here less
@@ -61,17 +56,8 @@ all_later versions t m (n ∷ ns) less rises u is = go (int_eq m.stamp u) refl i
 at_first : (s t u : ℤ) → int_eq s u ≡ true → s ≤ℤ t → int_le u t ≡ true
 at_first s t u is least = grind (arith, ints)
 
-no_less : (s : ℤ) → s ≤ℤ s
-no_less s = omega (arith, ints)
-
 reaches : (s n r : ℤ) → int_le n r ≡ true → s <ℤ n → s ≤ℤ r
 reaches s n r h less = grind (arith, ints)
-
-no_later : (s t : ℤ) → int_le s t ≡ true → s ≤ℤ t
-no_later s t h = grind (arith, ints)
-
-itself : (s : ℤ) → int_eq s s ≡ true
-itself s = grind (arith, ints)
 
 pub reached : (P : Moment → Type 0) (versions : History) (t : ℤ) (m : Moment) (ms : List Moment) → Rises (version_of versions m) (map (version_of versions) ms) → AllByRecursion P (m ∷ ms) → m.stamp ≤ℤ t
     → Reached P versions (m ∷ ms) t (found_at t (Some (version_of versions m)) (map (version_of versions) ms))
@@ -84,15 +70,15 @@ reached P versions t m [] rises all least = record {
 }
   where
     go : (u : ℤ) (a : Bool) → int_eq m.stamp u ≡ a → (a || false) ≡ true → int_le u t ≡ int_le u m.stamp
-    go u true here is = at_first m.stamp t u here least ∙ sym (at_first m.stamp m.stamp u here (no_less m.stamp))
+    go u true here is = at_first m.stamp t u here least ∙ sym (at_first m.stamp m.stamp u here (le_itself m.stamp))
     go u false here is = absurd (false≢true is)
 reached P versions t m (n ∷ ns) rises all least = go (int_le n.stamp t) refl (λ on. reached P versions t n ns rises.2 all.1 on)
   where
     go : (b : Bool) → int_le n.stamp t ≡ b → (n.stamp ≤ℤ t → Reached P versions (n ∷ ns) t (found_at t (Some (version_of versions n)) (map (version_of versions) ns)))
         → Reached P versions (m ∷ n ∷ ns) t (found_at t (cond b (Some (version_of versions n)) (Some (version_of versions m))) (map (version_of versions) ns))
     go true on rest =
-        let r = rest (no_later n.stamp t on) in
-        let past : int_le n.stamp r.moment.stamp ≡ true = sym (r.same n.stamp (ap (λ b. b || is_stamp ns n.stamp) (itself n.stamp))) ∙ on in
+        let r = rest (le_from n.stamp t on) in
+        let past : int_le n.stamp r.moment.stamp ≡ true = sym (r.same n.stamp (ap (λ b. b || is_stamp ns n.stamp) (int_eq_equiv.refl n.stamp))) ∙ on in
         record {
           moment = r.moment;
           is = r.is;
@@ -107,14 +93,14 @@ reached P versions t m (n ∷ ns) rises all least = go (int_le n.stamp t) refl (
         at u false here is r past = r.same u is
     go false on rest = record {
       moment = m;
-      is = none_later t (Some (version_of versions m)) (version_of versions n) (map (version_of versions) ns) (weaker t n.stamp (late n.stamp t on)) rises.2;
+      is = none_later t (Some (version_of versions m)) (version_of versions n) (map (version_of versions) ns) (lt_is_le t n.stamp (late n.stamp t on)) rises.2;
       holds = all.0;
       before = least;
       same = λ u is. at u (int_eq m.stamp u) refl is;
     }
       where
         at : (u : ℤ) (a : Bool) → int_eq m.stamp u ≡ a → (a || is_stamp (n ∷ ns) u) ≡ true → int_le u t ≡ int_le u m.stamp
-        at u true here is = at_first m.stamp t u here least ∙ sym (at_first m.stamp m.stamp u here (no_less m.stamp))
+        at u true here is = at_first m.stamp t u here least ∙ sym (at_first m.stamp m.stamp u here (le_itself m.stamp))
         at u false here is = all_later versions t n ns (late n.stamp t on) rises.2 u is ∙ sym (all_later versions m.stamp n ns rises.0 rises.2 u is)
 
 -- no stamp is after the last
@@ -123,11 +109,11 @@ pub none_after : (versions : History) (m : Moment) (ms : List Moment) → Rises 
 none_after versions m [] rises u is = go (int_eq m.stamp u) refl is
   where
     go : (a : Bool) → int_eq m.stamp u ≡ a → (a || false) ≡ true → int_le u m.stamp ≡ true
-    go true here is = at_first m.stamp m.stamp u here (no_less m.stamp)
+    go true here is = at_first m.stamp m.stamp u here (le_itself m.stamp)
     go false here is = absurd (false≢true is)
 none_after versions m (n ∷ ns) rises u is =
     let last = last_from (version_of versions n) (map (version_of versions) ns) in
-    go last.stamp (int_eq m.stamp u) refl is (none_after versions n ns rises.2 n.stamp (ap (λ b. b || is_stamp ns n.stamp) (itself n.stamp))) (none_after versions n ns rises.2 u)
+    go last.stamp (int_eq m.stamp u) refl is (none_after versions n ns rises.2 n.stamp (ap (λ b. b || is_stamp ns n.stamp) (int_eq_equiv.refl n.stamp))) (none_after versions n ns rises.2 u)
   where
     go : (l : ℤ) (a : Bool) → int_eq m.stamp u ≡ a → (a || is_stamp (n ∷ ns) u) ≡ true → int_le n.stamp l ≡ true → (is_stamp (n ∷ ns) u ≡ true → int_le u l ≡ true) → int_le u l ≡ true
     go l true here is past rest = at_first m.stamp l u here (reaches m.stamp n.stamp l past rises.0)
@@ -142,8 +128,8 @@ record Spans {X : Type 0} (moments : List Moment) (v : Version X) : Type 0 where
 
 spans : {X : Type 0} (moments : List Moment) (v : Version X) → is_interval moments v ≡ true → Spans moments v
 spans moments v h =
-    let parts = both_of (int_lt v.since v.until && is_stamp moments v.since) (int_eq v.until (pos 4102444800000) || is_stamp moments v.until) h in
-    record { begins = (both_of (int_lt v.since v.until) (is_stamp moments v.since) parts.0).1; ends = parts.1 }
+    let parts = and_parts (int_lt v.since v.until && is_stamp moments v.since) (int_eq v.until (pos 4102444800000) || is_stamp moments v.until) h in
+    record { begins = (and_parts (int_lt v.since v.until) (is_stamp moments v.since) parts.0).1; ends = parts.1 }
 
 before_never : (t u : ℤ) → t ≤ℤ last_moment → int_eq u (pos 4102444800000) ≡ true → int_lt t u ≡ true
 before_never t u most is = grind (arith, ints)
@@ -167,7 +153,7 @@ pub same_standing : {X : Type 0} (moments : List Moment) (s t : ℤ) (vs : List 
     → list_all (is_interval moments) vs ≡ true → standing t vs ≡ standing s vs
 same_standing moments s t [] least most same intervals = refl
 same_standing {X} moments s t (v ∷ vs) least most same intervals =
-    let parts = both_of (is_interval moments v) (list_all (is_interval moments) vs) intervals in
+    let parts = and_parts (is_interval moments v) (list_all (is_interval moments) vs) intervals in
     ap (λ b. map (λ (v : Version X). v.what) (cond b (v ∷ filter (stands t) vs) (filter (stands t) vs))) (stands_alike moments s t v least most same parts.0)
     ∙ go (stands s v) (same_standing moments s t vs least most same parts.1)
   where
@@ -179,7 +165,7 @@ same_standing {X} moments s t (v ∷ vs) least most same intervals =
 pub none_standing : {X : Type 0} (moments : List Moment) (t : ℤ) (vs : List (Version X)) → ((u : ℤ) → is_stamp moments u ≡ true → int_le u t ≡ false) → list_all (is_interval moments) vs ≡ true → standing t vs ≡ []
 none_standing moments t [] none intervals = refl
 none_standing {X} moments t (v ∷ vs) none intervals =
-    let parts = both_of (is_interval moments v) (list_all (is_interval moments) vs) intervals in
+    let parts = and_parts (is_interval moments v) (list_all (is_interval moments) vs) intervals in
     ap (λ b. map (λ (v : Version X). v.what) (cond (b && int_lt t v.until) (v ∷ filter (stands t) vs) (filter (stands t) vs))) (none v.since (spans moments v parts.0).begins)
     ∙ none_standing moments t vs none parts.1
 
@@ -187,7 +173,7 @@ none_standing {X} moments t (v ∷ vs) none intervals =
 pub all_ended : {X : Type 0} (moments : List Moment) (last : ℤ) (vs : List (Version X)) → ((u : ℤ) → is_stamp moments u ≡ true → int_le u last ≡ true) → list_all (is_interval moments) vs ≡ true → list_all (has_ended last) vs ≡ true
 all_ended moments last [] past intervals = refl
 all_ended moments last (v ∷ vs) past intervals =
-    let parts = both_of (is_interval moments v) (list_all (is_interval moments) vs) intervals in
+    let parts = and_parts (is_interval moments v) (list_all (is_interval moments) vs) intervals in
     ap (λ b. b && list_all (has_ended last) vs) (go (int_eq v.until (pos 4102444800000)) (spans moments v parts.0).ends) ∙ all_ended moments last vs past parts.1
   where
     go : (a : Bool) → (a || is_stamp moments v.until) ≡ true → (a || int_le v.until last) ≡ true

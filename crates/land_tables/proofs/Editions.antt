@@ -1,7 +1,6 @@
 -- Tables in which an edition stands alone are told by one that is of its version, and the other way round.
-use Rattle.std.proofs.Common.{◌≡◌, ◌==◌, ℕ, true, List, [], ◌∷◌, refl, ap, ap₂, subst, arith, IsPermutation}
-use Rattle.std.proofs.lemmas.Bool.{false≢true}
-use Rattle.std.proofs.lemmas.Bool.Decides.{nat_tests}
+use Rattle.std.proofs.Common.{◌≡◌, ◌==◌, ℕ, true, List, [], ◌∷◌, refl, ap, ap₂, subst, IsPermutation}
+use Rattle.std.proofs.lemmas.Bool.{false≢true, eqb-true}
 use Rattle.std.proofs.lemmas.List.Sorted.{IsPermutation-sym}
 use Rattle.land_tables.proofs.Adopted.{alone}
 use Rattle.land_tables.proofs.Tellings.{held_is_said}
@@ -23,11 +22,8 @@ use Rattle.sqlite_trees.specs.Tree.{Trees}
 abbrev pub edition_of : ℕ → Edition
 edition_of n = record { id = 1; version = n }
 
-same_number : (a b : ℕ) → (a == b) ≡ true → a ≡ b
-same_number a b h = grind (arith, nat_tests, h)
-
 edition_is : (n : ℕ) (e : Edition) → (e.id == 1) ≡ true → (e.version == n) ≡ true → e ≡ edition_of n
-edition_is n e id version = ap₂ (λ a b. let it : Edition = record { id = a; version = b } in it) (same_number e.id 1 id) (same_number e.version n version)
+edition_is n e id version = ap₂ (λ a b. let it : Edition = record { id = a; version = b } in it) (eqb-true e.id 1 id) (eqb-true e.version n version)
 
 only_edition : (n : ℕ) (es : List Edition) → is_one_edition es ≡ true → is_version n es ≡ true → es ≡ edition_of n ∷ []
 only_edition n [] one version = absurd (false≢true one)

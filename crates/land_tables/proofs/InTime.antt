@@ -3,7 +3,7 @@ use Rattle.std.proofs.Common.{◌≡◌, Bool, true, false, cond, ◌&&◌, List
 use Rattle.std.specs.Prelude.{ℤ, pos, ◌≤ℤ◌, int_le, int_lt}
 use Rattle.std.proofs.lemmas.Int.{ints}
 use Rattle.std.specs.List.{list_all}
-use Rattle.land_core.proofs.Booleans.{both_of}
+use Rattle.std.proofs.lemmas.Bool.{and_parts}
 use Rattle.land_keep.specs.Moments.{last_moment}
 use Rattle.land_tables_history.specs.Moments.{follows, last, latest_from}
 use Rattle.land_tables_history.specs.declared.moment.Moment.{Moment}
@@ -39,10 +39,10 @@ none_later k latest (n ∷ ns) is = go (follows (Some k) n) refl is (λ j. none_
         → ((j : Moment) → latest_from (λ m. true) (Some j) ns ≡ Some latest → (int_le j.stamp latest.stamp && are_upto latest.stamp ns) ≡ true)
         → (int_le k.stamp latest.stamp && (int_le n.stamp latest.stamp && are_upto latest.stamp ns)) ≡ true
     go true e is rest =
-        let parts = both_of (int_le n.stamp latest.stamp) (are_upto latest.stamp ns) (rest n is) in
+        let parts = and_parts (int_le n.stamp latest.stamp) (are_upto latest.stamp ns) (rest n is) in
         three (upto k.stamp n.stamp latest.stamp e parts.0) parts.0 parts.1
     go false e is rest =
-        let parts = both_of (int_le k.stamp latest.stamp) (are_upto latest.stamp ns) (rest k is) in
+        let parts = and_parts (int_le k.stamp latest.stamp) (are_upto latest.stamp ns) (rest k is) in
         three parts.0 (later_upto k.stamp n.stamp latest.stamp e parts.0) parts.1
 
 none_after : (latest : Moment) (ms : List Moment) → last ms ≡ Some latest → are_upto latest.stamp ms ≡ true
@@ -55,7 +55,7 @@ before_the_end s t p q = grind (arith, ints)
 all_before : (t : ℤ) → t ≤ℤ last_moment → (ms : List Moment) → are_upto t ms ≡ true → are_in_time ms ≡ true
 all_before t h [] all = refl
 all_before t h (m ∷ ms) all =
-    let parts = both_of (int_le m.stamp t) (are_upto t ms) all in
+    let parts = and_parts (int_le m.stamp t) (are_upto t ms) all in
     ap₂ (λ a b. a && b) (before_the_end m.stamp t parts.0 h) (all_before t h ms parts.1)
 
 pub in_time : (latest : Moment) (ms : List Moment) → last ms ≡ Some latest → latest.stamp ≤ℤ last_moment → are_in_time ms ≡ true

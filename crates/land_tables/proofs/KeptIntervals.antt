@@ -17,12 +17,10 @@ use Rattle.land_tables.proofs.WrittenTimelines.{first_before_last, stays_last, w
 use Rattle.land_tables.specs.Timelines.{moment_of}
 use Rattle.land_tables.specs.Timelines.Writing.{WritesKeepIntervals}
 use Rattle.land_tables_history.proofs.Kept.{changes_keep_intervals}
+use Rattle.land_tables_history.proofs.MomentOrder.{le_itself}
 use Rattle.land_tables_history.specs.History.{StandsAt}
 use Rattle.land_tables_history.specs.Open.{never}
 use Rattle.land_tables_history.specs.declared.moment.Moment.{Moment}
-
-itself : (a : ℤ) → a ≤ℤ a
-itself a = omega (arith, ints)
 
 before_never : (t : ℤ) → t ≤ℤ last_moment → t <ℤ never
 before_never t le = omega (arith, ints)
@@ -34,7 +32,7 @@ all_upto v (w ∷ ws) t rises le = (first_before_last v (w ∷ ws) t rises le, a
 -- no moment is after the last stamp
 none_after_last : (tl : Timeline) → IsRising tl → AllByRecursion (λ m. m.stamp ≤ℤ last_stamp tl) (map_list moment_of tl)
 none_after_last [] rising = absurd rising
-none_after_last (v ∷ vs) rising = all_upto v vs (last_from v vs).stamp rising (itself (last_from v vs).stamp)
+none_after_last (v ∷ vs) rising = all_upto v vs (last_from v vs).stamp rising (le_itself (last_from v vs).stamp)
 
 last_is_moment : (tl : Timeline) → IsSoundTimeline tl → IsMoment (last_stamp tl)
 last_is_moment [] sound = absurd sound.rising
@@ -52,5 +50,5 @@ writes_keep_intervals moments h tl change stamp sound for can written_sound inte
     let listed = recursion_from_All upto moments (All-permutation upto (map_list moment_of tl) moments for.moments (All-from_recursion upto (map_list moment_of tl) (none_after_last tl sound.rising))) in
     changes_keep_intervals moments change last stamp h r intervals listed can.later (before_never stamp can.moment)
     (accepted_once r change stamp (last_is_sound tl sound) can.made) (accepted_puts r change stamp (last_is_sound tl sound) can.made)
-    (subst (StandsAt last h) (stays_last tl last sound.rising (itself last)) (for.stands last (last_is_moment tl sound)))
+    (subst (StandsAt last h) (stays_last tl last sound.rising (le_itself last)) (for.stands last (last_is_moment tl sound)))
     (subst IsSound (written_register tl change stamp) (last_is_sound (written tl change stamp) written_sound))

@@ -7,8 +7,9 @@ use Rattle.std.proofs.lemmas.Int.{ints}
 use Rattle.land_core.specs.Register.{nothing}
 use Rattle.land_keep.specs.Timeline.{IsRising, Rises, Timeline, last_from, last_register, last_stamp, register_at, version_at}
 use Rattle.land_keep.specs.declared.timeline.Version.{Version}
-use Rattle.land_tables.proofs.Sorting.{earlier, timeline_order}
+use Rattle.land_tables.proofs.Sorting.{timeline_order}
 use Rattle.land_tables.specs.Timelines.{in_order, moment_of, put_in}
+use Rattle.land_tables_history.proofs.MomentOrder.{lt_through}
 use Rattle.land_tables_history.specs.Moments.{follows, last, latest, latest_from, next_at}
 use Rattle.land_tables_history.specs.declared.moment.Moment.{Moment}
 
@@ -83,7 +84,7 @@ After (Some v) vs = Rises v vs
 
 rises_on : (v w : Version) (vs : Timeline) → Rises v (w ∷ vs) → Rises v vs
 rises_on v w [] h = tt
-rises_on v w (u ∷ us) h = (earlier v.stamp w.stamp u.stamp h.0 h.2.0, more v.register.next w.register.next u.register.next h.1 h.2.1, h.2.2)
+rises_on v w (u ∷ us) h = (lt_through v.stamp w.stamp u.stamp h.0 h.2.0, more v.register.next w.register.next u.register.next h.1 h.2.1, h.2.2)
   where
     more : (a b c : ℕ) → a ≤ b → b ≤ c → a ≤ c
     more a b c x y = omega arith

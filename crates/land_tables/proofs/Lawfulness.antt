@@ -6,7 +6,9 @@ use Rattle.std.proofs.lemmas.Int.{ints}
 use Rattle.std.proofs.lemmas.List.Elements.{All-from_recursion}
 use Rattle.std.proofs.lemmas.List.Sorted.{All-permutation, IsPermutation-sym, length_permutation}
 use Rattle.std.specs.List.{AllByRecursion, list_all}
-use Rattle.std.specs.Ordering.{int_eq}
+use Rattle.std.proofs.lemmas.Bool.{and_from, and_parts}
+use Rattle.std.proofs.lemmas.Cmp.{int_eq_equiv, nat_eq_equiv}
+use Rattle.land_core.proofs.Booleans.{or_true}
 use Rattle.land_core.specs.Entries.{are_distinct}
 use Rattle.land_core.specs.Laws.{SoundnessByLookUps}
 use Rattle.land_core.specs.Soundness.{IsSound}
@@ -21,6 +23,7 @@ use Rattle.land_tables.proofs.Sorting.{distinct}
 use Rattle.land_tables.specs.Timelines.{StandsFor, in_order, moment_of, version_of}
 use Rattle.land_tables.specs.Timelines.Judging.{SoundTimelinesAreLawful}
 use Rattle.land_tables_history.proofs.Distinct.{distinct_permuted}
+use Rattle.land_tables_history.proofs.MomentOrder.{lt_through}
 use Rattle.land_tables_history.proofs.Permutations.{all_permuted}
 use Rattle.land_tables_history.specs.History as history
 use Rattle.land_tables_history.specs.History.{namings_of}
@@ -31,33 +34,23 @@ use Rattle.land_tables_history.specs.declared.history.History.{History}
 use Rattle.land_tables_history.specs.declared.moment.Moment.{Moment}
 use Rattle.land_tables_history.specs.declared.naming.Naming.{Naming}
 
-both : (a b : Bool) → a ≡ true → b ≡ true → (a && b) ≡ true
-both a b x y = ap₂ (λ s t. s && t) x y
-
 -- ---- the moments
 
 stamps_turn : (a b : Moment) → is_same_stamp a b ≡ is_same_stamp b a
-stamps_turn a b = turned a.stamp b.stamp
-  where
-    turned : (s t : ℤ) → int_eq s t ≡ int_eq t s
-    turned s t = grind (arith, ints)
+stamps_turn a b = int_eq_equiv.symm a.stamp b.stamp
 
 -- a test of all pairs, with one element more
 pairs : {X : Type 0} (p : X → X → Bool) (x : X) (xs : List X) → p x x ≡ true → list_all (p x) xs ≡ true → list_all (λ a. p a x) xs ≡ true → list_all (λ a. list_all (p a) xs) xs ≡ true
     → list_all (λ a. list_all (p a) (x ∷ xs)) (x ∷ xs) ≡ true
 pairs {X} p x xs itself after before rest =
-    both (p x x && list_all (p x) xs) (list_all (λ a. p a x && list_all (p a) xs) xs) (both (p x x) (list_all (p x) xs) itself after) (each xs before rest)
+    and_from (p x x && list_all (p x) xs) (list_all (λ a. p a x && list_all (p a) xs) xs) (and_from (p x x) (list_all (p x) xs) itself after) (each xs before rest)
   where
     each : (ys : List X) → list_all (λ a. p a x) ys ≡ true → list_all (λ a. list_all (p a) xs) ys ≡ true → list_all (λ a. p a x && list_all (p a) xs) ys ≡ true
     each [] g h = refl
     each (y ∷ ys) g h =
-        let one = split (p y x) (list_all (λ a. p a x) ys) g in
-        let two = split (list_all (p y) xs) (list_all (λ a. list_all (p a) xs) ys) h in
-        both (p y x && list_all (p y) xs) (list_all (λ a. p a x && list_all (p a) xs) ys) (both (p y x) (list_all (p y) xs) one.0 two.0) (each ys one.1 two.1)
-      where
-        split : (a b : Bool) → (a && b) ≡ true → (a ≡ true) × (b ≡ true)
-        split true b h = (refl, h)
-        split false b h = absurd (let e = h in cc)
+        let one = and_parts (p y x) (list_all (λ a. p a x) ys) g in
+        let two = and_parts (list_all (p y) xs) (list_all (λ a. list_all (p a) xs) ys) h in
+        and_from (p y x && list_all (p y) xs) (list_all (λ a. p a x && list_all (p a) xs) ys) (and_from (p y x) (list_all (p y) xs) one.0 two.0) (each ys one.1 two.1)
 
 abbrev keeps : Moment → Moment → Bool
 keeps a b = not (falls a b)
@@ -73,20 +66,17 @@ keeps_before s t m n less = grind (arith, ints, nat_tests)
 
 -- a version against those that rise after it
 module _ (u : Version) where
-  less : (r s t : ℤ) → r <ℤ s → s <ℤ t → r <ℤ t
-  less r s t g h = omega (arith, ints)
-
   all_after : (v : Version) (vs : Timeline) → u.stamp <ℤ v.stamp → u.register.next ≤ v.register.next → Rises v vs → list_all (keeps (moment_of u)) (map_list moment_of (v ∷ vs)) ≡ true
-  all_after v [] before no_fewer rises = both (keeps (moment_of u) (moment_of v)) true (keeps_after u.stamp v.stamp u.register.next v.register.next before no_fewer) refl
+  all_after v [] before no_fewer rises = and_from (keeps (moment_of u) (moment_of v)) true (keeps_after u.stamp v.stamp u.register.next v.register.next before no_fewer) refl
   all_after v (w ∷ ws) before no_fewer rises =
-      both (keeps (moment_of u) (moment_of v)) (list_all (keeps (moment_of u)) (map_list moment_of (w ∷ ws))) (keeps_after u.stamp v.stamp u.register.next v.register.next before no_fewer)
-      (all_after w ws (less u.stamp v.stamp w.stamp before rises.0) (omega (arith, no_fewer, rises.1)) rises.2)
+      and_from (keeps (moment_of u) (moment_of v)) (list_all (keeps (moment_of u)) (map_list moment_of (w ∷ ws))) (keeps_after u.stamp v.stamp u.register.next v.register.next before no_fewer)
+      (all_after w ws (lt_through u.stamp v.stamp w.stamp before rises.0) (omega (arith, no_fewer, rises.1)) rises.2)
 
   all_before : (v : Version) (vs : Timeline) → u.stamp <ℤ v.stamp → Rises v vs → list_all (λ m. keeps m (moment_of u)) (map_list moment_of (v ∷ vs)) ≡ true
-  all_before v [] before rises = both (keeps (moment_of v) (moment_of u)) true (keeps_before u.stamp v.stamp u.register.next v.register.next before) refl
+  all_before v [] before rises = and_from (keeps (moment_of v) (moment_of u)) true (keeps_before u.stamp v.stamp u.register.next v.register.next before) refl
   all_before v (w ∷ ws) before rises =
-      both (keeps (moment_of v) (moment_of u)) (list_all (λ m. keeps m (moment_of u)) (map_list moment_of (w ∷ ws))) (keeps_before u.stamp v.stamp u.register.next v.register.next before)
-      (all_before w ws (less u.stamp v.stamp w.stamp before rises.0) rises.2)
+      and_from (keeps (moment_of v) (moment_of u)) (list_all (λ m. keeps m (moment_of u)) (map_list moment_of (w ∷ ws))) (keeps_before u.stamp v.stamp u.register.next v.register.next before)
+      (all_before w ws (lt_through u.stamp v.stamp w.stamp before rises.0) rises.2)
 
 never_fall : (v : Version) (vs : Timeline) → Rises v vs → never_falls (map_list moment_of (v ∷ vs)) ≡ true
 never_fall v [] rises = pairs keeps (moment_of v) [] (keeps_itself v.stamp v.register.next) refl refl refl
@@ -102,8 +92,8 @@ moments_of : (tl : Timeline) (ms : List Moment) → IsRising tl → IsPermutatio
 moments_of [] ms rises p = absurd rises
 moments_of (v ∷ vs) ms rises p =
     let ns = map_list moment_of (v ∷ vs) in
-    both (nat_lt 0 (length ms) && are_distinct is_same_stamp ms) (never_falls ms)
-    (both (nat_lt 0 (length ms)) (are_distinct is_same_stamp ms)
+    and_from (nat_lt 0 (length ms) && are_distinct is_same_stamp ms) (never_falls ms)
+    (and_from (nat_lt 0 (length ms)) (are_distinct is_same_stamp ms)
     (ap (nat_lt 0) (length_permutation ns ms p) ∙ some (length (map_list moment_of vs)))
     (distinct_permuted is_same_stamp stamps_turn ns ms p ∙ distinct (v ∷ vs) rises))
     (never_falls_anyhow ns ms p ∙ never_fall v vs rises)
@@ -114,10 +104,7 @@ moments_of (v ∷ vs) ms rises p =
 -- ---- the namings
 
 naming_itself : (n : Naming) → is_same_naming n n ≡ true
-naming_itself n = both (nat_eq n.mutation n.mutation) (nat_eq n.unit n.unit) (itself n.mutation) (itself n.unit)
-  where
-    itself : (k : ℕ) → nat_eq k k ≡ true
-    itself k = grind (arith, nat_tests)
+naming_itself n = and_from (nat_eq n.mutation n.mutation) (nat_eq n.unit n.unit) (nat_eq_equiv.refl n.mutation) (nat_eq_equiv.refl n.unit)
 
 among_more : (y : Naming) (ys xs : List Naming) → list_all (is_among ys) xs ≡ true → list_all (is_among (y ∷ ys)) xs ≡ true
 among_more y ys [] h = refl
@@ -125,22 +112,18 @@ among_more y ys (x ∷ xs) h = go (is_same_naming x y) (is_among ys x) (list_all
   where
     go : (a b c d : Bool) → (b && c) ≡ true → (c ≡ true → d ≡ true) → ((a || b) && d) ≡ true
     go a true true d h next = ap₂ (λ s t. s && t) (or_true a) (next refl)
-      where
-        or_true : (a : Bool) → (a || true) ≡ true
-        or_true true = refl
-        or_true false = refl
     go a true false d h next = absurd (let e = h in cc)
     go a false c d h next = absurd (let e = h in cc)
 
 all_among : (xs : List Naming) → list_all (is_among xs) xs ≡ true
 all_among [] = refl
-all_among (x ∷ xs) = both (is_among (x ∷ xs) x) (list_all (is_among (x ∷ xs)) xs) (ap (λ b. b || is_among xs x) (naming_itself x)) (among_more x xs xs (all_among xs))
+all_among (x ∷ xs) = and_from (is_among (x ∷ xs) x) (list_all (is_among (x ∷ xs)) xs) (ap (λ b. b || is_among xs x) (naming_itself x)) (among_more x xs xs (all_among xs))
 
 among_other : (xs ys : List Naming) → IsPermutation xs ys → list_all (is_among xs) ys ≡ true
 among_other xs ys p = all_permuted (is_among xs) xs ys p ∙ all_among xs
 
 same_if_permuted : (xs ys : List Naming) → IsPermutation xs ys → are_same_namings xs ys ≡ true
-same_if_permuted xs ys p = both (list_all (is_among ys) xs) (list_all (is_among xs) ys) (among_other ys xs (IsPermutation-sym xs ys p)) (among_other xs ys p)
+same_if_permuted xs ys p = and_from (list_all (is_among ys) xs) (list_all (is_among xs) ys) (among_other ys xs (IsPermutation-sym xs ys p)) (among_other xs ys p)
 
 -- ---- at each moment
 

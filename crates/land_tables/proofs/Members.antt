@@ -1,11 +1,10 @@
 -- In a sound register no group is without members.
 use Rattle.std.proofs.Common.{◌≡◌, ◌≤◌, ℕ, true, false, not, [], length, map as map_list, Option, Some, None, refl, sym, ap, ◌∙◌, arith}
-use Rattle.std.proofs.lemmas.Bool.{false≢true}
+use Rattle.std.proofs.lemmas.Bool.{false≢true, not-true}
 use Rattle.std.specs.FinMap as map
 use Rattle.std.specs.FinMap.{get-empty}
 use Rattle.std.specs.Option.{option_map_or}
 use Rattle.std.specs.Ordering.{nat_cmp}
-use Rattle.land_core.proofs.Booleans.{not_true}
 use Rattle.land_core.proofs.FiniteMaps.{none_is_not_some, nothing_from_length}
 use Rattle.land_core.specs.Laws.{IsSoundByLookUps, SoundnessByLookUps}
 use Rattle.land_core.specs.Members.{shares_in}
@@ -33,7 +32,7 @@ sound_members look_ups r sound group is = go (map.get r.parties group) refl (tol
 
     go : (o : Option PartyRecord) → map.get r.parties group ≡ o → option_map_or (λ p. not (is_single p.kind)) o false ≡ true → ⊥
     go None at h = false≢true h
-    go (Some p) at h = few (length (shares_of r group)) (told.groups group p at (not_true (is_single p.kind) h)).least (ap length nobody)
+    go (Some p) at h = few (length (shares_of r group)) (told.groups group p at (not-true (is_single p.kind) h)).least (ap length nobody)
 
 pub no_members : HaveMembers nothing.members
 no_members group is = none_is_not_some (sym (get-empty nat_cmp group) ∙ is)

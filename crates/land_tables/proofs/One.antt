@@ -1,9 +1,8 @@
 -- Versions stand for one timeline, and what is read of them is its registers.
-use Rattle.std.proofs.Common.{◌≡◌, Bool, true, false, cond, List, [], ◌∷◌, map, Option, Some, None, refl, sym, ap, ◌∙◌, arith, ℕ}
-use Rattle.std.specs.Prelude.{ℤ, ◌<ℤ◌, ◌≤ℤ◌, int_le, fold, unwrap_or, if◌then◌else◌}
+use Rattle.std.proofs.Common.{◌≡◌, Bool, true, false, cond, List, [], ◌∷◌, map, Option, Some, None, refl, sym, ap, ◌∙◌, ℕ}
+use Rattle.std.specs.Prelude.{ℤ, ◌≤ℤ◌, int_le, fold, unwrap_or, if◌then◌else◌}
 use Rattle.std.specs.List.{AllByRecursion}
 use Rattle.std.specs.Option.{option_map}
-use Rattle.std.proofs.lemmas.Int.{ints}
 use Rattle.land_core.specs.Laws.{SoundnessByLookUps}
 use Rattle.land_core.specs.Register.{nothing}
 use Rattle.land_core.specs.Soundness.{IsSound}
@@ -13,9 +12,10 @@ use Rattle.land_keep.specs.Timeline.{IsRising, IsSoundTimeline, Rises, Timeline,
 use Rattle.land_keep.specs.declared.timeline.Version.{Version}
 use Rattle.land_tables.proofs.Latest.{last_is_last, next_is}
 use Rattle.land_tables.proofs.Members.{no_members, sound_members}
-use Rattle.land_tables.proofs.Sorting.{is_late, is_no_later, timeline_order}
+use Rattle.land_tables.proofs.Sorting.{is_late, timeline_order}
 use Rattle.land_tables.specs.Timelines.{StandsFor, moment_of, version_of}
 use Rattle.land_tables.specs.Timelines.Laws.{LastMomentIsTheLastStamp, ReadingIsTheRegister, VersionsStandForOne}
+use Rattle.land_tables_history.proofs.MomentOrder.{le_itself, le_then_lt, le_true, lt_is_le}
 use Rattle.land_tables_history.proofs.Registers.{stood}
 use Rattle.land_tables_history.specs.Groups.{HaveMembers}
 use Rattle.land_tables_history.specs.History as history
@@ -47,21 +47,12 @@ have_members look_ups tl t sound = members_found look_ups t tl None no_members s
 
 -- ---- at a stamp there is the register that it has
 
-no_less : (s : ℤ) → s ≤ℤ s
-no_less s = omega (arith, ints)
-
-less : (r s t : ℤ) → r ≤ℤ s → s <ℤ t → r <ℤ t
-less r s t g h = omega (arith, ints)
-
-weaker : (s t : ℤ) → s <ℤ t → s ≤ℤ t
-weaker s t h = omega (arith, ints)
-
 -- no version of a later stamp is found
 pub none_later : (t : ℤ) (found : Option Version) (v : Version) (vs : Timeline) → t ≤ℤ v.stamp → Rises v vs → found_at t found vs ≡ found
 none_later t found v [] least rises = refl
 none_later t found v (w ∷ ws) least rises =
-    let before = less t v.stamp w.stamp least rises.0 in
-    ap (λ b. found_at t (cond b (Some w) found) ws) (is_late w.stamp t before) ∙ none_later t found w ws (weaker t w.stamp before) rises.2
+    let before = le_then_lt t v.stamp w.stamp least rises.0 in
+    ap (λ b. found_at t (cond b (Some w) found) ws) (is_late w.stamp t before) ∙ none_later t found w ws (lt_is_le t w.stamp before) rises.2
 
 -- each version is found at its stamp
 abbrev Found : Timeline → Version → Type 0
@@ -73,7 +64,7 @@ found_after v vs [] h = tt
 found_after v vs (w ∷ ws) h = (λ found. h.0 (cond (int_le v.stamp w.stamp) (Some v) found), found_after v vs ws h.1)
 
 first_found : (v : Version) (vs : Timeline) → Rises v vs → Found (v ∷ vs) v
-first_found v vs rises found = ap (λ b. found_at v.stamp (cond b (Some v) found) vs) (is_no_later v.stamp v.stamp (no_less v.stamp)) ∙ none_later v.stamp (Some v) v vs (no_less v.stamp) rises
+first_found v vs rises found = ap (λ b. found_at v.stamp (cond b (Some v) found) vs) (le_true v.stamp v.stamp (le_itself v.stamp)) ∙ none_later v.stamp (Some v) v vs (le_itself v.stamp) rises
 
 each_found : (v : Version) (vs : Timeline) → Rises v vs → AllByRecursion (Found (v ∷ vs)) (v ∷ vs)
 each_found v [] rises = (first_found v [] rises, tt)

@@ -19,6 +19,7 @@ use Rattle.land_tables.specs.Calls.{IsSafeRead}
 use Rattle.land_tables.specs.Office.{HoldsRegister}
 use Rattle.land_tables.specs.Standing.{ReadsAt, timeline_in}
 use Rattle.land_tables.specs.Timelines.Laws.{OrderDoesNotMatter, ReadingIsTheRegister, VersionsStandForOne}
+use Rattle.land_tables_history.proofs.MomentOrder.{le_through}
 use Rattle.land_tables_schema.proofs.Looking.{was_clean}
 use Rattle.sqlite.specs.State.{HasCleanDisk, State}
 
@@ -37,14 +38,11 @@ before_all tl t sound less = ap (λ (o : Option Version). unwrap_or (option_map 
 pub not_before : (t : ℤ) → int_lt t (pos 0) ≡ false → pos 0 ≤ℤ t
 not_before t h = grind (arith, ints)
 
-later : (a b c : ℤ) → a ≤ℤ b → b ≤ℤ c → a ≤ℤ c
-later a b c le more = omega (arith, ints)
-
 -- after the last moment there is what there was at it
 pub past_all : (tl : Timeline) (t : ℤ) → IsSoundTimeline tl → last_moment ≤ℤ t → register_at tl t ≡ register_at tl last_moment
 past_all tl t sound le =
     let is_moment = last_is_moment tl sound in
-    stays_last tl t sound.rising (later (last_stamp tl) last_moment t is_moment le) ∙ sym (stays_last tl last_moment sound.rising is_moment)
+    stays_last tl t sound.rising (le_through (last_stamp tl) last_moment t is_moment le) ∙ sym (stays_last tl last_moment sound.rising is_moment)
 
 -- what was read at a moment is the register there
 pub read_is : VersionsStandForOne → OrderDoesNotMatter → ReadingIsTheRegister → (s : State) → HoldsRegister s → (t : ℤ) → IsMoment t → (register : Register) → ReadsAt s.now.trees t register

@@ -6,7 +6,7 @@ use Rattle.std.proofs.lemmas.Int.{ints}
 use Rattle.std.proofs.lemmas.List.Sorted.{IsPermutation-cons, IsPermutation-middle, IsPermutation-refl, IsPermutation-trans}
 use Rattle.std.specs.List.{list_all, list_any}
 use Rattle.std.specs.Ordering.{int_eq}
-use Rattle.land_core.proofs.Booleans.{both_of, not_true, or_false}
+use Rattle.std.proofs.lemmas.Bool.{and_parts, not-true, or_parts}
 use Rattle.land_core.specs.Entries.{are_distinct}
 use Rattle.land_keep.specs.Timeline.{Rises}
 use Rattle.land_tables.specs.Timelines.{in_order, put_in, version_of}
@@ -43,8 +43,8 @@ pairs_fit (m ∷ ms) = list_all (fits m) ms && pairs_fit ms
 all_both : {X : Type 0} (p q : X → Bool) (xs : List X) → list_all (λ x. p x && q x) xs ≡ true → (list_all p xs ≡ true) × (list_all q xs ≡ true)
 all_both p q [] h = (refl, refl)
 all_both p q (x ∷ xs) h =
-    let parts = both_of (p x && q x) (list_all (λ x. p x && q x) xs) h in
-    let here = both_of (p x) (q x) parts.0 in
+    let parts = and_parts (p x && q x) (list_all (λ x. p x && q x) xs) h in
+    let here = and_parts (p x) (q x) parts.0 in
     let rest = all_both p q xs parts.1 in
     (ap (λ b. b && list_all p xs) here.0 ∙ rest.0, ap (λ b. b && list_all q xs) here.1 ∙ rest.1)
 
@@ -54,19 +54,19 @@ three a b c x y z = grind arith
 fit_all : (m : Moment) (ms : List Moment) → list_any (is_same_stamp m) ms ≡ false → list_all (λ b. not (falls m b)) ms ≡ true → list_all (λ a. not (falls a m)) ms ≡ true → list_all (fits m) ms ≡ true
 fit_all m [] apart after before = refl
 fit_all m (n ∷ ns) apart after before =
-    let one = or_false (is_same_stamp m n) (list_any (is_same_stamp m) ns) apart in
-    let two = both_of (not (falls m n)) (list_all (λ b. not (falls m b)) ns) after in
-    let more = both_of (not (falls n m)) (list_all (λ a. not (falls a m)) ns) before in
+    let one = or_parts (is_same_stamp m n) (list_any (is_same_stamp m) ns) apart in
+    let two = and_parts (not (falls m n)) (list_all (λ b. not (falls m b)) ns) after in
+    let more = and_parts (not (falls n m)) (list_all (λ a. not (falls a m)) ns) before in
     ap (λ b. b && list_all (fits m) ns) (three (is_same_stamp m n) (not (falls m n)) (not (falls n m)) one.0 two.0 more.0) ∙ fit_all m ns one.1 two.1 more.1
 
 fit_pairs : (ms : List Moment) → are_distinct is_same_stamp ms ≡ true → never_falls ms ≡ true → pairs_fit ms ≡ true
 fit_pairs [] distinct never = refl
 fit_pairs (m ∷ ms) distinct never =
-    let apart = both_of (not (list_any (is_same_stamp m) ms)) (are_distinct is_same_stamp ms) distinct in
-    let rows = both_of (list_all (λ b. not (falls m b)) (m ∷ ms)) (list_all (λ a. list_all (λ b. not (falls a b)) (m ∷ ms)) ms) never in
-    let row = both_of (not (falls m m)) (list_all (λ b. not (falls m b)) ms) rows.0 in
+    let apart = and_parts (not (list_any (is_same_stamp m) ms)) (are_distinct is_same_stamp ms) distinct in
+    let rows = and_parts (list_all (λ b. not (falls m b)) (m ∷ ms)) (list_all (λ a. list_all (λ b. not (falls a b)) (m ∷ ms)) ms) never in
+    let row = and_parts (not (falls m m)) (list_all (λ b. not (falls m b)) ms) rows.0 in
     let rest = all_both (λ a. not (falls a m)) (λ a. list_all (λ b. not (falls a b)) ms) ms rows.1 in
-    ap (λ b. b && pairs_fit ms) (fit_all m ms (not_true (list_any (is_same_stamp m) ms) apart.0) row.1 rest.0) ∙ fit_pairs ms apart.1 rest.1
+    ap (λ b. b && pairs_fit ms) (fit_all m ms (not-true (list_any (is_same_stamp m) ms) apart.0) row.1 rest.0) ∙ fit_pairs ms apart.1 rest.1
 
 -- ---- they rise
 
@@ -94,7 +94,7 @@ module _ (versions : History) where
   put_rises b m (n ∷ ns) less more rises fit = go (int_le m.stamp n.stamp) refl (λ after most. put_rises n m ns after most rises.2 parts.1)
     where
       parts : (fits m n ≡ true) × (list_all (fits m) ns ≡ true)
-      parts = both_of (fits m n) (list_all (fits m) ns) fit
+      parts = and_parts (fits m n) (list_all (fits m) ns) fit
 
       go : (c : Bool) → int_le m.stamp n.stamp ≡ c → (n.stamp <ℤ m.stamp → n.next ≤ m.next → Rises (version_of versions n) (map (version_of versions) (put_in m ns)))
           → Rises (version_of versions b) (map (version_of versions) (cond c (m ∷ n ∷ ns) (n ∷ put_in m ns)))
@@ -107,7 +107,7 @@ module _ (versions : History) where
   put_orderly m (n ∷ ns) orderly fit = go (int_le m.stamp n.stamp) refl
     where
       parts : (fits m n ≡ true) × (list_all (fits m) ns ≡ true)
-      parts = both_of (fits m n) (list_all (fits m) ns) fit
+      parts = and_parts (fits m n) (list_all (fits m) ns) fit
 
       go : (c : Bool) → int_le m.stamp n.stamp ≡ c → Orderly (cond c (m ∷ n ∷ ns) (n ∷ put_in m ns))
       go true first = (is_before m.stamp n.stamp m.next n.next parts.0 first, no_fewer m.stamp n.stamp m.next n.next parts.0 first, orderly)
@@ -117,7 +117,7 @@ module _ (versions : History) where
   unfolding Orderly
   orderly_from [] fit = tt
   orderly_from (m ∷ ms) fit =
-      let parts = both_of (list_all (fits m) ms) (pairs_fit ms) fit in
+      let parts = and_parts (list_all (fits m) ms) (pairs_fit ms) fit in
       put_orderly m (in_order ms) (orderly_from ms parts.1) (sym (all_permuted (fits m) (in_order ms) ms (in_order_permuted ms)) ∙ parts.0)
 
   pub orderly : (ms : List Moment) → are_distinct is_same_stamp ms ≡ true → never_falls ms ≡ true → Orderly (in_order ms)

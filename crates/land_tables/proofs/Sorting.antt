@@ -3,13 +3,15 @@ use Rattle.std.proofs.Common.{◌≡◌, Bool, true, false, not, cond, ◌||◌,
 use Rattle.std.specs.Prelude.{ℤ, ◌<ℤ◌, ◌≤ℤ◌, int_le}
 use Rattle.std.specs.List.{list_any}
 use Rattle.std.specs.Ordering.{int_eq}
-use Rattle.std.proofs.lemmas.Bool.{false≢true}
+use Rattle.std.proofs.lemmas.Bool.{false≢true, and_from, and_parts, not-true}
 use Rattle.std.proofs.lemmas.Int.{ints}
-use Rattle.land_core.proofs.Booleans.{both_of, not_true}
+use Rattle.std.proofs.lemmas.Cmp.{int_eq_equiv}
+use Rattle.land_core.proofs.Booleans.{or_turned}
 use Rattle.land_core.specs.Entries.{are_distinct}
 use Rattle.land_keep.specs.Timeline.{IsRising, Rises, Timeline}
 use Rattle.land_keep.specs.declared.timeline.Version.{Version}
 use Rattle.land_tables.specs.Timelines.{in_order, moment_of, put_in}
+use Rattle.land_tables_history.proofs.MomentOrder.{le_itself, le_then_lt}
 use Rattle.land_tables_history.proofs.Permutations.{along_permutation}
 use Rattle.land_tables_history.specs.Lawful.{is_same_stamp}
 use Rattle.land_tables_history.specs.declared.moment.Moment.{Moment}
@@ -19,23 +21,14 @@ use Rattle.land_tables_history.specs.declared.moment.Moment.{Moment}
 pub is_late : (s t : ℤ) → t <ℤ s → int_le s t ≡ false
 is_late s t less = grind (arith, ints)
 
-pub is_no_later : (s t : ℤ) → s ≤ℤ t → int_le s t ≡ true
-is_no_later s t less = grind (arith, ints)
-
 other_way : (s t : ℤ) → int_eq s t ≡ false → int_le t s ≡ not (int_le s t)
 other_way s t apart = grind (arith, ints)
-
-alike : (s t : ℤ) → int_eq s t ≡ int_eq t s
-alike s t = grind (arith, ints)
 
 between : (x y n : ℤ) → int_le x n ≡ true → int_le y n ≡ false → int_le y x ≡ false
 between x y n a b = grind (arith, ints)
 
 later_differs : (s t : ℤ) → s <ℤ t → int_eq s t ≡ false
 later_differs s t less = grind (arith, ints)
-
-pub earlier : (r s t : ℤ) → r <ℤ s → s <ℤ t → r <ℤ t
-earlier r s t less more = omega (arith, ints)
 
 -- ---- an insertion does not ask which came first
 
@@ -84,17 +77,9 @@ record Alike (xs ys : List Moment) : Type 0 where
   stamps : (m : Moment) → list_any (is_same_stamp m) xs ≡ list_any (is_same_stamp m) ys
   sorted : are_distinct is_same_stamp xs ≡ true → (are_distinct is_same_stamp ys ≡ true) × (in_order xs ≡ in_order ys)
 
-both : (a b : Bool) → a ≡ true → b ≡ true → (a && b) ≡ true
-both a b x y = ap (λ t. t && b) x ∙ y
-
-or_turned : (a b c : Bool) → (a || (b || c)) ≡ (b || (a || c))
-or_turned true true c = refl
-or_turned true false c = refl
-or_turned false b c = refl
-
 not_or : (a b : Bool) → not (a || b) ≡ true → (a ≡ false) × (b ≡ false)
 not_or true b h = absurd (false≢true h)
-not_or false b h = (refl, not_true b h)
+not_or false b h = (refl, not-true b h)
 
 neither : (a b : Bool) → a ≡ false → b ≡ false → not (a || b) ≡ true
 neither a b x y = ap (λ t. not (t || b)) x ∙ ap not y
@@ -109,21 +94,21 @@ one_order xs ys p distinct = ((along_permutation Alike itself under over chained
     under x xs ys h = record {
       stamps = λ m. ap (λ b. is_same_stamp m x || b) (h.stamps m);
       sorted = λ d.
-          let parts = both_of (not (list_any (is_same_stamp x) xs)) (are_distinct is_same_stamp xs) d in
+          let parts = and_parts (not (list_any (is_same_stamp x) xs)) (are_distinct is_same_stamp xs) d in
           let rest = h.sorted parts.1 in
-          (both (not (list_any (is_same_stamp x) ys)) (are_distinct is_same_stamp ys) (sym (ap not (h.stamps x)) ∙ parts.0) rest.0, ap (put_in x) rest.1);
+          (and_from (not (list_any (is_same_stamp x) ys)) (are_distinct is_same_stamp ys) (sym (ap not (h.stamps x)) ∙ parts.0) rest.0, ap (put_in x) rest.1);
     }
 
     over : (x y : Moment) (xs : List Moment) → Alike (x ∷ y ∷ xs) (y ∷ x ∷ xs)
     over x y xs = record {
       stamps = λ m. or_turned (is_same_stamp m x) (is_same_stamp m y) (list_any (is_same_stamp m) xs);
       sorted = λ d.
-          let one = both_of (not (is_same_stamp x y || list_any (is_same_stamp x) xs)) (not (list_any (is_same_stamp y) xs) && are_distinct is_same_stamp xs) d in
-          let two = both_of (not (list_any (is_same_stamp y) xs)) (are_distinct is_same_stamp xs) one.1 in
+          let one = and_parts (not (is_same_stamp x y || list_any (is_same_stamp x) xs)) (not (list_any (is_same_stamp y) xs) && are_distinct is_same_stamp xs) d in
+          let two = and_parts (not (list_any (is_same_stamp y) xs)) (are_distinct is_same_stamp xs) one.1 in
           let x_apart = not_or (is_same_stamp x y) (list_any (is_same_stamp x) xs) one.0 in (
-            both (not (is_same_stamp y x || list_any (is_same_stamp y) xs)) (not (list_any (is_same_stamp x) xs) && are_distinct is_same_stamp xs)
-                (neither (is_same_stamp y x) (list_any (is_same_stamp y) xs) (alike y.stamp x.stamp ∙ x_apart.0) (not_true (list_any (is_same_stamp y) xs) two.0))
-                (both (not (list_any (is_same_stamp x) xs)) (are_distinct is_same_stamp xs) (ap not x_apart.1) two.1),
+            and_from (not (is_same_stamp y x || list_any (is_same_stamp y) xs)) (not (list_any (is_same_stamp x) xs) && are_distinct is_same_stamp xs)
+                (neither (is_same_stamp y x) (list_any (is_same_stamp y) xs) (int_eq_equiv.symm y.stamp x.stamp ∙ x_apart.0) (not-true (list_any (is_same_stamp y) xs) two.0))
+                (and_from (not (list_any (is_same_stamp x) xs)) (are_distinct is_same_stamp xs) (ap not x_apart.1) two.1),
             turned x y (in_order xs) x_apart.0,
           );
     }
@@ -139,17 +124,11 @@ one_order xs ys p distinct = ((along_permutation Alike itself under over chained
 none_before : (s : ℤ) (v : Version) (vs : Timeline) → s ≤ℤ v.stamp → Rises v vs → list_any (λ (m : Moment). int_eq s m.stamp) (map moment_of vs) ≡ false
 none_before s v [] least rises = refl
 none_before s v (w ∷ ws) least rises =
-    ap (λ b. b || list_any (λ (m : Moment). int_eq s m.stamp) (map moment_of ws)) (later_differs s w.stamp (after s v.stamp w.stamp least rises.0))
+    ap (λ b. b || list_any (λ (m : Moment). int_eq s m.stamp) (map moment_of ws)) (later_differs s w.stamp (le_then_lt s v.stamp w.stamp least rises.0))
     ∙ none_before s w ws (before s v.stamp w.stamp least rises.0) rises.2
   where
-    after : (r s t : ℤ) → r ≤ℤ s → s <ℤ t → r <ℤ t
-    after r s t less more = omega (arith, ints)
-
     before : (r s t : ℤ) → r ≤ℤ s → s <ℤ t → r ≤ℤ t
     before r s t less more = omega (arith, ints)
-
-no_less : (s : ℤ) → s ≤ℤ s
-no_less s = omega (arith, ints)
 
 pub distinct : (tl : Timeline) → IsRising tl → are_distinct is_same_stamp (map moment_of tl) ≡ true
 distinct [] rises = absurd rises
@@ -158,8 +137,8 @@ distinct (v ∷ vs) rises = from v vs rises
     from : (v : Version) (vs : Timeline) → Rises v vs → are_distinct is_same_stamp (map moment_of (v ∷ vs)) ≡ true
     from v [] rises = refl
     from v (w ∷ ws) rises =
-        both (not (list_any (is_same_stamp (moment_of v)) (map moment_of (w ∷ ws)))) (are_distinct is_same_stamp (map moment_of (w ∷ ws)))
-        (ap not (none_before v.stamp v (w ∷ ws) (no_less v.stamp) rises)) (from w ws rises.2)
+        and_from (not (list_any (is_same_stamp (moment_of v)) (map moment_of (w ∷ ws)))) (are_distinct is_same_stamp (map moment_of (w ∷ ws)))
+        (ap not (none_before v.stamp v (w ∷ ws) (le_itself v.stamp) rises)) (from w ws rises.2)
 
 pub sorted_already : (tl : Timeline) → IsRising tl → in_order (map moment_of tl) ≡ map moment_of tl
 sorted_already [] rises = absurd rises

@@ -7,7 +7,8 @@ use std::alloc::AllocError;
 /// Why a store is not taken for a register's. It is as it was.
 #[derive(Clone, Copy, Debug, PartialEq, Eq)]
 pub enum AdoptFault {
-    /// 520: a table or a column is missing, or a value cannot be read as its field.
+    /// 520: a table or a column is missing or another than the register's, there is a table, a view or a unique index more, or a value
+    /// cannot be read as its field.
     NotOurs,
     /// 521: two lifespans of one key overlap, an end is not after its beginning, or a beginning or an end is no stamp.
     Interval,

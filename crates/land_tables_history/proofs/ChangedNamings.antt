@@ -8,7 +8,7 @@ use Rattle.std.specs.FinMap.{FinMap, nat_cmp-IsAntisymmetric}
 use Rattle.std.specs.List.{AllByRecursion, list_all, list_any}
 use Rattle.std.specs.Ordering.{eq_by_cmp, nat_cmp}
 use Rattle.std.specs.Prelude.{ℤ, ◌<ℤ◌, ◌≤ℤ◌, nat_eq, nat_le}
-use Rattle.land_core.proofs.Booleans.{both_of, not_true, or_false}
+use Rattle.std.proofs.lemmas.Bool.{and_parts, not-true, or_parts}
 use Rattle.land_core.proofs.FiniteMaps.{is_equal}
 use Rattle.land_core.specs.Entries.{are_distinct, updated, with_entries}
 use Rattle.land_core.specs.declared.change.Change.{Change}
@@ -46,7 +46,7 @@ module _ (next : ℕ) where
       → AllByRecursion (Fits m) es → AllByRecursion (Fits (map.insert m k v)) es
   fits_still m k v [] apart fits = tt
   fits_still m k v (e ∷ es) apart fits =
-      let both = or_false (eq_by_cmp nat_cmp k e.0) (list_any (eq_by_cmp nat_cmp k) (map_list (λ e. e.0) es)) apart in
+      let both = or_parts (eq_by_cmp nat_cmp k e.0) (list_any (eq_by_cmp nat_cmp k) (map_list (λ e. e.0) es)) apart in
       let same : map.get (map.insert m k v) e.0 ≡ map.get m e.0 =
       map.get-insert nat_cmp_total m k v e.0 ∙ ap (λ b. cond b (Some v) (map.get m e.0)) ((eq_by_cmp_equiv nat_cmp_total).symm e.0 k ∙ both.0) in
       (one e same fits.0, fits_still m k v es both.1 fits.1)
@@ -83,8 +83,8 @@ module _ (next : ℕ) where
       → IsPermutation (named_by (new_mutations next es) ++ named_by (map.entries m)) (named_by (map.entries (with_entries m es)))
   namings_grow m [] once fits = IsPermutation-refl (named_by (map.entries m))
   namings_grow m (e ∷ es) once fits =
-      let both = both_of (not (list_any (eq_by_cmp nat_cmp e.0) (map_list (λ e. e.0) es))) (are_distinct (eq_by_cmp nat_cmp) (map_list (λ e. e.0) es)) once in
-      go fits.0 (namings_grow (map.insert m e.0 e.1) es both.1 (fits_still m e.0 e.1 es (not_true _ both.0) fits.1))
+      let both = and_parts (not (list_any (eq_by_cmp nat_cmp e.0) (map_list (λ e. e.0) es))) (are_distinct (eq_by_cmp nat_cmp) (map_list (λ e. e.0) es)) once in
+      go fits.0 (namings_grow (map.insert m e.0 e.1) es both.1 (fits_still m e.0 e.1 es (not-true _ both.0) fits.1))
     where
       later : List Naming
       later = named_by (new_mutations next es)

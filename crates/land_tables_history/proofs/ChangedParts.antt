@@ -8,7 +8,7 @@ use Rattle.std.specs.List.{list_all, list_any}
 use Rattle.std.specs.Ordering.{eq_by_cmp, nat_cmp}
 use Rattle.std.specs.Prelude.{ℤ, ◌<ℤ◌, ◌≤ℤ◌, nat_eq}
 use Rattle.std.specs.declared.cmp.Ordering.{Ordering}
-use Rattle.land_core.proofs.Booleans.{both_of}
+use Rattle.std.proofs.lemmas.Bool.{and_parts}
 use Rattle.land_core.proofs.FiniteSets.{exact_grants, exact_mandates, grants_total, keys-marks, mandates_total}
 use Rattle.land_core.specs.Entries.{are_distinct, updated}
 use Rattle.land_core.specs.Grants.{Grants, grant_cmp, grants_in, marks}
@@ -30,7 +30,7 @@ same_numbers = λ i n m. unsigned_tied n m i
 pub distinct_before : {K : Type 0} (same : K → K → Bool) (xs ys : List K) → are_distinct same (xs ++ ys) ≡ true → are_distinct same xs ≡ true
 distinct_before same [] ys h = refl
 distinct_before {K} same (x ∷ xs) ys h =
-    let both = both_of (not (list_any (same x) (xs ++ ys))) (are_distinct same (xs ++ ys)) h in
+    let both = and_parts (not (list_any (same x) (xs ++ ys))) (are_distinct same (xs ++ ys)) h in
     ap (λ b. b && are_distinct same xs) (fewer xs both.0) ∙ distinct_before same xs ys both.1
   where
     fewer : (zs : List K) → not (list_any (same x) (zs ++ ys)) ≡ true → not (list_any (same x) zs) ≡ true

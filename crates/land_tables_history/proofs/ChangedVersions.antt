@@ -5,14 +5,14 @@ use Rattle.std.specs.List.{list_all}
 use Rattle.std.specs.Ordering.{int_eq}
 use Rattle.std.proofs.lemmas.Bool.Decides.{Decides-int_eq}
 use Rattle.std.proofs.lemmas.Int.{ints}
-use Rattle.land_core.proofs.Booleans.{both_of}
+use Rattle.std.proofs.lemmas.Bool.{and_parts}
+use Rattle.std.proofs.lemmas.Cmp.{int_eq_equiv}
+use Rattle.land_core.proofs.Booleans.{and_false, or_true}
+use Rattle.land_tables_history.proofs.MomentOrder.{le_from, le_true}
 use Rattle.land_tables_history.specs.Changed.{begun, changed_versions, closed}
 use Rattle.land_tables_history.specs.Open.{has_ended, never}
 use Rattle.land_tables_history.specs.Standing.{standing, stands}
 use Rattle.land_tables_history.specs.declared.version.Version.{Version}
-
-le_true : (a b : ℤ) → a ≤ℤ b → int_le a b ≡ true
-le_true a b h = grind (arith, ints)
 
 le_false : (a b : ℤ) → b <ℤ a → int_le a b ≡ false
 le_false a b h = grind (arith, ints)
@@ -23,9 +23,6 @@ lt_true a b h = grind (arith, ints)
 lt_false : (a b : ℤ) → b ≤ℤ a → int_lt a b ≡ false
 lt_false a b h = grind (arith, ints)
 
-le_from : (a b : ℤ) → int_le a b ≡ true → a ≤ℤ b
-le_from a b h = grind (arith, ints)
-
 later : (a b c : ℤ) → a ≤ℤ b → b <ℤ c → a ≤ℤ c
 later a b c p q = omega (arith, ints)
 
@@ -34,13 +31,6 @@ before a b c d p q r = omega (arith, ints)
 
 same_end : (a b : ℤ) → int_eq a b ≡ true → a ≡ b
 same_end a b e = (Decides-int_eq a b).0 e
-
-itself : (a : ℤ) → int_eq a a ≡ true
-itself a = (Decides-int_eq a a).1 refl
-
-and_false : (b : Bool) → (b && false) ≡ false
-and_false true = refl
-and_false false = refl
 
 module _ {X : Type 0} where
   pub standing-append : (t : ℤ) (vs ws : List (Version X)) → standing t (vs ++ ws) ≡ standing t vs ++ standing t ws
@@ -75,7 +65,7 @@ module _ {X : Type 0} where
       where
         go : (b : Bool) → (meant v.what && int_eq v.until never) ≡ b → stands t (cond b (record v { until = stamp }) v) ≡ stands t v
         go true e =
-            let ends : v.until ≡ never = same_end v.until never (both_of (meant v.what) (int_eq v.until never) e).1 in
+            let ends : v.until ≡ never = same_end v.until never (and_parts (meant v.what) (int_eq v.until never) e).1 in
             ap (λ b. int_le v.since t && b) (lt_true t stamp less ∙ sym (lt_true t never early) ∙ ap (int_lt t) (sym ends))
         go false e = refl
 
@@ -122,7 +112,7 @@ module _ {X : Type 0} where
       closed_on : (vs : List (Version X)) → list_all (has_ended last) vs ≡ true → standing t (map_list (closed meant stamp) vs) ≡ filter (λ x. not (meant x)) (standing t vs)
       closed_on [] ended = refl
       closed_on (v ∷ vs) ended =
-          let both = both_of (has_ended last v) (list_all (has_ended last) vs) ended in
+          let both = and_parts (has_ended last v) (list_all (has_ended last) vs) ended in
           one_stands t (closed meant stamp v) (map_list (closed meant stamp) vs)
           ∙ go (meant v.what) refl both.0 (closed_on vs both.1)
           ∙ ap (filter (λ x. not (meant x))) (sym (one_stands t v vs))
@@ -158,19 +148,15 @@ module _ {X : Type 0} where
 
     list_all-append : {Y : Type 0} (p : Y → Bool) (xs ys : List Y) → list_all p xs ≡ true → list_all p ys ≡ true → list_all p (xs ++ ys) ≡ true
     list_all-append p [] ys h k = k
-    list_all-append p (x ∷ xs) ys h k = let both = both_of (p x) (list_all p xs) h in ap (λ b. b && list_all p (xs ++ ys)) both.0 ∙ list_all-append p xs ys both.1 k
+    list_all-append p (x ∷ xs) ys h k = let both = and_parts (p x) (list_all p xs) h in ap (λ b. b && list_all p (xs ++ ys)) both.0 ∙ list_all-append p xs ys both.1 k
 
     begun_end : (xs : List X) → list_all (has_ended stamp) (map_list (λ x. begun x stamp) xs) ≡ true
     begun_end [] = refl
-    begun_end (x ∷ xs) = ap (λ b. (b || int_le never stamp) && list_all (has_ended stamp) (map_list (λ x. begun x stamp) xs)) (itself never) ∙ begun_end xs
+    begun_end (x ∷ xs) = ap (λ b. (b || int_le never stamp) && list_all (has_ended stamp) (map_list (λ x. begun x stamp) xs)) (int_eq_equiv.refl never) ∙ begun_end xs
 
     one_ends : (last : ℤ) → last <ℤ stamp → (v : Version X) → has_ended last v ≡ true → has_ended stamp (closed meant stamp v) ≡ true
     one_ends last less v ended = go (meant v.what && int_eq v.until never) (int_eq v.until never) refl
       where
-        or_true : (b : Bool) → (b || true) ≡ true
-        or_true true = refl
-        or_true false = refl
-
         go : (b c : Bool) → int_eq v.until never ≡ c → has_ended stamp (cond b (record v { until = stamp }) v) ≡ true
         go true c e = ap (λ b. int_eq stamp never || b) (le_true stamp stamp (omega (arith, ints))) ∙ or_true (int_eq stamp never)
         go false true e = ap (λ b. b || int_le v.until stamp) e
@@ -181,7 +167,7 @@ module _ {X : Type 0} where
     closed_end : (last : ℤ) → last <ℤ stamp → (vs : List (Version X)) → list_all (has_ended last) vs ≡ true → list_all (has_ended stamp) (map_list (closed meant stamp) vs) ≡ true
     closed_end last less [] ended = refl
     closed_end last less (v ∷ vs) ended =
-        let both = both_of (has_ended last v) (list_all (has_ended last) vs) ended in
+        let both = and_parts (has_ended last v) (list_all (has_ended last) vs) ended in
         ap (λ b. b && list_all (has_ended stamp) (map_list (closed meant stamp) vs)) (one_ends last less v both.0) ∙ closed_end last less vs both.1
 
     pub changed_end : (last : ℤ) → last <ℤ stamp → (vs : List (Version X)) → list_all (has_ended last) vs ≡ true → list_all (has_ended stamp) (changed_versions put meant stamp vs) ≡ true

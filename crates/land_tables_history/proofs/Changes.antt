@@ -3,7 +3,7 @@ use Rattle.std.proofs.Common.{◌≡◌, ℕ, ◌++◌, Bool, true, false, ◌&&
 use Rattle.std.specs.Prelude.{ℤ, ◌<ℤ◌}
 use Rattle.std.specs.List.{list_all}
 use Rattle.std.specs.Ordering.{eq_by_cmp}
-use Rattle.land_core.proofs.Booleans.{both_of}
+use Rattle.std.proofs.lemmas.Bool.{and_parts}
 use Rattle.land_core.specs.Grants.{grant_cmp}
 use Rattle.land_core.specs.Mandates.{mandate_cmp}
 use Rattle.land_tables_history.proofs.ChangedGroups.{members_change}
@@ -52,15 +52,15 @@ record HaveEnded (last : ℤ) (h : History) : Type 0 where
 
 each_ended : (last : ℤ) (h : History) → have_ended last h ≡ true → HaveEnded last h
 each_ended last h all =
-    let nine = both_of _ (list_all (has_ended last) h.mandates) all in
-    let eight = both_of _ (list_all (has_ended last) h.namings) nine.0 in
-    let seven = both_of _ (list_all (has_ended last) h.mutations) eight.0 in
-    let six = both_of _ (list_all (has_ended last) h.sources) seven.0 in
-    let five = both_of _ (list_all (has_ended last) h.rrrs) six.0 in
-    let four = both_of _ (list_all (has_ended last) h.parcels) five.0 in
-    let three = both_of _ (list_all (has_ended last) h.units) four.0 in
-    let two = both_of _ (list_all (has_ended last) h.members) three.0 in
-    let one = both_of (list_all (has_ended last) h.parties) (list_all (has_ended last) h.roles) two.0 in
+    let nine = and_parts _ (list_all (has_ended last) h.mandates) all in
+    let eight = and_parts _ (list_all (has_ended last) h.namings) nine.0 in
+    let seven = and_parts _ (list_all (has_ended last) h.mutations) eight.0 in
+    let six = and_parts _ (list_all (has_ended last) h.sources) seven.0 in
+    let five = and_parts _ (list_all (has_ended last) h.rrrs) six.0 in
+    let four = and_parts _ (list_all (has_ended last) h.parcels) five.0 in
+    let three = and_parts _ (list_all (has_ended last) h.units) four.0 in
+    let two = and_parts _ (list_all (has_ended last) h.members) three.0 in
+    let one = and_parts (list_all (has_ended last) h.parties) (list_all (has_ended last) h.roles) two.0 in
     record { parties = one.0; roles = one.1; members = two.1; units = three.1; parcels = four.1; rrrs = five.1; sources = six.1; mutations = seven.1; namings = eight.1; mandates = nine.1 }
 
 ten : (a b c d e f g h i j : Bool) → a ≡ true → b ≡ true → c ≡ true → d ≡ true → e ≡ true → f ≡ true → g ≡ true → h ≡ true → i ≡ true → j ≡ true

@@ -1,5 +1,5 @@
 -- Pieces in order: how far one reaches tells all that is covered.
-use Rattle.std.proofs.Common.{◌≡◌, ◌↔◌, ◌⊎◌, inl, inr, IsPermutation, ◌==◌, ℕ, ◌≤◌, Bool, true, false, cond, not, ◌||◌, ◌&&◌, List, [], ◌∷◌, Option, Some, None, refl, sym, ap, ap₂, subst, ◌∙◌, arith}
+use Rattle.std.proofs.Common.{◌≡◌, ◌↔◌, ◌⊎◌, inl, inr, IsPermutation, ◌==◌, ℕ, ◌≤◌, Bool, true, false, cond, not, ◌||◌, ◌&&◌, List, [], ◌∷◌, Option, Some, None, refl, sym, ap, subst, ◌∙◌, arith}
 use Rattle.std.proofs.lemmas.Cmp.{on_total, then_total}
 use Rattle.std.proofs.lemmas.List.Sorted.{list_any-IsPermutation}
 use Rattle.std.specs.Cmp.{IsTotalOrder, bool_cmp_total, int_cmp_total, nat_cmp_total}
@@ -8,13 +8,14 @@ use Rattle.std.specs.Option.{option_map_or}
 use Rattle.std.specs.Ordering.{bool_cmp, int_cmp, is_eq, is_lt, nat_cmp, ordering_then}
 use Rattle.std.specs.declared.cmp.Ordering.{Ordering}
 use Rattle.std.specs.Prelude.{ℤ, ◌≤ℤ◌, int_le, int_lt, nat_eq}
-use Rattle.std.proofs.lemmas.Bool.{false≢true}
+use Rattle.std.proofs.lemmas.Bool.{false≢true, and_parts, or_cases, or_left, or_right}
 use Rattle.std.proofs.lemmas.Bool.Decides.{nat_tests}
 use Rattle.std.proofs.lemmas.Int.{ints}
 use Rattle.std.specs.List.{AllByRecursion, list_all, list_any}
+use Rattle.land_core.proofs.Booleans.{conflict}
+use Rattle.land_tables_history.proofs.MomentOrder.{le_itself}
 use Rattle.land_tables_history.proofs.SweepOrders.{Rising, no_earlier, no_less, rising_in_order, then_not, tie}
 use Rattle.land_tables_history.proofs.Permutations.{all_permuted}
-use Rattle.land_tables_history.proofs.SweepTests.{left, right, split_and, split_or}
 use Rattle.land_tables_history.specs.Sweeps.Cover.{IsCovered, is_asked, is_at, is_offered}
 use Rattle.land_tables_history.specs.Sweeps.CoverSteps.{asked, begun, covered_from, is_same_key, later, offered, piece_cmp}
 use Rattle.land_tables_history.specs.declared.sweeps.cover.Piece.{Piece}
@@ -24,9 +25,6 @@ use Rattle.land_tables_history.specs.declared.sweeps.cover.Reach.{Reach}
 
 abbrev at : (f s : ℕ) → (since until : ℤ) → (a b : ℕ) → (t : ℤ) → Bool
 at f s since until a b t = (f == a) && (s == b) && int_le since t && int_lt t until
-
-both : (a b : Bool) → a ≡ true → b ≡ true → (a && b) ≡ true
-both a b x y = ap₂ (λ s t. s && t) x y
 
 -- what is asked for on from within what is reached is asked for, reached, or was asked for before
 more_asked : (f s fx sx a b : ℕ) (since reach need sincex untilx t : ℤ) → ((f == fx) && (s == sx)) ≡ true → int_lt sincex reach ≡ true
@@ -89,10 +87,6 @@ far f s fx sx fy sy a b reach sincex sincey untily t p1 p2 q1 q2 q3 gap key h = 
 
 -- ---- tests joined
 
-untrue : (b : Bool) → (b ≡ true → ⊥) → b ≡ false
-untrue true h = absurd (h refl)
-untrue false h = refl
-
 -- ---- one more piece
 
 asks_more : (x : Piece) (xs : List Piece) (a b : ℕ) (t : ℤ) → x.asked ≡ true → is_asked (x ∷ xs) a b t ≡ (is_at a b t x || is_asked xs a b t)
@@ -130,15 +124,15 @@ asked_on : (s : Reach) (x : Piece) (xs : List Piece) → x.asked ≡ true → is
 asked_on s x xs e same within order = (there, back)
   where
     there : IsCovered (after s (x ∷ xs)) → IsCovered (after (record s { need = later s.need x.until }) xs)
-    there h a b t asks = elim (split_or (at s.first s.second s.since (later s.need x.until) a b t) (is_asked xs a b t) asks) [
-      | inl it ↦ elim (split_or (needs s a b t) (is_at a b t x || reaches s a b t) (more_asked s.first s.second x.first x.second a b s.since s.reach s.need x.since x.until t same within it)) [
-        | inl old ↦ so (left (needs s a b t) (is_asked (x ∷ xs) a b t) old)
-        | inr two ↦ elim (split_or (is_at a b t x) (reaches s a b t) two) [
-          | inl new ↦ so (right (needs s a b t) (is_asked (x ∷ xs) a b t) (asks_more x xs a b t e ∙ left (is_at a b t x) (is_asked xs a b t) new))
-          | inr had ↦ left (reaches s a b t) (is_offered xs a b t) had
+    there h a b t asks = elim (or_cases (at s.first s.second s.since (later s.need x.until) a b t) (is_asked xs a b t) asks) [
+      | inl it ↦ elim (or_cases (needs s a b t) (is_at a b t x || reaches s a b t) (more_asked s.first s.second x.first x.second a b s.since s.reach s.need x.since x.until t same within it)) [
+        | inl old ↦ so (or_left (needs s a b t) (is_asked (x ∷ xs) a b t) old)
+        | inr two ↦ elim (or_cases (is_at a b t x) (reaches s a b t) two) [
+          | inl new ↦ so (or_right (needs s a b t) (is_asked (x ∷ xs) a b t) (asks_more x xs a b t e ∙ or_left (is_at a b t x) (is_asked xs a b t) new))
+          | inr had ↦ or_left (reaches s a b t) (is_offered xs a b t) had
         ]
       ]
-      | inr more ↦ so (right (needs s a b t) (is_asked (x ∷ xs) a b t) (asks_more x xs a b t e ∙ right (is_at a b t x) (is_asked xs a b t) more))
+      | inr more ↦ so (or_right (needs s a b t) (is_asked (x ∷ xs) a b t) (asks_more x xs a b t e ∙ or_right (is_at a b t x) (is_asked xs a b t) more))
     ]
       where
         so : (needs s a b t || is_asked (x ∷ xs) a b t) ≡ true → (reaches s a b t || is_offered xs a b t) ≡ true
@@ -146,16 +140,16 @@ asked_on s x xs e same within order = (there, back)
 
     back : IsCovered (after (record s { need = later s.need x.until }) xs) → IsCovered (after s (x ∷ xs))
     back h a b t asks = ap (λ c. reaches s a b t || c) (offers_as x xs a b t e) ∙ h a b t (
-        elim (split_or (needs s a b t) (is_asked (x ∷ xs) a b t) asks) [
-          | inl old ↦ so (left (needs s a b t) (is_at a b t x) old)
-          | inr two ↦ elim (split_or (is_at a b t x) (is_asked xs a b t) (sym (asks_more x xs a b t e) ∙ two)) [
-            | inl new ↦ so (right (needs s a b t) (is_at a b t x) new)
-            | inr more ↦ right (at s.first s.second s.since (later s.need x.until) a b t) (is_asked xs a b t) more
+        elim (or_cases (needs s a b t) (is_asked (x ∷ xs) a b t) asks) [
+          | inl old ↦ so (or_left (needs s a b t) (is_at a b t x) old)
+          | inr two ↦ elim (or_cases (is_at a b t x) (is_asked xs a b t) (sym (asks_more x xs a b t e) ∙ two)) [
+            | inl new ↦ so (or_right (needs s a b t) (is_at a b t x) new)
+            | inr more ↦ or_right (at s.first s.second s.since (later s.need x.until) a b t) (is_asked xs a b t) more
           ]
         ])
       where
         so : (needs s a b t || is_at a b t x) ≡ true → (at s.first s.second s.since (later s.need x.until) a b t || is_asked xs a b t) ≡ true
-        so two = left (at s.first s.second s.since (later s.need x.until) a b t) (is_asked xs a b t)
+        so two = or_left (at s.first s.second s.since (later s.need x.until) a b t) (is_asked xs a b t)
             (still_asked s.first s.second x.first x.second a b s.since s.need x.since x.until t same order two)
 
 offered_on : (s : Reach) (x : Piece) (xs : List Piece) → x.asked ≡ false → is_same_key s x ≡ true → int_le x.since s.reach ≡ true → int_le s.since x.since ≡ true
@@ -193,11 +187,8 @@ beyond_gap : (s : Reach) (x y : Piece) (a b : ℕ) (t : ℤ) → IsAfter s x →
 beyond_gap s x y a b t p (inl q) gap key h =
     far s.first s.second x.first x.second y.first y.second a b s.reach x.since y.since y.until t p.first p.second q.first q.second q.since gap key h
 beyond_gap s x y a b t p (inr same) gap key h =
-    far s.first s.second x.first x.second x.first x.second a b s.reach x.since x.since x.until t p.first p.second (omega arith) (λ _. omega arith) (λ _ _. itself x.since) gap key
+    far s.first s.second x.first x.second x.first x.second a b s.reach x.since x.since x.until t p.first p.second (omega arith) (λ _. omega arith) (λ _ _. le_itself x.since) gap key
     (subst (λ (z : Piece). is_at a b t z ≡ true) (sym same) h)
-  where
-    itself : (n : ℤ) → n ≤ℤ n
-    itself n = omega (arith, ints)
 
 -- none of some pieces is of a key at a moment
 none_later : (p : Piece → Bool) (xs : List Piece) → AllByRecursion (λ y. p y ≡ false) xs → list_any p xs ≡ false
@@ -206,13 +197,10 @@ none_later p (y ∷ ys) all = ap (λ c. c || list_any p ys) all.0 ∙ none_later
 
 some_later : (p : Piece → Bool) (P : Piece → Type 0) (xs : List Piece) → list_any p xs ≡ true → AllByRecursion P xs → {Q : Type 0} → ((y : Piece) → p y ≡ true → P y → Q) → Q
 some_later p P [] h all k = absurd (false≢true h)
-some_later p P (y ∷ ys) h all k = elim (split_or (p y) (list_any p ys) h) [ inl it ↦ k y it all.0 | inr more ↦ some_later p P ys more all.1 k ]
+some_later p P (y ∷ ys) h all k = elim (or_cases (p y) (list_any p ys) h) [ inl it ↦ k y it all.0 | inr more ↦ some_later p P ys more all.1 k ]
 
 late : (reach : ℤ) → int_lt reach reach ≡ false
 late reach = grind (arith, ints)
-
-conflict : {c : Bool} → c ≡ true → c ≡ false → ⊥
-conflict e f = false≢true (sym f ∙ e)
 
 key_of : (f s a b : ℕ) (since until t : ℤ) → at f s since until a b t ≡ true → ((f == a) && (s == b)) ≡ true
 key_of f s a b since until t h = grind (arith, ints, nat_tests)
@@ -231,30 +219,30 @@ gap_on : (s : Reach) (x : Piece) (xs : List Piece) → x.asked ≡ false → IsA
 gap_on s x xs e p later gap less = (there, back)
   where
     there : IsCovered (after s (x ∷ xs)) → IsCovered (x ∷ xs)
-    there h a b t asks = elim (split_or (reaches s a b t) (is_offered (x ∷ xs) a b t) (h a b t (right (needs s a b t) (is_asked (x ∷ xs) a b t) asks))) [
+    there h a b t asks = elim (or_cases (reaches s a b t) (is_offered (x ∷ xs) a b t) (h a b t (or_right (needs s a b t) (is_asked (x ∷ xs) a b t) asks))) [
       | inl it ↦ absurd (some_later (λ y. y.asked && is_at a b t y) (Follows x) xs (sym (asks_as x xs a b t e) ∙ asks) later
           (λ y asked q. within s.first s.second a b s.since s.reach t it
-          (beyond_gap s x y a b t p (inl q) gap (key_of s.first s.second a b s.since s.reach t it) (split_and y.asked (is_at a b t y) asked).1)))
+          (beyond_gap s x y a b t p (inl q) gap (key_of s.first s.second a b s.since s.reach t it) (and_parts y.asked (is_at a b t y) asked).1)))
       | inr it ↦ it
     ]
 
     back : IsCovered (x ∷ xs) → IsCovered (after s (x ∷ xs))
-    back h a b t asks = elim (split_or (needs s a b t) (is_asked (x ∷ xs) a b t) asks) [
-      | inl it ↦ left (reaches s a b t) (is_offered (x ∷ xs) a b t) (beyond s.first s.second a b s.since s.reach s.need t less it)
-      | inr it ↦ right (reaches s a b t) (is_offered (x ∷ xs) a b t) (h a b t it)
+    back h a b t asks = elim (or_cases (needs s a b t) (is_asked (x ∷ xs) a b t) asks) [
+      | inl it ↦ or_left (reaches s a b t) (is_offered (x ∷ xs) a b t) (beyond s.first s.second a b s.since s.reach s.need t less it)
+      | inr it ↦ or_right (reaches s a b t) (is_offered (x ∷ xs) a b t) (h a b t it)
     ]
 
 -- what was asked for beyond the gap is not covered
 gap_fails : (s : Reach) (x : Piece) (xs : List Piece) → int_lt s.since s.reach ≡ true → IsAfter s x → AllByRecursion (Follows x) xs → (is_same_key s x && int_le x.since s.reach) ≡ false → int_le s.need s.reach ≡ false
     → IsCovered (after s (x ∷ xs)) → ⊥
 gap_fails s x xs some p later gap more h =
-    elim (split_or (reaches s s.first s.second s.reach) (is_offered (x ∷ xs) s.first s.second s.reach)
-    (h s.first s.second s.reach (left (needs s s.first s.second s.reach) (is_asked (x ∷ xs) s.first s.second s.reach) (here s.first s.second s.since s.reach s.need some more)))) [
+    elim (or_cases (reaches s s.first s.second s.reach) (is_offered (x ∷ xs) s.first s.second s.reach)
+    (h s.first s.second s.reach (or_left (needs s s.first s.second s.reach) (is_asked (x ∷ xs) s.first s.second s.reach) (here s.first s.second s.since s.reach s.need some more)))) [
       | inl it ↦ conflict it (not_here s.first s.second s.since s.reach)
-      | inr it ↦ elim (split_or (not x.asked && is_at s.first s.second s.reach x) (is_offered xs s.first s.second s.reach) it) [
-        | inl new ↦ conflict (beyond_gap s x x s.first s.second s.reach p (inr refl) gap (key_itself s.first s.second) (split_and (not x.asked) (is_at s.first s.second s.reach x) new).1) (late s.reach)
+      | inr it ↦ elim (or_cases (not x.asked && is_at s.first s.second s.reach x) (is_offered xs s.first s.second s.reach) it) [
+        | inl new ↦ conflict (beyond_gap s x x s.first s.second s.reach p (inr refl) gap (key_itself s.first s.second) (and_parts (not x.asked) (is_at s.first s.second s.reach x) new).1) (late s.reach)
         | inr later_one ↦ some_later (λ y. not y.asked && is_at s.first s.second s.reach y) (Follows x) xs later_one later
-            (λ y offered q. conflict (beyond_gap s x y s.first s.second s.reach p (inl q) gap (key_itself s.first s.second) (split_and (not y.asked) (is_at s.first s.second s.reach y) offered).1) (late s.reach))
+            (λ y offered q. conflict (beyond_gap s x y s.first s.second s.reach p (inl q) gap (key_itself s.first s.second) (and_parts (not y.asked) (is_at s.first s.second s.reach y) offered).1) (late s.reach))
       ]
     ]
 
@@ -274,21 +262,21 @@ same_beginning fx sx fy sy sincex sincey untily q h =
 not_offered : (x : Piece) (xs : List Piece) → x.asked ≡ true → AllByRecursion (Follows x) xs → is_offered xs x.first x.second x.since ≡ true → ⊥
 not_offered x xs e later h = some_later (λ y. not y.asked && is_at x.first x.second x.since y) (Follows x) xs h later
     (λ y offered q.
-    let parts = split_and (not y.asked) (is_at x.first x.second x.since y) offered in
+    let parts = and_parts (not y.asked) (is_at x.first x.second x.since y) offered in
     let same = same_beginning x.first x.second y.first y.second x.since y.since y.until q.since parts.1 in
     conflict parts.0 (ap not (q.asked same.0 same.1 same.2 e)))
 
 asked_first_fails : (x : Piece) (xs : List Piece) → x.asked ≡ true → int_lt x.since x.until ≡ true → AllByRecursion (Follows x) xs → IsCovered (x ∷ xs) → ⊥
 asked_first_fails x xs e some later h =
     not_offered x xs e later (sym (offers_as x xs x.first x.second x.since e)
-    ∙ h x.first x.second x.since (asks_more x xs x.first x.second x.since e ∙ left (is_at x.first x.second x.since x) (is_asked xs x.first x.second x.since) (at_its_beginning x.first x.second x.since x.until some)))
+    ∙ h x.first x.second x.since (asks_more x xs x.first x.second x.since e ∙ or_left (is_at x.first x.second x.since x) (is_asked xs x.first x.second x.since) (at_its_beginning x.first x.second x.since x.until some)))
 
 asked_fails : (s : Reach) (x : Piece) (xs : List Piece) → x.asked ≡ true → int_lt x.since x.until ≡ true → AllByRecursion (Follows x) xs → (is_same_key s x && int_lt x.since s.reach) ≡ false
     → IsCovered (after s (x ∷ xs)) → ⊥
 asked_fails s x xs e some later gap h =
-    elim (split_or (reaches s x.first x.second x.since) (is_offered (x ∷ xs) x.first x.second x.since)
-    (h x.first x.second x.since (right (needs s x.first x.second x.since) (is_asked (x ∷ xs) x.first x.second x.since)
-    (asks_more x xs x.first x.second x.since e ∙ left (is_at x.first x.second x.since x) (is_asked xs x.first x.second x.since) (at_its_beginning x.first x.second x.since x.until some))))) [
+    elim (or_cases (reaches s x.first x.second x.since) (is_offered (x ∷ xs) x.first x.second x.since)
+    (h x.first x.second x.since (or_right (needs s x.first x.second x.since) (is_asked (x ∷ xs) x.first x.second x.since)
+    (asks_more x xs x.first x.second x.since e ∙ or_left (is_at x.first x.second x.since x) (is_asked xs x.first x.second x.since) (at_its_beginning x.first x.second x.since x.until some))))) [
       | inl it ↦ conflict it (not_within s.first s.second x.first x.second s.since s.reach x.since gap)
       | inr it ↦ not_offered x xs e later (sym (offers_as x xs x.first x.second x.since e) ∙ it)
     ]
@@ -310,8 +298,8 @@ by e p = (λ h. p.0 (sym e ∙ h), λ a. e ∙ p.1 a)
 -- where nothing is left
 ends : (s : Reach) → int_lt s.since s.reach ≡ true → (int_le s.need s.reach ≡ true) ↔ IsCovered (after s [])
 ends s some = (
-  λ less a b t asks. elim (split_or (needs s a b t) false asks) [
-    | inl it ↦ left (reaches s a b t) false (beyond s.first s.second a b s.since s.reach s.need t less it)
+  λ less a b t asks. elim (or_cases (needs s a b t) false asks) [
+    | inl it ↦ or_left (reaches s a b t) false (beyond s.first s.second a b s.since s.reach s.need t less it)
     | inr no_more ↦ absurd (false≢true no_more)
   ],
   λ h. go (int_le s.need s.reach) refl h,
@@ -319,7 +307,7 @@ ends s some = (
   where
     go : (c : Bool) → int_le s.need s.reach ≡ c → IsCovered (after s []) → c ≡ true
     go true e h = refl
-    go false e h = elim (split_or (reaches s s.first s.second s.reach) false (h s.first s.second s.reach (left (needs s s.first s.second s.reach) false (here s.first s.second s.since s.reach s.need some e)))) [
+    go false e h = elim (or_cases (reaches s s.first s.second s.reach) false (h s.first s.second s.reach (or_left (needs s s.first s.second s.reach) false (here s.first s.second s.since s.reach s.need some e)))) [
       | inl it ↦ absurd (conflict it (not_here s.first s.second s.since s.reach))
       | inr no_more ↦ absurd (false≢true no_more)
     ]
@@ -343,7 +331,7 @@ lasts : (since reach until : ℤ) → int_lt since reach ≡ true → int_lt sin
 lasts since reach until h = grind (arith, ints)
 
 ordered : (s : Reach) (x : Piece) → IsAfter s x → is_same_key s x ≡ true → int_le s.since x.since ≡ true
-ordered s x p same = let parts = split_and (s.first == x.first) (s.second == x.second) same in told (p.since parts.0 parts.1)
+ordered s x p same = let parts = and_parts (s.first == x.first) (s.second == x.second) same in told (p.since parts.0 parts.1)
   where
     told : s.since ≤ℤ x.since → int_le s.since x.since ≡ true
     told h = grind (arith, ints)
@@ -357,14 +345,14 @@ stepped xs r = option_map_or (λ u. covered_from (Some u) xs) r false
 
 covers : (s : Reach) (xs : List Piece) → int_lt s.since s.reach ≡ true → AllByRecursion (IsAfter s) xs → Rising Follows xs → list_all is_begun xs ≡ true → (covered_from (Some s) xs ≡ true) ↔ IsCovered (after s xs)
 covers s [] some p rising begins = ends s some
-covers s (x ∷ xs) some p rising begins = by_kind (λ u a b. covers u xs a b rising.1 (split_and (is_begun x) (list_all is_begun xs) begins).1) x.asked refl
+covers s (x ∷ xs) some p rising begins = by_kind (λ u a b. covers u xs a b rising.1 (and_parts (is_begun x) (list_all is_begun xs) begins).1) x.asked refl
   where
     parts : (is_begun x ≡ true) × (list_all is_begun xs ≡ true)
-    parts = split_and (is_begun x) (list_all is_begun xs) begins
+    parts = and_parts (is_begun x) (list_all is_begun xs) begins
 
     if_asked : Rest xs → x.asked ≡ true → (c : Bool) → (is_same_key s x && int_lt x.since s.reach) ≡ c → (stepped xs (cond c (Some (record s { need = later s.need x.until })) None) ≡ true) ↔ IsCovered (after s (x ∷ xs))
     if_asked rest e true h =
-        let both_hold = split_and (is_same_key s x) (int_lt x.since s.reach) h in
+        let both_hold = and_parts (is_same_key s x) (int_lt x.since s.reach) h in
         through (rest (record s { need = later s.need x.until }) some (still_after s (record s { need = later s.need x.until }) refl refl refl xs p.1))
         (turned (asked_on s x xs e both_hold.0 both_hold.1 (ordered s x p.0 both_hold.0)))
     if_asked rest e false h = never false refl (asked_fails s x xs e parts.0 rising.0 h)
@@ -378,7 +366,7 @@ covers s (x ∷ xs) some p rising begins = by_kind (λ u a b. covers u xs a b ri
     if_offered : Rest xs → x.asked ≡ false → (c : Bool) → (is_same_key s x && int_le x.since s.reach) ≡ c
         → (stepped xs (cond c (Some (record s { reach = later s.reach x.until })) (cond (int_le s.need s.reach) (Some (begun x)) None)) ≡ true) ↔ IsCovered (after s (x ∷ xs))
     if_offered rest e true h =
-        let both_hold = split_and (is_same_key s x) (int_le x.since s.reach) h in
+        let both_hold = and_parts (is_same_key s x) (int_le x.since s.reach) h in
         through (rest (record s { reach = later s.reach x.until }) (lasts s.since s.reach x.until some) (still_after s (record s { reach = later s.reach x.until }) refl refl refl xs p.1))
         (turned (offered_on s x xs e both_hold.0 both_hold.1 (ordered s x p.0 both_hold.0)))
     if_offered rest e false h = anew rest e h (int_le s.need s.reach) refl
@@ -392,7 +380,7 @@ covers_all [] rising begins = (λ h a b t asks. absurd (false≢true asks), λ h
 covers_all (x ∷ xs) rising begins = by_kind x.asked refl
   where
     parts : (is_begun x ≡ true) × (list_all is_begun xs ≡ true)
-    parts = split_and (is_begun x) (list_all is_begun xs) begins
+    parts = and_parts (is_begun x) (list_all is_begun xs) begins
 
     by_kind : (c : Bool) → x.asked ≡ c → (covered_from None (x ∷ xs) ≡ true) ↔ IsCovered (x ∷ xs)
     by_kind true e = by (ap (λ c. stepped xs (cond c None (Some (begun x)))) e) (never false refl (asked_first_fails x xs e parts.0 rising.0))

@@ -2,11 +2,11 @@
 use Rattle.std.proofs.Common.{◌≡◌, ℕ, ◌≤◌, Bool, true, false, cond, not, ◌||◌, ◌&&◌, List, [], ◌∷◌, length, filter, map as map_list, refl, sym, ap, ap₂, ◌∙◌, subst, arith, IsPermutation}
 use Rattle.std.specs.Prelude.{ℤ, int_le, int_lt, nat_eq}
 use Rattle.std.proofs.lemmas.Bool.Decides.{nat_tests}
-use Rattle.std.proofs.lemmas.Bool.{false≢true}
+use Rattle.std.proofs.lemmas.Bool.{false≢true, and_parts, eq-eqb, not-true, or_parts}
 use Rattle.std.proofs.lemmas.Int.{ints}
 use Rattle.std.proofs.lemmas.List.Sorted.{IsPermutation-cons, IsPermutation-middle, IsPermutation-refl, IsPermutation-trans, length_permutation}
 use Rattle.std.specs.List.{AllByRecursion, list_all, list_any}
-use Rattle.land_core.proofs.Booleans.{both_of, not_true, or_false, or_true}
+use Rattle.land_core.proofs.Booleans.{or_true, or_turned}
 use Rattle.land_core.proofs.Reflection.{list_any-filter}
 use Rattle.land_core.specs.Entries.{are_distinct}
 use Rattle.land_tables_history.proofs.NamingTests.{any_standing}
@@ -22,7 +22,7 @@ both_stand t since until since' until' h g = grind (arith, ints)
 
 any_fewer : {X : Type 0} (p q : X → Bool) → ((x : X) → p x ≡ true → q x ≡ true) → (xs : List X) → list_any q xs ≡ false → list_any p xs ≡ false
 any_fewer p q more [] none = refl
-any_fewer p q more (x ∷ xs) none = let parts = or_false (q x) (list_any q xs) none in go (p x) refl parts.0 (any_fewer p q more xs parts.1)
+any_fewer p q more (x ∷ xs) none = let parts = or_parts (q x) (list_any q xs) none in go (p x) refl parts.0 (any_fewer p q more xs parts.1)
   where
     go : (b : Bool) → p x ≡ b → q x ≡ false → list_any p xs ≡ false → (b || list_any p xs) ≡ false
     go true is fails rest = absurd (false≢true (sym fails ∙ more x is))
@@ -33,20 +33,20 @@ distinct_standing same t [] distinct = refl
 distinct_standing {X} same t (v ∷ vs) distinct = go (stands t v) refl (distinct_standing same t vs parts.1)
   where
     parts : (not (list_any (overlap same v) vs) ≡ true) × (are_distinct (overlap same) vs ≡ true)
-    parts = both_of (not (list_any (overlap same v) vs)) (are_distinct (overlap same) vs) distinct
+    parts = and_parts (not (list_any (overlap same v) vs)) (are_distinct (overlap same) vs) distinct
 
     joined : (a b c : Bool) → a ≡ true → (b && c) ≡ true → (a && b && c) ≡ true
     joined a b c x y = grind arith
 
     overlaps : (w : Version X) → stands t v ≡ true → (stands t w && same v.what w.what) ≡ true → overlap same v w ≡ true
     overlaps w here h =
-        let there = both_of (stands t w) (same v.what w.what) h in
+        let there = and_parts (stands t w) (same v.what w.what) h in
         joined (same v.what w.what) (int_lt v.since w.until) (int_lt w.since v.until) there.1 (both_stand t v.since v.until w.since w.until here there.0)
 
     go : (b : Bool) → stands t v ≡ b → are_distinct same (standing t vs) ≡ true → are_distinct same (map_list (λ (v : Version X). v.what) (cond b (v ∷ filter (stands t) vs) (filter (stands t) vs))) ≡ true
     go true here rest =
         ap (λ b. not b && are_distinct same (standing t vs))
-        (sym (any_standing t (same v.what) vs) ∙ any_fewer (λ w. stands t w && same v.what w.what) (overlap same v) (λ w. overlaps w here) vs (not_true (list_any (overlap same v) vs) parts.0)) ∙ rest
+        (sym (any_standing t (same v.what) vs) ∙ any_fewer (λ w. stands t w && same v.what w.what) (overlap same v) (λ w. overlaps w here) vs (not-true (list_any (overlap same v) vs) parts.0)) ∙ rest
     go false here rest = rest
 
 -- ---- two lists with the same items, none twice
@@ -68,7 +68,7 @@ module _ {X : Type 0} (same : X → X → Bool) (exact : (x y : X) → same x y 
   none_dropped : (x : X) (ys : List X) → list_any (same x) ys ≡ false → others x ys ≡ ys
   none_dropped x [] none = refl
   none_dropped x (y ∷ ys) none =
-      let parts = or_false (same x y) (list_any (same x) ys) none in
+      let parts = or_parts (same x y) (list_any (same x) ys) none in
       ap (λ b. cond (not b) (y ∷ others x ys) (others x ys)) parts.0 ∙ ap (λ l. y ∷ l) (none_dropped x ys parts.1)
 
   one_dropped : (x : X) (ys : List X) → list_any (same x) ys ≡ true → are_distinct same ys ≡ true → IsPermutation (x ∷ others x ys) ys
@@ -76,13 +76,13 @@ module _ {X : Type 0} (same : X → X → Bool) (exact : (x y : X) → same x y 
   one_dropped x (y ∷ ys) some distinct = go (same x y) refl some (λ there. one_dropped x ys there parts.1)
     where
       parts : (not (list_any (same y) ys) ≡ true) × (are_distinct same ys ≡ true)
-      parts = both_of (not (list_any (same y) ys)) (are_distinct same ys) distinct
+      parts = and_parts (not (list_any (same y) ys)) (are_distinct same ys) distinct
 
       go : (b : Bool) → same x y ≡ b → (b || list_any (same x) ys) ≡ true → (list_any (same x) ys ≡ true → IsPermutation (x ∷ others x ys) ys)
           → IsPermutation (x ∷ cond (not b) (y ∷ others x ys) (others x ys)) (y ∷ ys)
       go true is some rest =
           let one : x ≡ y = exact x y is in
-          let none : list_any (same x) ys ≡ false = subst (λ (z : X). list_any (same z) ys ≡ false) (sym one) (not_true (list_any (same y) ys) parts.0) in
+          let none : list_any (same x) ys ≡ false = subst (λ (z : X). list_any (same z) ys ≡ false) (sym one) (not-true (list_any (same y) ys) parts.0) in
           subst (λ (z : X). IsPermutation (x ∷ others x ys) (z ∷ ys)) one (subst (λ l. IsPermutation (x ∷ others x ys) (x ∷ l)) (none_dropped x ys none) (IsPermutation-refl (x ∷ others x ys)))
       go false is some rest =
           IsPermutation-trans (x ∷ y ∷ others x ys) (y ∷ x ∷ others x ys) (y ∷ ys) (IsPermutation-middle (x ∷ []) y (others x ys)) (IsPermutation-cons y (x ∷ others x ys) ys (rest some))
@@ -90,13 +90,13 @@ module _ {X : Type 0} (same : X → X → Bool) (exact : (x y : X) → same x y 
   distinct_filter : (p : X → Bool) (ys : List X) → are_distinct same ys ≡ true → are_distinct same (filter p ys) ≡ true
   distinct_filter p [] distinct = refl
   distinct_filter p (y ∷ ys) distinct =
-      let parts = both_of (not (list_any (same y) ys)) (are_distinct same ys) distinct in
-      go (p y) (fewer ys (not_true (list_any (same y) ys) parts.0)) (distinct_filter p ys parts.1)
+      let parts = and_parts (not (list_any (same y) ys)) (are_distinct same ys) distinct in
+      go (p y) (fewer ys (not-true (list_any (same y) ys) parts.0)) (distinct_filter p ys parts.1)
     where
       fewer : (zs : List X) → list_any (same y) zs ≡ false → list_any (same y) (filter p zs) ≡ false
       fewer [] none = refl
       fewer (z ∷ zs) none =
-          let parts = or_false (same y z) (list_any (same y) zs) none in
+          let parts = or_parts (same y z) (list_any (same y) zs) none in
           elim (p z) as (λ b. list_any (same y) (cond b (z ∷ filter p zs) (filter p zs)) ≡ false) [
             | true ↦ ap (λ b. b || list_any (same y) (filter p zs)) parts.0 ∙ fewer zs parts.1
             | false ↦ fewer zs parts.1
@@ -117,15 +117,15 @@ module _ {X : Type 0} (same : X → X → Bool) (exact : (x y : X) → same x y 
   all_among_others : (x : X) (ys ns : List X) → list_any (same x) ns ≡ false → list_all (λ n. list_any (same n) ys) ns ≡ true → list_all (λ n. list_any (same n) (others x ys)) ns ≡ true
   all_among_others x ys [] apart there = refl
   all_among_others x ys (n ∷ ns) apart there =
-      let parts = both_of (list_any (same n) ys) (list_all (λ n. list_any (same n) ys) ns) there in
-      let away = or_false (same x n) (list_any (same x) ns) apart in
+      let parts = and_parts (list_any (same n) ys) (list_all (λ n. list_any (same n) ys) ns) there in
+      let away = or_parts (same x n) (list_any (same x) ns) apart in
       ap (λ b. b && list_all (λ n. list_any (same n) (others x ys)) ns) (among_others x n ys away.0 parts.0) ∙ all_among_others x ys ns away.1 parts.1
 
   -- the others are among what is left
   others_among : (x : X) (xs ys : List X) → list_all (λ y. list_any (same y) (x ∷ xs)) ys ≡ true → list_all (λ y. list_any (same y) xs) (others x ys) ≡ true
   others_among x xs [] there = refl
   others_among x xs (y ∷ ys) there =
-      let parts = both_of (list_any (same y) (x ∷ xs)) (list_all (λ y. list_any (same y) (x ∷ xs)) ys) there in
+      let parts = and_parts (list_any (same y) (x ∷ xs)) (list_all (λ y. list_any (same y) (x ∷ xs)) ys) there in
       go (same x y) refl parts.0 (others_among x xs ys parts.1)
     where
       go : (b : Bool) → same x y ≡ b → (same y x || list_any (same y) xs) ≡ true → list_all (λ y. list_any (same y) xs) (others x ys) ≡ true
@@ -138,10 +138,10 @@ module _ {X : Type 0} (same : X → X → Bool) (exact : (x y : X) → same x y 
   same_items [] [] dx dy there here = IsPermutation-refl []
   same_items [] (y ∷ ys) dx dy there here = absurd (false≢true here)
   same_items (x ∷ xs) ys dx dy there here =
-      let apart = both_of (not (list_any (same x) xs)) (are_distinct same xs) dx in
-      let parts = both_of (list_any (same x) ys) (list_all (λ n. list_any (same n) ys) xs) there in
+      let apart = and_parts (not (list_any (same x) xs)) (are_distinct same xs) dx in
+      let parts = and_parts (list_any (same x) ys) (list_all (λ n. list_any (same n) ys) xs) there in
       IsPermutation-trans (x ∷ xs) (x ∷ others x ys) ys
-      (IsPermutation-cons x xs (others x ys) (same_items xs (others x ys) apart.1 (distinct_filter (λ y. not (same x y)) ys dy) (all_among_others x ys xs (not_true (list_any (same x) xs) apart.0) parts.1) (others_among x xs ys here)))
+      (IsPermutation-cons x xs (others x ys) (same_items xs (others x ys) apart.1 (distinct_filter (λ y. not (same x y)) ys dy) (all_among_others x ys xs (not-true (list_any (same x) xs) apart.0) parts.1) (others_among x xs ys here)))
       (one_dropped x ys parts.0 dy)
 
   -- ---- what is among others, and as many, is the same
@@ -150,19 +150,19 @@ module _ {X : Type 0} (same : X → X → Bool) (exact : (x y : X) → same x y 
   fewest [] [] dx dy there few = IsPermutation-refl []
   fewest [] (y ∷ ys) dx dy there few = absurd (omega (arith, few))
   fewest (x ∷ xs) ys dx dy there few =
-      let apart = both_of (not (list_any (same x) xs)) (are_distinct same xs) dx in
-      let parts = both_of (list_any (same x) ys) (list_all (λ n. list_any (same n) ys) xs) there in
+      let apart = and_parts (not (list_any (same x) xs)) (are_distinct same xs) dx in
+      let parts = and_parts (list_any (same x) ys) (list_all (λ n. list_any (same n) ys) xs) there in
       let rest = one_dropped x ys parts.0 dy in
       let one_less : length ys ≡ length (x ∷ others x ys) = length_permutation (x ∷ others x ys) ys rest in
       IsPermutation-trans (x ∷ xs) (x ∷ others x ys) ys
       (IsPermutation-cons x xs (others x ys)
-      (fewest xs (others x ys) apart.1 (distinct_filter (λ y. not (same x y)) ys dy) (all_among_others x ys xs (not_true (list_any (same x) xs) apart.0) parts.1) (omega (arith, few, one_less))))
+      (fewest xs (others x ys) apart.1 (distinct_filter (λ y. not (same x y)) ys dy) (all_among_others x ys xs (not-true (list_any (same x) xs) apart.0) parts.1) (omega (arith, few, one_less))))
       rest
 
   among_more : (y : X) (ys xs : List X) → list_all (λ x. list_any (same x) ys) xs ≡ true → list_all (λ x. list_any (same x) (y ∷ ys)) xs ≡ true
   among_more y ys [] there = refl
   among_more y ys (x ∷ xs) there =
-      let parts = both_of (list_any (same x) ys) (list_all (λ x. list_any (same x) ys) xs) there in
+      let parts = and_parts (list_any (same x) ys) (list_all (λ x. list_any (same x) ys) xs) there in
       ap (λ b. (same x y || b) && list_all (λ x. list_any (same x) (y ∷ ys)) xs) parts.0 ∙ ap (λ b. b && list_all (λ x. list_any (same x) (y ∷ ys)) xs) (or_true (same x y)) ∙ among_more y ys xs parts.1
 
   pub all_among : (xs : List X) → list_all (λ x. list_any (same x) xs) xs ≡ true
@@ -177,20 +177,14 @@ module _ {X : Type 0} (same : X → X → Bool) (exact : (x y : X) → same x y 
       equal : (n m : ℕ) → nat_eq n m ≡ true → n ≤ m
       equal n m h = grind (arith, nat_tests)
 
-      alike : (n m : ℕ) → n ≡ m → nat_eq n m ≡ true
-      alike n m h = grind (arith, nat_tests)
-
       go : (a b : Bool) → list_all (λ y. list_any (same y) xs) ys ≡ a → nat_eq (length ys) (length xs) ≡ b → a ≡ b
       go true true p q = refl
-      go true false p q = sym (alike (length ys) (length xs) (length_permutation xs ys (same_items xs ys dx dy there p))) ∙ q
+      go true false p q = sym (eq-eqb (length ys) (length xs) (length_permutation xs ys (same_items xs ys dx dy there p))) ∙ q
       go false true p q =
           sym p ∙ all_permuted (λ y. list_any (same y) xs) xs ys (fewest xs ys dx dy there (equal (length ys) (length xs) q)) ∙ all_among xs
       go false false p q = refl
 
 -- ---- in whatever order
-
-or_turned : (a b c : Bool) → (a || (b || c)) ≡ (b || (a || c))
-or_turned a b c = grind arith
 
 both_turned : (a b c d : Bool) → (not (a || c) && (not b && d)) ≡ (not (a || b) && (not c && d))
 both_turned a b c d = grind arith

@@ -1,5 +1,5 @@
 -- A finite map that is made of entries has these entries, each once.
-use Rattle.std.proofs.Common.{◌≡◌, ℕ, Bool, true, false, cond, not, ◌||◌, ◌&&◌, ◌==◌, List, [], ◌∷◌, ◌++◌, Some, None, map as map_list, refl, sym, ap, ◌∙◌, subst, arith, IsPermutation}
+use Rattle.std.proofs.Common.{◌≡◌, ℕ, Bool, true, false, cond, not, ◌||◌, ◌&&◌, ◌==◌, List, [], ◌∷◌, ◌++◌, Some, None, map as map_list, refl, sym, ap, ◌∙◌, subst, arith, IsPermutation, append-nil}
 use Rattle.std.proofs.lemmas.Bool.Decides.{nat_tests}
 use Rattle.std.proofs.lemmas.List.Sorted.{IsPermutation-append_left, IsPermutation-cons, IsPermutation-map, IsPermutation-middle, IsPermutation-refl, IsPermutation-sym, IsPermutation-trans}
 use Rattle.std.specs.Cmp.{IsTotalOrder, eq_by_cmp_equiv, nat_cmp_total}
@@ -10,7 +10,7 @@ use Rattle.std.specs.List.{AllByRecursion, list_any}
 use Rattle.std.specs.Ordering.{eq_by_cmp, is_eq, nat_cmp}
 use Rattle.std.specs.declared.cmp.Ordering.{Ordering}
 use Rattle.std.specs.declared.cmp.Ordering.TheVariants.{Less, Equal, Greater}
-use Rattle.land_core.proofs.Booleans.{both_of, not_true, or_false}
+use Rattle.std.proofs.lemmas.Bool.{and_parts, not-true, or_parts}
 use Rattle.land_core.proofs.FiniteMaps.{none_is_not_some, nothing_from_length}
 use Rattle.land_core.proofs.FiniteSets.{grants_total, keys-marks, mandates_total}
 use Rattle.land_core.specs.Entries.{are_distinct, with_entries}
@@ -51,21 +51,17 @@ module _ {K : Type 0} {R : K → K → Ordering} (o : IsTotalOrder R) {V : Type 
   still_new : (m : FinMap R V) (e : K × V) (es : List (K × V)) → list_any (is_same_key e) es ≡ false → AllByRecursion (λ x. map.get m x.0 ≡ None) es → AllByRecursion (λ x. map.get (map.insert m e.0 e.1) x.0 ≡ None) es
   still_new m e [] apart free = tt
   still_new m e (x ∷ xs) apart free =
-      let parts = or_false (is_same_key e x) (list_any (is_same_key e) xs) apart in
+      let parts = or_parts (is_same_key e x) (list_any (is_same_key e) xs) apart in
       (map.get-insert o m e.0 e.1 x.0 ∙ ap (λ b. cond b (Some e.1) (map.get m x.0)) ((eq_by_cmp_equiv o).symm x.0 e.0 ∙ parts.0) ∙ free.0, still_new m e xs parts.1 free.1)
 
   made_from : (m : FinMap R V) (es : List (K × V)) → are_distinct is_same_key es ≡ true → AllByRecursion (λ x. map.get m x.0 ≡ None) es
       → IsPermutation (map.entries (with_entries m es)) (map.entries m ++ es)
-  made_from m [] distinct free = subst (IsPermutation (map.entries m)) (sym (append_nothing (map.entries m))) (IsPermutation-refl (map.entries m))
-    where
-      append_nothing : {X : Type 0} (xs : List X) → xs ++ [] ≡ xs
-      append_nothing [] = refl
-      append_nothing (x ∷ xs) = ap (λ l. x ∷ l) (append_nothing xs)
+  made_from m [] distinct free = subst (IsPermutation (map.entries m)) (sym (append-nil (map.entries m))) (IsPermutation-refl (map.entries m))
   made_from m (e ∷ es) distinct free =
-      let parts = both_of (not (list_any (is_same_key e) es)) (are_distinct is_same_key es) distinct in
+      let parts = and_parts (not (list_any (is_same_key e) es)) (are_distinct is_same_key es) distinct in
       let n = map.insert m e.0 e.1 in
       IsPermutation-trans (map.entries (with_entries n es)) (map.entries n ++ es) (map.entries m ++ e ∷ es)
-      (made_from n es parts.1 (still_new m e es (not_true (list_any (is_same_key e) es) parts.0) free.1))
+      (made_from n es parts.1 (still_new m e es (not-true (list_any (is_same_key e) es) parts.0) free.1))
       (IsPermutation-trans (map.entries n ++ es) (e ∷ (map.entries m ++ es)) (map.entries m ++ e ∷ es)
       (IsPermutation-append_left es (map.entries n) (e ∷ map.entries m) (insert_new m e.0 e.1 free.0))
       (IsPermutation-sym (map.entries m ++ e ∷ es) (e ∷ (map.entries m ++ es)) (IsPermutation-middle (map.entries m) e es)))

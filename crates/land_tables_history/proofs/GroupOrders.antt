@@ -1,5 +1,5 @@
 -- Groups made of their members in any order.
-use Rattle.std.proofs.Common.{◌≡◌, ◌≢◌, ◌≤◌, ◌++◌, ℕ, Bool, true, false, cond, List, [], ◌∷◌, Option, Some, None, filter, flat_map, length, map as map_list, refl, sym, ap, subst, ◌∙◌, arith, IsPermutation}
+use Rattle.std.proofs.Common.{◌≡◌, ◌≢◌, ◌≤◌, ◌++◌, ℕ, Bool, true, false, cond, List, [], ◌∷◌, Option, Some, None, filter, flat_map, length, map as map_list, refl, sym, ap, subst, ◌∙◌, arith, IsPermutation, append-nil}
 use Rattle.std.proofs.lemmas.List.Sorted.{IsPermutation-map, IsPermutation-refl, length_permutation}
 use Rattle.std.specs.Cmp.{nat_cmp_total}
 use Rattle.std.specs.FinMap as map
@@ -97,10 +97,6 @@ seats : (k : ℕ) (es : List (ℕ × Ratio)) → map_list seat (map_list (λ m. 
 seats k [] = refl
 seats k (e ∷ es) = ap (λ l. e ∷ l) (seats k es)
 
-append_nothing : {X : Type 0} (xs : List X) → xs ++ [] ≡ xs
-append_nothing [] = refl
-append_nothing (x ∷ xs) = ap (λ l. x ∷ l) (append_nothing xs)
-
 -- members of one group, in any order, make that group, where it has any
 one_grown : (g : ℕ × Members) (es : List GroupMember) → g.1 ≢ map.empty → IsPermutation es (listed g) → grown None es ≡ Some g.1
 unfolding grown
@@ -125,5 +121,5 @@ grouped groups es have p = map.same_map nat_cmp_total nat_cmp-IsAntisymmetric (w
     at_one : (q : ℕ) (gs : List (ℕ × Members)) → length gs ≤ 1 → map.get groups q ≡ first_of gs → IsPermutation (joining q es) (flat_map listed gs) → grown None (joining q es) ≡ map.get groups q
     at_one q [] few found p = ap (λ l. grown None l) (no_more (joining q es) (sym (length_permutation (joining q es) [] p))) ∙ sym found
     at_one q (g ∷ []) few found p =
-        one_grown g (joining q es) (λ empty. have q (found ∙ ap (λ m. Some m) empty)) (subst (IsPermutation (joining q es)) (append_nothing (listed g)) p) ∙ sym found
+        one_grown g (joining q es) (λ empty. have q (found ∙ ap (λ m. Some m) empty)) (subst (IsPermutation (joining q es)) (append-nil (listed g)) p) ∙ sym found
     at_one q (g ∷ h ∷ gs) few found p = absurd (omega (arith, few))

@@ -1,17 +1,17 @@
 -- No key stands twice among the records, the roles, the members and the mandates of a register.
-use Rattle.std.proofs.Common.{◌≡◌, ℕ, Bool, true, false, not, ◌&&◌, ◌||◌, List, [], ◌∷◌, ◌++◌, flat_map, map as map_list, refl, sym, ap, ap₂, ◌∙◌, arith}
-use Rattle.std.proofs.lemmas.Bool.{false≢true}
+use Rattle.std.proofs.Common.{◌≡◌, ℕ, true, false, not, ◌&&◌, ◌||◌, List, [], ◌∷◌, ◌++◌, flat_map, map as map_list, refl, sym, ap, ap₂, ◌∙◌, arith}
+use Rattle.std.proofs.lemmas.Bool.{and_from, and_parts}
 use Rattle.std.proofs.lemmas.Bool.Decides.{nat_tests}
 use Rattle.std.proofs.lemmas.List.Folds.{list_any-append}
 use Rattle.std.specs.FinMap as map
 use Rattle.std.specs.FinMap.{FinMap, is_sorted}
 use Rattle.std.specs.FinMap.Entries.{below_all}
 use Rattle.std.specs.List.{AllByRecursion, list_any}
-use Rattle.std.specs.Ordering.{eq_by_cmp, is_eq, is_lt, nat_cmp}
+use Rattle.std.specs.Ordering.{eq_by_cmp, is_lt, nat_cmp}
 use Rattle.std.specs.Prelude.{nat_eq}
 use Rattle.std.specs.declared.cmp.Ordering.{Ordering}
-use Rattle.std.specs.declared.cmp.Ordering.TheVariants.{Less, Equal, Greater}
-use Rattle.land_core.proofs.Booleans.{T_true, both_of}
+use Rattle.land_core.proofs.Booleans.{T_true, and_false}
+use Rattle.land_core.proofs.Orders.{less_apart}
 use Rattle.land_core.specs.Entries.{are_distinct}
 use Rattle.land_core.specs.Grants.{Grants, grant_cmp, grants_in}
 use Rattle.land_core.specs.Mandates.{Mandates, mandate_cmp, mandates_in}
@@ -21,30 +21,25 @@ use Rattle.land_core.specs.declared.member.Member.{Member}
 use Rattle.land_core.specs.declared.roles.Grant.{Grant}
 use Rattle.land_fraction.specs.Ratio.{Ratio}
 use Rattle.land_tables_history.proofs.Entered.{distinct-map, distinct_alike, same_numbers}
-use Rattle.land_tables_history.proofs.KeptLists.{both, none_fewer}
+use Rattle.land_tables_history.proofs.KeptLists.{none_fewer}
 use Rattle.land_tables_history.specs.Groups.{group_members}
 use Rattle.land_tables_history.specs.Intervals.{is_same_grant, is_same_mandate, is_same_member, is_same_number}
 use Rattle.land_tables_history.specs.declared.group_member.GroupMember.{GroupMember}
 
 -- ---- the keys of a map
 
-less_differs : (r : Ordering) → is_lt r ≡ true → is_eq r ≡ false
-less_differs Less h = refl
-less_differs Equal h = absurd (false≢true h)
-less_differs Greater h = refl
-
 module _ {K : Type 0} (R : K → K → Ordering) {V : Type 0} where
   none_later : (k : K) (es : List (K × V)) → below_all R k es ≡ true → list_any (λ e. eq_by_cmp R k e.0) es ≡ false
   none_later k [] below = refl
   none_later k (e ∷ es) below =
-      let parts = both_of (is_lt (R k e.0)) (below_all R k es) below in
-      ap (λ b. b || list_any (λ e. eq_by_cmp R k e.0) es) (less_differs (R k e.0) parts.0) ∙ none_later k es parts.1
+      let parts = and_parts (is_lt (R k e.0)) (below_all R k es) below in
+      ap (λ b. b || list_any (λ e. eq_by_cmp R k e.0) es) (less_apart (R k e.0) parts.0) ∙ none_later k es parts.1
 
   keys_once : (es : List (K × V)) → is_sorted R es ≡ true → are_distinct (λ a b. eq_by_cmp R a.0 b.0) es ≡ true
   keys_once [] sorted = refl
   keys_once (e ∷ es) sorted =
-      let parts = both_of (below_all R e.0 es) (is_sorted R es) sorted in
-      both (not (list_any (λ x. eq_by_cmp R e.0 x.0) es)) (are_distinct (λ a b. eq_by_cmp R a.0 b.0) es)
+      let parts = and_parts (below_all R e.0 es) (is_sorted R es) sorted in
+      and_from (not (list_any (λ x. eq_by_cmp R e.0 x.0) es)) (are_distinct (λ a b. eq_by_cmp R a.0 b.0) es)
       (ap not (none_later e.0 es parts.0)) (keys_once es parts.1)
 
   in_order : (m : FinMap R V) → is_sorted R (map.entries m) ≡ true
@@ -78,16 +73,12 @@ members_of g = map_list (λ m. of_group g.0 m) (members_in g.1)
 smaller : (k n : ℕ) → is_lt (nat_cmp k n) ≡ true → nat_eq k n ≡ false
 smaller k n less = grind (arith, nat_tests)
 
-and_false : (b : Bool) → (b && false) ≡ false
-and_false true = refl
-and_false false = refl
-
 -- a member of a smaller number is none of a group's later ones
 later_parties : (k n : ℕ) (share : Ratio) (es : List (ℕ × Ratio)) → below_all nat_cmp n es ≡ true
     → list_any (is_same_member (of_group k (member_of n share))) (map_list (λ m. of_group k m) (map_list (λ e. member_of e.0 e.1) es)) ≡ false
 later_parties k n share [] below = refl
 later_parties k n share (e ∷ es) below =
-    let parts = both_of (is_lt (nat_cmp n e.0)) (below_all nat_cmp n es) below in
+    let parts = and_parts (is_lt (nat_cmp n e.0)) (below_all nat_cmp n es) below in
     ap₂ (λ a b. a || b) (ap (λ b. nat_eq k k && b) (smaller n e.0 parts.0) ∙ and_false (nat_eq k k)) (later_parties k n share es parts.1)
 
 -- members of a group before those of others
@@ -96,8 +87,8 @@ one_group : (k : ℕ) (es : List (ℕ × Ratio)) (later : List GroupMember) → 
     → are_distinct is_same_member (map_list (λ m. of_group k m) (map_list (λ e. member_of e.0 e.1) es) ++ later) ≡ true
 one_group k [] later sorted once apart = once
 one_group k (e ∷ es) later sorted once apart =
-    let parts = both_of (below_all nat_cmp e.0 es) (is_sorted nat_cmp es) sorted in
-    both (not (list_any (is_same_member first) (beside ++ later))) (are_distinct is_same_member (beside ++ later))
+    let parts = and_parts (below_all nat_cmp e.0 es) (is_sorted nat_cmp es) sorted in
+    and_from (not (list_any (is_same_member first) (beside ++ later))) (are_distinct is_same_member (beside ++ later))
     (ap not
     (list_any-append (is_same_member first) beside later
     ∙ ap₂ (λ a b. a || b) (later_parties k e.0 e.1 es parts.0)
@@ -112,7 +103,7 @@ one_group k (e ∷ es) later sorted once apart =
 
     each : (xs : List GroupMember) → AllByRecursion (λ x. is_same_member first x ≡ true → nat_eq k x.group ≡ true) xs
     each [] = tt
-    each (x ∷ xs) = (λ h. (both_of (nat_eq k x.group) (nat_eq e.0 x.member.party) h).0, each xs)
+    each (x ∷ xs) = (λ h. (and_parts (nat_eq k x.group) (nat_eq e.0 x.member.party) h).0, each xs)
 
 other_group : (k n : ℕ) (ms : List Member) → nat_eq k n ≡ false → list_any (λ x. nat_eq k x.group) (map_list (λ m. of_group n m) ms) ≡ false
 other_group k n [] apart = refl
@@ -122,14 +113,14 @@ later_groups : (k : ℕ) (gs : List (ℕ × Members)) → below_all nat_cmp k gs
     → list_any (λ x. nat_eq k x.group) (flat_map members_of gs) ≡ false
 later_groups k [] below = refl
 later_groups k (g ∷ gs) below =
-    let parts = both_of (is_lt (nat_cmp k g.0)) (below_all nat_cmp k gs) below in
+    let parts = and_parts (is_lt (nat_cmp k g.0)) (below_all nat_cmp k gs) below in
     list_any-append (λ (x : GroupMember). nat_eq k x.group) (members_of g) (flat_map members_of gs)
     ∙ ap₂ (λ a b. a || b) (other_group k g.0 (members_in g.1) (smaller k g.0 parts.0)) (later_groups k gs parts.1)
 
 all_groups : (gs : List (ℕ × Members)) → is_sorted nat_cmp gs ≡ true → are_distinct is_same_member (flat_map members_of gs) ≡ true
 all_groups [] sorted = refl
 all_groups (g ∷ gs) sorted =
-    let parts = both_of (below_all nat_cmp g.0 gs) (is_sorted nat_cmp gs) sorted in
+    let parts = and_parts (below_all nat_cmp g.0 gs) (is_sorted nat_cmp gs) sorted in
     one_group g.0 (map.entries g.1) (flat_map members_of gs) (in_order nat_cmp g.1) (all_groups gs parts.1) (later_groups g.0 gs parts.0)
 
 pub members_once : (groups : FinMap nat_cmp Members) → are_distinct is_same_member (group_members groups) ≡ true

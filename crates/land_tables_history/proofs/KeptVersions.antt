@@ -3,13 +3,15 @@ use Rattle.std.proofs.Common.{◌≡◌, ℕ, Bool, true, false, cond, not, ◌&
 use Rattle.std.specs.Prelude.{ℤ, ◌<ℤ◌, ◌≤ℤ◌, int_le, int_lt}
 use Rattle.std.specs.List.{AllByRecursion, list_all, list_any}
 use Rattle.std.specs.Ordering.{int_eq}
-use Rattle.std.proofs.lemmas.Bool.{false≢true}
+use Rattle.std.proofs.lemmas.Bool.{false≢true, and_from, and_parts, not-true}
 use Rattle.std.proofs.lemmas.Bool.Decides.{Decides-int_eq}
 use Rattle.std.proofs.lemmas.Int.{ints}
-use Rattle.land_core.proofs.Booleans.{both_of, not_true, or_true}
+use Rattle.std.proofs.lemmas.Cmp.{int_eq_equiv}
+use Rattle.land_core.proofs.Booleans.{or_true}
 use Rattle.land_core.specs.Entries.{are_distinct}
 use Rattle.land_tables_history.proofs.Entered.{distinct-map}
-use Rattle.land_tables_history.proofs.KeptLists.{both, distinct_fewer, none_fewer}
+use Rattle.land_tables_history.proofs.KeptLists.{distinct_fewer, none_fewer}
+use Rattle.land_tables_history.proofs.MomentOrder.{le_then_lt, le_true, lt_is_le, lt_through}
 use Rattle.land_tables_history.proofs.NamingTests.{any_standing}
 use Rattle.land_tables_history.proofs.Proper.{Proper}
 use Rattle.land_tables_history.specs.Changed.{begun, changed_versions, closed}
@@ -18,9 +20,6 @@ use Rattle.land_tables_history.specs.Open.{has_ended, never}
 use Rattle.land_tables_history.specs.Standing.{standing, stands}
 use Rattle.land_tables_history.specs.declared.moment.Moment.{Moment}
 use Rattle.land_tables_history.specs.declared.version.Version.{Version}
-
-le_true : (a b : ℤ) → a ≤ℤ b → int_le a b ≡ true
-le_true a b h = grind (arith, ints)
 
 lt_true : (a b : ℤ) → a <ℤ b → int_lt a b ≡ true
 lt_true a b h = grind (arith, ints)
@@ -31,23 +30,11 @@ lt_false a b h = grind (arith, ints)
 lt_from : (a b : ℤ) → int_lt a b ≡ true → a <ℤ b
 lt_from a b h = grind (arith, ints)
 
-le_then : (a b c : ℤ) → a ≤ℤ b → b <ℤ c → a <ℤ c
-le_then a b c p q = omega (arith, ints)
-
-lt_then : (a b c : ℤ) → a <ℤ b → b <ℤ c → a <ℤ c
-lt_then a b c p q = omega (arith, ints)
-
-weaker : (a b : ℤ) → a <ℤ b → a ≤ℤ b
-weaker a b p = omega (arith, ints)
-
 least : (a b : ℤ) → a ≡ b → b ≤ℤ a
 least a b e = omega (arith, ints)
 
 equal : (a b : ℤ) → int_eq a b ≡ true → a ≡ b
 equal a b e = (Decides-int_eq a b).0 e
-
-itself : (a : ℤ) → int_eq a a ≡ true
-itself a = (Decides-int_eq a a).1 refl
 
 -- a stamp of some moments is no later than the last one
 stamp_by : (last t : ℤ) (moments : List Moment) → AllByRecursion (λ (m : Moment). m.stamp ≤ℤ last) moments
@@ -76,8 +63,8 @@ record IsFit {X : Type 0} (moments : List Moment) (v : Version X) : Type 0 where
 
 fit : {X : Type 0} (moments : List Moment) (v : Version X) → is_interval moments v ≡ true → IsFit moments v
 fit moments v h =
-    let two = both_of (int_lt v.since v.until && is_stamp moments v.since) (int_eq v.until never || is_stamp moments v.until) h in
-    let one = both_of (int_lt v.since v.until) (is_stamp moments v.since) two.0 in
+    let two = and_parts (int_lt v.since v.until && is_stamp moments v.since) (int_eq v.until never || is_stamp moments v.until) h in
+    let one = and_parts (int_lt v.since v.until) (is_stamp moments v.since) two.0 in
     record { rises = one.0; begins = one.1; ends = two.1 }
 
 module _ (moments : List Moment) (last : ℤ) (by : AllByRecursion (λ (m : Moment). m.stamp ≤ℤ last) moments) where
@@ -93,8 +80,8 @@ module _ (moments : List Moment) (last : ℤ) (by : AllByRecursion (λ (m : Mome
   pub all_end_by : {X : Type 0} (vs : List (Version X)) → list_all (is_interval moments) vs ≡ true → list_all (has_ended last) vs ≡ true
   all_end_by [] h = refl
   all_end_by (v ∷ vs) h =
-      let parts = both_of (is_interval moments v) (list_all (is_interval moments) vs) h in
-      both (has_ended last v) (list_all (has_ended last) vs) (ends_by v parts.0) (all_end_by vs parts.1)
+      let parts = and_parts (is_interval moments v) (list_all (is_interval moments) vs) h in
+      and_from (has_ended last v) (list_all (has_ended last) vs) (ends_by v parts.0) (all_end_by vs parts.1)
 
   module _ (stamp : ℤ) (less : last <ℤ stamp) (early : stamp <ℤ never) where
     -- ---- what stands at the last stamp stands until the next
@@ -104,22 +91,22 @@ module _ (moments : List Moment) (last : ℤ) (by : AllByRecursion (λ (m : Mome
         let it = fit moments v h in
         let since : v.since ≤ℤ last = stamp_by last v.since moments by it.begins in
         ap₂ (λ a b. a && b)
-        (le_true v.since stamp (weaker v.since stamp (le_then v.since last stamp since less)) ∙ sym (le_true v.since last since))
+        (le_true v.since stamp (lt_is_le v.since stamp (le_then_lt v.since last stamp since less)) ∙ sym (le_true v.since last since))
         (go (int_eq v.until never) refl it.ends)
       where
         go : (b : Bool) → int_eq v.until never ≡ b → (b || is_stamp moments v.until) ≡ true → int_lt stamp v.until ≡ int_lt last v.until
         go true e h =
             ap (int_lt stamp) (equal v.until never e) ∙ lt_true stamp never early
-            ∙ sym (ap (int_lt last) (equal v.until never e) ∙ lt_true last never (lt_then last stamp never less early))
+            ∙ sym (ap (int_lt last) (equal v.until never e) ∙ lt_true last never (lt_through last stamp never less early))
         go false e h =
             let until : v.until ≤ℤ last = stamp_by last v.until moments by h in
-            lt_false stamp v.until (weaker v.until stamp (le_then v.until last stamp until less)) ∙ sym (lt_false last v.until until)
+            lt_false stamp v.until (lt_is_le v.until stamp (le_then_lt v.until last stamp until less)) ∙ sym (lt_false last v.until until)
 
     pub standing_still : {X : Type 0} (vs : List (Version X)) → list_all (is_interval moments) vs ≡ true
         → standing stamp vs ≡ standing last vs
     standing_still [] h = refl
     standing_still (v ∷ vs) h =
-        let parts = both_of (is_interval moments v) (list_all (is_interval moments) vs) h in
+        let parts = and_parts (is_interval moments v) (list_all (is_interval moments) vs) h in
         one_stands stamp v vs
         ∙ ap (λ b. cond b (v.what ∷ standing stamp vs) (standing stamp vs)) (stands_still v parts.0)
         ∙ ap (λ l. cond (stands last v) (v.what ∷ l) l) (standing_still vs parts.1)
@@ -135,7 +122,7 @@ module _ (moments : List Moment) (last : ℤ) (by : AllByRecursion (λ (m : Mome
       one_more t h = ap (λ b. int_eq stamp t || b) h ∙ or_true (int_eq stamp t)
 
       the_stamp : is_stamp more stamp ≡ true
-      the_stamp = ap (λ b. b || is_stamp moments stamp) (itself stamp)
+      the_stamp = ap (λ b. b || is_stamp moments stamp) (int_eq_equiv.refl stamp)
 
       -- a stamp of these is no later than the new one
       by_now : (t : ℤ) → is_stamp more t ≡ true → t ≤ℤ stamp
@@ -143,19 +130,19 @@ module _ (moments : List Moment) (last : ℤ) (by : AllByRecursion (λ (m : Mome
         where
           go : (b : Bool) → int_eq stamp t ≡ b → (b || is_stamp moments t) ≡ true → t ≤ℤ stamp
           go true e h = least stamp t (equal stamp t e)
-          go false e h = weaker t stamp (le_then t last stamp (stamp_by last t moments by h) less)
+          go false e h = lt_is_le t stamp (le_then_lt t last stamp (stamp_by last t moments by h) less)
 
       begun_fits : {X : Type 0} (x : X) → is_interval more (begun x stamp) ≡ true
       begun_fits x =
-          both (int_lt stamp never && is_stamp more stamp) (int_eq never never || is_stamp more never)
-          (both (int_lt stamp never) (is_stamp more stamp) (lt_true stamp never early) the_stamp)
-          (ap (λ b. b || is_stamp more never) (itself never))
+          and_from (int_lt stamp never && is_stamp more stamp) (int_eq never never || is_stamp more never)
+          (and_from (int_lt stamp never) (is_stamp more stamp) (lt_true stamp never early) the_stamp)
+          (ap (λ b. b || is_stamp more never) (int_eq_equiv.refl never))
 
       still_fits : {X : Type 0} (v : Version X) → is_interval moments v ≡ true → is_interval more v ≡ true
       still_fits v h =
           let it = fit moments v h in
-          both (int_lt v.since v.until && is_stamp more v.since) (int_eq v.until never || is_stamp more v.until)
-          (both (int_lt v.since v.until) (is_stamp more v.since) it.rises (one_more v.since it.begins)) (go (int_eq v.until never) it.ends)
+          and_from (int_lt v.since v.until && is_stamp more v.since) (int_eq v.until never || is_stamp more v.until)
+          (and_from (int_lt v.since v.until) (is_stamp more v.since) it.rises (one_more v.since it.begins)) (go (int_eq v.until never) it.ends)
         where
           go : (b : Bool) → (b || is_stamp moments v.until) ≡ true → (b || is_stamp more v.until) ≡ true
           go true h = refl
@@ -171,9 +158,9 @@ module _ (moments : List Moment) (last : ℤ) (by : AllByRecursion (λ (m : Mome
           go : (b : Bool) → is_interval more (cond b (record v { until = stamp }) v) ≡ true
           go true =
               let begins = (fit moments v h).begins in
-              both (int_lt v.since stamp && is_stamp more v.since) (int_eq stamp never || is_stamp more stamp)
-              (both (int_lt v.since stamp) (is_stamp more v.since)
-              (lt_true v.since stamp (le_then v.since last stamp (stamp_by last v.since moments by begins) less)) (one_more v.since begins))
+              and_from (int_lt v.since stamp && is_stamp more v.since) (int_eq stamp never || is_stamp more stamp)
+              (and_from (int_lt v.since stamp) (is_stamp more v.since)
+              (lt_true v.since stamp (le_then_lt v.since last stamp (stamp_by last v.since moments by begins) less)) (one_more v.since begins))
               (ap (λ b. int_eq stamp never || b) the_stamp ∙ or_true (int_eq stamp never))
           go false = still_fits v h
 
@@ -181,8 +168,8 @@ module _ (moments : List Moment) (last : ℤ) (by : AllByRecursion (λ (m : Mome
           → list_all (is_interval more) (map_list (closed meant stamp) vs) ≡ true
       all_closed_fit meant [] h = refl
       all_closed_fit meant (v ∷ vs) h =
-          let parts = both_of (is_interval moments v) (list_all (is_interval moments) vs) h in
-          both (is_interval more (closed meant stamp v)) (list_all (is_interval more) (map_list (closed meant stamp) vs))
+          let parts = and_parts (is_interval moments v) (list_all (is_interval moments) vs) h in
+          and_from (is_interval more (closed meant stamp v)) (list_all (is_interval more) (map_list (closed meant stamp) vs))
           (closed_fits meant v parts.0) (all_closed_fit meant vs parts.1)
 
       -- what begins fits before others that fit
@@ -190,7 +177,7 @@ module _ (moments : List Moment) (last : ℤ) (by : AllByRecursion (λ (m : Mome
           → list_all (is_interval more) (map_list (λ x. begun x stamp) put ++ vs) ≡ true
       all_fit [] vs h = h
       all_fit (x ∷ put) vs h =
-          both (is_interval more (begun x stamp)) (list_all (is_interval more) (map_list (λ x. begun x stamp) put ++ vs))
+          and_from (is_interval more (begun x stamp)) (list_all (is_interval more) (map_list (λ x. begun x stamp) put ++ vs))
           (begun_fits x) (all_fit put vs h)
 
       -- ---- two lifespans
@@ -201,22 +188,22 @@ module _ (moments : List Moment) (last : ℤ) (by : AllByRecursion (λ (m : Mome
             → AllByRecursion (λ v. overlap same (begun x stamp) v ≡ true → (stands stamp v && same x v.what) ≡ true) vs
         meets x [] h = tt
         meets x (v ∷ vs) h =
-            let parts = both_of (is_interval more v) (list_all (is_interval more) vs) h in
+            let parts = and_parts (is_interval more v) (list_all (is_interval more) vs) h in
             (one parts.0, meets x vs parts.1)
           where
             one : is_interval more v ≡ true → overlap same (begun x stamp) v ≡ true → (stands stamp v && same x v.what) ≡ true
             one fits meet =
-                let two = both_of (same x v.what && int_lt stamp v.until) (int_lt v.since never) meet in
-                let of_key = both_of (same x v.what) (int_lt stamp v.until) two.0 in
-                both (stands stamp v) (same x v.what)
-                (both (int_le v.since stamp) (int_lt stamp v.until) (le_true v.since stamp (by_now v.since (fit more v fits).begins)) of_key.1)
+                let two = and_parts (same x v.what && int_lt stamp v.until) (int_lt v.since never) meet in
+                let of_key = and_parts (same x v.what) (int_lt stamp v.until) two.0 in
+                and_from (stands stamp v) (same x v.what)
+                (and_from (int_le v.since stamp) (int_lt stamp v.until) (le_true v.since stamp (by_now v.since (fit more v fits).begins)) of_key.1)
                 of_key.0
 
         begun_stands : (x : X) (vs : List (Version X)) → standing stamp (begun x stamp ∷ vs) ≡ x ∷ standing stamp vs
         begun_stands x vs =
             one_stands stamp (begun x stamp) vs
             ∙ ap (λ b. cond b (x ∷ standing stamp vs) (standing stamp vs))
-            (both (int_le stamp stamp) (int_lt stamp never) (le_true stamp stamp (least stamp stamp refl)) (lt_true stamp never early))
+            (and_from (int_le stamp stamp) (int_lt stamp never) (le_true stamp stamp (least stamp stamp refl)) (lt_true stamp never early))
 
         -- where no key stands twice, what begins is apart from all else
         begun_apart : (put : List X) (vs : List (Version X)) → list_all (is_interval more) vs ≡ true → are_distinct (overlap same) vs ≡ true
@@ -226,12 +213,12 @@ module _ (moments : List Moment) (last : ℤ) (by : AllByRecursion (λ (m : Mome
         begun_apart (x ∷ put) vs fits apart once =
             let others : List (Version X) = map_list (λ x. begun x stamp) put ++ vs in
             let parts =
-            both_of (not (list_any (same x) (standing stamp others))) (are_distinct same (standing stamp others))
+            and_parts (not (list_any (same x) (standing stamp others))) (are_distinct same (standing stamp others))
             (sym (ap (are_distinct same) (begun_stands x others)) ∙ once) in
-            both (not (list_any (overlap same (begun x stamp)) others)) (are_distinct (overlap same) others)
+            and_from (not (list_any (overlap same (begun x stamp)) others)) (are_distinct (overlap same) others)
             (ap not
             (none_fewer (overlap same (begun x stamp)) (λ v. stands stamp v && same x v.what) others (meets x others (all_fit put vs fits))
-            (any_standing stamp (same x) others ∙ not_true (list_any (same x) (standing stamp others)) parts.0)))
+            (any_standing stamp (same x) others ∙ not-true (list_any (same x) (standing stamp others)) parts.0)))
             (begun_apart put vs fits apart parts.1)
 
         module _ (meant : X → Bool) where
@@ -253,18 +240,18 @@ module _ (moments : List Moment) (last : ℤ) (by : AllByRecursion (λ (m : Mome
               go : (b : Bool) → (meant v.what && int_eq v.until never) ≡ b
                   → int_lt t (cond b (record v { until = stamp }) v).until ≡ true → int_lt t v.until ≡ true
               go true e h =
-                  ap (int_lt t) (equal v.until never (both_of (meant v.what) (int_eq v.until never) e).1)
-                  ∙ lt_true t never (lt_then t stamp never (lt_from t stamp h) early)
+                  ap (int_lt t) (equal v.until never (and_parts (meant v.what) (int_eq v.until never) e).1)
+                  ∙ lt_true t never (lt_through t stamp never (lt_from t stamp h) early)
               go false e h = h
 
           overlapped : (v w : Version X) → overlap same (closed meant stamp v) (closed meant stamp w) ≡ true → overlap same v w ≡ true
           overlapped v w h =
               let a = closed meant stamp v in
               let b = closed meant stamp w in
-              let two = both_of (same a.what b.what && int_lt a.since b.until) (int_lt b.since a.until) h in
-              let one = both_of (same a.what b.what) (int_lt a.since b.until) two.0 in
-              both (same v.what w.what && int_lt v.since w.until) (int_lt w.since v.until)
-              (both (same v.what w.what) (int_lt v.since w.until) (sym (ap₂ same (closed_what v) (closed_what w)) ∙ one.0)
+              let two = and_parts (same a.what b.what && int_lt a.since b.until) (int_lt b.since a.until) h in
+              let one = and_parts (same a.what b.what) (int_lt a.since b.until) two.0 in
+              and_from (same v.what w.what && int_lt v.since w.until) (int_lt w.since v.until)
+              (and_from (same v.what w.what) (int_lt v.since w.until) (sym (ap₂ same (closed_what v) (closed_what w)) ∙ one.0)
               (sooner v.since w (sym (ap (λ t. int_lt t b.until) (closed_since v)) ∙ one.1)))
               (sooner w.since v (sym (ap (λ t. int_lt t a.until) (closed_since w)) ∙ two.1))
 
@@ -281,6 +268,6 @@ module _ (moments : List Moment) (last : ℤ) (by : AllByRecursion (λ (m : Mome
           kept put vs proper once =
               let closed_ones : List (Version X) = map_list (closed meant stamp) vs in
               let fits = all_closed_fit meant vs proper.intervals in
-              both (list_all (is_interval more) (changed_versions put meant stamp vs))
+              and_from (list_all (is_interval more) (changed_versions put meant stamp vs))
               (are_distinct (overlap same) (changed_versions put meant stamp vs))
               (all_fit put closed_ones fits) (begun_apart put closed_ones fits (closed_apart vs proper.apart) once)

@@ -1,8 +1,7 @@
 -- Keys are the same whichever is named first.
 use Rattle.std.proofs.Common.{◌≡◌, ℕ, Bool, ◌&&◌, ap, ap₂, ◌∙◌, arith}
-use Rattle.std.specs.Prelude.{int_lt, nat_eq}
-use Rattle.std.proofs.lemmas.Bool.Decides.{nat_tests}
-use Rattle.std.proofs.lemmas.Cmp.{eq_by_cmp_equiv}
+use Rattle.std.specs.Prelude.{int_lt}
+use Rattle.std.proofs.lemmas.Cmp.{eq_by_cmp_equiv, nat_eq_equiv}
 use Rattle.land_core.proofs.FiniteSets.{grants_total, mandates_total}
 use Rattle.land_core.specs.declared.mandates.Mandate.{Mandate}
 use Rattle.land_core.specs.declared.roles.Grant.{Grant}
@@ -11,20 +10,17 @@ use Rattle.land_tables_history.specs.declared.group_member.GroupMember.{GroupMem
 use Rattle.land_tables_history.specs.declared.naming.Naming.{Naming}
 use Rattle.land_tables_history.specs.declared.version.Version.{Version}
 
-pub number_turned : (a b : ℕ) → nat_eq a b ≡ nat_eq b a
-number_turned a b = grind (arith, nat_tests)
-
 pub numbers_flip : {V : Type 0} (a b : ℕ × V) → is_same_number a b ≡ is_same_number b a
-numbers_flip a b = number_turned a.0 b.0
+numbers_flip a b = nat_eq_equiv.symm a.0 b.0
 
 pub grants_flip : (a b : Grant) → is_same_grant a b ≡ is_same_grant b a
 grants_flip = (eq_by_cmp_equiv grants_total).symm
 
 pub members_flip : (a b : GroupMember) → is_same_member a b ≡ is_same_member b a
-members_flip a b = ap₂ (λ x y. x && y) (number_turned a.group b.group) (number_turned a.member.party b.member.party)
+members_flip a b = ap₂ (λ x y. x && y) (nat_eq_equiv.symm a.group b.group) (nat_eq_equiv.symm a.member.party b.member.party)
 
 pub namings_flip : (a b : Naming) → is_same_naming a b ≡ is_same_naming b a
-namings_flip a b = ap₂ (λ x y. x && y) (number_turned a.mutation b.mutation) (number_turned a.unit b.unit)
+namings_flip a b = ap₂ (λ x y. x && y) (nat_eq_equiv.symm a.mutation b.mutation) (nat_eq_equiv.symm a.unit b.unit)
 
 pub mandates_flip : (a b : Mandate) → is_same_mandate a b ≡ is_same_mandate b a
 mandates_flip = (eq_by_cmp_equiv mandates_total).symm

@@ -15,6 +15,7 @@ pub mod KeptVersions
 pub mod Keys
 pub mod Made
 pub mod MadeGroups
+pub mod MomentOrder
 pub mod NamingLists
 pub mod NamingTests
 pub mod OneByOne
@@ -27,5 +28,4 @@ pub mod SpansApart
 pub mod StampIntervals
 pub mod StampOrders
 pub mod SweepOrders
-pub mod SweepTests
 pub mod Swept

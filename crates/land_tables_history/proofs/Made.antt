@@ -1,6 +1,6 @@
 -- The entries of a map with others put into it: some of them, in any order, and of its own those under other keys.
 use Rattle.std.proofs.Common.{◌≡◌, Bool, T, true, false, cond, not, ◌&&◌, ◌||◌, List, [], ◌∷◌, ◌++◌, None, Some, filter, map as map_list, refl, sym, ap, subst, ◌∙◌, append-nil, IsPermutation}
-use Rattle.std.proofs.lemmas.Bool.{false≢true}
+use Rattle.std.proofs.lemmas.Bool.{false≢true, and_parts}
 use Rattle.std.proofs.lemmas.List.Elements.{filter_agree}
 use Rattle.std.proofs.lemmas.List.Sorted.{IsPermutation-append_right, IsPermutation-cons, IsPermutation-middle, IsPermutation-refl, IsPermutation-sym, IsPermutation-trans}
 use Rattle.std.specs.List.{list_any}
@@ -11,8 +11,9 @@ use Rattle.std.specs.Cmp.{IsTotalOrder, eq_by_cmp_equiv}
 use Rattle.std.specs.FinMap as map
 use Rattle.std.specs.FinMap.{FinMap, IsAntisymmetric, find, is_sorted, put}
 use Rattle.std.specs.FinMap.Entries.{below_all, by_order, find-where_key, is_sorted-where_key, where_key}
-use Rattle.land_core.proofs.Booleans.{T_true, both_of}
+use Rattle.land_core.proofs.Booleans.{T_true}
 use Rattle.land_core.proofs.FiniteMaps.{none_is_not_some, nothing_from_length}
+use Rattle.land_core.proofs.Orders.{less_apart}
 use Rattle.land_core.specs.Entries.{are_distinct, updated, with_entries, without}
 use Rattle.land_tables_history.proofs.Permutations.{filter_permuted}
 
@@ -33,11 +34,6 @@ none_and_none : (a b : Bool) → (not a && not b) ≡ not (a || b)
 none_and_none true b = refl
 none_and_none false b = refl
 
-less_apart : (r : Ordering) → is_lt r ≡ true → is_eq r ≡ false
-less_apart Less h = refl
-less_apart Equal h = absurd (false≢true h)
-less_apart Greater h = absurd (false≢true h)
-
 module _ {K : Type 0} {R : K → K → Ordering} (o : IsTotalOrder R) (same : IsAntisymmetric R) {V : Type 0} where
   -- the entries under other keys
   abbrev pub beside : K → List (K × V) → List (K × V)
@@ -47,13 +43,13 @@ module _ {K : Type 0} {R : K → K → Ordering} (o : IsTotalOrder R) (same : Is
   all_beside : (k : K) (es : List (K × V)) → below_all R k es ≡ true → beside k es ≡ es
   all_beside k [] h = refl
   all_beside k (e ∷ es) h =
-      let both = both_of (is_lt (R k e.0)) (below_all R k es) h in
+      let both = and_parts (is_lt (R k e.0)) (below_all R k es) h in
       ap (λ b. cond (not b) (e ∷ beside k es) (beside k es)) (less_apart (R k e.0) both.0) ∙ ap (λ l. e ∷ l) (all_beside k es both.1)
 
   below_too : (x k : K) (es : List (K × V)) → R x k ≡ Less → below_all R k es ≡ true → below_all R x es ≡ true
   below_too x k [] p h = refl
   below_too x k (e ∷ es) p h =
-      let both = both_of (is_lt (R k e.0)) (below_all R k es) h in
+      let both = and_parts (is_lt (R k e.0)) (below_all R k es) h in
       ap (λ r. is_lt r && below_all R x es) (o.trans x k e.0 p (less (R k e.0) both.0)) ∙ below_too x k es p both.1
     where
       less : (r : Ordering) → is_lt r ≡ true → r ≡ Less
@@ -66,7 +62,7 @@ module _ {K : Type 0} {R : K → K → Ordering} (o : IsTotalOrder R) (same : Is
   put_permuted k v (e ∷ es) sorted = go (R k e.0) refl (put_permuted k v es both.1)
     where
       both : (below_all R e.0 es ≡ true) × (is_sorted R es ≡ true)
-      both = both_of (below_all R e.0 es) (is_sorted R es) sorted
+      both = and_parts (below_all R e.0 es) (is_sorted R es) sorted
 
       go : (r : Ordering) → R k e.0 ≡ r → IsPermutation ((k, v) ∷ beside k es) (put R k v es)
           → IsPermutation ((k, v) ∷ cond (not (is_eq r)) (e ∷ beside k es) (beside k es)) (by_order r ((k, v) ∷ e ∷ es) ((e.0, v) ∷ es) (e ∷ put R k v es))
@@ -125,7 +121,7 @@ module _ {K : Type 0} {R : K → K → Ordering} (o : IsTotalOrder R) (same : Is
   made m [] once = subst (λ l. IsPermutation l (map.entries m)) (sym (all_pass (map.entries m))) (IsPermutation-refl (map.entries m))
   made m (e ∷ es) once =
       let ks : List K = map_list (λ e. e.0) es in
-      let both = both_of (not (list_any (eq_by_cmp R e.0) ks)) (are_distinct (eq_by_cmp R) ks) once in
+      let both = and_parts (not (list_any (eq_by_cmp R e.0) ks)) (are_distinct (eq_by_cmp R) ks) once in
       let after = map.entries (map.insert m e.0 e.1) in
       let rest : List (K × V) = outside (e.0 ∷ ks) (map.entries m) in
       let others : outside ks (e ∷ beside e.0 (map.entries m)) ≡ e ∷ rest =

@@ -1,6 +1,6 @@
 -- Groups that are made of members have these members, each once.
-use Rattle.std.proofs.Common.{◌≡◌, ℕ, Bool, true, false, cond, not, ◌&&◌, ◌==◌, List, [], ◌∷◌, ◌++◌, Option, Some, None, flat_map, map as map_list, refl, sym, ap, ◌∙◌, subst, arith, IsPermutation}
-use Rattle.std.proofs.lemmas.Bool.{false≢true}
+use Rattle.std.proofs.Common.{◌≡◌, ℕ, Bool, true, false, cond, not, ◌==◌, List, [], ◌∷◌, ◌++◌, Option, Some, None, flat_map, map as map_list, refl, sym, ap, ◌∙◌, subst, arith, IsPermutation, append-nil}
+use Rattle.std.proofs.lemmas.Bool.{and_parts, eqb-true, not-true, or_parts}
 use Rattle.std.proofs.lemmas.Bool.Decides.{nat_tests}
 use Rattle.std.proofs.lemmas.List.Sorted.{IsPermutation-append_left, IsPermutation-append_right, IsPermutation-map, IsPermutation-middle, IsPermutation-refl, IsPermutation-sym, IsPermutation-trans}
 use Rattle.std.specs.Cmp.{nat_cmp_total}
@@ -12,7 +12,7 @@ use Rattle.std.specs.Option.{option_map_or}
 use Rattle.std.specs.Ordering.{eq_by_cmp, is_eq, is_lt, nat_cmp}
 use Rattle.std.specs.declared.cmp.Ordering.{Ordering}
 use Rattle.std.specs.declared.cmp.Ordering.TheVariants.{Less, Equal, Greater}
-use Rattle.land_core.proofs.Booleans.{T_true, both_of, not_true, or_false}
+use Rattle.land_core.proofs.Booleans.{T_true, second_false}
 use Rattle.land_core.specs.Entries.{are_distinct}
 use Rattle.land_core.specs.Members.{Members, member_of, members_in}
 use Rattle.land_core.specs.declared.member.Member.{Member}
@@ -33,10 +33,6 @@ listed g = map_list (one_of g.0) (members_in g.1)
 abbrev pub or_none : Option Members → Members
 or_none o = option_map_or (λ members. members) o map.empty
 
-append_nothing : {X : Type 0} (xs : List X) → xs ++ [] ≡ xs
-append_nothing [] = refl
-append_nothing (x ∷ xs) = ap (λ l. x ∷ l) (append_nothing xs)
-
 -- one more member of a group
 seated : (g : ℕ) (old : Members) (p : ℕ) (s : Ratio) → map.get old p ≡ None → IsPermutation (listed (g, map.insert old p s)) (one_of g (member_of p s) ∷ listed (g, old))
 seated g old p s none =
@@ -53,19 +49,19 @@ between g k n less more = grind (arith, nat_tests)
 none_before : (g k : ℕ) (es : List (ℕ × Members)) → nat_cmp g k ≡ Less → below_all nat_cmp k es ≡ true → find nat_cmp g es ≡ None
 none_before g k [] less below = refl
 none_before g k (e ∷ es) less below =
-    let parts = both_of (is_lt (nat_cmp k e.0)) (below_all nat_cmp k es) below in
+    let parts = and_parts (is_lt (nat_cmp k e.0)) (below_all nat_cmp k es) below in
     ap (λ b. cond b (Some e.1) (find nat_cmp g es)) (between g k e.0 less parts.0) ∙ none_before g k es less parts.1
 
 -- one more member of some groups
 put_member : (g p : ℕ) (s : Ratio) (es : List (ℕ × Members)) (old : Members) → or_none (find nat_cmp g es) ≡ old → is_sorted nat_cmp es ≡ true → map.get old p ≡ None
     → IsPermutation (flat_map listed (put nat_cmp g (map.insert old p s) es)) (one_of g (member_of p s) ∷ flat_map listed es)
 put_member g p s [] old is sorted none =
-    subst (λ l. IsPermutation l (one_of g (member_of p s) ∷ [])) (sym (append_nothing (listed (g, map.insert old p s))))
+    subst (λ l. IsPermutation l (one_of g (member_of p s) ∷ [])) (sym (append-nil (listed (g, map.insert old p s))))
     (subst (λ l. IsPermutation (listed (g, map.insert old p s)) (one_of g (member_of p s) ∷ l)) (ap (λ m. listed (g, m)) (sym is) ∙ nobody g) (seated g old p s none))
 put_member g p s (e ∷ es) old is sorted none = go (nat_cmp g e.0) refl (λ same. put_member g p s es old same parts.1 none)
   where
     parts : (below_all nat_cmp e.0 es ≡ true) × (is_sorted nat_cmp es ≡ true)
-    parts = both_of (below_all nat_cmp e.0 es) (is_sorted nat_cmp es) sorted
+    parts = and_parts (below_all nat_cmp e.0 es) (is_sorted nat_cmp es) sorted
 
     -- what is found, where it is known how the first number compares
     found : (r : Ordering) → nat_cmp g e.0 ≡ r → or_none (cond (is_eq r) (Some e.1) (find nat_cmp g es)) ≡ old
@@ -106,10 +102,6 @@ joined_one m e new =
 same_numbers : (a b : ℕ) → eq_by_cmp nat_cmp a b ≡ (b == a)
 same_numbers a b = grind (arith, nat_tests)
 
-other_party : (a b : Bool) → a ≡ true → (a && b) ≡ false → b ≡ false
-other_party true b is h = h
-other_party false b is h = absurd (false≢true is)
-
 -- a member that is new stays so after another one joined
 pub new_still : (m : FinMap nat_cmp Members) (e x : GroupMember) → is_same_member e x ≡ false → IsNew m x → IsNew (joined m e) x
 new_still m e x apart new = ap (λ o. map.get (or_none o) x.member.party) (map.get-insert nat_cmp_total m e.group (joined_members m e) x.group) ∙ go (eq_by_cmp nat_cmp x.group e.group) refl
@@ -118,24 +110,21 @@ new_still m e x apart new = ap (λ o. map.get (or_none o) x.member.party) (map.g
     go true is =
         map.get-insert nat_cmp_total (members_of m e.group) e.member.party e.member.share x.member.party
         ∙ ap (λ b. cond b (Some e.member.share) (map.get (members_of m e.group) x.member.party))
-        (same_numbers x.member.party e.member.party ∙ other_party (e.group == x.group) (e.member.party == x.member.party) (sym (same_numbers x.group e.group) ∙ is) apart)
-        ∙ ap (λ (g : ℕ). map.get (members_of m g) x.member.party) (same e.group x.group (sym (same_numbers x.group e.group) ∙ is)) ∙ new
-      where
-        same : (a b : ℕ) → (a == b) ≡ true → a ≡ b
-        same a b h = grind (arith, nat_tests)
+        (same_numbers x.member.party e.member.party ∙ second_false (e.group == x.group) (e.member.party == x.member.party) (sym (same_numbers x.group e.group) ∙ is) apart)
+        ∙ ap (λ (g : ℕ). map.get (members_of m g) x.member.party) (eqb-true e.group x.group (sym (same_numbers x.group e.group) ∙ is)) ∙ new
     go false is = new
 
 all_new_still : (m : FinMap nat_cmp Members) (e : GroupMember) (es : List GroupMember) → list_any (is_same_member e) es ≡ false → AllByRecursion (IsNew m) es → AllByRecursion (IsNew (joined m e)) es
 all_new_still m e [] apart free = tt
 all_new_still m e (x ∷ xs) apart free =
-    let parts = or_false (is_same_member e x) (list_any (is_same_member e) xs) apart in (new_still m e x parts.0 free.0, all_new_still m e xs parts.1 free.1)
+    let parts = or_parts (is_same_member e x) (list_any (is_same_member e) xs) apart in (new_still m e x parts.0 free.0, all_new_still m e xs parts.1 free.1)
 
 made_from : (m : FinMap nat_cmp Members) (es : List GroupMember) → are_distinct is_same_member es ≡ true → AllByRecursion (IsNew m) es → IsPermutation (group_members (with_members m es)) (group_members m ++ es)
-made_from m [] distinct free = subst (IsPermutation (group_members m)) (sym (append_nothing (group_members m))) (IsPermutation-refl (group_members m))
+made_from m [] distinct free = subst (IsPermutation (group_members m)) (sym (append-nil (group_members m))) (IsPermutation-refl (group_members m))
 made_from m (e ∷ es) distinct free =
-    let parts = both_of (not (list_any (is_same_member e) es)) (are_distinct is_same_member es) distinct in
+    let parts = and_parts (not (list_any (is_same_member e) es)) (are_distinct is_same_member es) distinct in
     IsPermutation-trans (group_members (with_members (joined m e) es)) (group_members (joined m e) ++ es) (group_members m ++ e ∷ es)
-    (made_from (joined m e) es parts.1 (all_new_still m e es (not_true (list_any (is_same_member e) es) parts.0) free.1))
+    (made_from (joined m e) es parts.1 (all_new_still m e es (not-true (list_any (is_same_member e) es) parts.0) free.1))
     (IsPermutation-trans (group_members (joined m e) ++ es) (e ∷ (group_members m ++ es)) (group_members m ++ e ∷ es)
     (IsPermutation-append_left es (group_members (joined m e)) (e ∷ group_members m) (joined_one m e free.0))
     (IsPermutation-sym (group_members m ++ e ∷ es) (e ∷ (group_members m ++ es)) (IsPermutation-middle (group_members m) e es)))

@@ -8,7 +8,9 @@ use Rattle.std.specs.FinMap.{FinMap, is_sorted}
 use Rattle.std.specs.FinMap.Entries.{below_all}
 use Rattle.std.specs.List.{AllByRecursion, list_all, list_any}
 use Rattle.std.specs.Ordering.{is_lt, nat_cmp}
-use Rattle.land_core.proofs.Booleans.{T_true, both_of, not_false, not_true, or_false}
+use Rattle.std.proofs.lemmas.Bool.{and_parts, eqb-true, not-false, not-true, or_parts}
+use Rattle.std.proofs.lemmas.Cmp.{nat_eq_equiv}
+use Rattle.land_core.proofs.Booleans.{T_true}
 use Rattle.land_core.proofs.SoundRegisters.{refers}
 use Rattle.land_core.specs.Contents.{is_well_formed_content}
 use Rattle.land_core.specs.Entries.{are_distinct, has}
@@ -33,9 +35,6 @@ use Rattle.land_tables_history.specs.declared.version.Version.{Version}
 
 -- ---- the units that a content names
 
-turned : (a b : ℕ) → nat_eq a b ≡ nat_eq b a
-turned a b = grind (arith, nat_tests)
-
 below_differs : (last n : ℕ) → nat_lt last n ≡ true → nat_eq last n ≡ false
 below_differs last n less = grind (arith, nat_tests)
 
@@ -46,37 +45,37 @@ below_more k last n less more = grind (arith, nat_tests)
 none_above : (k last : ℕ) (ns : List ℕ) → nat_lt k last ≡ true → rise_above last ns ≡ true → list_any (nat_eq k) ns ≡ false
 none_above k last [] less rises = refl
 none_above k last (n ∷ ns) less rises =
-    let parts = both_of (nat_lt last n) (rise_above n ns) rises in
+    let parts = and_parts (nat_lt last n) (rise_above n ns) rises in
     let below = below_more k last n less parts.0 in
     ap (λ b. b || list_any (nat_eq k) ns) (below_differs k n below) ∙ none_above k n ns below parts.1
 
 none_above_last : (last : ℕ) (ns : List ℕ) → rise_above last ns ≡ true → list_any (nat_eq last) ns ≡ false
 none_above_last last [] rises = refl
 none_above_last last (n ∷ ns) rises =
-    let parts = both_of (nat_lt last n) (rise_above n ns) rises in
+    let parts = and_parts (nat_lt last n) (rise_above n ns) rises in
     ap (λ b. b || list_any (nat_eq last) ns) (below_differs last n parts.0) ∙ none_above last n ns parts.0 parts.1
 
 rising_distinct : (last : ℕ) (ns : List ℕ) → rise_above last ns ≡ true → are_distinct nat_eq ns ≡ true
 rising_distinct last [] rises = refl
 rising_distinct last (n ∷ ns) rises =
-    let parts = both_of (nat_lt last n) (rise_above n ns) rises in
+    let parts = and_parts (nat_lt last n) (rise_above n ns) rises in
     ap (λ b. not b && are_distinct nat_eq ns) (none_above_last n ns parts.1) ∙ rising_distinct n ns parts.1
 
 not_listed : (unit : ℕ) (ns : List ℕ) → list_any (nat_eq unit) ns ≡ lists_number ns unit
 not_listed unit [] = refl
-not_listed unit (n ∷ ns) = ap (λ b. b || list_any (nat_eq unit) ns) (turned unit n) ∙ ap (λ b. nat_eq n unit || b) (not_listed unit ns)
+not_listed unit (n ∷ ns) = ap (λ b. b || list_any (nat_eq unit) ns) (nat_eq_equiv.symm unit n) ∙ ap (λ b. nat_eq n unit || b) (not_listed unit ns)
 
 distinct_units : (c : Content) → is_well_formed_content c ≡ true → are_distinct nat_eq (named_units c) ≡ true
 distinct_units (content.Transfer it) well = refl
 distinct_units (content.Subdivision it) well = refl
 distinct_units (content.Merger it) well =
-    let three = both_of (is_number it.unit && are_others it.unit it.others && are_merged it.parcels) (is_label it.label) well in
-    let two = both_of (is_number it.unit && are_others it.unit it.others) (are_merged it.parcels) three.0 in
-    let one = both_of (is_number it.unit) (are_others it.unit it.others) two.0 in
-    let apart = both_of _ (not (lists_number it.others it.unit)) one.1 in
-    let rising = both_of _ (are_rising it.others) apart.0 in
-    let rises = both_of (rise_above 0 it.others) (list_all is_number it.others) rising.1 in
-    ap (λ b. not b && are_distinct nat_eq it.others) (not_listed it.unit it.others ∙ not_true (lists_number it.others it.unit) apart.1) ∙ rising_distinct 0 it.others rises.0
+    let three = and_parts (is_number it.unit && are_others it.unit it.others && are_merged it.parcels) (is_label it.label) well in
+    let two = and_parts (is_number it.unit && are_others it.unit it.others) (are_merged it.parcels) three.0 in
+    let one = and_parts (is_number it.unit) (are_others it.unit it.others) two.0 in
+    let apart = and_parts _ (not (lists_number it.others it.unit)) one.1 in
+    let rising = and_parts _ (are_rising it.others) apart.0 in
+    let rises = and_parts (rise_above 0 it.others) (list_all is_number it.others) rising.1 in
+    ap (λ b. not b && are_distinct nat_eq it.others) (not_listed it.unit it.others ∙ not-true (lists_number it.others it.unit) apart.1) ∙ rising_distinct 0 it.others rises.0
 distinct_units (content.Mortgage it) well = refl
 distinct_units (content.Discharge it) well = refl
 
@@ -100,7 +99,7 @@ smaller k n less = grind (arith, nat_tests)
 later_mutations : (n : Naming) (es : List (ℕ × MutationRecord)) → below_all nat_cmp n.mutation es ≡ true → list_any (is_same_naming n) (flat_map named_by es) ≡ false
 later_mutations n [] below = refl
 later_mutations n (e ∷ es) below =
-    let parts = both_of (is_lt (nat_cmp n.mutation e.0)) (below_all nat_cmp n.mutation es) below in
+    let parts = and_parts (is_lt (nat_cmp n.mutation e.0)) (below_all nat_cmp n.mutation es) below in
     list_any-append (is_same_naming n) (named_by e) (flat_map named_by es)
     ∙ ap (λ b. b || list_any (is_same_naming n) (flat_map named_by es)) (other_mutation n e.0 (named_units e.1.content) (smaller n.mutation e.0 parts.0)) ∙ later_mutations n es parts.1
 
@@ -108,20 +107,17 @@ later_mutations n (e ∷ es) below =
 distinct-append : {X : Type 0} (same : X → X → Bool) (xs ys : List X) → are_distinct same xs ≡ true → are_distinct same ys ≡ true → AllByRecursion (λ x. list_any (same x) ys ≡ false) xs → are_distinct same (xs ++ ys) ≡ true
 distinct-append same [] ys dx dy apart = dy
 distinct-append same (x ∷ xs) ys dx dy apart =
-    let parts = both_of (not (list_any (same x) xs)) (are_distinct same xs) dx in
-    ap (λ b. not b && are_distinct same (xs ++ ys)) (list_any-append (same x) xs ys ∙ ap (λ b. b || list_any (same x) ys) (not_true (list_any (same x) xs) parts.0) ∙ apart.0)
+    let parts = and_parts (not (list_any (same x) xs)) (are_distinct same xs) dx in
+    ap (λ b. not b && are_distinct same (xs ++ ys)) (list_any-append (same x) xs ys ∙ ap (λ b. b || list_any (same x) ys) (not-true (list_any (same x) xs) parts.0) ∙ apart.0)
     ∙ distinct-append same xs ys parts.1 dy apart.1
 
 same_unit : (k u w : ℕ) → (nat_eq k k && nat_eq u w) ≡ nat_eq u w
-same_unit k u w = ap (λ b. b && nat_eq u w) (itself k)
-  where
-    itself : (k : ℕ) → nat_eq k k ≡ true
-    itself k = grind (arith, nat_tests)
+same_unit k u w = ap (λ b. b && nat_eq u w) (nat_eq_equiv.refl k)
 
 named_distinct : (es : List (ℕ × MutationRecord)) → is_sorted nat_cmp es ≡ true → AllByRecursion (λ e. is_well_formed_content e.1.content ≡ true) es → are_distinct is_same_naming (flat_map named_by es) ≡ true
 named_distinct [] sorted well = refl
 named_distinct (e ∷ es) sorted well =
-    let parts = both_of (below_all nat_cmp e.0 es) (is_sorted nat_cmp es) sorted in
+    let parts = and_parts (below_all nat_cmp e.0 es) (is_sorted nat_cmp es) sorted in
     distinct-append is_same_naming (named_by e) (flat_map named_by es)
     (distinct-map is_same_naming (λ unit. let n : Naming = record { mutation = e.0; unit = unit } in n) (named_units e.1.content)
     ∙ distinct_alike (λ u w. nat_eq e.0 e.0 && nat_eq u w) nat_eq (λ u w. same_unit e.0 u w) (named_units e.1.content) ∙ distinct_units e.1.content well.0) (named_distinct es parts.1 well.1)
@@ -136,8 +132,8 @@ named_distinct (e ∷ es) sorted well =
 well_formed : (r : Register) (es : List (ℕ × MutationRecord)) → list_any (λ e. is_loose_mutation r e.1) es ≡ false → AllByRecursion (λ e. is_well_formed_content e.1.content ≡ true) es
 well_formed r [] none = tt
 well_formed r (e ∷ es) none =
-    let parts = or_false (is_loose_mutation r e.1) (list_any (λ e. is_loose_mutation r e.1) es) none in
-    ((both_of (has r.parties e.1.lodger && has r.sources e.1.source) (is_well_formed_content e.1.content) (not_false _ parts.0)).1, well_formed r es parts.1)
+    let parts = or_parts (is_loose_mutation r e.1) (list_any (λ e. is_loose_mutation r e.1) es) none in
+    ((and_parts (has r.parties e.1.lodger && has r.sources e.1.source) (is_well_formed_content e.1.content) (not-false _ parts.0)).1, well_formed r es parts.1)
 
 pub namings_distinct : (r : Register) → IsSound r → are_distinct is_same_naming (namings_of r.mutations) ≡ true
 namings_distinct r sound =
@@ -147,22 +143,16 @@ namings_distinct r sound =
 
 one_naming : (a b : Naming) → is_same_naming a b ≡ true → a ≡ b
 one_naming a b is =
-    let parts = both_of (a.mutation == b.mutation) (a.unit == b.unit) is in
-    ap (λ (k : ℕ). let n : Naming = record { mutation = k; unit = a.unit } in n) (equal a.mutation b.mutation parts.0)
-    ∙ ap (λ (u : ℕ). let n : Naming = record { mutation = b.mutation; unit = u } in n) (equal a.unit b.unit parts.1)
-  where
-    equal : (a b : ℕ) → (a == b) ≡ true → a ≡ b
-    equal a b h = grind (arith, nat_tests)
+    let parts = and_parts (a.mutation == b.mutation) (a.unit == b.unit) is in
+    ap (λ (k : ℕ). let n : Naming = record { mutation = k; unit = a.unit } in n) (eqb-true a.mutation b.mutation parts.0)
+    ∙ ap (λ (u : ℕ). let n : Naming = record { mutation = b.mutation; unit = u } in n) (eqb-true a.unit b.unit parts.1)
 
 naming_itself : (a : Naming) → is_same_naming a a ≡ true
-naming_itself a = same_unit a.mutation a.unit a.unit ∙ itself a.unit
-  where
-    itself : (k : ℕ) → nat_eq k k ≡ true
-    itself k = grind (arith, nat_tests)
+naming_itself a = same_unit a.mutation a.unit a.unit ∙ nat_eq_equiv.refl a.unit
 
 pub same_namings : (standing named : List Naming) → are_distinct is_same_naming standing ≡ true → are_distinct is_same_naming named ≡ true → are_same_namings standing named ≡ true → IsPermutation standing named
 same_namings standing named ds dn same =
-    let parts = both_of (list_all (λ n. list_any (is_same_naming n) named) standing) (list_all (λ n. list_any (is_same_naming n) standing) named) same in
+    let parts = and_parts (list_all (λ n. list_any (is_same_naming n) named) standing) (list_all (λ n. list_any (is_same_naming n) standing) named) same in
     same_items is_same_naming one_naming naming_itself standing named ds dn parts.0 parts.1
 
 -- mutations name those that stand, and as many: then they are the same

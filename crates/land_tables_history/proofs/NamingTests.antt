@@ -9,7 +9,9 @@ use Rattle.std.specs.List.{list_all, list_any}
 use Rattle.std.specs.Option.{option_map_or}
 use Rattle.std.specs.Ordering.{eq_by_cmp, is_lt, nat_cmp}
 use Rattle.std.specs.Prelude.{ℤ, nat_eq}
-use Rattle.land_core.proofs.Booleans.{T_true, both_of}
+use Rattle.std.proofs.lemmas.Bool.{and_parts, eqb-true}
+use Rattle.std.proofs.lemmas.Cmp.{nat_eq_equiv}
+use Rattle.land_core.proofs.Booleans.{T_true, and_false}
 use Rattle.land_core.specs.Contents.{names_unit}
 use Rattle.land_core.specs.declared.content.Content.{Content}
 use Rattle.land_core.specs.declared.content.Content.TheVariants as content
@@ -47,20 +49,13 @@ naming_of mutation unit = record { mutation = mutation; unit = unit }
 abbrev pub named_by : ℕ × MutationRecord → List Naming
 named_by m = map_list (naming_of m.0) (named_units m.1.content)
 
-turned : (a b : ℕ) → nat_eq a b ≡ nat_eq b a
-turned a b = grind (arith, nat_tests)
-
 or_nothing : (a b : Bool) → (a && b) ≡ ((a && b) || false)
 or_nothing a b = grind arith
 
 listed : (n : Naming) (k : ℕ) (units : List ℕ) → (nat_eq n.mutation k && list_any (λ u. nat_eq u n.unit) units) ≡ list_any (is_same_naming n) (map_list (naming_of k) units)
-listed n k [] = nothing (nat_eq n.mutation k)
-  where
-    nothing : (a : Bool) → (a && false) ≡ false
-    nothing true = refl
-    nothing false = refl
+listed n k [] = and_false (nat_eq n.mutation k)
 listed n k (u ∷ us) =
-    share (nat_eq n.mutation k) (nat_eq u n.unit) (list_any (λ u. nat_eq u n.unit) us) ∙ ap (λ b. (nat_eq n.mutation k && b) || (nat_eq n.mutation k && list_any (λ u. nat_eq u n.unit) us)) (turned u n.unit)
+    share (nat_eq n.mutation k) (nat_eq u n.unit) (list_any (λ u. nat_eq u n.unit) us) ∙ ap (λ b. (nat_eq n.mutation k && b) || (nat_eq n.mutation k && list_any (λ u. nat_eq u n.unit) us)) (nat_eq_equiv.symm u n.unit)
     ∙ ap (λ b. (nat_eq n.mutation k && nat_eq n.unit u) || b) (listed n k us)
   where
     share : (a b c : Bool) → (a && (b || c)) ≡ ((a && b) || (a && c))
@@ -99,13 +94,10 @@ differs a b less = grind (arith, nat_tests)
 same_test : (a b : ℕ) → eq_by_cmp nat_cmp a b ≡ nat_eq a b
 same_test a b = grind (arith, nat_tests)
 
-equal : (a b : ℕ) → nat_eq a b ≡ true → a ≡ b
-equal a b h = grind (arith, nat_tests)
-
 none_above : {V : Type 0} (n : ℕ) (p : V → Bool) (es : List (ℕ × V)) → below_all nat_cmp n es ≡ true → list_any (λ e. nat_eq n e.0 && p e.1) es ≡ false
 none_above n p [] below = refl
 none_above n p (e ∷ es) below =
-    let parts = both_of (is_lt (nat_cmp n e.0)) (below_all nat_cmp n es) below in
+    let parts = and_parts (is_lt (nat_cmp n e.0)) (below_all nat_cmp n es) below in
     ap (λ b. (b && p e.1) || list_any (λ e. nat_eq n e.0 && p e.1) es) (differs n e.0 parts.0) ∙ none_above n p es parts.1
 
 found_passes : {V : Type 0} (n : ℕ) (p : V → Bool) (es : List (ℕ × V)) → is_sorted nat_cmp es ≡ true → list_any (λ e. nat_eq n e.0 && p e.1) es ≡ option_map_or p (find nat_cmp n es) false
@@ -114,11 +106,11 @@ found_passes {V} n p (e ∷ es) sorted =
     go (nat_eq n e.0) refl (found_passes n p es parts.1) ∙ ap (λ b. option_map_or p (cond b (Some e.1) (find nat_cmp n es)) false) (sym (same_test n e.0))
   where
     parts : (below_all nat_cmp e.0 es ≡ true) × (is_sorted nat_cmp es ≡ true)
-    parts = both_of (below_all nat_cmp e.0 es) (is_sorted nat_cmp es) sorted
+    parts = and_parts (below_all nat_cmp e.0 es) (is_sorted nat_cmp es) sorted
 
     go : (b : Bool) → nat_eq n e.0 ≡ b → list_any (λ e. nat_eq n e.0 && p e.1) es ≡ option_map_or p (find nat_cmp n es) false
         → ((b && p e.1) || list_any (λ e. nat_eq n e.0 && p e.1) es) ≡ option_map_or p (cond b (Some e.1) (find nat_cmp n es)) false
-    go true is rest = ap (λ b. p e.1 || b) (none_above n p es (ap (λ k. below_all nat_cmp k es) (equal n e.0 is) ∙ parts.0)) ∙ sym (or_false (p e.1))
+    go true is rest = ap (λ b. p e.1 || b) (none_above n p es (ap (λ k. below_all nat_cmp k es) (eqb-true n e.0 is) ∙ parts.0)) ∙ sym (or_false (p e.1))
     go false is rest = rest
 
 -- some mutation names a unit where the one under the naming's number does

@@ -1,7 +1,7 @@
 -- The ten lists of versions of a history whose lifespans are as they may be.
 use Rattle.std.proofs.Common.{◌≡◌, Bool, true, ◌&&◌, List}
 use Rattle.std.specs.List.{list_all}
-use Rattle.land_core.proofs.Booleans.{both_of}
+use Rattle.std.proofs.lemmas.Bool.{and_parts}
 use Rattle.land_core.specs.Entries.{are_distinct}
 use Rattle.land_tables_history.specs.Intervals.{AreAllApart, are_intervals, has_intervals, is_interval, is_same_grant, is_same_mandate, is_same_member, is_same_naming, is_same_number, overlap}
 use Rattle.land_tables_history.specs.declared.history.History.{History}
@@ -14,7 +14,7 @@ pub record Proper {X : Type 0} (same : X → X → Bool) (moments : List Moment)
   pub apart : are_distinct (overlap same) vs ≡ true
 
 proper : {X : Type 0} (same : X → X → Bool) (moments : List Moment) (vs : List (Version X)) → are_intervals same moments vs ≡ true → Proper same moments vs
-proper same moments vs h = let parts = both_of (list_all (is_interval moments) vs) (are_distinct (overlap same) vs) h in record { intervals = parts.0; apart = parts.1 }
+proper same moments vs h = let parts = and_parts (list_all (is_interval moments) vs) (are_distinct (overlap same) vs) h in record { intervals = parts.0; apart = parts.1 }
 
 pub record AllProper (moments : List Moment) (h : History) : Type 0 where
   pub parties : Proper is_same_number moments h.parties
@@ -42,15 +42,15 @@ record Ten (a b c d e f g h i j : Bool) : Type 0 where
 
 ten_of : (a b c d e f g h i j : Bool) → (a && b && c && d && e && f && g && h && i && j) ≡ true → Ten a b c d e f g h i j
 ten_of a b c d e f g h i j all =
-    let o = both_of (a && b && c && d && e && f && g && h && i) j all in
-    let p = both_of (a && b && c && d && e && f && g && h) i o.0 in
-    let q = both_of (a && b && c && d && e && f && g) h p.0 in
-    let r = both_of (a && b && c && d && e && f) g q.0 in
-    let s = both_of (a && b && c && d && e) f r.0 in
-    let t = both_of (a && b && c && d) e s.0 in
-    let u = both_of (a && b && c) d t.0 in
-    let v = both_of (a && b) c u.0 in
-    let w = both_of a b v.0 in
+    let o = and_parts (a && b && c && d && e && f && g && h && i) j all in
+    let p = and_parts (a && b && c && d && e && f && g && h) i o.0 in
+    let q = and_parts (a && b && c && d && e && f && g) h p.0 in
+    let r = and_parts (a && b && c && d && e && f) g q.0 in
+    let s = and_parts (a && b && c && d && e) f r.0 in
+    let t = and_parts (a && b && c && d) e s.0 in
+    let u = and_parts (a && b && c) d t.0 in
+    let v = and_parts (a && b) c u.0 in
+    let w = and_parts a b v.0 in
     record { one = w.0; two = w.1; three = v.1; four = u.1; five = t.1; six = s.1; seven = r.1; eight = q.1; nine = p.1; ten = o.1 }
 
 pub all_proper : (moments : List Moment) (h : History) → has_intervals moments h ≡ true → AllProper moments h

@@ -1,10 +1,10 @@
 -- Lifespans of one key that have no moment in common, as spans of time and as versions.
-use Rattle.std.proofs.Common.{◌≡◌, ℕ, Bool, true, not, ◌&&◌, List, [], ◌∷◌, map as map_list, refl, sym, ap, ap₂, ◌∙◌}
+use Rattle.std.proofs.Common.{◌≡◌, ℕ, Bool, true, not, ◌&&◌, List, [], ◌∷◌, map as map_list, refl, sym, ap, ◌∙◌}
 use Rattle.std.specs.Prelude.{ℤ, int_lt}
 use Rattle.std.specs.List.{list_all, list_any}
 use Rattle.std.specs.Ordering.{nat_cmp, ordering_then}
 use Rattle.std.specs.declared.cmp.Ordering.{Ordering}
-use Rattle.land_core.proofs.Booleans.{both_of}
+use Rattle.std.proofs.lemmas.Bool.{and_from, and_parts}
 use Rattle.land_core.specs.Entries.{are_distinct}
 use Rattle.land_tables_history.proofs.Entered.{distinct-map, distinct_alike}
 use Rattle.land_tables_history.specs.Intervals.{is_interval_of, overlap}
@@ -13,9 +13,6 @@ use Rattle.land_tables_history.specs.Spans.{span_of}
 use Rattle.land_tables_history.specs.Sweeps.Apart as sweep
 use Rattle.land_tables_history.specs.declared.sweeps.apart.Span.{Span}
 use Rattle.land_tables_history.specs.declared.version.Version.{Version}
-
-both : (a b : Bool) → a ≡ true → b ≡ true → (a && b) ≡ true
-both a b x y = ap₂ (λ s t. s && t) x y
 
 apart_is_distinct : {K : Type 0} (R : K → K → Ordering) (spans : List (Span K)) → sweep.are_apart R spans ≡ are_distinct (sweep.overlap R) spans
 apart_is_distinct R [] = refl
@@ -36,12 +33,12 @@ pub spans_begin : {X : Type 0} (key_of : X → ℕ × ℕ) (versions : List (Ver
     → list_all (λ x. int_lt x.since x.until) (map_list (span_of key_of) versions) ≡ true
 spans_begin key_of [] all = refl
 spans_begin key_of (v ∷ vs) all =
-    let parts = both_of (int_lt v.since v.until) (list_all (λ v. int_lt v.since v.until) vs) all in
-    both (int_lt v.since v.until) (list_all (λ x. int_lt x.since x.until) (map_list (span_of key_of) vs)) parts.0 (spans_begin key_of vs parts.1)
+    let parts = and_parts (int_lt v.since v.until) (list_all (λ v. int_lt v.since v.until) vs) all in
+    and_from (int_lt v.since v.until) (list_all (λ x. int_lt x.since x.until) (map_list (span_of key_of) vs)) parts.0 (spans_begin key_of vs parts.1)
 
 -- lifespans that are as they may be begin before they end
 pub all_begun : {X : Type 0} (stamps : List ℤ) (versions : List (Version X)) → list_all (is_interval_of stamps) versions ≡ true → list_all (λ v. int_lt v.since v.until) versions ≡ true
 all_begun stamps [] all = refl
 all_begun stamps (v ∷ vs) all =
-    let parts = both_of (is_interval_of stamps v) (list_all (is_interval_of stamps) vs) all in
-    both (int_lt v.since v.until) (list_all (λ v. int_lt v.since v.until) vs) (both_of (int_lt v.since v.until) _ (both_of _ _ parts.0).0).0 (all_begun stamps vs parts.1)
+    let parts = and_parts (is_interval_of stamps v) (list_all (is_interval_of stamps) vs) all in
+    and_from (int_lt v.since v.until) (list_all (λ v. int_lt v.since v.until) vs) (and_parts (int_lt v.since v.until) _ (and_parts _ _ parts.0).0).0 (all_begun stamps vs parts.1)

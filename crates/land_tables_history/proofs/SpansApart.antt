@@ -1,6 +1,6 @@
 -- Of spans in order only neighbours can have a moment in common.
 use Rattle.std.proofs.Common.{◌≡◌, ◌↔◌, ◌≤◌, Bool, cond, length, filter, true, false, not, ◌||◌, ◌&&◌, List, [], ◌∷◌, refl, sym, ap, ap₂, ◌∙◌, arith, IsPermutation}
-use Rattle.std.proofs.lemmas.Bool.{false≢true}
+use Rattle.std.proofs.lemmas.Bool.{false≢true, and_parts, not-true, or_parts}
 use Rattle.std.proofs.lemmas.Cmp.{alike_right, eq_by_cmp_equiv, on_total, tied_back, then_total}
 use Rattle.std.proofs.lemmas.Int.{ints}
 use Rattle.std.specs.Cmp.{IsTotalOrder, int_cmp_total}
@@ -10,9 +10,9 @@ use Rattle.std.specs.Ordering.{eq_by_cmp, int_cmp, is_eq, is_gt, is_lt, ordering
 use Rattle.std.specs.Prelude.{ℤ, ◌≤ℤ◌, int_le, int_lt}
 use Rattle.std.specs.declared.cmp.Ordering.{Ordering}
 use Rattle.std.specs.declared.cmp.Ordering.TheVariants.{Less, Equal, Greater}
+use Rattle.land_core.proofs.Booleans.{or_turned}
 use Rattle.land_tables_history.proofs.SweepOrders.{Rising, no_earlier, rising_in_order, then_not}
 use Rattle.land_tables_history.proofs.Permutations.{all_permuted, along_permutation}
-use Rattle.land_tables_history.proofs.SweepTests.{or_turned, split_and, split_none}
 use Rattle.land_tables_history.specs.Sweeps.Apart.{AreApart, are_apart, is_at, overlap}
 use Rattle.land_tables_history.specs.Sweeps.ApartSteps.{are_neighbours_apart, overlaps_first, span_cmp}
 use Rattle.land_tables_history.specs.Sweeps.CoverSteps.{later}
@@ -89,12 +89,12 @@ module _ {K : Type 0} (R : K → K → Ordering) (o : IsTotalOrder R) where
     where
       go : (b : Bool) → overlap R x y ≡ b → (b || list_any (overlap R x) zs) ≡ b
       go true e = refl
-      go false e = none_far x y zs all.0 (split_and (is_begun y) (list_all is_begun zs) begun).0 e in_order.0
+      go false e = none_far x y zs all.0 (and_parts (is_begun y) (list_all is_begun zs) begun).0 e in_order.0
 
   neighbours : (xs : List (Span K)) → Rising Follows xs → list_all is_begun xs ≡ true → are_neighbours_apart R xs ≡ are_apart R xs
   neighbours [] in_order begun = refl
   neighbours (x ∷ xs) in_order begun =
-      let rest = split_and (is_begun x) (list_all is_begun xs) begun in
+      let rest = and_parts (is_begun x) (list_all is_begun xs) begun in
       ap₂ (λ a b. not a && b) (sym (first_only x xs in_order.0 in_order.1 rest.1)) (neighbours xs in_order.1 rest.1)
 
   -- ---- in whatever order
@@ -165,7 +165,7 @@ module _ {K : Type 0} (R : K → K → Ordering) (o : IsTotalOrder R) where
   none_else key t x (y ∷ ys) here apart = go (is_at R key t y) refl (none_else key t x ys here parts.1)
     where
       parts : (overlap R x y ≡ false) × (list_any (overlap R x) ys ≡ false)
-      parts = split_none (overlap R x y) (list_any (overlap R x) ys) apart
+      parts = or_parts (overlap R x y) (list_any (overlap R x) ys) apart
 
       go : (b : Bool) → is_at R key t y ≡ b → filter (is_at R key t) ys ≡ [] → cond b (y ∷ filter (is_at R key t) ys) (filter (is_at R key t) ys) ≡ []
       go false e rest = rest
@@ -177,16 +177,12 @@ module _ {K : Type 0} (R : K → K → Ordering) (o : IsTotalOrder R) where
   at_most_one (x ∷ xs) apart key t = go (is_at R key t x) refl (at_most_one xs parts.1 key t)
     where
       parts : (not (list_any (overlap R x) xs) ≡ true) × (are_apart R xs ≡ true)
-      parts = split_and (not (list_any (overlap R x) xs)) (are_apart R xs) apart
-
-      untrue : (b : Bool) → not b ≡ true → b ≡ false
-      untrue true h = absurd (false≢true h)
-      untrue false h = refl
+      parts = and_parts (not (list_any (overlap R x) xs)) (are_apart R xs) apart
 
       go : (b : Bool) → is_at R key t x ≡ b → length (filter (is_at R key t) xs) ≤ 1 → length (cond b (x ∷ filter (is_at R key t) xs) (filter (is_at R key t) xs)) ≤ 1
       go false e rest = rest
       go true here rest =
-          let none : length (filter (is_at R key t) xs) ≡ 0 = ap length (none_else key t x xs here (untrue (list_any (overlap R x) xs) parts.0)) in
+          let none : length (filter (is_at R key t) xs) ≡ 0 = ap length (none_else key t x xs here (not-true (list_any (overlap R x) xs) parts.0)) in
           omega (arith, none)
 
   -- where no other is there while a span is, it overlaps none
@@ -196,7 +192,7 @@ module _ {K : Type 0} (R : K → K → Ordering) (o : IsTotalOrder R) where
   overlaps_none x (y ∷ ys) begun all alone = go (overlap R x y) refl (overlaps_none x ys begun parts.1 (λ t here. fewer t (is_at R x.key t y) (alone t here)))
     where
       parts : (int_lt y.since y.until ≡ true) × (list_all (λ s. int_lt s.since s.until) ys ≡ true)
-      parts = split_and (int_lt y.since y.until) (list_all (λ s. int_lt s.since s.until) ys) all
+      parts = and_parts (int_lt y.since y.until) (list_all (λ s. int_lt s.since s.until) ys) all
 
       fewer : (t : ℤ) (b : Bool) → length (cond b (y ∷ filter (is_at R x.key t) ys) (filter (is_at R x.key t) ys)) ≤ 0 → length (filter (is_at R x.key t) ys) ≤ 0
       fewer t true h = absurd (omega (arith, h))
@@ -221,7 +217,7 @@ module _ {K : Type 0} (R : K → K → Ordering) (o : IsTotalOrder R) where
       (apart_from_moments xs parts.1 (λ key t. fewer key t (is_at R key t x) (h key t)))
     where
       parts : (int_lt x.since x.until ≡ true) × (list_all (λ s. int_lt s.since s.until) xs ≡ true)
-      parts = split_and (int_lt x.since x.until) (list_all (λ s. int_lt s.since s.until) xs) all
+      parts = and_parts (int_lt x.since x.until) (list_all (λ s. int_lt s.since s.until) xs) all
 
       alone : (t : ℤ) (b : Bool) → b ≡ true → length (cond b (x ∷ filter (is_at R x.key t) xs) (filter (is_at R x.key t) xs)) ≤ 1 → length (filter (is_at R x.key t) xs) ≤ 0
       alone t true e h = omega (arith, h)

@@ -1,6 +1,6 @@
 -- Ticks in order: what is judged at each of them is all that ever stands together.
 use Rattle.std.proofs.Common.{◌≡◌, ◌↔◌, ◌⊎◌, inl, inr, ◌==◌, ℕ, ◌≤◌, Bool, true, false, cond, ◌||◌, ◌&&◌, List, [], ◌∷◌, ◌++◌, filter, map as map_list, refl, sym, ap, ap₂, subst, ◌∙◌, arith, append_assoc, append-nil, IsPermutation}
-use Rattle.std.proofs.lemmas.Bool.{false≢true}
+use Rattle.std.proofs.lemmas.Bool.{false≢true, and_parts, eqb-true}
 use Rattle.std.proofs.lemmas.Bool.Decides.{nat_tests}
 use Rattle.std.proofs.lemmas.Cmp.{on_total, then_total}
 use Rattle.std.proofs.lemmas.Int.{ints}
@@ -12,9 +12,10 @@ use Rattle.std.specs.List.Sorted.{IsSorted}
 use Rattle.std.specs.Ordering.{int_cmp, is_lt, nat_cmp, ordering_then}
 use Rattle.std.specs.Prelude.{ℤ, ◌≤ℤ◌, int_le, int_lt, nat_eq, nat_lt}
 use Rattle.std.specs.declared.cmp.Ordering.{Ordering}
+use Rattle.land_core.proofs.Booleans.{conflict}
+use Rattle.land_tables_history.proofs.MomentOrder.{le_itself, le_through}
 use Rattle.land_tables_history.proofs.SweepOrders.{Rising, no_earlier, no_less, rising_in_order, then_not, tie}
 use Rattle.land_tables_history.proofs.Permutations.{all_permuted, filter_permuted}
-use Rattle.land_tables_history.proofs.SweepTests.{split_and}
 use Rattle.land_tables_history.specs.Sweeps.Sweep.{AreSound, is_at, standing}
 use Rattle.land_tables_history.specs.Sweeps.SweepSteps.{beginning, begun_by, end, is_begun_by, left_by, lived_cmp, sound_from, tick_cmp, ticks_of}
 use Rattle.land_tables_history.specs.declared.sweeps.sweep.Lived.{Lived}
@@ -202,9 +203,6 @@ record Latest (passes : Tick → Bool) (key : ℕ) (t : ℤ) (us : List Tick) : 
 abbrev NoneYet : (key : ℕ) → (t : ℤ) → List Tick → Type 0
 NoneYet key t us = AllByRecursion (λ u. nat_eq u.key key ≡ true → u.at ≤ℤ t → ⊥) us
 
-same_key : (a b : ℕ) → nat_eq a b ≡ true → a ≡ b
-same_key a b h = grind (arith, nat_tests, h)
-
 or_later : (a b : ℤ) → (a ≤ℤ b) ⊎ (b ≤ℤ a)
 or_later a b = go (int_le a b) refl
   where
@@ -219,17 +217,11 @@ reaches a t = go (int_le a t) refl
     go true e = inl (omega (arith, ints, e))
     go false e = inr (λ h. omega (arith, ints, e, h))
 
-upto : (a b c : ℤ) → a ≤ℤ b → b ≤ℤ c → a ≤ℤ c
-upto a b c p q = omega (arith, ints, p, q)
-
-itself : (a : ℤ) → a ≤ℤ a
-itself a = omega (arith, ints)
-
 module _ (passes : Tick → Bool) (key : ℕ) (t : ℤ) where
   raised : (best more : ℤ) → best ≤ℤ more → (us : List Tick) → AllByRecursion (λ u. nat_eq u.key key ≡ true → u.at ≤ℤ t → u.at ≤ℤ best) us
       → AllByRecursion (λ u. nat_eq u.key key ≡ true → u.at ≤ℤ t → u.at ≤ℤ more) us
   raised best more p [] all = tt
-  raised best more p (u ∷ us) all = (λ k h. upto u.at best more (all.0 k h) p, raised best more p us all.1)
+  raised best more p (u ∷ us) all = (λ k h. le_through u.at best more (all.0 k h) p, raised best more p us all.1)
 
   bounded : (more : ℤ) (us : List Tick) → NoneYet key t us → AllByRecursion (λ u. nat_eq u.key key ≡ true → u.at ≤ℤ t → u.at ≤ℤ more) us
   bounded more [] all = tt
@@ -240,23 +232,20 @@ module _ (passes : Tick → Bool) (key : ℕ) (t : ℤ) where
   latest (u ∷ us) all = go (nat_eq u.key key) refl (reaches u.at t) (latest us parts.1)
     where
       parts : (passes u ≡ true) × (list_all passes us ≡ true)
-      parts = split_and (passes u) (list_all passes us) all
-
-      conflict : {c : Bool} → c ≡ true → c ≡ false → ⊥
-      conflict e f = false≢true (sym f ∙ e)
+      parts = and_parts (passes u) (list_all passes us) all
 
       this : nat_eq u.key key ≡ true → passes (record { key = key; at = u.at }) ≡ true
-      this e = subst (λ (k : ℕ). passes (record { key = k; at = u.at }) ≡ true) (same_key u.key key e) parts.0
+      this e = subst (λ (k : ℕ). passes (record { key = k; at = u.at }) ≡ true) (eqb-true u.key key e) parts.0
 
       go : (b : Bool) → nat_eq u.key key ≡ b → (u.at ≤ℤ t) ⊎ (u.at ≤ℤ t → ⊥) → Latest passes key t us ⊎ NoneYet key t us → Latest passes key t (u ∷ us) ⊎ NoneYet key t (u ∷ us)
       go false e s (inl l) = inl (record { best = l.best; before = l.before; holds = l.holds; least = (λ k h. absurd (conflict k e), l.least) })
       go false e s (inr n) = inr (λ k h. conflict k e, n)
       go true e (inr no_more) (inl l) = inl (record { best = l.best; before = l.before; holds = l.holds; least = (λ k h. absurd (no_more h), l.least) })
       go true e (inr no_more) (inr n) = inr (λ k h. no_more h, n)
-      go true e (inl h) (inr n) = inl (record { best = u.at; before = h; holds = this e; least = (λ k h. itself u.at, bounded u.at us n) })
+      go true e (inl h) (inr n) = inl (record { best = u.at; before = h; holds = this e; least = (λ k h. le_itself u.at, bounded u.at us n) })
       go true e (inl h) (inl l) = elim (or_later u.at l.best) [
         | inl less ↦ inl (record { best = l.best; before = l.before; holds = l.holds; least = (λ k h. less, l.least) })
-        | inr more ↦ inl (record { best = u.at; before = h; holds = this e; least = (λ k h. itself u.at, raised l.best u.at more us l.least) })
+        | inr more ↦ inl (record { best = u.at; before = h; holds = this e; least = (λ k h. le_itself u.at, raised l.best u.at more us l.least) })
       ]
 
 -- what holds of each item of two lists joined holds of each of both

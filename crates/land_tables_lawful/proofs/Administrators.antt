@@ -1,12 +1,11 @@
 -- Somebody is state administrator at each moment.
 use Rattle.std.proofs.Common.{◌≡◌, ◌↔◌, inl, inr, ◌==◌, ◌++◌, ℕ, Bool, true, not, ◌&&◌, List, [], ◌∷◌, map as map_list, refl, sym, ap, subst, ◌∙◌, append-nil, arith}
 use Rattle.std.specs.Prelude.{ℤ, pos, ◌+ℤ◌, int_le, int_lt, slice_index_or}
-use Rattle.std.proofs.lemmas.Bool.{false≢true}
+use Rattle.std.proofs.lemmas.Bool.{false≢true, and_from, and_parts, eqb-true, not-false, or_cases, or_left, or_right}
 use Rattle.std.proofs.lemmas.Int.{ints}
 use Rattle.std.proofs.lemmas.List.Elements.{All-from_recursion, recursion_from_All}
 use Rattle.std.proofs.lemmas.List.Folds.{list_all-append}
 use Rattle.std.specs.List.{AllByRecursion, list_all}
-use Rattle.land_core.proofs.Booleans.{both_of, not_false}
 use Rattle.land_core.specs.Role.{is_role}
 use Rattle.land_core.specs.Soundness.{has_administrator}
 use Rattle.land_core.specs.declared.role.Role.TheVariants.{StateAdministrator}
@@ -19,7 +18,6 @@ use Rattle.land_tables_history.specs.declared.history.History.{History}
 use Rattle.land_tables_history.specs.declared.moment.Moment.{Moment}
 use Rattle.land_tables_history.specs.declared.version.Version.{Version}
 use Rattle.land_tables_lawful.specs.Administrator.{administrators, asked_instants, instant, is_of_administrator, offered_administrators}
-use Rattle.land_tables_lawful.proofs.Booleans.{both, left, right, same_number, split_or}
 use Rattle.land_tables_lawful.proofs.Covers.{covered_iff, pieces_begin, stood_by}
 use Rattle.land_tables_lawful.proofs.Passing.{intervals_among, stood_among}
 use Rattle.land_tables_lawful.proofs.References.{by_way_of}
@@ -34,7 +32,7 @@ stands_then : (s : ℤ) → (int_le s s && int_lt s (s +ℤ pos 1)) ≡ true
 stands_then s = grind (arith, ints)
 
 stands_only_then : (s t : ℤ) → (int_le s t && int_lt t (s +ℤ pos 1)) ≡ true → s ≡ t
-stands_only_then s t h = let parts = both_of (int_le s t) (int_lt t (s +ℤ pos 1)) h in omega (arith, ints, parts.0, parts.1)
+stands_only_then s t h = let parts = and_parts (int_le s t) (int_lt t (s +ℤ pos 1)) h in omega (arith, ints, parts.0, parts.1)
 
 ends_later : (s : ℤ) → int_lt s (s +ℤ pos 1) ≡ true
 ends_later s = grind (arith, ints)
@@ -50,17 +48,17 @@ module _ (roles : List (Version Grant)) where
   at_each_stamp [] h = tt
   at_each_stamp (m ∷ ms) h = (
     h 0 m.stamp
-        (left (stands m.stamp (instant m) && (0 == 0)) (stood_by (λ m. 0) (map_list instant ms) 0 m.stamp)
-        (both (stands m.stamp (instant m)) (0 == 0) (stands_then m.stamp) refl)),
-    at_each_stamp ms (λ a t s. h a t (right (stands t (instant m) && (0 == a)) (stood_by (λ m. 0) (map_list instant ms) a t) s)),
+        (or_left (stands m.stamp (instant m) && (0 == 0)) (stood_by (λ m. 0) (map_list instant ms) 0 m.stamp)
+        (and_from (stands m.stamp (instant m)) (0 == 0) (stands_then m.stamp) refl)),
+    at_each_stamp ms (λ a t s. h a t (or_right (stands t (instant m) && (0 == a)) (stood_by (λ m. 0) (map_list instant ms) a t) s)),
   )
 
   whenever_asked : (ms : List Moment) → AllByRecursion (λ m. is_administered m.stamp ≡ true) ms
       → (a : ℕ) (t : ℤ) → stood_by (λ m. 0) (map_list instant ms) a t ≡ true → stood_by (λ r. 0) (administrators roles) a t ≡ true
   whenever_asked [] all a t s = absurd (false≢true s)
-  whenever_asked (m ∷ ms) all a t s = elim (split_or (stands t (instant m) && (0 == a)) (stood_by (λ m. 0) (map_list instant ms) a t) s) [
-    | inl here ↦ let it = both_of (stands t (instant m)) (0 == a) here in
-        subst (λ (n : ℕ). stood_by (λ r. 0) (administrators roles) n t ≡ true) (same_number 0 a it.1)
+  whenever_asked (m ∷ ms) all a t s = elim (or_cases (stands t (instant m) && (0 == a)) (stood_by (λ m. 0) (map_list instant ms) a t) s) [
+    | inl here ↦ let it = and_parts (stands t (instant m)) (0 == a) here in
+        subst (λ (n : ℕ). stood_by (λ r. 0) (administrators roles) n t ≡ true) (eqb-true 0 a it.1)
         (subst (λ (u : ℤ). is_administered u ≡ true) (stands_only_then m.stamp t it.0) all.0)
     | inr later ↦ whenever_asked ms all.1 a t later
   ]
@@ -72,7 +70,7 @@ administrator_pieces roles moments = offered_administrators roles ++ asked_insta
 instants_begin : (ms : List Moment) → list_all (λ x. int_lt x.since x.until) (asked_instants ms) ≡ true
 instants_begin [] = refl
 instants_begin (m ∷ ms) =
-    both (int_lt m.stamp (m.stamp +ℤ pos 1)) (list_all (λ x. int_lt x.since x.until) (asked_instants ms)) (ends_later m.stamp)
+    and_from (int_lt m.stamp (m.stamp +ℤ pos 1)) (list_all (λ x. int_lt x.since x.until) (asked_instants ms)) (ends_later m.stamp)
     (instants_begin ms)
 
 module _ (moments : List Moment) (h : History) (intervals : has_intervals moments h ≡ true) where
@@ -88,7 +86,7 @@ module _ (moments : List Moment) (h : History) (intervals : has_intervals moment
         ap not (administered_at (slice_index_or moments k d) ∙ all k d i),
     λ never. recursion_from_All (λ m. is_administered h.roles m.stamp ≡ true) moments (λ k d i.
         let m = slice_index_or moments k d in
-        sym (administered_at m) ∙ not_false (has_administrator (register_at m.stamp h m.next)) (never k d i)),
+        sym (administered_at m) ∙ not-false (has_administrator (register_at m.stamp h m.next)) (never k d i)),
   )
 
   -- somebody is state administrator whenever a moment asks for one exactly if somebody is at each stamp
@@ -105,5 +103,5 @@ module _ (moments : List Moment) (h : History) (intervals : has_intervals moment
       let roles = intervals_among moments is_of_administrator h.roles (all_proper moments h intervals).roles.intervals in
       let begun = pieces_begin moments (λ r. 0) (administrators h.roles) (λ (m : Moment). 0) [] roles refl in
       list_all-append (λ (x : Piece). int_lt x.since x.until) offers (asked_instants moments)
-      ∙ both (list_all (λ x. int_lt x.since x.until) offers) (list_all (λ x. int_lt x.since x.until) (asked_instants moments))
+      ∙ and_from (list_all (λ x. int_lt x.since x.until) offers) (list_all (λ x. int_lt x.since x.until) (asked_instants moments))
       (subst (λ (l : List Piece). list_all (λ x. int_lt x.since x.until) l ≡ true) (append-nil offers) begun) (instants_begin moments)

@@ -2,7 +2,7 @@
 use Rattle.std.proofs.Common.{◌≡◌, ◌↔◌, ℕ, Bool, true, false, cond, ◌&&◌, ◌||◌, List, [], ◌∷◌, filter, refl, sym, ap₂, ◌∙◌}
 use Rattle.std.specs.Prelude.{ℤ, nat_eq}
 use Rattle.std.specs.List.{list_all, list_any}
-use Rattle.land_core.proofs.Booleans.{both_of}
+use Rattle.std.proofs.lemmas.Bool.{and_from, and_parts}
 use Rattle.land_core.specs.Soundness.{has_bare_unit}
 use Rattle.land_core.specs.Units.{has_owner, has_parcel, is_right_in}
 use Rattle.land_core.specs.declared.rrr.RightType.TheVariants.{Ownership}
@@ -15,7 +15,6 @@ use Rattle.land_tables_history.specs.Standing.{stands}
 use Rattle.land_tables_history.specs.declared.history.History.{History}
 use Rattle.land_tables_history.specs.declared.moment.Moment.{Moment}
 use Rattle.land_tables_history.specs.declared.version.Version.{Version}
-use Rattle.land_tables_lawful.proofs.Booleans.{both}
 use Rattle.land_tables_lawful.proofs.Covers.{some_by, stood_by}
 use Rattle.land_tables_lawful.proofs.References.{also, both_pass, both_true, by_way_of, covered_at_stamps, failing_at, fails, is_there, never_by, side_by_side}
 use Rattle.land_tables_lawful.specs.BareUnits.{entry_unit, number_of, ownerships, owns, parcel_unit}
@@ -27,10 +26,10 @@ use Rattle.land_tables_history.specs.Sweeps.Cover.{IsCovered}
 
 kept_all : {X : Type 0} (p q : X → Bool) (xs : List X) → list_all p xs ≡ true → list_all p (filter q xs) ≡ true
 kept_all p q [] h = refl
-kept_all {X} p q (x ∷ xs) h = let parts = both_of (p x) (list_all p xs) h in go (q x) parts.0 (kept_all p q xs parts.1)
+kept_all {X} p q (x ∷ xs) h = let parts = and_parts (p x) (list_all p xs) h in go (q x) parts.0 (kept_all p q xs parts.1)
   where
     go : (b : Bool) → p x ≡ true → list_all p (filter q xs) ≡ true → list_all p (cond b (x ∷ filter q xs) (filter q xs)) ≡ true
-    go true here later = both (p x) (list_all p (filter q xs)) here later
+    go true here later = and_from (p x) (list_all p (filter q xs)) here later
     go false here later = later
 
 pub owners_are_intervals : (moments : List Moment) (rrrs : List (Version (ℕ × RrrRecord)))

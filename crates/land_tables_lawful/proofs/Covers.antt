@@ -8,7 +8,9 @@ use Rattle.std.specs.FinMap as map
 use Rattle.std.specs.FinMap.{FinMap, nat_cmp-IsAntisymmetric}
 use Rattle.std.specs.List.{AllByRecursion, list_all, list_any}
 use Rattle.std.specs.Ordering.{nat_cmp}
-use Rattle.land_core.proofs.Booleans.{both_of}
+use Rattle.std.proofs.lemmas.Bool.{and_from, and_parts, eqb-true, false_from_ne_true}
+use Rattle.std.proofs.lemmas.Cmp.{nat_eq_equiv}
+use Rattle.land_core.proofs.Booleans.{conflict, or_nothing}
 use Rattle.land_core.proofs.Reflection.{some_at, some_passes}
 use Rattle.land_core.specs.Entries.{has}
 use Rattle.land_tables_history.proofs.Distinct.{distinct_standing}
@@ -21,7 +23,6 @@ use Rattle.land_tables_history.specs.declared.version.Version.{Version}
 use Rattle.land_tables_lawful.specs.Pieces.{are_in_time, asked_piece, offered_piece, pieces}
 use Rattle.land_tables_lawful.proofs.Latest.{Empty, Matched, matched}
 use Rattle.land_tables_history.specs.Sweeps.Cover.{IsCovered, is_asked, is_offered}
-use Rattle.land_tables_lawful.proofs.Booleans.{both, conflict, itself, same_number, untrue}
 
 -- ---- what stands under a key
 
@@ -31,10 +32,6 @@ stood_by key vs a t = list_any (λ v. stands t v && (key v.what == a)) vs
 and_nothing : (q : Bool) → false ≡ (q && false)
 and_nothing true = refl
 and_nothing false = refl
-
-or_nothing : (q : Bool) → (q || false) ≡ q
-or_nothing true = refl
-or_nothing false = refl
 
 shuffled : (p q l u : Bool) → (p && q && l && u) ≡ (q && ((l && u) && p))
 shuffled p q l u = grind arith
@@ -78,8 +75,8 @@ module _ {X Y : Type 0} (offered : X → ℕ) (xs : List (Version X)) (asked : Y
   covered_iff = (
     λ h a t s. sym (offers_are a 0 t) ∙ h a 0 t (asks_are a 0 t ∙ s),
     λ h a b t asks.
-        let parts = both_of (0 == b) (stood_by asked ys a t) (sym (asks_are a b t) ∙ asks) in
-        offers_are a b t ∙ both (0 == b) (stood_by offered xs a t) parts.0 (h a t parts.1),
+        let parts = and_parts (0 == b) (stood_by asked ys a t) (sym (asks_are a b t) ∙ asks) in
+        offers_are a b t ∙ and_from (0 == b) (stood_by offered xs a t) parts.0 (h a t parts.1),
   )
 
 -- ---- what stands in the register
@@ -91,10 +88,10 @@ has_by : {V : Type 0} (m : FinMap nat_cmp V) (n : ℕ) → has m n ≡ list_any 
 has_by {V} m n = go (map.get m n) refl
   where
     go : (x : Option V) → map.get m n ≡ x → is_some x ≡ list_any (λ e. e.0 == n) (map.entries m)
-    go (Some v) is = sym (some_at nat_cmp_total nat_cmp-IsAntisymmetric (λ k w. k == n) m n v is (itself n))
-    go None is = sym (untrue (list_any (λ e. e.0 == n) (map.entries m)) (λ h.
+    go (Some v) is = sym (some_at nat_cmp_total nat_cmp-IsAntisymmetric (λ k w. k == n) m n v is (nat_eq_equiv.refl n))
+    go None is = sym (false_from_ne_true (list_any (λ e. e.0 == n) (map.entries m)) (λ h.
         let it = some_passes nat_cmp_total nat_cmp-IsAntisymmetric (λ k w. k == n) m h in
-        none_is_not_some (sym is ∙ subst (λ (k : ℕ). map.get m k ≡ Some it.value) (same_number it.key n it.passes) it.there)))
+        none_is_not_some (sym is ∙ subst (λ (k : ℕ). map.get m k ≡ Some it.value) (eqb-true it.key n it.passes) it.there)))
 
 pub some_by : {V : Type 0} (p : ℕ × V → Bool) (t : ℤ) (vs : List (Version (ℕ × V))) → AreApart is_same_number vs
     → list_any p (map.entries (part_at t vs)) ≡ list_any (λ v. stands t v && p v.what) vs
@@ -115,14 +112,14 @@ stood_same : {X : Type 0} (moments : List Moment) (key : X → ℕ) (a : ℕ) (t
     → (vs : List (Version X)) → list_all (is_interval moments) vs ≡ true → stood_by key vs a t ≡ stood_by key vs a s
 stood_same moments key a t s same [] h = refl
 stood_same moments key a t s same (v ∷ vs) h =
-    let parts = both_of (is_interval moments v) (list_all (is_interval moments) vs) h in
+    let parts = and_parts (is_interval moments v) (list_all (is_interval moments) vs) h in
     ap₂ (λ b c. b && (key v.what == a) || c) (same v parts.0) (stood_same moments key a t s same vs parts.1)
 
 stood_never : {X : Type 0} (moments : List Moment) (key : X → ℕ) (a : ℕ) (t : ℤ) → ((v : Version X) → is_interval moments v ≡ true → stands t v ≡ false)
     → (vs : List (Version X)) → list_all (is_interval moments) vs ≡ true → stood_by key vs a t ≡ false
 stood_never moments key a t none [] h = refl
 stood_never moments key a t none (v ∷ vs) h =
-    let parts = both_of (is_interval moments v) (list_all (is_interval moments) vs) h in
+    let parts = and_parts (is_interval moments v) (list_all (is_interval moments) vs) h in
     ap₂ (λ b c. b && (key v.what == a) || c) (none v parts.0) (stood_never moments key a t none vs parts.1)
 
 -- what is offered at each stamp whenever it is asked for there is offered always
@@ -141,17 +138,17 @@ at_all_moments {X} {Y} moments in_time offered xs asked ys p q all a t s = go (m
 
 -- lifespans that are intervals give pieces that begin before they end
 pub begun : {X : Type 0} (moments : List Moment) (v : Version X) → is_interval moments v ≡ true → int_lt v.since v.until ≡ true
-begun moments v h = (both_of (int_lt v.since v.until) _ (both_of (int_lt v.since v.until && _) _ h).0).0
+begun moments v h = (and_parts (int_lt v.since v.until) _ (and_parts (int_lt v.since v.until && _) _ h).0).0
 
 all_asked : {Y : Type 0} (moments : List Moment) (asked : Y → ℕ) (ys : List (Version Y)) → list_all (is_interval moments) ys ≡ true → list_all (λ x. int_lt x.since x.until) (map_list (asked_piece asked) ys) ≡ true
 all_asked moments asked [] q = refl
 all_asked moments asked (w ∷ ws) q =
-    let parts = both_of (is_interval moments w) (list_all (is_interval moments) ws) q in
-    both (int_lt w.since w.until) (list_all (λ x. int_lt x.since x.until) (map_list (asked_piece asked) ws)) (begun moments w parts.0) (all_asked moments asked ws parts.1)
+    let parts = and_parts (is_interval moments w) (list_all (is_interval moments) ws) q in
+    and_from (int_lt w.since w.until) (list_all (λ x. int_lt x.since x.until) (map_list (asked_piece asked) ws)) (begun moments w parts.0) (all_asked moments asked ws parts.1)
 
 pub pieces_begin : {X Y : Type 0} (moments : List Moment) (offered : X → ℕ) (xs : List (Version X)) (asked : Y → ℕ) (ys : List (Version Y))
     → list_all (is_interval moments) xs ≡ true → list_all (is_interval moments) ys ≡ true → list_all (λ x. int_lt x.since x.until) (pieces offered xs asked ys) ≡ true
 pieces_begin moments offered [] asked ys p q = all_asked moments asked ys q
 pieces_begin moments offered (v ∷ vs) asked ys p q =
-    let parts = both_of (is_interval moments v) (list_all (is_interval moments) vs) p in
-    both (int_lt v.since v.until) (list_all (λ x. int_lt x.since x.until) (pieces offered vs asked ys)) (begun moments v parts.0) (pieces_begin moments offered vs asked ys parts.1 q)
+    let parts = and_parts (is_interval moments v) (list_all (is_interval moments) vs) p in
+    and_from (int_lt v.since v.until) (list_all (λ x. int_lt x.since x.until) (pieces offered vs asked ys)) (begun moments v parts.0) (pieces_begin moments offered vs asked ys parts.1 q)

@@ -3,6 +3,7 @@ use Rattle.std.proofs.Common.{◌≡◌, ◌↔◌, ℕ, Bool, true, false, ◌&
 use Rattle.std.specs.Prelude.{nat_eq}
 use Rattle.std.specs.Ordering.{eq_by_cmp, nat_cmp, ordering_then}
 use Rattle.std.specs.declared.cmp.Ordering.{Ordering}
+use Rattle.std.proofs.lemmas.Cmp.{nat_eq_equiv}
 use Rattle.land_core.specs.Soundness.{has_clash}
 use Rattle.land_core.specs.Units.{are_of_one_rank, are_of_one_type, do_clash, is_type, rank_of, type_of}
 use Rattle.land_core.specs.declared.rrr.Class.{Class}
@@ -11,7 +12,6 @@ use Rattle.land_core.specs.declared.rrr.RightType.{RightType}
 use Rattle.land_core.specs.declared.rrr.RightType.TheVariants.{Ownership, Lease, Usufruct}
 use Rattle.land_core.specs.declared.rrr.RrrRecord.{RrrRecord}
 use Rattle.land_tables_history.proofs.Entered.{same_numbers}
-use Rattle.land_tables_history.proofs.Keys.{number_turned}
 use Rattle.land_tables_history.proofs.Proper.{all_proper}
 use Rattle.land_tables_history.specs.Intervals.{has_intervals}
 use Rattle.land_tables_history.specs.declared.history.History.{History}
@@ -121,7 +121,7 @@ types_turned None (Some b) = refl
 types_turned None None = refl
 
 ranks_turned : (a b : Option ℕ) → are_of_one_rank a b ≡ are_of_one_rank b a
-ranks_turned (Some a) (Some b) = number_turned a b
+ranks_turned (Some a) (Some b) = nat_eq_equiv.symm a b
 ranks_turned (Some a) None = refl
 ranks_turned None (Some b) = refl
 ranks_turned None None = refl
@@ -131,7 +131,7 @@ joined e f g h = cc
 
 clash_turned : (e f : RrrRecord) → do_clash e f ≡ do_clash f e
 clash_turned e f =
-    joined (number_turned e.unit f.unit) (number_turned e.party f.party) (types_turned (type_of e.class) (type_of f.class))
+    joined (nat_eq_equiv.symm e.unit f.unit) (nat_eq_equiv.symm e.party f.party) (types_turned (type_of e.class) (type_of f.class))
     (ranks_turned (rank_of e.class) (rank_of f.class))
 
 -- ---- all moments

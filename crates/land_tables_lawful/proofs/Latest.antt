@@ -1,12 +1,12 @@
 -- At each moment stands what stands at the latest stamp up to then.
 use Rattle.std.proofs.Common.{◌≡◌, ◌⊎◌, inl, inr, Bool, true, false, ◌&&◌, ◌||◌, List, [], ◌∷◌, refl, subst, arith}
 use Rattle.std.specs.Prelude.{ℤ, pos, ◌≤ℤ◌, int_le, int_lt}
-use Rattle.std.proofs.lemmas.Bool.{false≢true}
+use Rattle.std.proofs.lemmas.Bool.{false≢true, and_parts}
 use Rattle.std.proofs.lemmas.Bool.Decides.{Decides-int_eq}
 use Rattle.std.proofs.lemmas.Int.{ints}
 use Rattle.std.specs.List.{AllByRecursion}
 use Rattle.std.specs.Ordering.{int_eq}
-use Rattle.land_core.proofs.Booleans.{both_of}
+use Rattle.land_tables_history.proofs.MomentOrder.{le_itself, le_through}
 use Rattle.land_tables_history.specs.Intervals.{is_interval, is_stamp}
 use Rattle.land_tables_history.specs.Standing.{stands}
 use Rattle.land_tables_history.specs.declared.moment.Moment.{Moment}
@@ -37,16 +37,10 @@ reaches a t = go (int_le a t) refl
     go true e = inl (omega (arith, ints, e))
     go false e = inr (λ h. omega (arith, ints, e, h))
 
-upto : (a b c : ℤ) → a ≤ℤ b → b ≤ℤ c → a ≤ℤ c
-upto a b c p q = omega (arith, ints, p, q)
-
-itself : (a : ℤ) → a ≤ℤ a
-itself a = omega (arith, ints)
-
 module _ (t : ℤ) where
   raised : (best more : ℤ) → best ≤ℤ more → (ms : List Moment) → AllByRecursion (λ m. m.stamp ≤ℤ t → m.stamp ≤ℤ best) ms → AllByRecursion (λ m. m.stamp ≤ℤ t → m.stamp ≤ℤ more) ms
   raised best more p [] all = tt
-  raised best more p (m ∷ ms) all = (λ h. upto m.stamp best more (all.0 h) p, raised best more p ms all.1)
+  raised best more p (m ∷ ms) all = (λ h. le_through m.stamp best more (all.0 h) p, raised best more p ms all.1)
 
   bounded : (more : ℤ) (ms : List Moment) → NoneYet ms t → AllByRecursion (λ m. m.stamp ≤ℤ t → m.stamp ≤ℤ more) ms
   bounded more [] all = tt
@@ -59,10 +53,10 @@ module _ (t : ℤ) where
       go : (m.stamp ≤ℤ t) ⊎ (m.stamp ≤ℤ t → ⊥) → Latest ms t ⊎ NoneYet ms t → Latest (m ∷ ms) t ⊎ NoneYet (m ∷ ms) t
       go (inr no_more) (inl l) = inl (record { moment = l.moment; among = λ P all. l.among P all.1; before = l.before; least = (λ h. absurd (no_more h), l.least) })
       go (inr no_more) (inr n) = inr (no_more, n)
-      go (inl h) (inr n) = inl (record { moment = m; among = λ P all. all.0; before = h; least = (λ h. itself m.stamp, bounded m.stamp ms n) })
+      go (inl h) (inr n) = inl (record { moment = m; among = λ P all. all.0; before = h; least = (λ h. le_itself m.stamp, bounded m.stamp ms n) })
       go (inl h) (inl l) = elim (or_later m.stamp l.moment.stamp) [
         | inl less ↦ inl (record { moment = l.moment; among = λ P all. l.among P all.1; before = l.before; least = (λ h. less, l.least) })
-        | inr more ↦ inl (record { moment = m; among = λ P all. all.0; before = h; least = (λ h. itself m.stamp, raised l.moment.stamp m.stamp more ms l.least) })
+        | inr more ↦ inl (record { moment = m; among = λ P all. all.0; before = h; least = (λ h. le_itself m.stamp, raised l.moment.stamp m.stamp more ms l.least) })
       ]
 
   -- what holds of all stamps holds of one
@@ -85,7 +79,7 @@ module _ (t : ℤ) where
 
   early : (ms : List Moment) → are_in_time ms ≡ true → AllByRecursion (λ m. int_lt m.stamp (pos 4102444800000) ≡ true) ms
   early [] h = tt
-  early (m ∷ ms) h = let parts = both_of (int_lt m.stamp (pos 4102444800000)) (are_in_time ms) h in (parts.0, early ms parts.1)
+  early (m ∷ ms) h = let parts = and_parts (int_lt m.stamp (pos 4102444800000)) (are_in_time ms) h in (parts.0, early ms parts.1)
 
   gone_at_the_end : (since until : ℤ) → int_lt t (pos 4102444800000) ≡ false → (int_eq until (pos 4102444800000) ≡ true) ⊎ (int_lt until (pos 4102444800000) ≡ true) → (int_le since t && int_lt t until) ≡ false
   gone_at_the_end since until late (inl e) = grind (arith, ints)

@@ -1,9 +1,8 @@
 -- A history is lawful exactly where each part of what is asked of it holds at all moments.
 use Rattle.std.proofs.Common.{◌≡◌, ◌↔◌, Bool, true, false, not, ◌&&◌, ◌||◌, List, [], ◌∷◌, refl, sym, ap₂, ◌∙◌}
-use Rattle.std.proofs.lemmas.Bool.{false≢true}
+use Rattle.std.proofs.lemmas.Bool.{false≢true, and_from, and_parts, or_parts}
 use Rattle.std.proofs.lemmas.List.Elements.{All-from_recursion, recursion_from_All}
 use Rattle.std.specs.List.{All, AllByRecursion}
-use Rattle.land_core.proofs.Booleans.{both_of, or_false}
 use Rattle.land_core.specs.Soundness.{IsSound, has_bare_unit, has_broken_group, has_clash, has_crowded_unit, has_loose_grant, has_loose_mandate, has_loose_members, has_loose_mutation, has_loose_parcel, has_loose_rank, has_loose_rrr, has_reused_reference, has_unit_in_parts, has_unused_number, is_past_the_numbers}
 use Rattle.land_core.specs.declared.register.Register.{Register}
 use Rattle.land_core.specs.declared.soundness.Unsound.TheVariants.{Reference, Shares, Group, Bare, Crowded, Twice, Rank, Administrator, Reused, Memory}
@@ -12,7 +11,6 @@ use Rattle.land_tables_history.specs.Lawful.{IsLawful, IsLawfulAt, are_moments, 
 use Rattle.land_tables_history.specs.Standing.{standing}
 use Rattle.land_tables_history.specs.declared.history.History.{History}
 use Rattle.land_tables_history.specs.declared.moment.Moment.{Moment}
-use Rattle.land_tables_lawful.proofs.Booleans.{both}
 use Rattle.land_tables_lawful.specs.Conditions.{AreNumbersUsed, AreOnce, AreWhole, DoRefer, has_no_administrator}
 use Rattle.land_tables_lawful.specs.NamedUnits.{NamingsAgree}
 use Rattle.land_tables_lawful.specs.Never.{Never}
@@ -21,8 +19,8 @@ use Rattle.land_tables_lawful.specs.Never.{Never}
 
 pub two : {A B : Type 0} (a b : Bool) → (a ≡ true) ↔ A → (b ≡ true) ↔ B → ((a && b) ≡ true) ↔ (A × B)
 two a b p q = (
-  λ e. let parts = both_of a b e in (p.0 parts.0, q.0 parts.1),
-  λ it. both a b (p.1 it.0) (q.1 it.1),
+  λ e. let parts = and_parts a b e in (p.0 parts.0, q.0 parts.1),
+  λ it. and_from a b (p.1 it.0) (q.1 it.1),
 )
 
 pub five : {A B C D E : Type 0} (a b c d e : Bool) → (a ≡ true) ↔ A → (b ≡ true) ↔ B → (c ≡ true) ↔ C → (d ≡ true) ↔ D → (e ≡ true) ↔ E
@@ -71,13 +69,13 @@ sound r f Memory = refl
 
 free : (r : Register) → IsSound r → IsFree r
 free r s =
-    let h = or_false (is_past_the_numbers r || has_unused_number r || has_loose_grant r || has_loose_members r || has_loose_parcel r || has_loose_rrr r || has_loose_mutation r) (has_loose_mandate r) (s Reference) in
-    let g = or_false (is_past_the_numbers r || has_unused_number r || has_loose_grant r || has_loose_members r || has_loose_parcel r || has_loose_rrr r) (has_loose_mutation r) h.0 in
-    let f = or_false (is_past_the_numbers r || has_unused_number r || has_loose_grant r || has_loose_members r || has_loose_parcel r) (has_loose_rrr r) g.0 in
-    let e = or_false (is_past_the_numbers r || has_unused_number r || has_loose_grant r || has_loose_members r) (has_loose_parcel r) f.0 in
-    let d = or_false (is_past_the_numbers r || has_unused_number r || has_loose_grant r) (has_loose_members r) e.0 in
-    let c = or_false (is_past_the_numbers r || has_unused_number r) (has_loose_grant r) d.0 in
-    let b = or_false (is_past_the_numbers r) (has_unused_number r) c.0 in
+    let h = or_parts (is_past_the_numbers r || has_unused_number r || has_loose_grant r || has_loose_members r || has_loose_parcel r || has_loose_rrr r || has_loose_mutation r) (has_loose_mandate r) (s Reference) in
+    let g = or_parts (is_past_the_numbers r || has_unused_number r || has_loose_grant r || has_loose_members r || has_loose_parcel r || has_loose_rrr r) (has_loose_mutation r) h.0 in
+    let f = or_parts (is_past_the_numbers r || has_unused_number r || has_loose_grant r || has_loose_members r || has_loose_parcel r) (has_loose_rrr r) g.0 in
+    let e = or_parts (is_past_the_numbers r || has_unused_number r || has_loose_grant r || has_loose_members r) (has_loose_parcel r) f.0 in
+    let d = or_parts (is_past_the_numbers r || has_unused_number r || has_loose_grant r) (has_loose_members r) e.0 in
+    let c = or_parts (is_past_the_numbers r || has_unused_number r) (has_loose_grant r) d.0 in
+    let b = or_parts (is_past_the_numbers r) (has_unused_number r) c.0 in
     record {
       past = b.0;
       unused = b.1;

@@ -1,7 +1,6 @@
 -- Lemmas of what is asked of a history at all moments.
 pub mod Administrators
 pub mod BareUnits
-pub mod Booleans
 pub mod Counts
 pub mod Covers
 pub mod EntriesApart

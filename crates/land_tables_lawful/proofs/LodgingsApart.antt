@@ -1,7 +1,7 @@
 -- Mutations of one lodger and reference, over time.
 use Rattle.std.proofs.Common.{◌≡◌, ◌↔◌, ℕ, Bool, true, ◌&&◌, List, [], ◌∷◌, map as map_list, refl, sym, ap, ap₂, subst, ◌∙◌}
 use Rattle.std.specs.Prelude.{int_lt}
-use Rattle.std.proofs.lemmas.Cmp.{eq_by_cmp_equiv, nat_list_cmp_total}
+use Rattle.std.proofs.lemmas.Cmp.{eq_by_cmp_equiv, nat_list_cmp_total, nat_eq_equiv}
 use Rattle.std.proofs.lemmas.List.Folds.{list_all-map}
 use Rattle.std.proofs.lemmas.Map.Text.{is_eq-slice_cmp}
 use Rattle.std.specs.Borrow.{Bor}
@@ -10,19 +10,17 @@ use Rattle.std.specs.List.{list_all}
 use Rattle.std.specs.Ordering.{eq_by_cmp, nat_cmp, ordering_then}
 use Rattle.std.specs.Str.{bytes_eq}
 use Rattle.std.specs.declared.cmp.Ordering.{Ordering}
-use Rattle.land_core.proofs.Booleans.{both_of}
+use Rattle.std.proofs.lemmas.Bool.{and_from, and_parts}
 use Rattle.land_core.specs.Entries.{are_distinct}
 use Rattle.land_core.specs.Mutations.{share_a_reference}
 use Rattle.land_core.specs.Soundness.{has_reused_reference}
 use Rattle.land_core.specs.declared.mutation.MutationRecord.{MutationRecord}
 use Rattle.land_tables_history.proofs.Entered.{distinct-map, distinct_alike, same_numbers}
-use Rattle.land_tables_history.proofs.Keys.{number_turned}
 use Rattle.land_tables_history.proofs.Proper.{all_proper}
 use Rattle.land_tables_history.specs.Intervals.{has_intervals, is_interval, overlap}
 use Rattle.land_tables_history.specs.declared.history.History.{History}
 use Rattle.land_tables_history.specs.declared.moment.Moment.{Moment}
 use Rattle.land_tables_history.specs.declared.version.Version.{Version}
-use Rattle.land_tables_lawful.proofs.Booleans.{both}
 use Rattle.land_tables_lawful.proofs.Covers.{begun}
 use Rattle.land_tables_lawful.proofs.PairsApart.{never_pair}
 use Rattle.land_tables_lawful.proofs.VersionsApart.{apart_is_distinct, eq_then}
@@ -50,7 +48,7 @@ texts_turned : (a b : List ℕ) → bytes_eq a b ≡ bytes_eq b a
 texts_turned a b = sym (is_eq-slice_cmp a b) ∙ (eq_by_cmp_equiv nat_list_cmp_total).symm a b ∙ is_eq-slice_cmp b a
 
 sharing_turned : (a b : MutationRecord) → share_a_reference a b ≡ share_a_reference b a
-sharing_turned a b = ap₂ (λ x y. x && y) (number_turned a.lodger b.lodger) (texts_turned a.reference b.reference)
+sharing_turned a b = ap₂ (λ x y. x && y) (nat_eq_equiv.symm a.lodger b.lodger) (texts_turned a.reference b.reference)
 
 -- ---- spans
 
@@ -69,8 +67,8 @@ begun_all : (moments : List Moment) (vs : List (Version (ℕ × MutationRecord))
     → list_all (λ v. int_lt v.since v.until) vs ≡ true
 begun_all moments [] all = refl
 begun_all moments (v ∷ vs) all =
-    let parts = both_of (is_interval moments v) (list_all (is_interval moments) vs) all in
-    both (int_lt v.since v.until) (list_all (λ v. int_lt v.since v.until) vs) (begun moments v parts.0) (begun_all moments vs parts.1)
+    let parts = and_parts (is_interval moments v) (list_all (is_interval moments) vs) all in
+    and_from (int_lt v.since v.until) (list_all (λ v. int_lt v.since v.until) vs) (begun moments v parts.0) (begun_all moments vs parts.1)
 
 module _ (moments : List Moment) (h : History) (intervals : has_intervals moments h ≡ true) (spans : List (Span (ℕ × Bor (List ℕ))))
     (made : map_list shown spans ≡ map_list lodged h.mutations) where

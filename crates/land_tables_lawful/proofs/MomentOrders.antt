@@ -2,21 +2,22 @@
 use Rattle.std.proofs.Common.{◌≡◌, ℕ, Bool, true, false, not, ◌||◌, ◌&&◌, List, [], ◌∷◌, length, refl, sym, ap, ap₂, ◌∙◌, arith, IsPermutation}
 use Rattle.std.specs.Prelude.{ℤ, ◌≤ℤ◌, int_lt, nat_le, nat_lt}
 use Rattle.std.proofs.lemmas.Bool.Decides.{nat_tests}
-use Rattle.std.proofs.lemmas.Cmp.{on_total}
+use Rattle.std.proofs.lemmas.Cmp.{on_total, int_eq_equiv}
 use Rattle.std.proofs.lemmas.Int.{ints}
 use Rattle.std.proofs.lemmas.List.Sorted.{length_permutation}
 use Rattle.std.specs.Cmp.{IsTotalOrder, int_cmp_total}
 use Rattle.std.specs.List.{AllByRecursion, list_all, list_any}
 use Rattle.std.specs.List.Sorted.{IsSorted}
 use Rattle.std.specs.Ordering.{int_eq}
-use Rattle.land_core.proofs.Booleans.{both_of}
+use Rattle.std.proofs.lemmas.Bool.{and_from, and_parts}
+use Rattle.land_core.proofs.Booleans.{and_false}
 use Rattle.land_core.specs.Entries.{are_distinct}
 use Rattle.land_tables_history.proofs.Distinct.{distinct_permuted}
+use Rattle.land_tables_history.proofs.MomentOrder.{le_itself}
 use Rattle.land_tables_history.proofs.NamingTests.{all_alike}
 use Rattle.land_tables_history.proofs.Permutations.{all_permuted}
 use Rattle.land_tables_history.specs.Lawful.{are_moments, falls, is_same_stamp, never_falls}
 use Rattle.land_tables_history.specs.declared.moment.Moment.{Moment}
-use Rattle.land_tables_lawful.proofs.Booleans.{both}
 use Rattle.land_tables_lawful.specs.Chains.{goes_before, goes_on, goes_up, is_chain, stamp_cmp}
 use Rattle.land_tables_history.proofs.SweepOrders.{Rising, no_earlier, rising_in_order}
 
@@ -35,8 +36,8 @@ goes_far : (m n : Moment) → goes_before m n ≡ true → (ms : List Moment) �
     → list_all (goes_before m) ms ≡ true
 goes_far m n p [] h = refl
 goes_far m n p (x ∷ xs) h =
-    let parts = both_of (goes_before n x) (list_all (goes_before n) xs) h in
-    both (goes_before m x) (list_all (goes_before m) xs) (through m.stamp n.stamp x.stamp m.next n.next x.next p parts.0)
+    let parts = and_parts (goes_before n x) (list_all (goes_before n) xs) h in
+    and_from (goes_before m x) (list_all (goes_before m) xs) (through m.stamp n.stamp x.stamp m.next n.next x.next p parts.0)
     (goes_far m n p xs parts.1)
 
 first_tells : (m : Moment) (ms : List Moment) → all_go_up ms ≡ true → goes_on m ms ≡ list_all (goes_before m) ms
@@ -44,12 +45,8 @@ first_tells m [] h = refl
 first_tells m (n ∷ ns) h = go (goes_before m n) refl
   where
     go : (b : Bool) → goes_before m n ≡ b → b ≡ (b && list_all (goes_before m) ns)
-    go true e = sym (goes_far m n e ns (both_of (list_all (goes_before n) ns) (all_go_up ns) h).0)
+    go true e = sym (goes_far m n e ns (and_parts (list_all (goes_before n) ns) (all_go_up ns) h).0)
     go false e = refl
-
-and_false : (b : Bool) → (b && false) ≡ false
-and_false true = refl
-and_false false = refl
 
 pub neighbours : (ms : List Moment) → goes_up ms ≡ all_go_up ms
 neighbours [] = refl
@@ -76,9 +73,6 @@ pair_tells a b x y p = grind (arith, ints, nat_tests)
 none_back : (a b : ℤ) (q : Bool) → a ≤ℤ b → not (int_lt b a && q) ≡ true
 none_back a b q p = grind (arith, ints)
 
-itself : (a : ℤ) → a ≤ℤ a
-itself a = omega (arith, ints)
-
 head_tells : (m : Moment) (ms : List Moment) → AllByRecursion (NotLater m) ms
     → list_all (goes_before m) ms ≡ (not (list_any (is_same_stamp m) ms) && list_all (λ b. not (falls m b)) ms)
 head_tells m [] all = refl
@@ -102,7 +96,7 @@ earlier_too m ys (x ∷ xs) all =
 never_first : (m : Moment) (ms : List Moment) → AllByRecursion (NotLater m) ms
     → never_falls (m ∷ ms) ≡ (list_all (λ b. not (falls m b)) ms && never_falls ms)
 never_first m ms all =
-    ap₂ (λ a b. a && list_all (λ b. not (falls m b)) ms && b) (none_back m.stamp m.stamp (nat_lt m.next m.next) (itself m.stamp))
+    ap₂ (λ a b. a && list_all (λ b. not (falls m b)) ms && b) (none_back m.stamp m.stamp (nat_lt m.next m.next) (le_itself m.stamp))
     (earlier_too m ms ms all)
 
 pairs_tell : (ms : List Moment) → Rising NotLater ms → all_go_up ms ≡ (are_distinct is_same_stamp ms && never_falls ms)
@@ -117,14 +111,11 @@ pairs_tell (m ∷ ms) up =
 
 -- ---- in whatever order
 
-stamps_turned : (a b : ℤ) → int_eq a b ≡ int_eq b a
-stamps_turned a b = grind (arith, ints)
-
 same_moments : (moments sorted : List Moment) → IsPermutation moments sorted → are_moments sorted ≡ are_moments moments
 same_moments moments sorted p =
     ap₂ (λ a b. a && b)
     (ap₂ (λ n d. nat_lt 0 n && d) (length_permutation moments sorted p)
-    (distinct_permuted is_same_stamp (λ a b. stamps_turned a.stamp b.stamp) moments sorted p))
+    (distinct_permuted is_same_stamp (λ a b. int_eq_equiv.symm a.stamp b.stamp) moments sorted p))
     (all_permuted (λ a. list_all (λ b. not (falls a b)) sorted) moments sorted p
     ∙ all_alike (λ a. list_all (λ b. not (falls a b)) sorted) (λ a. list_all (λ b. not (falls a b)) moments)
     (λ a. all_permuted (λ b. not (falls a b)) moments sorted p) moments)
@@ -146,4 +137,4 @@ chained moments sorted p in_order =
 pub goes_up_in_order : (moments sorted : List Moment) → IsPermutation moments sorted → IsSorted stamp_cmp sorted
     → are_moments moments ≡ true → goes_up sorted ≡ true
 goes_up_in_order moments sorted p in_order are =
-    (both_of (nat_lt 0 (length sorted)) (goes_up sorted) (chained moments sorted p in_order ∙ are)).1
+    (and_parts (nat_lt 0 (length sorted)) (goes_up sorted) (chained moments sorted p in_order ∙ are)).1

@@ -1,12 +1,12 @@
 -- Namings that stand are those that mutations name, over time.
 use Rattle.std.proofs.Common.{◌≡◌, ◌↔◌, inl, inr, ◌==◌, ℕ, Bool, true, false, ◌&&◌, ◌||◌, List, [], ◌∷◌, map as map_list, refl, sym, ap, ap₂, subst, ◌∙◌, arith}
 use Rattle.std.specs.Prelude.{ℤ}
-use Rattle.std.proofs.lemmas.Bool.{false≢true}
+use Rattle.std.proofs.lemmas.Bool.{false≢true, and_from, and_parts, eqb-true, or_cases, or_left, or_right}
 use Rattle.std.proofs.lemmas.Bool.Decides.{nat_tests}
 use Rattle.std.proofs.lemmas.List.Elements.{All-from_recursion, recursion_from_All}
 use Rattle.std.specs.FinMap as map
 use Rattle.std.specs.List.{AllByRecursion, list_all, list_any}
-use Rattle.land_core.proofs.Booleans.{both_of}
+use Rattle.std.proofs.lemmas.Cmp.{nat_eq_equiv}
 use Rattle.land_core.specs.declared.mutation.MutationRecord.{MutationRecord}
 use Rattle.land_tables_history.proofs.NamingTests.{any_standing, named_by}
 use Rattle.land_tables_history.proofs.Proper.{AllProper, all_proper}
@@ -18,7 +18,6 @@ use Rattle.land_tables_history.specs.declared.history.History.{History}
 use Rattle.land_tables_history.specs.declared.moment.Moment.{Moment}
 use Rattle.land_tables_history.specs.declared.naming.Naming.{Naming}
 use Rattle.land_tables_history.specs.declared.version.Version.{Version}
-use Rattle.land_tables_lawful.proofs.Booleans.{both, itself, left, right, same_number, split_or}
 use Rattle.land_tables_lawful.proofs.Covers.{any_alike, some_by}
 use Rattle.land_tables_lawful.proofs.PairCovers.{AreAmong, any_flat, has_key, is_pair, pairs_covered_at_stamps, stood}
 use Rattle.land_tables_lawful.proofs.References.{both_true, by_way_of, side_by_side}
@@ -34,18 +33,18 @@ naming_of key = record { mutation = key.0; unit = key.1 }
 
 same_naming : (key : ℕ × ℕ) (n : Naming) → is_same_naming (naming_of key) n ≡ true → naming_of key ≡ n
 same_naming key n h =
-    let parts = both_of (key.0 == n.mutation) (key.1 == n.unit) h in
-    ap₂ (λ (m u : ℕ). naming_of (m, u)) (same_number key.0 n.mutation parts.0) (same_number key.1 n.unit parts.1)
+    let parts = and_parts (key.0 == n.mutation) (key.1 == n.unit) h in
+    ap₂ (λ (m u : ℕ). naming_of (m, u)) (eqb-true key.0 n.mutation parts.0) (eqb-true key.1 n.unit parts.1)
 
 naming_itself : (n : Naming) → is_same_naming n n ≡ true
-naming_itself n = both (n.mutation == n.mutation) (n.unit == n.unit) (itself n.mutation) (itself n.unit)
+naming_itself n = and_from (n.mutation == n.mutation) (n.unit == n.unit) (nat_eq_equiv.refl n.mutation) (nat_eq_equiv.refl n.unit)
 
 among_too : (xs ys : List Naming) → list_all (is_among ys) xs ≡ true
     → (key : ℕ × ℕ) → is_among xs (naming_of key) ≡ true → is_among ys (naming_of key) ≡ true
 among_too [] ys h key s = absurd (false≢true s)
 among_too (x ∷ xs) ys h key s =
-    let parts = both_of (is_among ys x) (list_all (is_among ys) xs) h in
-    elim (split_or (is_same_naming (naming_of key) x) (is_among xs (naming_of key)) s) [
+    let parts = and_parts (is_among ys x) (list_all (is_among ys) xs) h in
+    elim (or_cases (is_same_naming (naming_of key) x) (is_among xs (naming_of key)) s) [
       | inl here ↦ subst (λ (n : Naming). is_among ys n ≡ true) (sym (same_naming key x here)) parts.0
       | inr later ↦ among_too xs ys parts.1 key later
     ]
@@ -54,9 +53,9 @@ all_among : (xs ys : List Naming) → ((key : ℕ × ℕ) → is_among xs (namin
     → list_all (is_among ys) xs ≡ true
 all_among [] ys h = refl
 all_among (x ∷ xs) ys h =
-    both (is_among ys x) (list_all (is_among ys) xs)
-    (h (x.mutation, x.unit) (left (is_same_naming x x) (is_among xs x) (naming_itself x)))
-    (all_among xs ys (λ key s. h key (right (is_same_naming (naming_of key) x) (is_among xs (naming_of key)) s)))
+    and_from (is_among ys x) (list_all (is_among ys) xs)
+    (h (x.mutation, x.unit) (or_left (is_same_naming x x) (is_among xs x) (naming_itself x)))
+    (all_among xs ys (λ key s. h key (or_right (is_same_naming (naming_of key) x) (is_among xs (naming_of key)) s)))
 
 -- ---- what stands under a mutation and a unit
 
@@ -112,11 +111,11 @@ module _ (moments : List Moment) (h : History) (p : AllProper moments h) (in_tim
       let named = namings_of (part_at m.stamp h.mutations) in
       let of_naming = namings_under m.stamp h.namings in
       let of_mutation = mutations_under m.stamp h.mutations p.mutations.apart in (
-        λ h. both (list_all (is_among named) there) (list_all (is_among there) named)
+        λ h. and_from (list_all (is_among named) there) (list_all (is_among there) named)
             (all_among there named (λ key s. of_mutation key ∙ h.0 key (sym (of_naming key) ∙ s)))
             (all_among named there (λ key s. of_naming key ∙ h.1 key (sym (of_mutation key) ∙ s))),
         λ same.
-            let parts = both_of (list_all (is_among named) there) (list_all (is_among there) named) same in (
+            let parts = and_parts (list_all (is_among named) there) (list_all (is_among there) named) same in (
               λ key s. sym (of_mutation key) ∙ among_too there named parts.0 key (of_naming key ∙ s),
               λ key s. sym (of_naming key) ∙ among_too named there parts.1 key (of_mutation key ∙ s),
             ),

@@ -8,7 +8,7 @@ use Rattle.std.specs.List.{HoldsAt, list_all}
 use Rattle.std.specs.List.Sorted.{IsNonDecreasingBy, IsPartitionPoint, IsSorted}
 use Rattle.std.specs.Ordering.{int_cmp, int_eq, ordering_index}
 use Rattle.std.specs.declared.cmp.Ordering.TheVariants.{Less, Equal, Greater}
-use Rattle.land_core.proofs.Booleans.{both_of}
+use Rattle.std.proofs.lemmas.Bool.{and_parts}
 use Rattle.land_tables_history.specs.declared.moment.Moment.{Moment}
 use Rattle.land_tables_lawful.proofs.MomentOrders.{all_go_up, neighbours}
 use Rattle.land_tables_lawful.specs.Chains.{goes_before, goes_up, stamp_cmp}
@@ -31,8 +31,8 @@ earlier a b t x y p e = grind (arith, ints)
 
 all_at : {X : Type 0} (p : X → Bool) (xs : List X) (i : ℕ) (d : X) → list_all p xs ≡ true → i < length xs → p (get_or xs i d) ≡ true
 all_at p [] i d all less = absurd (omega (arith, less))
-all_at p (x ∷ xs) zero d all less = (both_of (p x) (list_all p xs) all).0
-all_at p (x ∷ xs) (suc i) d all less = all_at p xs i d (both_of (p x) (list_all p xs) all).1 (omega (arith, less))
+all_at p (x ∷ xs) zero d all less = (and_parts (p x) (list_all p xs) all).0
+all_at p (x ∷ xs) (suc i) d all less = all_at p xs i d (and_parts (p x) (list_all p xs) all).1 (omega (arith, less))
 
 -- where one is found, no other has its stamp
 next_at_place : (ms : List Moment) (t : ℤ) (i : ℕ) (d : Moment) → all_go_up ms ≡ true → i < length ms
@@ -40,7 +40,7 @@ next_at_place : (ms : List Moment) (t : ℤ) (i : ℕ) (d : Moment) → all_go_u
 next_at_place [] t i d up less e = absurd (omega (arith, less))
 next_at_place (m ∷ ms) t zero d up less e = ap (λ b. if b then m.next else next_since ms t) e
 next_at_place (m ∷ ms) t (suc i) d up less e =
-    let parts = both_of (list_all (goes_before m) ms) (all_go_up ms) up in
+    let parts = and_parts (list_all (goes_before m) ms) (all_go_up ms) up in
     let rest : i < length ms = omega (arith, less) in
     ap (λ b. if b then m.next else next_since ms t)
     (earlier m.stamp (get_or ms i d).stamp t m.next (get_or ms i d).next (all_at (goes_before m) ms i d parts.0 rest) e)

@@ -3,13 +3,13 @@ use Rattle.std.proofs.Common.{◌≡◌, ◌↔◌, ◌⊎◌, inl, inr, ◌==�
 use Rattle.std.specs.Prelude.{ℤ, int_le, int_lt}
 use Rattle.std.proofs.lemmas.List.Folds.{list_all-append, list_any-append}
 use Rattle.std.specs.List.{AllByRecursion, list_all, list_any}
-use Rattle.land_core.proofs.Booleans.{both_of}
+use Rattle.std.proofs.lemmas.Bool.{and_from, and_parts}
+use Rattle.land_core.proofs.Booleans.{conflict, or_nothing}
 use Rattle.land_core.proofs.Reflection.{list_any-map}
 use Rattle.land_tables_history.specs.Intervals.{is_interval}
 use Rattle.land_tables_history.specs.Standing.{stands}
 use Rattle.land_tables_history.specs.declared.moment.Moment.{Moment}
 use Rattle.land_tables_history.specs.declared.version.Version.{Version}
-use Rattle.land_tables_lawful.proofs.Booleans.{both, conflict}
 use Rattle.land_tables_lawful.proofs.Covers.{begun}
 use Rattle.land_tables_lawful.proofs.Latest.{Empty, Matched, matched}
 use Rattle.land_tables_lawful.specs.KeyPairs.{pair_at, paired, pairs}
@@ -42,10 +42,6 @@ any_flat p f (x ∷ xs) = list_any-append p (f x) (flat_map f xs) ∙ ap (λ b. 
 and_nothing : (q : Bool) → false ≡ (q && false)
 and_nothing true = refl
 and_nothing false = refl
-
-or_nothing : (q : Bool) → (q || false) ≡ q
-or_nothing true = refl
-or_nothing false = refl
 
 nothing_stands : (c s : Bool) → false ≡ (c && (s && false))
 nothing_stands true true = refl
@@ -112,7 +108,7 @@ stood_same : {X : Type 0} (moments : List Moment) (passes : X → Bool) (t s : �
     → (vs : List (Version X)) → list_all (is_interval moments) vs ≡ true → stood passes vs t ≡ stood passes vs s
 stood_same moments passes t s same [] h = refl
 stood_same moments passes t s same (v ∷ vs) h =
-    let parts = both_of (is_interval moments v) (list_all (is_interval moments) vs) h in
+    let parts = and_parts (is_interval moments v) (list_all (is_interval moments) vs) h in
     ap₂ (λ b c. b && passes v.what || c) (same v parts.0) (stood_same moments passes t s same vs parts.1)
 
 stood_never : {X : Type 0} (moments : List Moment) (passes : X → Bool) (t : ℤ)
@@ -120,7 +116,7 @@ stood_never : {X : Type 0} (moments : List Moment) (passes : X → Bool) (t : �
     → (vs : List (Version X)) → list_all (is_interval moments) vs ≡ true → stood passes vs t ≡ false
 stood_never moments passes t none [] h = refl
 stood_never moments passes t none (v ∷ vs) h =
-    let parts = both_of (is_interval moments v) (list_all (is_interval moments) vs) h in
+    let parts = and_parts (is_interval moments v) (list_all (is_interval moments) vs) h in
     ap₂ (λ b c. b && passes v.what || c) (none v parts.0) (stood_never moments passes t none vs parts.1)
 
 -- what stands of one kind at each stamp whenever something of another does stands always: for tests of whatever they look for
@@ -168,7 +164,7 @@ all_begin : (asked : Bool) (since until : ℤ) → int_lt since until ≡ true �
     → list_all (λ x. int_lt x.since x.until) (map_list (λ k. pair_at asked k.0 k.1 since until) ks) ≡ true
 all_begin asked since until h [] = refl
 all_begin asked since until h (k ∷ ks) =
-    both (int_lt since until) (list_all (λ x. int_lt x.since x.until) (map_list (λ k. pair_at asked k.0 k.1 since until) ks)) h
+    and_from (int_lt since until) (list_all (λ x. int_lt x.since x.until) (map_list (λ k. pair_at asked k.0 k.1 since until) ks)) h
     (all_begin asked since until h ks)
 
 paired_begin : {X : Type 0} (moments : List Moment) (asked : Bool) (keys : X → List (ℕ × ℕ)) (vs : List (Version X))
@@ -176,9 +172,9 @@ paired_begin : {X : Type 0} (moments : List Moment) (asked : Bool) (keys : X →
     → list_all (λ x. int_lt x.since x.until) (flat_map (paired asked keys) vs) ≡ true
 paired_begin moments asked keys [] h = refl
 paired_begin moments asked keys (v ∷ vs) h =
-    let parts = both_of (is_interval moments v) (list_all (is_interval moments) vs) h in
+    let parts = and_parts (is_interval moments v) (list_all (is_interval moments) vs) h in
     list_all-append (λ x. int_lt x.since x.until) (paired asked keys v) (flat_map (paired asked keys) vs)
-    ∙ both (list_all (λ x. int_lt x.since x.until) (paired asked keys v))
+    ∙ and_from (list_all (λ x. int_lt x.since x.until) (paired asked keys v))
     (list_all (λ x. int_lt x.since x.until) (flat_map (paired asked keys) vs))
     (all_begin asked v.since v.until (begun moments v parts.0) (keys v.what)) (paired_begin moments asked keys vs parts.1)
 
@@ -188,6 +184,6 @@ pub pairs_begin : {X Y : Type 0} (moments : List Moment) (offered : X → List (
     → list_all (λ x. int_lt x.since x.until) (pairs offered xs asked ys) ≡ true
 pairs_begin moments offered xs asked ys p q =
     list_all-append (λ x. int_lt x.since x.until) (flat_map (paired false offered) xs) (flat_map (paired true asked) ys)
-    ∙ both (list_all (λ x. int_lt x.since x.until) (flat_map (paired false offered) xs))
+    ∙ and_from (list_all (λ x. int_lt x.since x.until) (flat_map (paired false offered) xs))
     (list_all (λ x. int_lt x.since x.until) (flat_map (paired true asked) ys))
     (paired_begin moments false offered xs p) (paired_begin moments true asked ys q)

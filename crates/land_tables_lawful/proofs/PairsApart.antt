@@ -6,7 +6,8 @@ use Rattle.std.proofs.lemmas.List.Elements.{All-from_recursion, recursion_from_A
 use Rattle.std.proofs.lemmas.List.Sorted.{list_any-IsPermutation}
 use Rattle.std.specs.FinMap as map
 use Rattle.std.specs.List.{All, AllByRecursion, list_all, list_any}
-use Rattle.land_core.proofs.Booleans.{both_of, not_false, not_true, or_false}
+use Rattle.std.proofs.lemmas.Bool.{and_parts, not-false, not-true, or_parts}
+use Rattle.land_core.proofs.Booleans.{or_four}
 use Rattle.land_core.specs.Entries.{are_distinct}
 use Rattle.land_tables_history.proofs.Distinct.{distinct_standing}
 use Rattle.land_tables_history.proofs.Entered.{made_part}
@@ -19,10 +20,7 @@ use Rattle.land_tables_lawful.proofs.StampsApart.{apart_at_stamps}
 
 either : {A : Type 0} (p q : A → Bool) (xs : List A) → list_any (λ x. p x || q x) xs ≡ (list_any p xs || list_any q xs)
 either p q [] = refl
-either p q (x ∷ xs) = ap (λ c. (p x || q x) || c) (either p q xs) ∙ mixed (p x) (q x) (list_any p xs) (list_any q xs)
-  where
-    mixed : (a b c d : Bool) → ((a || b) || (c || d)) ≡ ((a || c) || (b || d))
-    mixed a b c d = grind arith
+either p q (x ∷ xs) = ap (λ c. (p x || q x) || c) (either p q xs) ∙ or_four (p x) (q x) (list_any p xs) (list_any q xs)
 
 not_before : (a : ℕ) → nat_lt a a ≡ false
 not_before a = grind (arith, nat_tests)
@@ -57,18 +55,18 @@ module _ {V : Type 0} (clash : V → V → Bool) (flips : (a b : V) → clash a 
           → list_any (λ e. later_clash x e || later_clash e x) ys ≡ list_any (do_clash x) ys
       go [] h = refl
       go (y ∷ ys) h =
-          let parts = or_false (is_same_number x y) (list_any (is_same_number x) ys) h in
+          let parts = or_parts (is_same_number x y) (list_any (is_same_number x) ys) h in
           ap₂ (λ b c. b || c) (ap (λ c. (nat_lt x.0 y.0 && clash x.1 y.1) || (nat_lt y.0 x.0 && c)) (flips y.1 x.1) ∙ one_way x.0 y.0
           (clash x.1 y.1) parts.0) (go ys parts.1)
 
   pairs_are : (es : List (ℕ × V)) → are_distinct is_same_number es ≡ true → any_pair es ≡ not (are_distinct do_clash es)
   pairs_are [] once = refl
   pairs_are (x ∷ xs) once =
-      let parts = both_of (not (list_any (is_same_number x) xs)) (are_distinct is_same_number xs) once in
+      let parts = and_parts (not (list_any (is_same_number x) xs)) (are_distinct is_same_number xs) once in
       ap₂ (λ b c. b || c) (ap (λ c. c && clash x.1 x.1 || list_any (later_clash x) xs) (not_before x.0))
       (either (λ e. later_clash e x) (λ e. list_any (later_clash e) xs) xs)
       ∙ regrouped (list_any (later_clash x) xs) (list_any (λ e. later_clash e x) xs) (any_pair xs)
-      ∙ ap₂ (λ b c. b || c) (against x xs (not_true (list_any (is_same_number x) xs) parts.0)) (pairs_are xs parts.1)
+      ∙ ap₂ (λ b c. b || c) (against x xs (not-true (list_any (is_same_number x) xs) parts.0)) (pairs_are xs parts.1)
       ∙ turned (list_any (do_clash x) xs) (are_distinct do_clash xs)
     where
       regrouped : (a b c : Bool) → (a || (b || c)) ≡ ((a || b) || c)
@@ -99,7 +97,7 @@ module _ {V : Type 0} (clash : V → V → Bool) (flips : (a b : V) → clash a 
 
     back : (ms : List Moment) → AllByRecursion NoPair ms → AllByRecursion Distinct ms
     back [] all = tt
-    back (m ∷ ms) all = (not_false (are_distinct do_clash (standing m.stamp vs)) (sym (at_stamp m) ∙ all.0), back ms all.1)
+    back (m ∷ ms) all = (not-false (are_distinct do_clash (standing m.stamp vs)) (sym (at_stamp m) ∙ all.0), back ms all.1)
 
     pub never_pair : (moments : List Moment) → list_all (is_interval moments) vs ≡ true
         → (are_distinct (overlap do_clash) vs ≡ true) ↔ All (λ m. any_pair (map.entries (part_at m.stamp vs)) ≡ false) moments

@@ -7,14 +7,14 @@ use Rattle.std.specs.FinMap.{FinMap, nat_cmp-IsAntisymmetric}
 use Rattle.std.specs.List.{list_all, list_any}
 use Rattle.std.specs.Option.{option_map_or}
 use Rattle.std.specs.Ordering.{nat_cmp}
-use Rattle.land_core.proofs.Booleans.{both_of}
+use Rattle.std.proofs.lemmas.Bool.{and_from, and_parts, eqb-true}
+use Rattle.std.proofs.lemmas.Cmp.{nat_eq_equiv}
 use Rattle.land_core.proofs.FiniteMaps.{none_is_not_some}
 use Rattle.land_core.proofs.Reflection.{none_passes, some_at}
 use Rattle.land_tables_history.specs.Intervals.{AreApart, is_interval, is_same_number}
 use Rattle.land_tables_history.specs.Standing.{part_at, stands}
 use Rattle.land_tables_history.specs.declared.moment.Moment.{Moment}
 use Rattle.land_tables_history.specs.declared.version.Version.{Version}
-use Rattle.land_tables_lawful.proofs.Booleans.{both, itself, same_number}
 use Rattle.land_tables_lawful.proofs.Covers.{some_by, stood_by}
 
 -- ---- what passes a test, among what stands
@@ -41,12 +41,12 @@ pub intervals_among : {X : Type 0} (moments : List Moment) (p : Version X → Bo
     → list_all (is_interval moments) vs ≡ true → list_all (is_interval moments) (filter p vs) ≡ true
 intervals_among moments p [] h = refl
 intervals_among moments p (v ∷ vs) h =
-    let parts = both_of (is_interval moments v) (list_all (is_interval moments) vs) h in
+    let parts = and_parts (is_interval moments v) (list_all (is_interval moments) vs) h in
     go (p v) parts.0 (intervals_among moments p vs parts.1)
   where
     go : (b : Bool) → is_interval moments v ≡ true → list_all (is_interval moments) (filter p vs) ≡ true
         → list_all (is_interval moments) (cond b (v ∷ filter p vs) (filter p vs)) ≡ true
-    go true here rest = both (is_interval moments v) (list_all (is_interval moments) (filter p vs)) here rest
+    go true here rest = and_from (is_interval moments v) (list_all (is_interval moments) (filter p vs)) here rest
     go false here rest = rest
 
 unless : (a b : Bool) → (a ≡ true → b ≡ false) → (a && b) ≡ false
@@ -62,11 +62,11 @@ passes_by : {V : Type 0} (q : V → Bool) (m : FinMap nat_cmp V) (n : ℕ)
 passes_by {V} q m n = go (map.get m n) refl
   where
     at : (k : ℕ) (w : V) → map.get m k ≡ Some w → (k == n) ≡ true → map.get m n ≡ Some w
-    at k w there same = subst (λ (j : ℕ). map.get m j ≡ Some w) (same_number k n same) there
+    at k w there same = subst (λ (j : ℕ). map.get m j ≡ Some w) (eqb-true k n same) there
 
     some : (v : V) → map.get m n ≡ Some v → (b : Bool) → q v ≡ b → b ≡ list_any (λ e. (e.0 == n) && q e.1) (map.entries m)
     some v is true e =
-        sym (some_at nat_cmp_total nat_cmp-IsAntisymmetric (λ k w. (k == n) && q w) m n v is (both (n == n) (q v) (itself n) e))
+        sym (some_at nat_cmp_total nat_cmp-IsAntisymmetric (λ k w. (k == n) && q w) m n v is (and_from (n == n) (q v) (nat_eq_equiv.refl n) e))
     some v is false e =
         sym (none_passes nat_cmp_total nat_cmp-IsAntisymmetric (λ k w. (k == n) && q w) m
         (λ k w there. unless (k == n) (q w) (λ same. ap q (one_value v w (sym is ∙ at k w there same)) ∙ e)))

@@ -1,13 +1,13 @@
 -- What versions refer to stands at each stamp where they stand, and so at each moment.
 use Rattle.std.proofs.Common.{◌≡◌, ◌↔◌, inl, inr, ◌==◌, ℕ, Bool, true, false, not, ◌&&◌, ◌||◌, List, [], ◌∷◌, refl, sym, ap, ap₂, subst, ◌∙◌, arith}
 use Rattle.std.specs.Prelude.{ℤ, int_le, int_lt}
-use Rattle.std.proofs.lemmas.Bool.{false≢true}
+use Rattle.std.proofs.lemmas.Bool.{false≢true, and_from, and_parts, eqb-true, or_cases, or_left, or_parts, or_right}
 use Rattle.std.proofs.lemmas.Bool.Decides.{Decides-int_eq}
 use Rattle.std.proofs.lemmas.Int.{ints}
 use Rattle.std.proofs.lemmas.List.Elements.{All-from_recursion, recursion_from_All}
 use Rattle.std.specs.FinMap as map
 use Rattle.std.specs.List.{AllByRecursion, list_all, list_any}
-use Rattle.land_core.proofs.Booleans.{both_of, or_false}
+use Rattle.std.proofs.lemmas.Cmp.{nat_eq_equiv}
 use Rattle.land_core.specs.declared.register.Register.{Register}
 use Rattle.land_tables_history.specs.History.{register_at}
 use Rattle.land_tables_history.specs.Intervals.{AreApart, is_interval, is_same_number}
@@ -15,7 +15,6 @@ use Rattle.land_tables_history.specs.Standing.{part_at, stands}
 use Rattle.land_tables_history.specs.declared.history.History.{History}
 use Rattle.land_tables_history.specs.declared.moment.Moment.{Moment}
 use Rattle.land_tables_history.specs.declared.version.Version.{Version}
-use Rattle.land_tables_lawful.proofs.Booleans.{both, itself, left, right, same_number, split_or}
 use Rattle.land_tables_lawful.proofs.Covers.{any_alike, at_all_moments, begun, covered_iff, some_by, stood_by}
 use Rattle.land_tables_lawful.proofs.Latest.{at_stamp, ends_of}
 use Rattle.land_tables_lawful.specs.Never.{Never}
@@ -82,7 +81,7 @@ module _ {Y : Type 0} (p q : ℤ → Y → Bool) where
       let rest = both_pass ys ms in (
         λ h. (one_or_other m.stamp ys ∙ ap₂ (λ a b. a || b) h.0.0 h.1.0, rest.0 (h.0.1, h.1.1)),
         λ h.
-            let here = or_false (fails p ys m.stamp) (fails q ys m.stamp) (sym (one_or_other m.stamp ys) ∙ h.0) in
+            let here = or_parts (fails p ys m.stamp) (fails q ys m.stamp) (sym (one_or_other m.stamp ys) ∙ h.0) in
             let later = rest.1 h.1 in ((here.0, later.0), (here.1, later.1)),
       )
 
@@ -97,10 +96,10 @@ module _ {X Y : Type 0} (offered : X → ℕ) (xs : List (Version X)) (asked : Y
       → (a : ℕ) → stood_by asked vs a t ≡ true → stood_by offered xs a t ≡ true
   asked_are_there t [] h a s = absurd (false≢true s)
   asked_are_there t (v ∷ vs) h a s =
-      let parts = or_false (stands t v && not (is_there t v.what)) (fails is_there vs t) h in
-      elim (split_or (stands t v && (asked v.what == a)) (stood_by asked vs a t) s) [
-        | inl here ↦ let it = both_of (stands t v) (asked v.what == a) here in
-            subst (λ (n : ℕ). stood_by offered xs n t ≡ true) (same_number (asked v.what) a it.1)
+      let parts = or_parts (stands t v && not (is_there t v.what)) (fails is_there vs t) h in
+      elim (or_cases (stands t v && (asked v.what == a)) (stood_by asked vs a t) s) [
+        | inl here ↦ let it = and_parts (stands t v) (asked v.what == a) here in
+            subst (λ (n : ℕ). stood_by offered xs n t ≡ true) (eqb-true (asked v.what) a it.1)
             (passed (stands t v) (is_there t v.what) parts.0 it.0)
         | inr later ↦ asked_are_there t vs parts.1 a later
       ]
@@ -110,13 +109,13 @@ module _ {X Y : Type 0} (offered : X → ℕ) (xs : List (Version X)) (asked : Y
   none_fails t [] h = refl
   none_fails t (v ∷ vs) h =
       ap₂ (λ b c. b || c) (go (stands t v) refl)
-      (none_fails t vs (λ a s. h a (right (stands t v && (asked v.what == a)) (stood_by asked vs a t) s)))
+      (none_fails t vs (λ a s. h a (or_right (stands t v && (asked v.what == a)) (stood_by asked vs a t) s)))
     where
       go : (b : Bool) → stands t v ≡ b → (b && not (is_there t v.what)) ≡ false
       go false e = refl
       go true e =
           let a = asked v.what in
-          ap not (h a (left (stands t v && (asked v.what == a)) (stood_by asked vs a t) (both (stands t v) (asked v.what == a) e (itself a))))
+          ap not (h a (or_left (stands t v && (asked v.what == a)) (stood_by asked vs a t) (and_from (stands t v) (asked v.what == a) e (nat_eq_equiv.refl a))))
 
   -- what is asked for is offered at all moments where it stands at the stamps
   pub covered_at_stamps : (moments : List Moment) → are_in_time moments ≡ true → (ys : List (Version Y))
@@ -152,7 +151,7 @@ module _ {Y : Type 0} (test : Y → Bool) where
   none_fails_alone : (t : ℤ) (vs : List (Version Y)) → list_all (λ v. test v.what) vs ≡ true → fails alone vs t ≡ false
   none_fails_alone t [] h = refl
   none_fails_alone t (v ∷ vs) h =
-      let parts = both_of (test v.what) (list_all (λ w. test w.what) vs) h in
+      let parts = and_parts (test v.what) (list_all (λ w. test w.what) vs) h in
       ap₂ (λ b c. b || c) (fine (stands t v) (test v.what) parts.0) (none_fails_alone t vs parts.1)
 
   -- each version that stands somewhere stands at a stamp, where it begins
@@ -166,20 +165,20 @@ module _ {Y : Type 0} (test : Y → Bool) where
 
       later : (v : Version Y) (vs : List (Version Y)) (ms : List Moment) → NeverFails alone (v ∷ vs) ms → NeverFails alone vs ms
       later v vs [] never = tt
-      later v vs (m ∷ ms) never = ((or_false (stands m.stamp v && not (test v.what)) (fails alone vs m.stamp) never.0).1, later v vs ms never.1)
+      later v vs (m ∷ ms) never = ((or_parts (stands m.stamp v && not (test v.what)) (fails alone vs m.stamp) never.0).1, later v vs ms never.1)
 
       back : (vs : List (Version Y)) → list_all (is_interval moments) vs ≡ true → NeverFails alone vs moments
           → list_all (λ v. test v.what) vs ≡ true
       back [] p never = refl
       back (v ∷ vs) p never =
-          let parts = both_of (is_interval moments v) (list_all (is_interval moments) vs) p in
+          let parts = and_parts (is_interval moments v) (list_all (is_interval moments) vs) p in
           let at_first : fails alone (v ∷ vs) v.since ≡ false =
           at_stamp v.since (λ s. fails alone (v ∷ vs) s ≡ false) v.since
           (λ s e h. subst (λ (u : ℤ). fails alone (v ∷ vs) u ≡ false) ((Decides-int_eq s v.since).0 e) h)
           moments (ends_of moments v parts.0).begins never in
-          both (test v.what) (list_all (λ w. test w.what) vs)
+          and_from (test v.what) (list_all (λ w. test w.what) vs)
           (passed (stands v.since v) (test v.what)
-          (or_false (stands v.since v && not (test v.what)) (fails alone vs v.since) at_first).0 (at_its_beginning v.since v.until (begun moments v parts.0)))
+          (or_parts (stands v.since v && not (test v.what)) (fails alone vs v.since) at_first).0 (at_its_beginning v.since v.until (begun moments v parts.0)))
           (back vs parts.1 (later v vs moments never))
 
 -- ---- answers
@@ -192,4 +191,4 @@ pub side_by_side : {A B C D : Type 0} → A ↔ B → C ↔ D → (A × C) ↔ (
 side_by_side p q = (λ h. (p.0 h.0, q.0 h.1), λ h. (p.1 h.0, q.1 h.1))
 
 pub both_true : (a b : Bool) → ((a && b) ≡ true) ↔ ((a ≡ true) × (b ≡ true))
-both_true a b = (λ h. both_of a b h, λ h. both a b h.0 h.1)
+both_true a b = (λ h. and_parts a b h, λ h. and_from a b h.0 h.1)

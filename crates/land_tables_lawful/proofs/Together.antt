@@ -1,14 +1,14 @@
 -- What stands together under a key, at each moment and at each stamp.
 use Rattle.std.proofs.Common.{◌≡◌, ◌↔◌, ◌⊎◌, inl, inr, ℕ, ◌==◌, Bool, true, false, cond, not, ◌&&◌, ◌||◌, List, [], ◌∷◌, ◌++◌, Option, Some, None, filter, map as map_list, refl, sym, ap, ap₂, ◌∙◌, subst, arith}
 use Rattle.std.specs.Prelude.{ℤ, int_le, int_lt, nat_eq}
-use Rattle.std.proofs.lemmas.Bool.{false≢true}
+use Rattle.std.proofs.lemmas.Bool.{false≢true, and_from, and_parts, eqb-true, or_parts}
 use Rattle.std.proofs.lemmas.List.{map-append}
 use Rattle.std.proofs.lemmas.List.Elements.{All-from_recursion, filter-append, recursion_from_All}
 use Rattle.std.proofs.lemmas.List.Folds.{list_all-append}
 use Rattle.std.proofs.lemmas.List.Sorted.{list_any-IsPermutation}
 use Rattle.std.specs.FinMap as map
 use Rattle.std.specs.List.{AllByRecursion, cons_option, filter_map, list_all, list_any}
-use Rattle.land_core.proofs.Booleans.{both_of, or_false}
+use Rattle.std.proofs.lemmas.Cmp.{nat_eq_equiv}
 use Rattle.land_core.specs.ByUnit.{placed}
 use Rattle.land_core.specs.declared.register.Register.{Register}
 use Rattle.land_tables_history.proofs.Distinct.{distinct_standing}
@@ -22,7 +22,6 @@ use Rattle.land_tables_history.specs.declared.version.Version.{Version}
 use Rattle.land_tables_lawful.specs.Lived.{all_lived, lived_by, what_stands, where_marked}
 use Rattle.land_tables_lawful.specs.Never.{Never}
 use Rattle.land_tables_lawful.specs.Pieces.{are_in_time}
-use Rattle.land_tables_lawful.proofs.Booleans.{both, itself, same_number}
 use Rattle.land_tables_lawful.proofs.Latest.{Empty, Matched, matched}
 use Rattle.land_tables_history.specs.Sweeps.Sweep.{AreSound, is_at, standing}
 use Rattle.land_tables_history.specs.declared.sweeps.sweep.Lived.{Lived}
@@ -50,7 +49,7 @@ module _ {T : Type 0} where
       → (xs : List (Lived T)) → AreLives moments xs → filter (is_at key t) xs ≡ filter (is_at key s) xs
   same_there moments key s t same [] all = refl
   same_there moments key s t same (x ∷ xs) all =
-      let parts = both_of (is_life moments x) (list_all (is_life moments) xs) all in
+      let parts = and_parts (is_life moments x) (list_all (is_life moments) xs) all in
       ap₂ (λ b l. cond b (x ∷ l) l)
       (by_key key t x ∙ ap (λ b. b && (x.key == key)) (same (version_of x) parts.0) ∙ sym (by_key key s x))
       (same_there moments key s t same xs parts.1)
@@ -59,7 +58,7 @@ module _ {T : Type 0} where
       → (xs : List (Lived T)) → AreLives moments xs → filter (is_at key t) xs ≡ []
   none_there moments key t none [] all = refl
   none_there moments key t none (x ∷ xs) all =
-      let parts = both_of (is_life moments x) (list_all (is_life moments) xs) all in
+      let parts = and_parts (is_life moments x) (list_all (is_life moments) xs) all in
       ap (λ b. cond b (x ∷ filter (is_at key t) xs) (filter (is_at key t) xs))
       (by_key key t x ∙ ap (λ b. b && (x.key == key)) (none (version_of x) parts.0))
       ∙ none_there moments key t none xs parts.1
@@ -85,7 +84,7 @@ module _ {T : Type 0} where
   pub lives-append : (moments : List Moment) (xs ys : List (Lived T)) → AreLives moments xs → AreLives moments ys
       → AreLives moments (xs ++ ys)
   lives-append moments xs ys p q =
-      list_all-append (is_life moments) xs ys ∙ both (list_all (is_life moments) xs) (list_all (is_life moments) ys) p q
+      list_all-append (is_life moments) xs ys ∙ and_from (list_all (is_life moments) xs) (list_all (is_life moments) ys) p q
 
 -- ---- what versions stand for
 
@@ -94,8 +93,8 @@ module _ {X T : Type 0} (key : X → ℕ) (what : X → T) where
       → AreLives moments (all_lived key what vs)
   all_live moments [] all = refl
   all_live moments (v ∷ vs) all =
-      let parts = both_of (is_interval moments v) (list_all (is_interval moments) vs) all in
-      both (is_interval moments v) (list_all (is_life moments) (all_lived key what vs)) parts.0 (all_live moments vs parts.1)
+      let parts = and_parts (is_interval moments v) (list_all (is_interval moments) vs) all in
+      and_from (is_interval moments v) (list_all (is_life moments) (all_lived key what vs)) parts.0 (all_live moments vs parts.1)
 
   module _ (n : ℕ) where
     -- what records stand for under a number, and one of them in front of it
@@ -177,7 +176,7 @@ module _ {V : Type 0} (c : V → Bool) (W : ℕ → Bool) where
   none_at_fault : (es : List (ℕ × V)) → ((n : ℕ) → (not (is_marked c n es) || W n) ≡ true) → list_any (is_at_fault c W) es ≡ false
   none_at_fault [] all = refl
   none_at_fault (e ∷ es) all =
-      ap₂ (λ a b. a || b) (one (nat_eq e.0 e.0) (c e.1) (W e.0) (is_marked c e.0 es) (itself e.0) (all e.0))
+      ap₂ (λ a b. a || b) (one (nat_eq e.0 e.0) (c e.1) (W e.0) (is_marked c e.0 es) (nat_eq_equiv.refl e.0) (all e.0))
       (none_at_fault es (λ n. fewer (nat_eq e.0 n && c e.1) (is_marked c n es) (W n) (all n)))
     where
       one : (b c w r : Bool) → b ≡ true → (not (b && c || r) || w) ≡ true → (c && not w) ≡ false
@@ -191,14 +190,14 @@ module _ {V : Type 0} (c : V → Bool) (W : ℕ → Bool) where
   each_passes (e ∷ es) none n = go (nat_eq e.0 n) refl (each_passes es parts.1 n)
     where
       parts : (is_at_fault c W e ≡ false) × (list_any (is_at_fault c W) es ≡ false)
-      parts = or_false (is_at_fault c W e) (list_any (is_at_fault c W) es) none
+      parts = or_parts (is_at_fault c W e) (list_any (is_at_fault c W) es) none
 
       with_it : (c w r : Bool) → (c && not w) ≡ false → (not r || w) ≡ true → (not (c || r) || w) ≡ true
       with_it c w r none h = grind arith
 
       go : (b : Bool) → nat_eq e.0 n ≡ b → (not (is_marked c n es) || W n) ≡ true → (not (b && c e.1 || is_marked c n es) || W n) ≡ true
       go true is h =
-          let here = subst (λ (k : ℕ). (c e.1 && not (W k)) ≡ false) (same_number e.0 n is) parts.0 in
+          let here = subst (λ (k : ℕ). (c e.1 && not (W k)) ≡ false) (eqb-true e.0 n is) parts.0 in
           with_it (c e.1) (W n) (is_marked c n es) here h
       go false is h = h
 
@@ -253,10 +252,10 @@ pub both_sound : {T : Type 0} (p q : List T → Bool) (lived : List (Lived T)) {
     → AreSound (λ xs. p xs && q xs) lived ↔ (A × B)
 both_sound p q lived one other = (
   λ sound. (
-    one.0 (λ n t. (both_of (p (standing lived n t)) (q (standing lived n t)) (sound n t)).0),
-    other.0 (λ n t. (both_of (p (standing lived n t)) (q (standing lived n t)) (sound n t)).1),
+    one.0 (λ n t. (and_parts (p (standing lived n t)) (q (standing lived n t)) (sound n t)).0),
+    other.0 (λ n t. (and_parts (p (standing lived n t)) (q (standing lived n t)) (sound n t)).1),
   ),
-  λ h n t. both (p (standing lived n t)) (q (standing lived n t)) (one.1 h.0 n t) (other.1 h.1 n t),
+  λ h n t. and_from (p (standing lived n t)) (q (standing lived n t)) (one.1 h.0 n t) (other.1 h.1 n t),
 )
 
 -- what is answered of a list that is made is answered of what it is made of

@@ -1,7 +1,7 @@
 -- Numbers are in use at each moment, where they are when what has them begins to stand.
 use Rattle.std.proofs.Common.{◌≡◌, ◌↔◌, ℕ, Bool, true, false, not, ◌||◌, ◌&&◌, List, [], ◌∷◌, Option, Some, None, if◌then◌else◌, refl, sym, ap, ap₂, subst, ◌∙◌, arith, IsPermutation}
 use Rattle.std.specs.Prelude.{ℤ, pos, int_le, int_lt, nat_le, nat_lt}
-use Rattle.std.proofs.lemmas.Bool.{false≢true}
+use Rattle.std.proofs.lemmas.Bool.{false≢true, and_from, and_parts, not-true, or_parts}
 use Rattle.std.proofs.lemmas.Bool.Decides.{nat_tests}
 use Rattle.std.proofs.lemmas.Int.{ints}
 use Rattle.std.proofs.lemmas.List.Elements.{All-from_recursion, recursion_from_All}
@@ -10,7 +10,6 @@ use Rattle.std.specs.FinMap as map
 use Rattle.std.specs.List.{AllByRecursion, list_all, list_any}
 use Rattle.std.specs.List.Sorted.{IsSorted}
 use Rattle.std.specs.Ordering.{int_eq}
-use Rattle.land_core.proofs.Booleans.{both_of, not_true, or_false}
 use Rattle.land_core.specs.Soundness.{has_loose_rank, has_unused_number, is_loose_rank, is_past_the_numbers}
 use Rattle.land_core.specs.Units.{rank_of}
 use Rattle.land_core.specs.declared.register.Register.{Register}
@@ -24,7 +23,6 @@ use Rattle.land_tables_history.specs.Standing.{part_at, stands}
 use Rattle.land_tables_history.specs.declared.history.History.{History}
 use Rattle.land_tables_history.specs.declared.moment.Moment.{Moment}
 use Rattle.land_tables_history.specs.declared.version.Version.{Version}
-use Rattle.land_tables_lawful.proofs.Booleans.{both}
 use Rattle.land_tables_lawful.proofs.Covers.{any_alike, begun, some_by}
 use Rattle.land_tables_lawful.proofs.Latest.{ends_of}
 use Rattle.land_tables_lawful.proofs.MomentOrders.{all_go_up, goes_up_in_order, neighbours}
@@ -47,20 +45,20 @@ no_less a = grind (arith, nat_tests)
 heads : (m : Moment) (ns : List Moment) → list_all (goes_before m) ns ≡ true → AllByRecursion (Grows m) ns
 heads m [] h = tt
 heads m (n ∷ ns) h =
-    let parts = both_of (goes_before m n) (list_all (goes_before m) ns) h in
+    let parts = and_parts (goes_before m n) (list_all (goes_before m) ns) h in
     (λ p. no_way m.stamp n.stamp m.next n.next parts.0 p, heads m ns parts.1)
 
 tails : (m : Moment) (ms ns : List Moment) → list_all (goes_before m) ns ≡ true → AllByRecursion (λ b. AllByRecursion (Grows b) ms) ns
     → AllByRecursion (λ b. AllByRecursion (Grows b) (m ∷ ms)) ns
 tails m ms [] h all = tt
 tails m ms (n ∷ ns) h all =
-    let parts = both_of (goes_before m n) (list_all (goes_before m) ns) h in
-    ((λ p. (both_of (int_lt m.stamp n.stamp) (nat_le m.next n.next) parts.0).1, all.0), tails m ms ns parts.1 all.1)
+    let parts = and_parts (goes_before m n) (list_all (goes_before m) ns) h in
+    ((λ p. (and_parts (int_lt m.stamp n.stamp) (nat_le m.next n.next) parts.0).1, all.0), tails m ms ns parts.1 all.1)
 
 all_grow : (ms : List Moment) → all_go_up ms ≡ true → AllByRecursion (λ b. AllByRecursion (Grows b) ms) ms
 all_grow [] up = tt
 all_grow (m ∷ ms) up =
-    let parts = both_of (list_all (goes_before m) ms) (all_go_up ms) up in
+    let parts = and_parts (list_all (goes_before m) ms) (all_go_up ms) up in
     ((λ p. no_less m.next, heads m ms parts.0), tails m ms ms parts.0 (all_grow ms parts.1))
 
 -- ---- the moment of a stamp
@@ -124,8 +122,8 @@ module _ {X : Type 0} (test : X → ℕ → Bool) (kept : (x : X) (a b : ℕ) �
       → list_all (passes_since test ms) vs ≡ true → list_any (fails m) vs ≡ false
   all_stay m grows [] intervals passes = refl
   all_stay m grows (v ∷ vs) intervals passes =
-      let is = both_of (is_interval ms v) (list_all (is_interval ms) vs) intervals in
-      let parts = both_of (passes_since test ms v) (list_all (passes_since test ms) vs) passes in
+      let is = and_parts (is_interval ms v) (list_all (is_interval ms) vs) intervals in
+      let parts = and_parts (passes_since test ms v) (list_all (passes_since test ms) vs) passes in
       ap₂ (λ a b. a || b) (one_stays m grows v is.0 parts.0) (all_stay m grows vs is.1 parts.1)
 
   at_each : (vs : List (Version X)) → list_all (is_interval ms) vs ≡ true → list_all (passes_since test ms) vs ≡ true
@@ -144,7 +142,7 @@ module _ {X : Type 0} (test : X → ℕ → Bool) (kept : (x : X) (a b : ℕ) �
       → None_of (λ m. fails m v) ns × None_of (λ m. list_any (fails m) vs) ns
   first_of v vs [] none = (tt, tt)
   first_of v vs (n ∷ ns) none =
-      let parts = or_false (fails n v) (list_any (fails n) vs) none.0 in
+      let parts = or_parts (fails n v) (list_any (fails n) vs) none.0 in
       let rest = first_of v vs ns none.1 in
       ((parts.0, rest.0), (parts.1, rest.1))
 
@@ -152,9 +150,9 @@ module _ {X : Type 0} (test : X → ℕ → Bool) (kept : (x : X) (a b : ℕ) �
       → list_all (passes_since test ms) vs ≡ true
   all_began [] intervals none = refl
   all_began (v ∷ vs) intervals none =
-      let is = both_of (is_interval ms v) (list_all (is_interval ms) vs) intervals in
+      let is = and_parts (is_interval ms v) (list_all (is_interval ms) vs) intervals in
       let parts = first_of v vs ms none in
-      both (passes_since test ms v) (list_all (passes_since test ms) vs) (one_began v is.0 parts.0) (all_began vs is.1 parts.1)
+      and_from (passes_since test ms v) (list_all (passes_since test ms) vs) (one_began v is.0 parts.0) (all_began vs is.1 parts.1)
 
   since_and_at : all_go_up ms ≡ true → (vs : List (Version X)) → list_all (is_interval ms) vs ≡ true
       → (list_all (passes_since test ms) vs ≡ true) ↔ None_of (λ m. list_any (fails m) vs) ms
@@ -172,7 +170,7 @@ none_either : (f g : Moment → Bool) (ms : List Moment) → None_of (λ m. f m 
 none_either f g [] = (λ h. (tt, tt), λ h. tt)
 none_either f g (m ∷ ms) =
     let rest = none_either f g ms in (
-      λ h. let parts = or_false (f m) (g m) h.0 in let more = rest.0 h.1 in ((parts.0, more.0), (parts.1, more.1)),
+      λ h. let parts = or_parts (f m) (g m) h.0 in let more = rest.0 h.1 in ((parts.0, more.0), (parts.1, more.1)),
       λ h. (ap₂ (λ a b. a || b) h.0.0 h.1.0, rest.1 (h.0.1, h.1.1)),
     )
 
@@ -180,16 +178,16 @@ none_either f g (m ∷ ms) =
 joined : (a b : Bool) (f g : Moment → Bool) (ms : List Moment) → (a ≡ true) ↔ None_of f ms → (b ≡ true) ↔ None_of g ms
     → ((a && b) ≡ true) ↔ None_of (λ m. f m || g m) ms
 joined a b f g ms p q = (
-  λ h. let parts = both_of a b h in (none_either f g ms).1 (p.0 parts.0, q.0 parts.1),
-  λ h. let parts = (none_either f g ms).0 h in both a b (p.1 parts.0) (q.1 parts.1),
+  λ h. let parts = and_parts a b h in (none_either f g ms).1 (p.0 parts.0, q.0 parts.1),
+  λ h. let parts = (none_either f g ms).0 h in and_from a b (p.1 parts.0) (q.1 parts.1),
 )
 
 none_left : (f : Moment → Bool) (ms : List Moment) → (list_all (λ m. not (f m)) ms ≡ true) ↔ None_of f ms
 none_left f [] = (λ h. tt, λ h. refl)
 none_left f (m ∷ ms) =
     let rest = none_left f ms in (
-      λ h. let parts = both_of (not (f m)) (list_all (λ m. not (f m)) ms) h in (not_true (f m) parts.0, rest.0 parts.1),
-      λ h. both (not (f m)) (list_all (λ m. not (f m)) ms) (ap not h.0) (rest.1 h.1),
+      λ h. let parts = and_parts (not (f m)) (list_all (λ m. not (f m)) ms) h in (not-true (f m) parts.0, rest.0 parts.1),
+      λ h. and_from (not (f m)) (list_all (λ m. not (f m)) ms) (ap not h.0) (rest.1 h.1),
     )
 
 all_both : {X : Type 0} (p q : X → Bool) (xs : List X) → list_all (λ x. p x && q x) xs ≡ (list_all p xs && list_all q xs)
@@ -291,15 +289,15 @@ module _ (moments ms : List Moment) (p : IsPermutation moments ms) (up : all_go_
         let unused = all_numbers intervals in
         let rank = ranks (all_proper moments h intervals).rrrs in (
           λ e.
-              let last = both_of (are_numbers_left ms && parts_used) ranks_used (sym in_parts ∙ e) in
-              let first = both_of (are_numbers_left ms) parts_used last.0 in (
+              let last = and_parts (are_numbers_left ms && parts_used) ranks_used (sym in_parts ∙ e) in
+              let first = and_parts (are_numbers_left ms) parts_used last.0 in (
                 (never is_past_the_numbers).0 (past.0 first.0),
                 (never has_unused_number).0 (unused.0 first.1),
                 (never has_loose_rank).0 (rank.0 last.1),
               ),
           λ all.
-              in_parts ∙ both (are_numbers_left ms && parts_used) ranks_used
-              (both (are_numbers_left ms) parts_used (past.1 ((never is_past_the_numbers).1 all.0))
+              in_parts ∙ and_from (are_numbers_left ms && parts_used) ranks_used
+              (and_from (are_numbers_left ms) parts_used (past.1 ((never is_past_the_numbers).1 all.0))
               (unused.1 ((never has_unused_number).1 all.1)))
               (rank.1 ((never has_loose_rank).1 all.2)),
         )

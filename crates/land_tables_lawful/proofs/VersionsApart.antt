@@ -6,13 +6,12 @@ use Rattle.std.specs.Option.{option_map}
 use Rattle.std.specs.Ordering.{eq_by_cmp, is_eq, ordering_then}
 use Rattle.std.specs.declared.cmp.Ordering.{Ordering}
 use Rattle.std.specs.declared.cmp.Ordering.TheVariants.{Less, Equal, Greater}
-use Rattle.land_core.proofs.Booleans.{both_of}
+use Rattle.std.proofs.lemmas.Bool.{and_from, and_parts}
 use Rattle.land_core.specs.Entries.{are_distinct}
 use Rattle.land_tables_history.proofs.Entered.{distinct_alike}
 use Rattle.land_tables_history.specs.Intervals.{is_interval, overlap}
 use Rattle.land_tables_history.specs.declared.moment.Moment.{Moment}
 use Rattle.land_tables_history.specs.declared.version.Version.{Version}
-use Rattle.land_tables_lawful.proofs.Booleans.{both}
 use Rattle.land_tables_lawful.proofs.Covers.{begun}
 use Rattle.land_tables_lawful.specs.ApartSpans.{span_at, spans_where}
 use Rattle.land_tables_history.specs.Sweeps.Apart.{are_apart, overlap as overlap_by}
@@ -82,10 +81,10 @@ pub where_begun : {X K : Type 0} (moments : List Moment) (key_of : X → Option 
     → list_all (λ x. int_lt x.since x.until) (spans_where key_of vs) ≡ true
 where_begun moments key_of [] h = refl
 where_begun {X} {K} moments key_of (v ∷ vs) h =
-    let parts = both_of (is_interval moments v) (list_all (is_interval moments) vs) h in
+    let parts = and_parts (is_interval moments v) (list_all (is_interval moments) vs) h in
     go (key_of v.what) (begun moments v parts.0) (where_begun moments key_of vs parts.1)
   where
     go : (o : Option K) → int_lt v.since v.until ≡ true → list_all (λ x. int_lt x.since x.until) (spans_where key_of vs) ≡ true
         → list_all (λ x. int_lt x.since x.until) (cons_option (option_map (span_at v) o) (spans_where key_of vs)) ≡ true
     go None first rest = rest
-    go (Some k) first rest = both (int_lt v.since v.until) (list_all (λ x. int_lt x.since x.until) (spans_where key_of vs)) first rest
+    go (Some k) first rest = and_from (int_lt v.since v.until) (list_all (λ x. int_lt x.since x.until) (spans_where key_of vs)) first rest

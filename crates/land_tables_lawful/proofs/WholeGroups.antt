@@ -10,7 +10,8 @@ use Rattle.std.specs.FinMap.Entries.{below_all}
 use Rattle.std.specs.List.{cons_option, filter_map, list_all, list_any}
 use Rattle.std.specs.Option.{option_map_or}
 use Rattle.std.specs.Ordering.{eq_by_cmp, is_lt, nat_cmp}
-use Rattle.land_core.proofs.Booleans.{T_true, both_of}
+use Rattle.std.proofs.lemmas.Bool.{and_from, and_parts, eqb-true}
+use Rattle.land_core.proofs.Booleans.{T_true, or_nothing}
 use Rattle.land_core.proofs.UnitLists.{filter_map-placed, list_any-placed}
 use Rattle.land_core.specs.ByUnit.{placed}
 use Rattle.land_core.specs.Members.{Members, are_group_shares, member_of, shares_in}
@@ -36,7 +37,6 @@ use Rattle.land_tables_lawful.specs.Memberships.{are_joined_soundly, are_members
 use Rattle.land_tables_lawful.specs.Never.{Never}
 use Rattle.land_tables_lawful.specs.Pieces.{are_in_time}
 use Rattle.land_tables_lawful.specs.declared.groups.Membership.{Membership}
-use Rattle.land_tables_lawful.proofs.Booleans.{both, same_number}
 use Rattle.land_tables_lawful.proofs.Together.{AreLives, Ties, all_live, is_at_fault, is_marked, lives-append, never, none_marked, none_taken, some_standing, standing-append, stood}
 use Rattle.land_tables_history.specs.Sweeps.Sweep.{AreSound, standing}
 
@@ -84,11 +84,11 @@ groups_begin moments [] all = refl
 groups_begin moments (v ∷ vs) all = go (is_group_kind v.what.1) (groups_begin moments vs parts.1)
   where
     parts : (is_interval moments v ≡ true) × (list_all (is_interval moments) vs ≡ true)
-    parts = both_of (is_interval moments v) (list_all (is_interval moments) vs) all
+    parts = and_parts (is_interval moments v) (list_all (is_interval moments) vs) all
 
     go : (b : Bool) → list_all (is_interval moments) (groups_among vs) ≡ true
         → list_all (is_interval moments) (cond b (v ∷ groups_among vs) (groups_among vs)) ≡ true
-    go true h = both (is_interval moments v) (list_all (is_interval moments) (groups_among vs)) parts.0 h
+    go true h = and_from (is_interval moments v) (list_all (is_interval moments) (groups_among vs)) parts.0 h
     go false h = h
 
 -- ---- the shares of the members of one group
@@ -138,7 +138,7 @@ module _ (n : ℕ) where
   none_above : (es : List (ℕ × Members)) → below_all nat_cmp n es ≡ true → shares_taken (flat_map listed es) ≡ []
   none_above [] below = refl
   none_above (e ∷ es) below =
-      let parts = both_of (is_lt (nat_cmp n e.0)) (below_all nat_cmp n es) below in
+      let parts = and_parts (is_lt (nat_cmp n e.0)) (below_all nat_cmp n es) below in
       let none = of_group e.0 (map.entries e.1) ∙ ap (λ b. cond b (shares_in e.1) []) (differs n e.0 parts.0) in
       filter_map-append (share_in_group n) (listed e) (flat_map listed es) ∙ ap₂ (λ a b. a ++ b) none (none_above es parts.1)
 
@@ -153,21 +153,17 @@ module _ (n : ℕ) where
       ∙ ap (λ b. option_map_or shares_in (cond b (Some e.1) (find nat_cmp n es)) []) (sym (same_test n e.0))
     where
       parts : (below_all nat_cmp e.0 es ≡ true) × (is_sorted nat_cmp es ≡ true)
-      parts = both_of (below_all nat_cmp e.0 es) (is_sorted nat_cmp es) sorted
+      parts = and_parts (below_all nat_cmp e.0 es) (is_sorted nat_cmp es) sorted
 
       go : (b : Bool) → nat_eq e.0 n ≡ b → shares_taken (flat_map listed es) ≡ option_map_or shares_in (find nat_cmp n es) []
           → cond b (shares_in e.1) [] ++ shares_taken (flat_map listed es)
           ≡ option_map_or shares_in (cond b (Some e.1) (find nat_cmp n es)) []
       go true is h =
-          let below = ap (λ k. below_all nat_cmp k es) (sym (same_number e.0 n is)) ∙ parts.0 in
+          let below = ap (λ k. below_all nat_cmp k es) (sym (eqb-true e.0 n is)) ∙ parts.0 in
           ap (λ l. shares_in e.1 ++ l) (none_above es below) ∙ and_nothing (shares_in e.1)
       go false is h = h
 
 -- ---- what stands in a group at a moment
-
-or_nothing : (b : Bool) → (b || false) ≡ b
-or_nothing true = refl
-or_nothing false = refl
 
 module _ (h : History) (n : ℕ) (t : ℤ) where
   -- the groups and the members that stand, and what they stand for in the group

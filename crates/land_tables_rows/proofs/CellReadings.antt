@@ -3,12 +3,13 @@ use Rattle.std.proofs.Common.{◌≡◌, ◌&&◌, ℕ, ℤ, pos, negsuc, Bool, 
 use Rattle.std.specs.Bool.{⊤}
 use Rattle.std.proofs.lemmas.Int.{ints}
 use Rattle.std.specs.Str.{is_utf8}
-use Rattle.land_core.proofs.Booleans.{both_of}
+use Rattle.std.proofs.lemmas.Bool.{and_parts}
 use Rattle.land_core.specs.Contents.{is_amount}
 use Rattle.land_core.specs.Numbers.{is_number}
 use Rattle.land_fraction.specs.Answer.{fraction_of}
 use Rattle.land_fraction.specs.Laws.{SameFractionLaw}
 use Rattle.land_fraction.specs.Ratio.{Ratio, IsFraction, over}
+use Rattle.land_tables_history.proofs.MomentOrder.{le_true}
 use Rattle.land_tables_rows.proofs.Stepping.{same_value, stepped}
 use Rattle.land_tables_rows.specs.Cells.Closing.{IsMoment}
 use Rattle.land_tables_rows.specs.Cells.Texts.{is_kept}
@@ -36,9 +37,6 @@ pub amount_is_read : (n : ℕ) → is_amount n ≡ true → amount_in (whole n) 
 unfolding amount_in natural_in
 amount_is_read n e = rw e refl
 
-not_after : (y z : ℤ) → y ≤ℤ z → int_le y z ≡ true
-not_after y z h = grind (arith, ints)
-
 -- the last moment, and the end of what stands
 before_the_end : (z : ℤ) → z ≤ℤ pos 4102444799999 → z ≤ℤ pos 4102444800000
 before_the_end z h = omega (arith, ints)
@@ -48,7 +46,7 @@ unfolding moment_in
 between_is_read z from to = rw (from, to) refl
 
 pub moment_is_read : (z : ℤ) → IsMoment z → moment_in (Int z) ≡ Ok z
-moment_is_read z h = between_is_read z (not_after (pos 0) z h.first) (not_after z (pos 4102444799999) h.last)
+moment_is_read z h = between_is_read z (le_true (pos 0) z h.first) (le_true z (pos 4102444799999) h.last)
 
 end_is_read : (z : ℤ) → int_le (pos 0) z ≡ true → int_le z (pos 4102444800000) ≡ true → end_in (Int z) ≡ Ok z
 unfolding end_in
@@ -56,7 +54,7 @@ end_is_read z from to = rw (from, to) refl
 
 -- a moment may be an end
 pub ends : (z : ℤ) → IsMoment z → end_in (Int z) ≡ Ok z
-ends z h = end_is_read z (not_after (pos 0) z h.first) (not_after z (pos 4102444800000) (before_the_end z h.last))
+ends z h = end_is_read z (le_true (pos 0) z h.first) (le_true z (pos 4102444800000) (before_the_end z h.last))
 
 pub never_is_read : end_in (Int never) ≡ Ok never
 unfolding end_in
@@ -66,7 +64,7 @@ pub text_is_read : (t : List ℕ) → is_utf8 t ≡ true → text_in (Text t) �
 text_is_read t e = rw e refl
 
 pub kept_is_read : (is_allowed : List ℕ → Bool) (t : List ℕ) → is_kept is_allowed t ≡ true → (text_in (Text t) >>= limited is_allowed) ≡ Ok t
-kept_is_read is_allowed t e = let h = both_of (is_utf8 t) (is_allowed t) e in rw (h.0, h.1) refl
+kept_is_read is_allowed t e = let h = and_parts (is_utf8 t) (is_allowed t) e in rw (h.0, h.1) refl
 
 pub share_is_read : SameFractionLaw → (f : Ratio) → IsFraction f → share_in (whole f.numerator) (whole f.denominator) ≡ Ok f
 unfolding share_in natural_in

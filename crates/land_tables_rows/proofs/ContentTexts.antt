@@ -5,9 +5,9 @@ use Rattle.std.proofs.lemmas.Str.{IsUtf8-append, IsUtf8-from_ascii, IsUtf8-from_
 use Rattle.std.specs.Bool.{⊤}
 use Rattle.std.specs.List.{AllByRecursion, list_all}
 use Rattle.std.specs.Str.{is_utf8}
+use Rattle.std.proofs.lemmas.Bool.{and_parts}
 use Rattle.json.proofs.Printed.Utf8.{IsUtf8-are_ascii, IsUtf8-boolean, IsUtf8-quoted, are_ascii}
 use Rattle.json.specs.Print.{quoted}
-use Rattle.land_core.proofs.Booleans.{both_of}
 use Rattle.land_core.specs.Contents.{is_well_formed_content}
 use Rattle.land_core.specs.declared.content.Content.{Content}
 use Rattle.land_core.specs.declared.content.Content.TheVariants as content
@@ -72,15 +72,15 @@ mutual
   items_utf8 : (later : Bool) (items : Items) → are_exact items ≡ true → AreReadable items → IsUtf8 (items_text later items)
   items_utf8 later no_items e r = IsUtf8-are_ascii (93 ∷ []) refl
   items_utf8 later (item value items) e r =
-      let p = both_of (is_exact value) (are_exact items) e in
+      let p = and_parts (is_exact value) (are_exact items) e in
       IsUtf8-append (comma_if later) (compact_text value ++ items_text true items) (comma_utf8 later)
       (IsUtf8-append (compact_text value) (items_text true items) (text_utf8 value p.0 r.0) (items_utf8 true items p.1 r.1))
 
   members_utf8 : (later : Bool) (members : Members) → rise members ≡ true → HaveReadable members → IsUtf8 (members_text later members)
   members_utf8 later no_members e r = IsUtf8-are_ascii (125 ∷ []) refl
   members_utf8 later (member key value members) e r =
-      let p = both_of (is_exact value && all_after key members) (rise members) e in
-      let o = both_of (is_exact value) (all_after key members) p.0 in
+      let p = and_parts (is_exact value && all_after key members) (rise members) e in
+      let o = and_parts (is_exact value) (all_after key members) p.0 in
       IsUtf8-append (comma_if later) (quoted key ++ 58 ∷ (compact_text value ++ members_text true members)) (comma_utf8 later)
       (IsUtf8-append (quoted key) (58 ∷ (compact_text value ++ members_text true members)) (quoted_utf8 key (ascii_is_utf8 key r.0))
       (byte_then 58 (compact_text value ++ members_text true members) (IsUtf8-are_ascii (58 ∷ []) refl)
@@ -109,19 +109,19 @@ name_readable (Some name) e = (refl, e, tt)
 
 part_readable : (part : Part) → is_part_kept part ≡ true → HasOutline part → IsReadable (part_data part)
 part_readable part e h =
-    let p = both_of (is_utf8 part.label) (is_new_name_kept part.unit) e in
+    let p = and_parts (is_utf8 part.label) (is_new_name_kept part.unit) e in
     (refl, p.0, (refl, printed_is_utf8 part.outline h, name_readable part.unit p.1))
 
 parts_readable : (parts : List Part) → list_all is_part_kept parts ≡ true → AllByRecursion HasOutline parts → AreReadable (items_of (map part_data parts))
 parts_readable [] e h = tt
 parts_readable (part ∷ parts) e h =
-    let p = both_of (is_part_kept part) (list_all is_part_kept parts) e in
+    let p = and_parts (is_part_kept part) (list_all is_part_kept parts) e in
     (part_readable part p.0 h.0, parts_readable parts p.1 h.1)
 
 readable : (it : Content) → is_content_kept it ≡ true → IsExactContent it → IsReadable (content_data it)
 readable (content.Transfer it) e h = (refl, tt, (refl, tt, (refl, share_is_utf8 it.share h, (refl, tt, tt))))
 readable (content.Subdivision it) e h =
-    let p = both_of (is_utf8 it.first.label) (list_all is_part_kept it.rest) e in
+    let p = and_parts (is_utf8 it.first.label) (list_all is_part_kept it.rest) e in
     (refl, (refl, p.0, (refl, printed_is_utf8 it.first.outline h.0, tt)), (refl, tt, (refl, parts_readable it.rest p.1 h.1, (refl, tt, tt))))
 readable (content.Merger it) e h =
     (refl, e, (refl, numbers_readable it.others, (refl, printed_is_utf8 it.outline h, (refl, numbers_readable it.parcels, (refl, tt, tt)))))

@@ -1,7 +1,7 @@
 -- Mandates are read as they are written.
 use Rattle.std.proofs.Common.{◌≡◌, ◌&&◌, ◌==◌, ◌∙◌, ℤ, [], ◌∷◌, ◌++◌, true, Ok, Result, refl, sym, ap, ap₂}
 use Rattle.std.specs.Ordering.{nat_cmp}
-use Rattle.land_core.proofs.Booleans.{both_of}
+use Rattle.std.proofs.lemmas.Bool.{and_parts}
 use Rattle.land_core.specs.Numbers.{is_number}
 use Rattle.land_core.specs.declared.mandates.Mandate.{Mandate}
 use Rattle.land_tables_history.specs.Intervals.{is_same_mandate}
@@ -52,7 +52,7 @@ row_of n = record { principal = n.principal; agent = n.agent }
 -- a mandate that fits is read as it was written
 pub what_is : (n : Mandate) → fits_mandate n ≡ true → what (row_of n) ≡ Ok n
 what_is n fits =
-    let parts = both_of (is_number n.principal) (is_number n.agent) fits in
+    let parts = and_parts (is_number n.principal) (is_number n.agent) fits in
     rw (number_reads n.principal parts.0, number_reads n.agent parts.1) refl
 
 -- ---- a mandate is told by its cells

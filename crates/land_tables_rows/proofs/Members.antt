@@ -1,6 +1,6 @@
 -- Members are read as they are written.
 use Rattle.std.proofs.Common.{◌≡◌, ℕ, ℤ, [], ◌∷◌, ◌++◌, true, nat_eq, Ok, Result, refl, sym, ap, ◌∙◌}
-use Rattle.land_core.proofs.Booleans.{both_of}
+use Rattle.std.proofs.lemmas.Bool.{and_parts}
 use Rattle.land_core.specs.Numbers.{is_number}
 use Rattle.land_fraction.specs.Ratio.{IsFraction}
 use Rattle.land_tables_history.specs.declared.group_member.GroupMember.{GroupMember}
@@ -55,7 +55,7 @@ row_of e = record { grp = e.group; party = e.member.party; num = e.member.share.
 -- a member that fits is read as it was written
 pub what_is : (e : GroupMember) → fits_member e ≡ true → IsFraction e.member.share → what (row_of e) ≡ Ok e
 what_is e fits share =
-    let parts = both_of (is_number e.group) (is_number e.member.party) fits in
+    let parts = and_parts (is_number e.group) (is_number e.member.party) fits in
     rw (number_reads e.group parts.0, number_reads e.member.party parts.1, share_reads e.member.share share) refl
 
 -- the number of a group is read as it is

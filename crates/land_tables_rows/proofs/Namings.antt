@@ -1,6 +1,6 @@
 -- Namings are read as they are written.
 use Rattle.std.proofs.Common.{◌≡◌, ℤ, [], ◌∷◌, ◌++◌, true, Ok, Result, refl, sym}
-use Rattle.land_core.proofs.Booleans.{both_of}
+use Rattle.std.proofs.lemmas.Bool.{and_parts}
 use Rattle.land_core.specs.Numbers.{is_number}
 use Rattle.land_tables_history.specs.declared.naming.Naming.{Naming}
 use Rattle.land_tables_history.specs.declared.version.Version.{Version}
@@ -49,5 +49,5 @@ row_of n = record { mutation = n.mutation; unit = n.unit }
 -- a naming that fits is read as it was written
 pub what_is : (n : Naming) → fits_naming n ≡ true → what (row_of n) ≡ Ok n
 what_is n fits =
-    let parts = both_of (is_number n.mutation) (is_number n.unit) fits in
+    let parts = and_parts (is_number n.mutation) (is_number n.unit) fits in
     rw (number_reads n.mutation parts.0, number_reads n.unit parts.1) refl

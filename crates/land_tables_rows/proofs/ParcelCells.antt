@@ -1,6 +1,6 @@
 -- Parcels are read from their cells, and from no others.
 use Rattle.std.proofs.Common.{◌≡◌, ◌&&◌, ◌==◌, ℕ, ℤ, List, [], ◌∷◌, Ok, refl, ap, ◌∙◌}
-use Rattle.land_core.proofs.Booleans.{both_of}
+use Rattle.std.proofs.lemmas.Bool.{and_parts}
 use Rattle.land_core.specs.Numbers.{is_number}
 use Rattle.land_core.specs.Texts.{is_label}
 use Rattle.land_core.specs.declared.parcel.ParcelRecord.{ParcelRecord}
@@ -75,9 +75,9 @@ module _ (number unit label outline source since until : Value) (v : Version (�
 
 pub parcels_read_back : PrintedLaw → OneAnswerLaw → OutlinesHaveTheirAnswers → SameFractionLaw → ParcelsReadBack
 parcels_read_back printing one answers shares e since fits exact moment =
-    let p = both_of (is_number e.0) (is_number e.1.unit && (is_kept is_label e.1.label && is_number e.1.source)) fits in
-    let q = both_of (is_number e.1.unit) (is_kept is_label e.1.label && is_number e.1.source) p.1 in
-    let r = both_of (is_kept is_label e.1.label) (is_number e.1.source) q.1 in
+    let p = and_parts (is_number e.0) (is_number e.1.unit && (is_kept is_label e.1.label && is_number e.1.source)) fits in
+    let q = and_parts (is_number e.1.unit) (is_kept is_label e.1.label && is_number e.1.source) p.1 in
+    let r = and_parts (is_kept is_label e.1.label) (is_number e.1.source) q.1 in
     from_cells (whole e.0) (whole e.1.unit) (Text e.1.label) (Text (printed e.1.outline)) (whole e.1.source) (Int since) (Int never)
     (record { what = e; since = since; until = never })
     (record {

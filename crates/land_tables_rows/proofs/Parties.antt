@@ -1,7 +1,7 @@
 -- Parties are read as they are written.
 use Rattle.std.proofs.Common.{◌≡◌, ℕ, List, true, codes, nat_eq, Ok, Result, refl}
 use Rattle.std.specs.Str.{IsUtf8}
-use Rattle.land_core.proofs.Booleans.{both_of}
+use Rattle.std.proofs.lemmas.Bool.{and_parts}
 use Rattle.land_core.specs.Numbers.{is_number}
 use Rattle.land_core.specs.Texts.{is_name}
 use Rattle.land_core.specs.Words.{party_word}
@@ -57,7 +57,7 @@ row_of number p = record { number = number; name = p.name; kind = party_word p.k
 -- a party that fits is read as it was written
 pub what_is : (number : ℕ) (p : PartyRecord) → fits_party number p ≡ true → IsUtf8 p.name → IsUtf8 (party_word p.kind) → what (row_of number p) ≡ Ok (number, p)
 what_is number p fits name kind =
-    let parts = both_of (is_number number) (is_name p.name) fits in
+    let parts = and_parts (is_number number) (is_name p.name) fits in
     rw (number_reads number parts.0, limited_reads is_name p.name name parts.1, kind_reads p.kind kind) refl
 
 -- the number of a party is read as it is

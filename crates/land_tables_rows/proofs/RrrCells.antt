@@ -1,7 +1,7 @@
 -- Entries are read from their cells, and from no others.
 use Rattle.std.proofs.Common.{◌≡◌, ◌&&◌, ◌==◌, ◌^◌, ℕ, ℤ, List, [], ◌∷◌, true, nat_lt, Option, Some, None, Result, Ok, refl, sym, ap, ◌∙◌}
 use Rattle.std.specs.Bool.{⊤}
-use Rattle.land_core.proofs.Booleans.{both_of}
+use Rattle.std.proofs.lemmas.Bool.{and_parts}
 use Rattle.land_core.specs.Contents.{is_amount, is_currency}
 use Rattle.land_core.specs.Numbers.{is_number}
 use Rattle.land_core.specs.Texts.{are_words}
@@ -243,17 +243,17 @@ module _ (shares : SameFractionLaw) (number unit party source : ℕ) (since : �
   by_class (class.Responsibility words) fits exact =
       with_class word.Responsibility (class.Responsibility words) Null Null Null Null Null (Text words) (rw (kept_is_read are_words words fits) refl)
   by_class (class.Mortgage amount currency rank) fits exact =
-      let p = both_of (is_amount amount) (is_kept is_currency currency && nat_lt rank (2 ^ 63)) fits in
-      let q = both_of (is_kept is_currency currency) (nat_lt rank (2 ^ 63)) p.1 in
+      let p = and_parts (is_amount amount) (is_kept is_currency currency && nat_lt rank (2 ^ 63)) fits in
+      let q = and_parts (is_kept is_currency currency) (nat_lt rank (2 ^ 63)) p.1 in
       with_class word.Mortgage (class.Mortgage amount currency rank) Null Null (whole amount) (Text currency) (whole rank) Null
       (rw (amount_is_read amount p.0, kept_is_read is_currency currency q.0, natural_is_read rank) refl)
 
 pub rrrs_read_back : SameFractionLaw → RrrsReadBack
 rrrs_read_back shares e since fits exact moment =
-    let p = both_of (is_number e.0) (is_number e.1.unit && (is_number e.1.party && (fits_class e.1.class && is_number e.1.source))) fits in
-    let q = both_of (is_number e.1.unit) (is_number e.1.party && (fits_class e.1.class && is_number e.1.source)) p.1 in
-    let r = both_of (is_number e.1.party) (fits_class e.1.class && is_number e.1.source) q.1 in
-    let s = both_of (fits_class e.1.class) (is_number e.1.source) r.1 in
+    let p = and_parts (is_number e.0) (is_number e.1.unit && (is_number e.1.party && (fits_class e.1.class && is_number e.1.source))) fits in
+    let q = and_parts (is_number e.1.unit) (is_number e.1.party && (fits_class e.1.class && is_number e.1.source)) p.1 in
+    let r = and_parts (is_number e.1.party) (fits_class e.1.class && is_number e.1.source) q.1 in
+    let s = and_parts (fits_class e.1.class) (is_number e.1.source) r.1 in
     by_class shares e.0 e.1.unit e.1.party e.1.source since (record { the_number = p.0; the_unit = q.0; the_party = r.0; the_source = s.1 }) moment e.1.class s.0 exact
 
 -- ---- what is read was written

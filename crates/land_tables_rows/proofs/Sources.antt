@@ -1,7 +1,7 @@
 -- Sources are read as they are written.
 use Rattle.std.proofs.Common.{◌≡◌, ℕ, List, true, nat_eq, codes, Ok, Result, refl}
 use Rattle.std.specs.Str.{IsUtf8}
-use Rattle.land_core.proofs.Booleans.{both_of}
+use Rattle.std.proofs.lemmas.Bool.{and_parts}
 use Rattle.land_core.specs.Numbers.{is_number}
 use Rattle.land_core.specs.Texts.{is_title}
 use Rattle.land_core.specs.Words.{source_word}
@@ -57,7 +57,7 @@ row_of number s = record { number = number; kind = source_word s.kind; title = s
 -- a source that fits is read as it was written
 pub what_is : (number : ℕ) (s : SourceRecord) → fits_source number s ≡ true → IsUtf8 (source_word s.kind) → IsUtf8 s.title → what (row_of number s) ≡ Ok (number, s)
 what_is number s fits kind title =
-    let parts = both_of (is_number number) (is_title s.title) fits in
+    let parts = and_parts (is_number number) (is_title s.title) fits in
     rw (number_reads number parts.0, kind_reads s.kind kind, limited_reads is_title s.title title parts.1) refl
 
 -- the number of a source is read as it is

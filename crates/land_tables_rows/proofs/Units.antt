@@ -1,7 +1,7 @@
 -- Units are read as they are written.
 use Rattle.std.proofs.Common.{◌≡◌, ℕ, Bool, List, true, nat_eq, Ok, Result, refl}
 use Rattle.std.specs.Str.{IsUtf8}
-use Rattle.land_core.proofs.Booleans.{both_of}
+use Rattle.std.proofs.lemmas.Bool.{and_parts}
 use Rattle.land_core.specs.Numbers.{is_number}
 use Rattle.land_core.specs.Texts.{is_name}
 use Rattle.land_core.specs.declared.unit.UnitRecord.{UnitRecord}
@@ -45,7 +45,7 @@ row_of number u = record { number = number; name = u.name; checked = u.checked }
 -- a unit that fits is read as it was written
 pub what_is : (number : ℕ) (u : UnitRecord) → fits_unit number u ≡ true → IsUtf8 u.name → what (row_of number u) ≡ Ok (number, u)
 what_is number u fits name =
-    let parts = both_of (is_number number) (is_name u.name) fits in
+    let parts = and_parts (is_number number) (is_name u.name) fits in
     rw (number_reads number parts.0, limited_reads is_name u.name name parts.1, flag_reads u.checked) refl
 
 -- the number of a unit is read as it is

@@ -1,10 +1,11 @@
 -- Tables whose rows have rowids, no two the same.
-use Rattle.std.proofs.Common.{◌≡◌, ℤ, List, [], ◌∷◌, map, Bool, true, false, ◌&&◌, ◌||◌, refl, sym, ap, subst, ◌∙◌, IsPermutation}
+use Rattle.std.proofs.Common.{◌≡◌, ℤ, List, [], ◌∷◌, map, true, false, ◌&&◌, refl, sym, ap, subst, ◌∙◌, IsPermutation}
 use Rattle.std.specs.List.{AllByRecursion, IsDistinct, list_all}
 use Rattle.std.specs.Ordering.{is_eq, int_eq}
-use Rattle.std.proofs.lemmas.Bool.Decides.{Decides-int_eq}
 use Rattle.std.proofs.lemmas.List.Sorted.{IsPermutation-map}
 use Rattle.std.proofs.lemmas.Map.Keys.{IsDistinct-cons, IsDistinct-IsPermutation}
+use Rattle.std.proofs.lemmas.Bool.{and_parts, or_parts}
+use Rattle.std.proofs.lemmas.Cmp.{int_eq_equiv}
 use Rattle.land_tables_schema.specs.Rows.Forms.{AreNumbered}
 use Rattle.sqlite_keyed.proofs.ListLemmas.{all_from_test, map-map, test_from_all}
 use Rattle.sqlite_rules.proofs.TableLemmas.{int_is}
@@ -17,38 +18,21 @@ use Rattle.sqlite_value.proofs.OrderLemmas.{value_cmp-Int}
 use Rattle.sqlite_value.specs.Order.{Row, value_cmp}
 use Rattle.sqlite_value.specs.declared.value.Value.TheVariants.{Int}
 
-pub int_eq-flips : (a b : ℤ) → int_eq a b ≡ int_eq b a
-int_eq-flips a b = go (int_eq a b) (int_eq b a) refl refl
-  where
-    go : (c d : Bool) → int_eq a b ≡ c → int_eq b a ≡ d → c ≡ d
-    go true true h k = refl
-    go false false h k = refl
-    go true false h k = let same : a ≡ b = (Decides-int_eq a b).0 h in absurd (let e : true ≡ false = sym ((Decides-int_eq b a).1 (sym same)) ∙ k in cc)
-    go false true h k = let same : b ≡ a = (Decides-int_eq b a).0 k in absurd (let e : true ≡ false = sym ((Decides-int_eq a b).1 (sym same)) ∙ h in cc)
-
 -- it is so in any order
 pub numbered_anyhow : (rows others : List Row) → IsPermutation rows others → AreNumbered rows → AreNumbered others
 numbered_anyhow rows others moved n = record {
   whole = test_from_all (λ r. is_int (rowid r)) others (all-permutation (λ r. is_int (rowid r) ≡ true) rows others moved (all_from_test (λ r. is_int (rowid r)) rows n.whole));
-  apart = IsDistinct-IsPermutation int_eq int_eq-flips (ids_of rows) (ids_of others) (IsPermutation-map (λ r. id_in (rowid r)) rows others moved) n.apart;
+  apart = IsDistinct-IsPermutation int_eq int_eq_equiv.symm (ids_of rows) (ids_of others) (IsPermutation-map (λ r. id_in (rowid r)) rows others moved) n.apart;
 }
-
-split : (a b : Bool) → (a && b) ≡ true → (a ≡ true) × (b ≡ true)
-split true b h = (refl, h)
-split false b h = absurd (let e = h in cc)
-
-neither : (a b : Bool) → (a || b) ≡ false → (a ≡ false) × (b ≡ false)
-neither true b h = absurd (let e = h in cc)
-neither false b h = (refl, h)
 
 -- a rowid that is free is none of those there
 free_apart : (z : ℤ) (cells : Row) (rows : List Row) → have_rowids rows ≡ true → is_taken rows (Int z ∷ cells) ≡ false → AllByRecursion (λ i. int_eq z i ≡ false) (ids_of rows)
 free_apart z cells [] whole free = tt
 free_apart z cells (r ∷ rs) whole free =
-    let h = split (is_int (rowid r)) (have_rowids rs) whole in
-    let k = neither (is_eq (value_cmp (rowid r) (Int z))) (is_taken rs (Int z ∷ cells)) free in
+    let h = and_parts (is_int (rowid r)) (have_rowids rs) whole in
+    let k = or_parts (is_eq (value_cmp (rowid r) (Int z))) (is_taken rs (Int z ∷ cells)) free in
     let here : int_eq (id_in (rowid r)) z ≡ false = sym (ap is_eq (ap (λ v. value_cmp v (Int z)) (int_is (rowid r) h.0) ∙ value_cmp-Int (id_in (rowid r)) z)) ∙ k.0 in
-    (int_eq-flips z (id_in (rowid r)) ∙ here, free_apart z cells rs h.1 k.1)
+    (int_eq_equiv.symm z (id_in (rowid r)) ∙ here, free_apart z cells rs h.1 k.1)
 
 -- it is so with one row more, whose rowid was free
 pub numbered_more : (z : ℤ) (cells : Row) (rows : List Row) → is_taken rows (Int z ∷ cells) ≡ false → AreNumbered rows → AreNumbered ((Int z ∷ cells) ∷ rows)

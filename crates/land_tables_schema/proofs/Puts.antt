@@ -1,9 +1,10 @@
 -- What a table has after rows were put into it, in whatever order.
-use Rattle.std.proofs.Common.{◌≡◌, List, [], ◌∷◌, ◌++◌, Bool, true, false, not, ◌&&◌, ◌||◌, refl, IsPermutation}
+use Rattle.std.proofs.Common.{◌≡◌, List, [], ◌∷◌, ◌++◌, true, false, not, ◌||◌, IsPermutation}
 use Rattle.std.specs.Ordering.{is_eq, match_ordering}
 use Rattle.std.specs.declared.cmp.Ordering.{Ordering}
 use Rattle.std.specs.declared.cmp.Ordering.TheVariants.{Less, Equal, Greater}
 use Rattle.std.proofs.lemmas.List.Sorted.{IsPermutation-refl, IsPermutation-sym, IsPermutation-trans, IsPermutation-cons, IsPermutation-middle, IsPermutation-append_right}
+use Rattle.std.proofs.lemmas.Bool.{and_parts, not-true}
 use Rattle.sqlite_rules.specs.Edit.{is_taken, are_fresh, put_all}
 use Rattle.sqlite_trees.specs.Tree.{rowid, put_row}
 use Rattle.sqlite_value.specs.Order.{Row, value_cmp}
@@ -11,10 +12,6 @@ use Rattle.sqlite_value.specs.Order.{Row, value_cmp}
 -- two in front change places
 pub exchanged : {X : Type 0} (x y : X) (xs : List X) → IsPermutation (x ∷ y ∷ xs) (y ∷ x ∷ xs)
 exchanged x y xs = IsPermutation-sym (y ∷ x ∷ xs) (x ∷ y ∷ xs) (IsPermutation-middle (y ∷ []) x xs)
-
-both : (a b : Bool) → (a && b) ≡ true → (a ≡ true) × (b ≡ true)
-both true b h = (refl, h)
-both false b h = absurd (let e = h in cc)
 
 -- a row whose rowid is free is put among the others
 pub put_is : (new : Row) (rows : List Row) → is_taken rows new ≡ false → IsPermutation (new ∷ rows) (put_row new rows)
@@ -30,12 +27,8 @@ put_is new (r ∷ rs) free = go (value_cmp (rowid r) (rowid new)) free (put_is n
 pub puts_are : (news rows : List Row) → are_fresh rows news ≡ true → IsPermutation (news ++ rows) (put_all rows news)
 puts_are [] rows fresh = IsPermutation-refl rows
 puts_are (n ∷ ns) rows fresh =
-    let h = both (not (is_taken rows n)) (are_fresh (put_row n rows) ns) fresh in
-    let free : is_taken rows n ≡ false = was_free (is_taken rows n) h.0 in
+    let h = and_parts (not (is_taken rows n)) (are_fresh (put_row n rows) ns) fresh in
+    let free : is_taken rows n ≡ false = not-true (is_taken rows n) h.0 in
     IsPermutation-trans (n ∷ (ns ++ rows)) (ns ++ put_row n rows) (put_all (put_row n rows) ns)
     (IsPermutation-trans (n ∷ (ns ++ rows)) (ns ++ n ∷ rows) (ns ++ put_row n rows) (IsPermutation-sym (ns ++ n ∷ rows) (n ∷ (ns ++ rows)) (IsPermutation-middle ns n rows)) (IsPermutation-append_right ns (n ∷ rows) (put_row n rows) (put_is n rows free)))
     (puts_are ns (put_row n rows) h.1)
-  where
-    was_free : (b : Bool) → not b ≡ true → b ≡ false
-    was_free true h = absurd (let e = h in cc)
-    was_free false h = refl

@@ -5,6 +5,7 @@ use Rattle.std.specs.Ordering.{int_eq}
 use Rattle.std.proofs.lemmas.Bool.Decides.{Decides-int_eq}
 use Rattle.std.proofs.lemmas.List.Sorted.{IsPermutation-refl, IsPermutation-trans, IsPermutation-cons, IsPermutation-middle}
 use Rattle.std.proofs.lemmas.Map.Keys.{IsDistinct-head, IsDistinct-tail}
+use Rattle.std.proofs.lemmas.Cmp.{int_eq_equiv}
 use Rattle.sqlite_rules.specs.Edit.{without_all}
 use Rattle.sqlite_trees.specs.Tree.{has_rowid, without_rowid}
 use Rattle.sqlite_value.specs.Order.{Row}
@@ -49,16 +50,13 @@ module _ {X : Type 0} (id : X → ℤ) (p : X → Bool) where
   abbrev is_among : List X → X → Bool
   is_among xs x = list_any (λ i. int_eq (id x) i) (map id (filter p xs))
 
-  itself : (z : ℤ) → int_eq z z ≡ true
-  itself z = (Decides-int_eq z z).1 refl
-
   flipped : (a b : ℤ) → int_eq a b ≡ false → int_eq b a ≡ false
   flipped a b h = go (int_eq b a) refl
     where
       go : (c : Bool) → int_eq b a ≡ c → int_eq b a ≡ false
       go true is =
           let same : b ≡ a = (Decides-int_eq b a).0 is in
-          let alike : int_eq a b ≡ true = subst (λ z. int_eq z b ≡ true) same (itself b) in
+          let alike : int_eq a b ≡ true = subst (λ z. int_eq z b ≡ true) same (int_eq_equiv.refl b) in
           absurd (let e : true ≡ false = sym alike ∙ h in cc)
       go false is = is
 
@@ -78,7 +76,7 @@ module _ {X : Type 0} (id : X → ℤ) (p : X → Bool) where
       (first (p x) refl (none_among x xs away), later (p x) xs away (among_is xs (IsDistinct-tail int_eq (id x) (map id xs) apart)))
     where
       first : (b : Bool) → p x ≡ b → is_among xs x ≡ false → list_any (λ i. int_eq (id x) i) (map id (cond b (x ∷ filter p xs) (filter p xs))) ≡ b
-      first true is rest = rw (itself (id x)) refl
+      first true is rest = rw (int_eq_equiv.refl (id x)) refl
       first false is rest = rest
 
       later : (b : Bool) (ys : List X) → AllByRecursion (λ y. int_eq (id x) y ≡ false) (map id ys) → AllByRecursion (λ y. is_among xs y ≡ p y) ys

@@ -2,16 +2,14 @@
 use Rattle.std.proofs.Common.{◌≡◌, ◌<◌, ℕ, zero, suc, ◌-◌, List, [], ◌∷◌, ◌++◌, length, drop, Option, Some, None, refl, sym, ap, ◌∙◌, arith, true, false, cond, Bool, not, ◌==◌, ◌&&◌, ltb, nat_eq, codes, bytes_eq}
 use Rattle.std.proofs.lemmas.Bool.Decides.{nat_tests}
 use Rattle.std.specs.Cmp.Lexicographic.{pointwise}
+use Rattle.std.proofs.lemmas.Bool.{and_parts}
+use Rattle.land_core.proofs.Booleans.{and_false}
 use Rattle.land_wire.specs.Routes.{after, before_slash, from_slash, has_slash, is_empty, is_part, where_after}
 use Rattle.land_wire.specs.Routes.Table.{AreBytes}
 use Rattle.matchit.specs.Rows.{RowsOf}
 use Rattle.matchit.specs.Seek.{seek, own, or_else, step, param_step, longest_suffix, cuts, segment, has_slash as slashed}
 
 -- ---- tests
-
-pub both : (a b : Bool) → (a && b) ≡ true → (a ≡ true) × (b ≡ true)
-both true b e = (refl, e)
-both false b e = cc
 
 one_less : (n : ℕ) → suc n - 1 ≡ n
 one_less n = omega arith
@@ -159,8 +157,8 @@ none_advance : (K : Type 0) (token : ℕ) (gs : Groups K) → (token < 256 → �
 none_advance K token [] above texts = refl
 none_advance K token (([], rows) ∷ gs) above texts = none_advance K token gs above texts
 none_advance K token ((x ∷ w, rows) ∷ gs) above texts =
-    let t = both (is_text (x ∷ w)) (are_texts gs) texts in
-    let s = both (ltb x 256) (is_text w) t.0 in
+    let t = and_parts (is_text (x ∷ w)) (are_texts gs) texts in
+    let s = and_parts (ltb x 256) (is_text w) t.0 in
     let other = not_above x token s.0 above in
     rw other (none_advance K token gs above t.1)
 
@@ -197,8 +195,8 @@ texts-advance : (K : Type 0) (b : ℕ) (gs : Groups K) → are_texts gs ≡ true
 texts-advance K b [] texts = refl
 texts-advance K b (([], rows) ∷ gs) texts = texts-advance K b gs texts
 texts-advance K b ((x ∷ w, rows) ∷ gs) texts =
-    let t = both _ _ texts in
-    by (x == b) (both _ _ t.0).1 (texts-advance K b gs t.1)
+    let t = and_parts _ _ texts in
+    by (x == b) (and_parts _ _ t.0).1 (texts-advance K b gs t.1)
   where
     by : (v : Bool) → is_text w ≡ true → are_texts (advance b gs) ≡ true → are_texts (cond v ((w, rows) ∷ advance b gs) (advance b gs)) ≡ true
     by true e f = rw (e, f) refl
@@ -208,8 +206,8 @@ differs-advance : (K : Type 0) (b x : ℕ) (w : List ℕ) (gs : Groups K) → (x
 differs-advance K b x w [] same e = refl
 differs-advance K b x w (([], rows) ∷ gs) same e = cc
 differs-advance K b x w ((y ∷ v, rows) ∷ gs) same e =
-    let d = both _ _ e in
-    by (y == b) refl (both _ _ e).0 (differs-advance K b x w gs same d.1)
+    let d = and_parts _ _ e in
+    by (y == b) refl (and_parts _ _ e).0 (differs-advance K b x w gs same d.1)
   where
     by : (t : Bool) → (y == b) ≡ t → differ (x ∷ w) (y ∷ v) ≡ true → differs w (advance b gs) ≡ true → differs w (cond t ((v, rows) ∷ advance b gs) (advance b gs)) ≡ true
     by true here d f =
@@ -220,9 +218,9 @@ differs-advance K b x w ((y ∷ v, rows) ∷ gs) same e =
 
 apart-advance : (K : Type 0) (b : ℕ) (gs : Groups K) → are_apart gs ≡ true → are_apart (advance b gs) ≡ true
 apart-advance K b [] e = refl
-apart-advance K b (([], rows) ∷ gs) e = apart-advance K b gs (both _ _ e).1
+apart-advance K b (([], rows) ∷ gs) e = apart-advance K b gs (and_parts _ _ e).1
 apart-advance K b ((x ∷ w, rows) ∷ gs) e =
-    by (x == b) refl (both _ _ e).0 (apart-advance K b gs (both _ _ e).1)
+    by (x == b) refl (and_parts _ _ e).0 (apart-advance K b gs (and_parts _ _ e).1)
   where
     by : (v : Bool) → (x == b) ≡ v → differs (x ∷ w) gs ≡ true → are_apart (advance b gs) ≡ true → are_apart (cond v ((w, rows) ∷ advance b gs) (advance b gs)) ≡ true
     by true here d f = rw (differs-advance K b x w gs here d, f) refl
@@ -232,7 +230,7 @@ long_from_differs : (K : Type 0) (w : List ℕ) (gs : Groups K) → differs w gs
 long_from_differs K w [] e = refl
 long_from_differs K [] (([], rows) ∷ gs) e = cc
 long_from_differs K (x ∷ w) (([], rows) ∷ gs) e = cc
-long_from_differs K w ((y ∷ v, rows) ∷ gs) e = long_from_differs K w gs (both _ _ e).1
+long_from_differs K w ((y ∷ v, rows) ∷ gs) e = long_from_differs K w gs (and_parts _ _ e).1
 
 fronted-nil : (K : Type 0) (rows : RowsOf K) → fronted [] rows ++ [] ≡ rows
 fronted-nil K [] = refl
@@ -253,10 +251,10 @@ seek_by_words K p (([], rows) ∷ []) apart texts = ap (λ r. seek 0 r p) (front
 seek_by_words K p (([], rows) ∷ (([], other) ∷ gs)) apart texts = cc
 seek_by_words K p (([], rows) ∷ ((y ∷ v, other) ∷ gs)) apart texts = cc
 seek_by_words K [] ((x ∷ w, rows) ∷ gs) apart texts =
-    let long = long_from_differs K (x ∷ w) gs (both _ _ apart).0 in
+    let long = long_from_differs K (x ∷ w) gs (and_parts _ _ apart).0 in
     seek_end K (spread ((x ∷ w, rows) ∷ gs)) ∙ own-spread K ((x ∷ w, rows) ∷ gs) long ∙ sym (pick-nil K ((x ∷ w, rows) ∷ gs) long)
 seek_by_words K (b ∷ p) ((x ∷ w, rows) ∷ gs) apart texts =
-    let long = long_from_differs K (x ∷ w) gs (both _ _ apart).0 in
+    let long = long_from_differs K (x ∷ w) gs (and_parts _ _ apart).0 in
     by_byte K b p ((x ∷ w, rows) ∷ gs) long texts
     (seek_by_words K p (advance b ((x ∷ w, rows) ∷ gs)) (apart-advance K b ((x ∷ w, rows) ∷ gs) apart) (texts-advance K b ((x ∷ w, rows) ∷ gs) texts))
 
@@ -281,7 +279,7 @@ last_word K k [] [] text = refl
 last_word K k [] (c ∷ p) text = simp (seek_none K 0 p, no_rows K (c ∷ p), seek_none K ((param_step {K = K} [] (c ∷ p)).0 - 1) p)
 last_word K k (x ∷ w) [] text = refl
 last_word K k (x ∷ w) (c ∷ p) text =
-    let t = both (ltb x 256) (is_text w) text in
+    let t = and_parts (ltb x 256) (is_text w) text in
     let params = not_above x 256 t.0 (λ h. omega arith) in
     let catches = not_above x 257 t.0 (λ h. omega arith) in
     one_step K c p ((x ∷ w, k) ∷ []) (rw params refl) (rw catches refl) ∙ by (x == c) refl (last_word K k w p t.1)
@@ -317,11 +315,7 @@ cuts_slash b q = by (b == 47) refl
   where
     cut : (v : Bool) → has_slash q ≡ v → (b == 47) ≡ false → (ltb 1 (suc (length (segment q))) && has_slash q) ≡ has_slash q
     cut true e other = rw (longer q e, e) refl
-    cut false e other = rw e (none (ltb 1 (suc (length (segment q)))))
-      where
-        none : (v : Bool) → (v && false) ≡ false
-        none true = refl
-        none false = refl
+    cut false e other = rw e (and_false (ltb 1 (suc (length (segment q)))))
 
     by : (v : Bool) → (b == 47) ≡ v → cuts (cond v (b ∷ []) (b ∷ segment q)) (47 ∷ []) ≡ (not v && has_slash q)
     by true here = refl

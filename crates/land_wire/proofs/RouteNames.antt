@@ -1,20 +1,17 @@
 -- The function of routes against the plain words.
 use Rattle.std.proofs.Common.{◌≡◌, ℕ, List, [], ◌∷◌, ◌++◌, Option, Some, None, option_map, refl, sym, ap, subst, ◌∙◌, true, false, cond, Bool, not, ◌==◌, ◌&&◌, codes, bytes_eq, append-nil}
 use Rattle.std.proofs.lemmas.Slice.Eq.{bytes_eq-Decides}
+use Rattle.std.proofs.lemmas.Bool.{and_parts, not-true}
+use Rattle.land_core.proofs.Booleans.{and_false}
 use Rattle.land_core.specs.declared.kind.Kind.{Kind}
 use Rattle.land_core.specs.declared.kind.Kind.TheVariants as kind
 use Rattle.land_wire.proofs.ActNames.{act_found, word_found}
-use Rattle.land_wire.proofs.RouteLemmas.{both}
 use Rattle.land_wire.proofs.RouteTable.{after_is, same_byte}
 use Rattle.land_wire.specs.Routes.{Names, Resource, act, after, before_slash, from_slash, has_slash, is_empty, is_part, list, list_path, named_act, other_of, route_of, sheet, sheet_of, under, view, where_after}
 use Rattle.land_wire.specs.Routes.ActWords.{act_of, act_word}
 use Rattle.land_wire.specs.declared.routes.act_word.ActWord.{ActWord}
 
 -- ---- a part with a word after it
-
-never : (v : Bool) → (v && false) ≡ false
-never true = refl
-never false = refl
 
 slash_within : (p q : List ℕ) → has_slash (p ++ 47 ∷ q) ≡ true
 slash_within [] q = refl
@@ -25,7 +22,7 @@ slash_within (b ∷ p) q = by (b == 47) (slash_within p q)
     by false e = e
 
 no_part : (p q : List ℕ) → is_part (p ++ 47 ∷ q) ≡ false
-no_part p q = rw (slash_within p q) (never (not (is_empty (p ++ 47 ∷ q))))
+no_part p q = rw (slash_within p q) (and_false (not (is_empty (p ++ 47 ∷ q))))
 
 front_is : (p q : List ℕ) → has_slash p ≡ false → before_slash (p ++ 47 ∷ q) ≡ p
 front_is [] q e = refl
@@ -59,10 +56,6 @@ none_before (b ∷ q) = by (b == 47) refl (none_before q)
     by true e h = refl
     by false e h = rw (e, h) refl
 
-not_true : (v : Bool) → not v ≡ true → v ≡ false
-not_true true e = cc
-not_true false e = refl
-
 -- ---- from the plain words
 
 pub named_found : (path : List ℕ) (r : Resource) → Names path r → route_of path ≡ Some r
@@ -79,8 +72,8 @@ named_found path (view kind.Rrr part) h = rw (h.0, h.1) refl
 named_found path (view kind.Source part) h = rw (h.0, h.1) refl
 named_found path (view kind.Mutation part) h = rw (h.0, h.1) refl
 named_found path (sheet part) h =
-    let p = both (not (is_empty part)) (not (has_slash part)) h.1 in
-    let no_slash = not_true (has_slash part) p.1 in
+    let p = and_parts (not (is_empty part)) (not (has_slash part)) h.1 in
+    let no_slash = not-true (has_slash part) p.1 in
     rw (h.0, no_part part (codes "sheet"), front_is part (codes "sheet") no_slash, back_is part (codes "sheet") no_slash, p.0) refl
 named_found path (act word) h = rw (h, word_found (act_word word) word refl) refl
 

@@ -2,7 +2,7 @@
 use Rattle.std.proofs.Common.{◌≡◌, ℕ, Bool, true, false, ◌==◌, cond, List, [], ◌∷◌, ◌++◌, refl, sym, ap, ◌∙◌, subst, arith, append_assoc, append-nil, inl, inr}
 use Rattle.std.specs.Prelude.{◌⊎◌, ◌↔◌}
 use Rattle.std.proofs.lemmas.List.Elements.{All-head, All-tail, All-cons, All-nil}
-use Rattle.std.proofs.lemmas.Bool.{false≢true, ne_eqb}
+use Rattle.std.proofs.lemmas.Bool.{false≢true, ne_eqb, eqb-true}
 use Rattle.std.proofs.lemmas.Str.{IsUtf8-from_ascii}
 use Rattle.std.proofs.lemmas.Str.Ascii.{IsAscii-cons, IsAscii-nil}
 use Rattle.httparse.proofs.GrammarLemmas.{print_request-append}
@@ -54,9 +54,6 @@ Leads place.Method bytes = MethodThen bytes
 Leads place.Target bytes = AllPass is_uri_byte bytes
 Leads place.Elsewhere bytes = ⊥
 
-is_byte : (b c : ℕ) → (b == c) ≡ true → b ≡ c
-is_byte b c e = grind (arith)
-
 pub leads : (p : Place) (bytes : List ℕ) → place_after p bytes ≡ place.Target → Leads p bytes
 leads place.Blank [] e = absurd (cc)
 leads place.Return [] e = absurd (cc)
@@ -65,12 +62,12 @@ leads place.Target [] e = All-nil _
 leads place.Elsewhere [] e = absurd (cc)
 leads place.Blank (b ∷ bytes) e = elim (blank_by (b == 13) (b == 10) (is_token_byte b) bytes e) as (λ _. EndsInTarget (b ∷ bytes)) [
   | inl h ↦ let more = leads place.Return bytes h.1 in
-      let is = is_byte b 13 h.0 in
+      let is = eqb-true b 13 h.0 in
       let there = more.2 in
       (crlf ∷ there.0, there.1, there.2, there.3, there.4, rw (is, more.1) (ap (λ (t : List ℕ). 13 ∷ 10 ∷ t) there.5))
   | inr k ↦ elim k as (λ _. EndsInTarget (b ∷ bytes)) [
     | inl h ↦ let there = leads place.Blank bytes h.1 in
-        let is = is_byte b 10 h.0 in
+        let is = eqb-true b 10 h.0 in
         (lf ∷ there.0, there.1, there.2, there.3, there.4, rw is (ap (λ (t : List ℕ). 10 ∷ t) there.5))
     | inr h ↦ let there = leads place.Method bytes h.1 in
         ([], b ∷ there.0, there.1, (omega arith, All-cons (λ v. is_token_byte v ≡ true) b there.0 h.0 there.2), there.3, ap (λ (t : List ℕ). b ∷ t) there.4)
@@ -78,9 +75,9 @@ leads place.Blank (b ∷ bytes) e = elim (blank_by (b == 13) (b == 10) (is_token
 ]
 leads place.Return (b ∷ bytes) e =
     let h = return_by (b == 10) bytes e in
-    (bytes, ap (λ (v : ℕ). v ∷ bytes) (is_byte b 10 h.0), leads place.Blank bytes h.1)
+    (bytes, ap (λ (v : ℕ). v ∷ bytes) (eqb-true b 10 h.0), leads place.Blank bytes h.1)
 leads place.Method (b ∷ bytes) e = elim (method_by (b == 32) (is_token_byte b) bytes e) as (λ _. MethodThen (b ∷ bytes)) [
-  | inl h ↦ ([], bytes, All-nil _, leads place.Target bytes h.1, ap (λ (v : ℕ). v ∷ bytes) (is_byte b 32 h.0))
+  | inl h ↦ ([], bytes, All-nil _, leads place.Target bytes h.1, ap (λ (v : ℕ). v ∷ bytes) (eqb-true b 32 h.0))
   | inr h ↦ let there = leads place.Method bytes h.1 in
       (b ∷ there.0, there.1, All-cons (λ v. is_token_byte v ≡ true) b there.0 h.0 there.2, there.3, ap (λ (t : List ℕ). b ∷ t) there.4)
 ]

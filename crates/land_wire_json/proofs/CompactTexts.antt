@@ -5,6 +5,7 @@ use Rattle.std.specs.Ordering.{nat_cmp, match_ordering}
 use Rattle.std.specs.declared.cmp.Ordering.{Ordering}
 use Rattle.std.specs.declared.cmp.Ordering.TheVariants.{Less, Equal, Greater}
 use Rattle.std.specs.Cmp.Lexicographic.{slice_cmp}
+use Rattle.std.proofs.lemmas.Bool.{and_parts}
 use Rattle.json.proofs.Printed.Decimals.{IsNumber-decimal}
 use Rattle.json.proofs.Printed.Tokens.{tokens-print}
 use Rattle.json.proofs.Printed.Trees.{value-json_tokens, ArePrintable-json_tokens}
@@ -17,10 +18,6 @@ use Rattle.serde_json.proofs.Texts.{print-outline}
 use Rattle.serde_json.specs.Data.{unsigned, negative, float, Data, null, boolean, number, string, array, object, Items, no_items, item, Members, no_members, member, put, depth, items_depth, members_depth}
 use Rattle.serde_json.specs.Read.{read, max_depth, of_json, of_items, of_members}
 use Rattle.serde_json.specs.Written.{compact_text, outline, items_outline, members_outline}
-
-pub both : (a b : Bool) → (a && b) ≡ true → (a ≡ true) × (b ≡ true)
-both true b e = (refl, e)
-both false b e = cc
 
 below : (n : ℕ) → nat_lt n (2 ^ 64) ≡ true → n < 2 ^ 64
 below n e = grind (arith, nat_tests)
@@ -56,14 +53,14 @@ after_none (member k d ms) = after_none ms
 after_joined : (l : List ℕ) (found : Members) (k : List ℕ) (d : Data) → after_all l found ≡ true → is_after l k ≡ true → after_all l (joined found (member k d no_members)) ≡ true
 after_joined l no_members k d e f = rw f refl
 after_joined l (member m x rest) k d e f =
-    let p = both (is_after l m) (after_all l rest) e in
+    let p = and_parts (is_after l m) (after_all l rest) e in
     rw (p.0, after_joined l rest k d p.1 f) refl
 
 come_after_joined : (ms found : Members) (k : List ℕ) (d : Data) → come_after ms found ≡ true → all_after k ms ≡ true → come_after ms (joined found (member k d no_members)) ≡ true
 come_after_joined no_members found k d e f = refl
 come_after_joined (member l x ms) found k d e f =
-    let p = both (after_all l found) (come_after ms found) e in
-    let q = both (is_after l k) (all_after k ms) f in
+    let p = and_parts (after_all l found) (come_after ms found) e in
+    let q = and_parts (is_after l k) (all_after k ms) f in
     rw (after_joined l found k d p.0 q.0, come_after_joined ms found k d p.1 q.1) refl
 
 goes_last : (o : Ordering) (a b c : Members) → match_ordering o false false true ≡ true → match_ordering o a b c ≡ c
@@ -74,7 +71,7 @@ goes_last Greater a b c e = refl
 put_last : (k : List ℕ) (d : Data) (found : Members) → after_all k found ≡ true → put k d found ≡ joined found (member k d no_members)
 put_last k d no_members e = refl
 put_last k d (member l x rest) e =
-    let p = both (is_after k l) (after_all k rest) e in
+    let p = and_parts (is_after k l) (after_all k rest) e in
     goes_last (slice_cmp nat_cmp k l) _ _ _ p.0 ∙ ap (member l x) (put_last k d rest p.1)
 
 -- ---- what was written is read
@@ -93,15 +90,15 @@ mutual
   of_items_outline : (ds : Items) → are_exact ds ≡ true → of_items (items_outline ds) ≡ Some ds
   of_items_outline no_items e = refl
   of_items_outline (item d ds) e =
-      let p = both (is_exact d) (are_exact ds) e in
+      let p = and_parts (is_exact d) (are_exact ds) e in
       rw (of_outline d p.0, of_items_outline ds p.1) refl
 
   of_members_outline : (ms found : Members) → rise ms ≡ true → come_after ms found ≡ true → of_members (members_outline ms) found ≡ Some (joined found ms)
   of_members_outline no_members found e f = ap Some (joined_none found)
   of_members_outline (member k d ms) found e f =
-      let p = both (is_exact d && all_after k ms) (rise ms) e in
-      let q = both (is_exact d) (all_after k ms) p.0 in
-      let r = both (after_all k found) (come_after ms found) f in
+      let p = and_parts (is_exact d && all_after k ms) (rise ms) e in
+      let q = and_parts (is_exact d) (all_after k ms) p.0 in
+      let r = and_parts (after_all k found) (come_after ms found) f in
       rw (of_outline d q.0, put_last k d found r.0)
       (of_members_outline ms (joined found (member k d no_members)) p.1 (come_after_joined ms found k d r.1 q.1)
       ∙ ap Some (joined-member found ms k d))
@@ -119,13 +116,13 @@ mutual
 
   items_have_numbers : (ds : Items) → are_exact ds ≡ true → tree.ItemsHaveNumbers (items_outline ds)
   items_have_numbers no_items e = tt
-  items_have_numbers (item d ds) e = let p = both (is_exact d) (are_exact ds) e in (has_numbers d p.0, items_have_numbers ds p.1)
+  items_have_numbers (item d ds) e = let p = and_parts (is_exact d) (are_exact ds) e in (has_numbers d p.0, items_have_numbers ds p.1)
 
   members_have_numbers : (ms : Members) → rise ms ≡ true → tree.MembersHaveNumbers (members_outline ms)
   members_have_numbers no_members e = tt
   members_have_numbers (member k d ms) e =
-      let p = both (is_exact d && all_after k ms) (rise ms) e in
-      let q = both (is_exact d) (all_after k ms) p.0 in
+      let p = and_parts (is_exact d && all_after k ms) (rise ms) e in
+      let q = and_parts (is_exact d) (all_after k ms) p.0 in
       (has_numbers d q.0, members_have_numbers ms p.1)
 
 mutual

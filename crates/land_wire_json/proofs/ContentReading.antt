@@ -2,7 +2,7 @@
 use Rattle.std.proofs.Common.{◌≡◌, ◌≤◌, ◌^◌, ℕ, suc, List, [], ◌∷◌, true, false, ◌&&◌, not, nat_le, nat_lt, length, map, Option, Some, None, Result, Ok, Err, refl, ap, ◌∙◌, arith}
 use Rattle.std.proofs.lemmas.Bool.Decides.{nat_tests}
 use Rattle.std.specs.List.{AllByRecursion, list_all}
-use Rattle.land_core.proofs.Booleans.{both_of, not_true}
+use Rattle.std.proofs.lemmas.Bool.{and_parts, not-true}
 use Rattle.land_core.specs.Contents.{is_amount, is_currency, is_discharge, is_mortgage, is_transfer, is_well_formed_content}
 use Rattle.land_core.specs.Mergers.{are_merged, are_others, are_rising, is_merger, lists_number, rise_above}
 use Rattle.land_core.specs.Numbers.{is_number}
@@ -75,30 +75,30 @@ record Divided (it : Subdivision) : Type 0 where
 
 mortgaged : (it : Mortgage) → is_mortgage it ≡ true → Mortgaged it
 mortgaged it e =
-    let p = both_of (is_number it.unit && is_number it.creditor && is_amount it.amount) (is_currency it.currency) e in
-    let q = both_of (is_number it.unit && is_number it.creditor) (is_amount it.amount) p.0 in
-    let r = both_of (is_number it.unit) (is_number it.creditor) q.0 in
+    let p = and_parts (is_number it.unit && is_number it.creditor && is_amount it.amount) (is_currency it.currency) e in
+    let q = and_parts (is_number it.unit && is_number it.creditor) (is_amount it.amount) p.0 in
+    let r = and_parts (is_number it.unit) (is_number it.creditor) q.0 in
     record { unit = r.0; creditor = r.1; amount = q.1; currency = p.1 }
 
 merged : (it : Merger) → is_merger it ≡ true → Merged it
 merged it e =
-    let p = both_of (is_number it.unit && are_others it.unit it.others && are_merged it.parcels) (is_label it.label) e in
-    let q = both_of (is_number it.unit && are_others it.unit it.others) (are_merged it.parcels) p.0 in
-    let r = both_of (is_number it.unit) (are_others it.unit it.others) q.0 in
-    let o = both_of (nat_le (length it.others) 15 && are_rising it.others) (not (lists_number it.others it.unit)) r.1 in
-    let s = both_of (nat_le (length it.others) 15) (are_rising it.others) o.0 in
-    let t = both_of (rise_above 0 it.others) (list_all is_number it.others) s.1 in
-    let u = both_of (nat_le 2 (length it.parcels) && nat_le (length it.parcels) 16) (are_rising it.parcels) q.1 in
-    let v = both_of (nat_le 2 (length it.parcels)) (nat_le (length it.parcels) 16) u.0 in
-    let w = both_of (rise_above 0 it.parcels) (list_all is_number it.parcels) u.1 in
-    record { unit = r.0; few = s.0; above = t.0; others = t.1; without = not_true (lists_number it.others it.unit) o.1; some = v.0; most = v.1; rise = w.0; parcels = w.1; label = p.1 }
+    let p = and_parts (is_number it.unit && are_others it.unit it.others && are_merged it.parcels) (is_label it.label) e in
+    let q = and_parts (is_number it.unit && are_others it.unit it.others) (are_merged it.parcels) p.0 in
+    let r = and_parts (is_number it.unit) (are_others it.unit it.others) q.0 in
+    let o = and_parts (nat_le (length it.others) 15 && are_rising it.others) (not (lists_number it.others it.unit)) r.1 in
+    let s = and_parts (nat_le (length it.others) 15) (are_rising it.others) o.0 in
+    let t = and_parts (rise_above 0 it.others) (list_all is_number it.others) s.1 in
+    let u = and_parts (nat_le 2 (length it.parcels) && nat_le (length it.parcels) 16) (are_rising it.parcels) q.1 in
+    let v = and_parts (nat_le 2 (length it.parcels)) (nat_le (length it.parcels) 16) u.0 in
+    let w = and_parts (rise_above 0 it.parcels) (list_all is_number it.parcels) u.1 in
+    record { unit = r.0; few = s.0; above = t.0; others = t.1; without = not-true (lists_number it.others it.unit) o.1; some = v.0; most = v.1; rise = w.0; parcels = w.1; label = p.1 }
 
 divided : (it : Subdivision) → is_subdivision it ≡ true → Divided it
 divided it e =
-    let p = both_of (is_number it.unit && is_number it.parcel && is_label it.first.label) (is_rest it.rest) e in
-    let q = both_of (is_number it.unit && is_number it.parcel) (is_label it.first.label) p.0 in
-    let r = both_of (is_number it.unit) (is_number it.parcel) q.0 in
-    let s = both_of (is_rest_count (length it.rest)) (have_names it.rest) p.1 in
+    let p = and_parts (is_number it.unit && is_number it.parcel && is_label it.first.label) (is_rest it.rest) e in
+    let q = and_parts (is_number it.unit && is_number it.parcel) (is_label it.first.label) p.0 in
+    let r = and_parts (is_number it.unit) (is_number it.parcel) q.0 in
+    let s = and_parts (is_rest_count (length it.rest)) (have_names it.rest) p.1 in
     record { unit = r.0; parcel = r.1; label = q.1; count = s.0; rest = s.1 }
 
 record Transferred (it : Transfer) : Type 0 where
@@ -108,21 +108,21 @@ record Transferred (it : Transfer) : Type 0 where
 
 transferred : (it : Transfer) → is_transfer it ≡ true → Transferred it
 transferred it e =
-    let p = both_of (is_number it.unit && is_number it.right) (is_number it.receiver) e in
-    let q = both_of (is_number it.unit) (is_number it.right) p.0 in
+    let p = and_parts (is_number it.unit && is_number it.right) (is_number it.receiver) e in
+    let q = and_parts (is_number it.unit) (is_number it.right) p.0 in
     record { unit = q.0; right = q.1; receiver = p.1 }
 
 -- ---- the JSON of a content is exact, and shallow
 
 fits : (n : ℕ) → is_number n ≡ true → nat_lt n (2 ^ 64) ≡ true
-fits n e = let p = both_of (nat_le 1 n) (nat_le n 1000000000) e in grind (arith, nat_tests, p.1)
+fits n e = let p = and_parts (nat_le 1 n) (nat_le n 1000000000) e in grind (arith, nat_tests, p.1)
 
 amount_fits : (n : ℕ) → is_amount n ≡ true → nat_lt n (2 ^ 64) ≡ true
-amount_fits n e = let p = both_of (nat_le 1 n) (nat_le n 1000000000000000) e in grind (arith, nat_tests, p.1)
+amount_fits n e = let p = and_parts (nat_le 1 n) (nat_le n 1000000000000000) e in grind (arith, nat_tests, p.1)
 
 numbers_exact : (numbers : List ℕ) → list_all is_number numbers ≡ true → are_exact (items_of (map number_data numbers)) ≡ true
 numbers_exact [] e = refl
-numbers_exact (n ∷ ns) e = let p = both_of (is_number n) (list_all is_number ns) e in rw (fits n p.0, numbers_exact ns p.1) refl
+numbers_exact (n ∷ ns) e = let p = and_parts (is_number n) (list_all is_number ns) e in rw (fits n p.0, numbers_exact ns p.1) refl
 
 numbers_depth : (numbers : List ℕ) → items_depth (items_of (map number_data numbers)) ≤ 1
 numbers_depth [] = omega arith
@@ -155,7 +155,7 @@ exact (content.Transfer it) e = let h = transferred it e in rw (fits it.unit h.u
 exact (content.Subdivision it) e = let h = divided it e in rw (fits it.unit h.unit, fits it.parcel h.parcel, parts_exact it.rest) refl
 exact (content.Merger it) e = let h = merged it e in rw (fits it.unit h.unit, numbers_exact it.others h.others, numbers_exact it.parcels h.parcels) refl
 exact (content.Mortgage it) e = let h = mortgaged it e in rw (fits it.unit h.unit, fits it.creditor h.creditor, amount_fits it.amount h.amount) refl
-exact (content.Discharge it) e = let h = both_of (is_number it.unit) (is_number it.mortgage) e in rw (fits it.unit h.0, fits it.mortgage h.1) refl
+exact (content.Discharge it) e = let h = and_parts (is_number it.unit) (is_number it.mortgage) e in rw (fits it.unit h.0, fits it.mortgage h.1) refl
 
 shallow : (it : Content) → depth (content_data it) ≤ max_depth
 shallow (content.Transfer it) = omega arith
@@ -176,7 +176,7 @@ number_is_read n e = rw e refl
 
 numbers_are_read : (numbers : List ℕ) → list_all is_number numbers ≡ true → each_of number_in (items_of (map number_data numbers)) ≡ Ok numbers
 numbers_are_read [] e = refl
-numbers_are_read (n ∷ ns) e = let p = both_of (is_number n) (list_all is_number ns) e in rw (number_is_read n p.0, numbers_are_read ns p.1) refl
+numbers_are_read (n ∷ ns) e = let p = and_parts (is_number n) (list_all is_number ns) e in rw (number_is_read n p.0, numbers_are_read ns p.1) refl
 
 none_or_more : (n : ℕ) → nat_le 0 n ≡ true
 none_or_more n = grind (arith, nat_tests)
@@ -203,7 +203,7 @@ module _ (shares : SameFractionLaw) (printing : PrintedLaw) (one : OneAnswerLaw)
   part_is_read : (part : Part) → is_part part ≡ true → IsOutline part.outline → part_of (part_data part) ≡ Ok part
   unfolding part_of object_with field_at text_at outline_in
   part_is_read part e h =
-      let p = both_of (is_label part.label) (is_new_name part.unit) e in
+      let p = and_parts (is_label part.label) (is_new_name part.unit) e in
       by part.unit part.label part.outline p.0 (outline_is_read part.outline h) p.1
     where
       by : (unit : Option (List ℕ)) (label : List ℕ) (outline : List Place) → is_label label ≡ true → outline_of (printed outline) ≡ Ok outline → is_new_name unit ≡ true
@@ -214,7 +214,7 @@ module _ (shares : SameFractionLaw) (printing : PrintedLaw) (one : OneAnswerLaw)
   parts_are_read : (parts : List Part) → list_all is_part parts ≡ true → AllByRecursion HasOutline parts → each_of part_of (items_of (map part_data parts)) ≡ Ok parts
   parts_are_read [] e h = refl
   parts_are_read (part ∷ parts) e h =
-      let p = both_of (is_part part) (list_all is_part parts) e in
+      let p = and_parts (is_part part) (list_all is_part parts) e in
       rw (part_is_read part p.0 h.0, parts_are_read parts p.1 h.1) refl
 
   subdivision_is_read : (it : Subdivision) → is_subdivision it ≡ true → IsOutline it.first.outline → AllByRecursion HasOutline it.rest
@@ -251,7 +251,7 @@ module _ (shares : SameFractionLaw) (printing : PrintedLaw) (one : OneAnswerLaw)
 
   discharge_is_read : (it : Discharge) → is_discharge it ≡ true → discharge_of (discharge_data it) ≡ Ok it
   unfolding discharge_of number_at field_at number_in
-  discharge_is_read it e = let p = both_of (is_number it.unit) (is_number it.mortgage) e in rw (p.0, p.1) refl
+  discharge_is_read it e = let p = and_parts (is_number it.unit) (is_number it.mortgage) e in rw (p.0, p.1) refl
 
   data_is_read : (it : Content) → is_well_formed_content it ≡ true → IsExactContent it → (content_kind_of (act_word it) >>= λ which. content_of which (content_data it)) ≡ Ok it
   unfolding content_of object_with

@@ -1,7 +1,7 @@
 -- What is read keeps the limits of its fields.
 use Rattle.std.proofs.Common.{◌≡◌, ℕ, List, [], ◌∷◌, Bool, true, false, Option, Some, None, Result, Ok, Err, refl, ap, suc, length, nat_le, ◌&&◌, if◌then◌else◌, codes, bytes_eq, IfOk}
 use Rattle.std.specs.List.{list_all}
-use Rattle.land_core.proofs.Booleans.{both_of}
+use Rattle.std.proofs.lemmas.Bool.{and_parts}
 use Rattle.land_core.specs.Acts.{have_owner, is_well_formed}
 use Rattle.land_core.specs.Contents.{is_amount, is_currency, is_well_formed_content}
 use Rattle.land_core.specs.Mergers.{rise_above, are_rising, lists_number, are_others}
@@ -316,7 +316,7 @@ without-others unit others are = by (lists_number others unit) refl
   where
     by : (b : Bool) → lists_number others unit ≡ b → Ensures (λ them. are_others unit them ≡ true) (if b then Err fault.Field else Ok others)
     by true e = record { if_ok = tt }
-    by false e = record { if_ok = rw ((both_of (nat_le 0 (length others)) (nat_le (length others) 15) are.count).1, are.rise, e) refl }
+    by false e = record { if_ok = rw ((and_parts (nat_le 0 (length others)) (nat_le (length others) 15) are.count).1, are.rise, e) refl }
 
 merger_of-well_formed : (value : Data) → Ensures (λ it. IsWellFormed (content.Merger it)) (merger_of value)
 unfolding merger_of

@@ -1,7 +1,7 @@
 use Rattle.std.proofs.Common.{◌≡◌, ◌∙◌, ◌++◌, ℕ, Bool, true, List, Ok, ap, map, of_z, rules, subst, sym, to_z, w64}
 use Rattle.std.specs.List.{list_all, list_any}
 use Rattle.std.specs.Prelude.{nat_eq}
-use Rattle.land_core.proofs.Booleans.{both_of}
+use Rattle.std.proofs.lemmas.Bool.{and_parts}
 use Rattle.land_core.specs.Numbers.{is_number}
 use Rattle.land_tables_history.specs.Changed.{listed_members}
 use Rattle.land_tables_history.specs.declared.group_member.GroupMember.{GroupMember}
@@ -19,13 +19,13 @@ use Rattle.land_tables_rows.proofs.recording.kinds.change_members.Goals as goal
 pub close_put-requires-clause-fits : goal.close_put-requires-clause-fits
 close_put-requires-clause-fits g c =
     let groups = c.args.put.now in
-    subst (λ l. list_all (λ e. is_number e.0) l ≡ true) (sym c.as_slice-2.ensures) (groups_known groups (both_of (list_all fits_group groups) (list_all is_number c.args.ended.now) c.requires.fits).0)
+    subst (λ l. list_all (λ e. is_number e.0) l ≡ true) (sym c.as_slice-2.ensures) (groups_known groups (and_parts (list_all fits_group groups) (list_all is_number c.args.ended.now) c.requires.fits).0)
 
 pub begin_all-requires-clause-fits : goal.begin_all-requires-clause-fits
 begin_all-requires-clause-fits g c =
     let groups = c.args.put.now in
     let listed : c.as_slice-4.result.now ≡ listed_members groups = c.as_slice-4.ensures ∙ c.in_ok-listed.ensures ∙ ap listed_members c.as_slice.ensures in
-    subst (λ l. list_all fits_member l ≡ true) (sym listed) (members_fit groups (both_of (list_all fits_group groups) (list_all is_number c.args.ended.now) c.requires.fits).0)
+    subst (λ l. list_all fits_member l ≡ true) (sym listed) (members_fit groups (and_parts (list_all fits_group groups) (list_all is_number c.args.ended.now) c.requires.fits).0)
 
 pub returns-clause-step : goal.returns-clause-step
 returns-clause-step g c =
