@@ -32,43 +32,43 @@ def of_circle(*names):
 CALLER = [f"ROLES_OF_PARTY $1 {LAST}"]                                                              # standing::person: it holds the role
 GROUPS = of_circle("own/GROUPS")                                                                    # interests::names_of, of a citizen
 PARTIES = of_circle("own/ITSELF", "own/GROUPS", "holder/PARTIES", "group/PARTIES")                  # sight::Sight, of a citizen
-UNIT = ["ENTRIES_OF_UNIT $2 now"]                                                                   # interests::is_unit_shown
-ENTRY = ["ENTRY $2 now", "ENTRIES_OF_UNIT ENTRY.unit now"]                                          # interests::is_number_shown
-NAMING = ["MUTATION $2 now", "ENTRIES_OF_UNIT $3 now"]                                              # naming::is_mutation_shown
+UNIT = ["ENTRIES_OF_UNIT $2 now"]                                                                   # interests::unit_with_entries
+ENTRY = ["ENTRY $2 now", "ENTRIES_OF_UNIT ENTRY.unit now"]                                          # interests::entry_shown
+NAMING = ["MUTATION $2 now", "ENTRIES_OF_UNIT $3 now"]                                              # naming::mutation_shown
 AWAITED = ["LODGERS_ON_UNIT $2 now"]                                                                # lodgers::is_lodger_on
-VIEW = ["UNIT $2 now", "PARCELS_OF_UNIT $2 now", "ENTRIES_OF_UNIT $2 now"]                          # view::view
+RECORD = ["UNIT $2 now"]                                                                            # view::record_of
+PARCELS = ["PARCELS_OF_UNIT $2 now"]                                                                # view::parcels_of
 NAMES = ["PARTIES_OF_UNIT $2 now"]                                                                  # of_entries::parties
 
-# Of each read what follows on CALLER, and the functions that run it: whether it is seen is told first, by viewing::is_in_sight, and a denial
-# ends there; then it is looked up. A list is sight::Sight: each selection of the role and the kind, for a citizen over its circle. An
-# object is object::ObjectAt, a sheet view::UnitSeen; presence::stands tells of what a role sees all of whether it is there, by its number
-# alone, and lodgers::has_lodged of a mutation who lodged it.
+# Of each read what follows on CALLER, and the functions that run it: whether it is seen is told first, by viewing::in_sight or sheet::sheet,
+# and a denial ends there; then what was not found on the way is looked up. A list is sight::Sight: each selection of the role and the kind,
+# for a citizen over its circle. An object is object::ObjectAt, a sheet view::UnitSeen; lodgers::has_lodged tells of a mutation who lodged it.
 READS = {
     ("citizen", "its units"): of_circle("holder/UNITS", "group/UNITS"),                        # Sight
     ("citizen", "the entries in its sight"): of_circle("holder/ENTRIES", "group/ENTRIES"),     # Sight
     ("citizen", "the parties in its sight"): PARTIES,                                          # Sight
-    ("citizen", "a party in its sight"): [                                                     # viewing::is_in_sight: sight; ObjectAt
+    ("citizen", "a party in its sight"): [                                                     # viewing::in_sight: sight; ObjectAt
         *PARTIES, "PARTY $2 now", "ROLES_OF_PARTY $2 now", "MEMBERS_OF_GROUP $2 now"],
-    ("citizen", "an entry in its sight"): [*ENTRY, *GROUPS, "ENTRY $2 now"],                   # interests::is_number_shown, ObjectAt
-    ("citizen", "an entry that is denied"): [*ENTRY, *GROUPS],                                 # interests::is_number_shown
-    ("citizen", "a parcel"): ["PARCEL_NUMBER $2 now", "PARCEL $2 now"],                        # presence::stands, ObjectAt
-    ("citizen", "its unit"): [*UNIT, *GROUPS, "UNIT $2 now"],                                  # interests::is_unit_shown, ObjectAt
-    ("citizen", "its title sheet"): [*UNIT, *GROUPS, *VIEW, *GROUPS, *NAMES],                  # interests::is_unit_shown, UnitSeen
-    ("citizen", "a title sheet that is denied"): [*UNIT, *GROUPS],                             # interests::is_unit_shown
+    ("citizen", "an entry in its sight"): [*ENTRY, *GROUPS],                                   # interests::entry_shown
+    ("citizen", "an entry that is denied"): [*ENTRY, *GROUPS],                                 # interests::entry_shown
+    ("citizen", "a parcel"): ["PARCEL $2 now"],                                                # viewing::standing_object
+    ("citizen", "its unit"): [*UNIT, *GROUPS, *RECORD],                                        # interests::is_unit_shown, ObjectAt
+    ("citizen", "its title sheet"): [*UNIT, *GROUPS, *RECORD, *PARCELS, *NAMES],               # interests::unit_with_entries, UnitSeen
+    ("citizen", "a title sheet that is denied"): [*UNIT, *GROUPS],                             # interests::unit_with_entries
     ("bank", "the units in its sight"): ["creditor/UNITS $1 now"],                             # Sight
     ("bank", "the entries in its sight"): ["creditor/ENTRIES $1 now"],                         # Sight
-    ("bank", "its mortgage"): [*ENTRY, "ENTRY $2 now"],                                        # interests::is_number_shown, ObjectAt
-    ("bank", "an entry that is denied"): ENTRY,                                                # interests::is_number_shown
-    ("bank", "the title sheet"): [*UNIT, *VIEW, *NAMES],                                       # interests::is_unit_shown, UnitSeen
-    ("bank", "an entry, where it has a mortgage on all other units"): [*ENTRY, "ENTRY $2 now"],  # interests::is_number_shown, ObjectAt
-    ("citizen", "a mutation of its unit"): [*NAMING, *GROUPS, "MUTATION $2 now"],              # naming::is_mutation_shown, ObjectAt
-    ("citizen", "a mutation that is denied"): [*NAMING, *GROUPS],                              # naming::is_mutation_shown
+    ("bank", "its mortgage"): ENTRY,                                                           # interests::entry_shown
+    ("bank", "an entry that is denied"): ENTRY,                                                # interests::entry_shown
+    ("bank", "the title sheet"): [*UNIT, *RECORD, *PARCELS, *NAMES],                           # interests::unit_with_entries, UnitSeen
+    ("bank", "an entry, where it has a mortgage on all other units"): ENTRY,                   # interests::entry_shown
+    ("citizen", "a mutation of its unit"): [*NAMING, *GROUPS],                                 # naming::mutation_shown
+    ("citizen", "a mutation that is denied"): [*NAMING, *GROUPS],                              # naming::mutation_shown
     ("conveyancer", "a mutation, where it lodged all that there are"): ["LODGER_OF_MUTATION $2 now", "MUTATION $2 now"],  # has_lodged, ObjectAt
     ("conveyancer", "a mutation that another lodged"): ["LODGER_OF_MUTATION $2 now"],          # lodgers::has_lodged
     ("conveyancer", "a unit that is denied, where all that it lodged is decided"): AWAITED,    # awaited::unit_awaited
-    ("notary", "an entry"): ["ENTRY_NUMBER $2 now", "ENTRY $2 now"],                           # presence::stands, ObjectAt
-    ("notary", "an entry that is not there"): ["ENTRY_NUMBER $2 now"],                         # presence::stands
-    ("notary", "a title sheet"): ["UNIT_NUMBER $2 now", *VIEW, *NAMES],                        # presence::stands, UnitSeen
+    ("notary", "an entry"): ["ENTRY $2 now"],                                                  # viewing::standing_object
+    ("notary", "an entry that is not there"): ["ENTRY $2 now"],                                # viewing::standing_object
+    ("notary", "a title sheet"): [*RECORD, *PARCELS, "ENTRIES_OF_UNIT $2 now", *NAMES],        # viewing::standing_object, UnitSeen
     ("notary", "all units"): ["all/UNITS $1 now"],                                             # Sight
     ("citizen", "all parcels"): ["all/PARCELS $1 now"],                                        # Sight, which has no circle for parcels
 }

@@ -1,5 +1,6 @@
 -- What a conveyancer awaits of a unit, and what it sees by that of the unit's entries.
 use Rattle.std.proofs.Common.{◌≡◌, ◌&&◌, ◌∙◌, ℕ, Bool, true, false, cond, nat_eq, List, [], ◌∷◌, filter, refl, sym, ap, ap₂}
+use Rattle.std.proofs.lemmas.Bool.{and_parts}
 use Rattle.std.proofs.lemmas.Bool.Decides.{Decides-eqb}
 use Rattle.std.specs.FinMap as map
 use Rattle.std.specs.List.{Contains}
@@ -8,11 +9,12 @@ use Rattle.std.specs.Ordering.{nat_cmp}
 use Rattle.land_core.proofs.Booleans.{and_true}
 use Rattle.land_core.specs.Entries.{with_entries}
 use Rattle.land_core.specs.declared.caller.Caller.{Caller}
-use Rattle.land_core.specs.declared.kind.Kind.TheVariants.{Rrr}
+use Rattle.land_core.specs.Register.{stands}
+use Rattle.land_core.specs.declared.kind.Kind.TheVariants.{Rrr, Unit as UnitKind}
 use Rattle.land_core.specs.declared.register.Register.{Register}
 use Rattle.land_core.specs.declared.rrr.RrrRecord.{RrrRecord}
 use Rattle.land_rules.specs.Denials.Interests.{entries_of}
-use Rattle.land_rules.specs.Denials.Sight.{WhatIsAwaitedIsSeen, sees_by_awaiting}
+use Rattle.land_rules.specs.Denials.Sight.{WhatIsAwaitedIsSeen, is_awaited, sees_by_awaiting}
 use Rattle.land_rules.specs.Laws.{IsSoundOrNothing}
 use Rattle.land_rules.specs.Relations.{is_lodger_on}
 use Rattle.land_rules.specs.Rules.{sees}
@@ -60,3 +62,9 @@ awaited_in_sight law r caller unit premise by = go (is_lodger_on r caller.party 
         ap (with_entries (map.empty {R = nat_cmp}))
         (agreed (λ e. nat_eq e.1.unit unit) (λ e. nat_eq e.1.unit unit && true) (map.entries r.rrrs) (λ e among. sym (and_true (nat_eq e.1.unit unit))) ∙ kept true is)
     go false is = ap (with_entries (map.empty {R = nat_cmp})) (sym (none_kept (λ e. nat_eq e.1.unit unit) (map.entries r.rrrs)) ∙ kept false is)
+
+-- so all of them are, where the unit is awaited
+pub entries_awaited : WhatIsAwaitedIsSeen → (r : Register) (caller : Caller) (unit : ℕ) → IsSoundOrNothing r → sees_by_awaiting caller.role Rrr ≡ true → is_awaited r caller UnitKind unit ≡ true
+    → entries_of r unit ≡ in_sight r caller unit
+entries_awaited law r caller unit premise by is =
+    sym (ap (λ b. cond b (entries_of r unit) map.empty) (and_parts (is_lodger_on r caller.party unit) (stands r UnitKind unit) is).0) ∙ awaited_in_sight law r caller unit premise by

@@ -19,8 +19,10 @@ use Rattle.land_rules.specs.Rules.{seen_of, verdict_of}
 use Rattle.land_rules.specs.declared.verdict.Verdict.{Verdict}
 use Rattle.land_select.specs.Asking.{IsAnswer}
 use Rattle.land_select.specs.Slices.Gathered.{IsSo}
-use Rattle.land_select.specs.Verdicts.{IsVerdict}
-use Rattle.land_select.specs.Views.{IsShown}
+use Rattle.land_select.specs.Kept.{IsFoundFor}
+use Rattle.land_select.specs.Verdicts.{IsVerdictWith}
+use Rattle.land_select.specs.Views.{IsShownGiven}
+use Rattle.land_select.specs.declared.kept.Found.{Found}
 use Rattle.land_select_joins.specs.Joins.Sight.{IsSight}
 use Rattle.land_select_joins.specs.Lookups.Parts.{IsPart}
 use Rattle.land_tables.proofs.LookedAt.{IsLookedAt}
@@ -47,37 +49,37 @@ part_stands look_ups part s t u place (Ok it) answer =
     answer.answer holds.listed holds.history holds.holds (register_at tl t) (have_members look_ups tl t answer.register.sound) (place s answer.register)
 part_stands look_ups part s t u place (Err fault) answer = tt
 
--- what is shown of tables at a moment is what is shown of the timeline's register there
-pub shown_stands : {T : Type 0} (shown : Register → T) (s : State) (t u : ℤ) → IsLookedAt t u → (r : Result T StoreFault) → IfOk r (IsAnswer (IsShown shown u) s)
-    → IfOk r (λ it. it ≡ shown (register_at (timeline_in s.now.trees) t))
-shown_stands shown s t u place (Ok it) answer =
+-- what is shown of tables at a moment, given something of the register there, is what is shown of the timeline's register there
+pub given_stands : {T : Type 0} (Given : Register → Type 0) (shown : Register → T) (s : State) (t u : ℤ) → IsLookedAt t u → (it : T) → IsAnswer (IsShownGiven Given shown u) s it
+    → Given (register_at (timeline_in s.now.trees) t) → it ≡ shown (register_at (timeline_in s.now.trees) t)
+given_stands Given shown s t u place it answer given =
     let tl = timeline_in s.now.trees in
     let holds = answer.register.holds in
-    answer.answer holds.listed holds.history holds.holds (register_at tl t) (sound_or_nothing tl t answer.register.sound) (place s answer.register)
-shown_stands shown s t u place (Err fault) answer = tt
+    answer.answer holds.listed holds.history holds.holds (register_at tl t) (sound_or_nothing tl t answer.register.sound) (place s answer.register) given
 
 the_last : IsMoment last_moment
 the_last = (omega (arith, ints), omega (arith, ints))
 
--- the verdict that is answered of tables is told by the timeline's registers, the last one and the one at the moment
-verdict_stands : SoundnessByLookUps → (s : State) (caller : Caller) (a : Ask) (past : Bool) (t u : ℤ) → IsLookedAt t u → (r : Result Verdict StoreFault) → IfOk r (IsAnswer (IsVerdict caller a past u) s)
-    → IfOk r (λ it. it ≡ verdict_of (last_register (timeline_in s.now.trees)) (register_at (timeline_in s.now.trees) t) caller a past)
-verdict_stands look_ups s caller a past t u place (Ok it) answer =
+-- the verdict that is answered of tables is told by the timeline's registers, the last one and the one at the moment, and what was found is of
+-- the latter
+verdict_stands : SoundnessByLookUps → (s : State) (caller : Caller) (a : Ask) (past : Bool) (t u : ℤ) → IsLookedAt t u → (it : Verdict × Found) → IsAnswer (IsVerdictWith caller a past u) s it
+    → (it.0 ≡ verdict_of (last_register (timeline_in s.now.trees)) (register_at (timeline_in s.now.trees) t) caller a past) × IsFoundFor (register_at (timeline_in s.now.trees) t) caller a it.1
+verdict_stands look_ups s caller a past t u place it answer =
     let tl = timeline_in s.now.trees in
     let sound = answer.register.sound in
     let holds = answer.register.holds in
     let last : register_at tl last_moment ≡ last_register tl = stays_last tl last_moment sound.rising (last_is_moment tl sound) in
-    answer.answer holds.listed holds.history holds.holds (register_at tl last_moment) (register_at tl t) (sound_or_nothing tl last_moment sound) (sound_or_nothing tl t sound)
-    (holds.stands.stands last_moment the_last) (place s answer.register)
-    ∙ ap (λ (now : Register). verdict_of now (register_at tl t) caller a past) last
-verdict_stands look_ups s caller a past t u place (Err fault) answer = tt
+    let told = answer.answer holds.listed holds.history holds.holds (register_at tl last_moment) (register_at tl t) (sound_or_nothing tl last_moment sound) (sound_or_nothing tl t sound)
+    (holds.stands.stands last_moment the_last) (place s answer.register) in
+    (told.0 ∙ ap (λ (now : Register). verdict_of now (register_at tl t) caller a past) last, told.1)
 
--- so it is the verdict on what is asked
-pub verdict_told : SoundnessByLookUps → (s : State) (caller : Caller) (a : Ask) (now t u : ℤ) → t ≡ moment_of a now → IsLookedAt t u → (r : Result Verdict StoreFault)
-    → IfOk r (IsAnswer (IsVerdict caller a (int_lt t now) u) s) → IfOk r (λ it. it ≡ verdict_at (timeline_in s.now.trees) caller a now)
-verdict_told look_ups s caller a now t u is_moment place r answer =
+-- so it is the verdict on what is asked, and what was found is of the register at the moment that is asked about
+pub verdict_told : SoundnessByLookUps → (s : State) (caller : Caller) (a : Ask) (now t u : ℤ) → t ≡ moment_of a now → IsLookedAt t u → (it : Verdict × Found)
+    → IsAnswer (IsVerdictWith caller a (int_lt t now) u) s it → (it.0 ≡ verdict_at (timeline_in s.now.trees) caller a now) × IsFoundFor (register_at (timeline_in s.now.trees) t) caller a it.1
+verdict_told look_ups s caller a now t u is_moment place it answer =
     let tl = timeline_in s.now.trees in
-    subst (λ (x : ℤ). IfOk r (λ it. it ≡ verdict_of (last_register tl) (register_at tl x) caller a (int_lt x now))) is_moment (verdict_stands look_ups s caller a (int_lt t now) t u place r answer)
+    let told = verdict_stands look_ups s caller a (int_lt t now) t u place it answer in
+    (subst (λ (x : ℤ). it.0 ≡ verdict_of (last_register tl) (register_at tl x) caller a (int_lt x now)) is_moment told.0, told.1)
 
 -- the slice that is answered of tables is that of the timeline's last register; a store that is closed answers none
 pub slice_stands : SoundnessByLookUps → (s : State) (caller : Caller) (a : Act) (next : ℕ) (before after : Bool) → (r : Result Register StoreFault) → Closes before after r

@@ -1,5 +1,5 @@
 -- What look-ups and joins show of a unit is what its view has.
-use Rattle.std.proofs.Common.{◌≡◌, ◌++◌, ◌&&◌, ◌∙◌, ℕ, ℤ, Bool, true, false, nat_eq, cond, List, [], ◌∷◌, filter, map as map_list, None, Some, Option, is_some, refl, sym, ap, ap₂, append_assoc, inl, inr}
+use Rattle.std.proofs.Common.{◌≡◌, ◌&&◌, ◌∙◌, ℕ, ℤ, Bool, true, false, nat_eq, cond, List, [], ◌∷◌, filter, map as map_list, None, Some, Option, is_some, refl, sym, ap, ap₂, inl, inr}
 use Rattle.std.specs.Cmp.{nat_cmp_total}
 use Rattle.std.specs.FinMap as map
 use Rattle.std.specs.FinMap.{FinMap, nat_cmp-IsAntisymmetric}
@@ -17,8 +17,7 @@ use Rattle.land_core.specs.declared.register.Register.{Register}
 use Rattle.land_core.specs.declared.rrr.RrrRecord.{RrrRecord}
 use Rattle.land_core.specs.declared.unit.Unit.{Unit as UnitShown}
 use Rattle.land_core.specs.declared.unit.UnitRecord.{UnitRecord}
-use Rattle.land_keep.specs.Sheets.{entries_seen, named_rrr, parcels_at, shown_parcel, view_at}
-use Rattle.land_keep.specs.declared.view.NamedRrr.{NamedRrr}
+use Rattle.land_keep.specs.Sheets.{entries_seen, parcels_at, shown_parcel, view_at}
 use Rattle.land_rules.specs.Denials.Sight.{AllThatStandsIsSeen, sees_all}
 use Rattle.land_rules.specs.Laws.{SeenIsExactly}
 use Rattle.land_rules.specs.Laws.{IsSoundOrNothing}
@@ -26,12 +25,10 @@ use Rattle.land_rules.specs.Rules.{seen_of, sees}
 use Rattle.land_select.specs.Views.{IsShown, in_sight, named_at, view_from}
 use Rattle.land_select_joins.proofs.Containing.{first, later}
 use Rattle.land_select_joins.proofs.Standing.{entry_there}
-use Rattle.land_select_joins.specs.Joins.Running.{OfHeld}
 use Rattle.land_select_joins.specs.Joins.Sight.{IsSight}
 use Rattle.land_select_joins.specs.Lookups.Parts.{IsPart}
 use Rattle.land_tables.proofs.Members.{no_members, sound_members}
 use Rattle.land_tables_history.specs.Groups.{HaveMembers}
-use Rattle.land_tables_history.specs.History.{StandsAt}
 use Rattle.sqlite_trees.specs.Tree.{Trees}
 
 -- where a register is sound or holds nothing, no group is without members

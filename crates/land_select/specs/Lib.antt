@@ -1,5 +1,6 @@
 -- Definitions of what the keeper over joins shows, and of how it judges; the law on its texts.
 pub mod Asking
+pub mod Kept
 pub mod Laws
 pub mod Slices
 pub mod Verdicts

@@ -29,6 +29,10 @@ use Rattle.sqlite_trees.specs.Tree.{Trees}
 abbrev pub IsShown : {T : Type 0} → (Register → T) → (t : ℤ) → Trees → T → Type 0
 IsShown shown t db it = OfHeld db (λ h. (r : Register) → IsSoundOrNothing r → StandsAt t h r → it ≡ shown r)
 
+-- and this, given what was found of it
+abbrev pub IsShownGiven : {T : Type 0} → (Given : Register → Type 0) → (Register → T) → (t : ℤ) → Trees → T → Type 0
+IsShownGiven Given shown t db it = OfHeld db (λ h. (r : Register) → IsSoundOrNothing r → StandsAt t h r → Given r → it ≡ shown r)
+
 -- what the party of a number is called among some, nothing where it is not among them
 abbrev pub name_among : List (Version (ℕ × PartyRecord)) → (number : ℕ) → List ℕ
 name_among [] number = []

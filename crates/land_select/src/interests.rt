@@ -1,11 +1,12 @@
 //! The interest of a citizen or a bank in a unit at a moment, and what it is shown by that, by look-ups.
-ghost use Rattle.std.specs.Prelude.{◌≡◌, ◌++◌, false, IfOk, IsTrue};
+ghost use Rattle.std.specs.Prelude.{◌≡◌, ◌++◌, false, true, IfOk, IsTrue};
 ghost use Rattle.land_core.specs.Entries.{only};
 ghost use Rattle.land_core.specs.Role.{is_role};
 ghost use Rattle.land_core.specs.declared.kind.Kind.TheVariants as kinds;
 ghost use Rattle.land_core.specs.declared.role.Role.TheVariants as roles;
 ghost use Rattle.land_rules.specs.Circles.{circle_of, is_name_of};
-ghost use Rattle.land_rules.specs.Denials.Interests.{interest_at, interest_of, is_shown_by_interest, shows_entry, shows_unit};
+ghost use Rattle.land_rules.specs.Denials.Interests.{interest_at, interest_of, is_shown_by_interest, sees_by_interest, shows_entry, shows_unit};
+ghost use Rattle.land_select.specs.Kept.{IsToldWith};
 ghost use Rattle.land_select.specs.Views.{AreGroupsAt, AreNamesAt, shown_of};
 ghost use Rattle.land_select_joins.specs.Lookups.Parts.{IsPart};
 ghost use Rattle.land_tables_schema.specs.Land.{IsLand};
@@ -13,16 +14,19 @@ ghost use Rattle.land_tables_schema.specs.Rows.Looks.{IsLook};
 ghost use Rattle.sqlite.specs.Held.{state};
 ghost use Rattle.sqlite.specs.State.{HasCleanDisk};
 
+use crate::kept::{Found, found_as};
 use land_core::caller::Caller;
 use land_core::duplicate::Duplicate;
+use land_core::laws::soundness_by_look_ups;
 use land_core::records::Records;
 use land_core::role::Role;
 use land_core::rrr::RrrRecord;
 use land_core::sequence::{NumberList, Sequence};
 use land_rules::denials::interests::{Interest, interest_of};
-use land_rules::denials::laws::names_tell_interests;
+use land_rules::denials::laws::{interests_tell_sight, names_tell_interests};
 use land_select_joins::joins::running::unite_for;
 use land_select_joins::lookups::of_agent::circle;
+use land_select_joins::lookups::shown::Shown;
 use land_select_joins::lookups::{by_number, of_unit};
 use land_select_joins::sights::selection::Selection;
 use land_tables_rows::listing::fault::ReadFault;
@@ -150,23 +154,27 @@ fn is_entry_shown<S: Alter>(
     Ok(interest.shows_entry(caller.party, entry))
 }
 
-/// Whether the entry of a number stands at a moment and is shown to a caller by the caller's interest in the unit of the entry.
-pub(crate) fn is_number_shown<S: Alter>(
+/// Whether the entry of a number stands at a moment and is shown to a caller by the caller's interest in the unit of the entry, and the entry.
+pub(crate) fn entry_shown<S: Alter>(
     alloc: Global,
     conn: &mut Connection<S>,
     caller: Caller,
     number: u64,
     at: i64,
-) -> Result<bool, ReadFault>
+) -> Result<(bool, Found), ReadFault>
     requires open { HasCleanDisk (state S.Store conn.old) → IsTrue (state S.Store conn.old).is_open }
     requires land { HasCleanDisk (state S.Store conn.old) → IsLand (state S.Store conn.old).now.schema }
-    ensures look { IsLook result (λ it. IsPart (λ r. is_shown_by_interest r caller kinds.Rrr number) at (state S.Store conn.old).now.trees it) (state S.Store conn.old) (state S.Store conn.new) }
+    ensures look { IsLook result (λ it. IsToldWith (λ r. is_shown_by_interest r caller kinds.Rrr number) caller kinds.Rrr number at (state S.Store conn.old).now.trees it) (state S.Store conn.old) (state S.Store conn.new) }
     ensures mode { conn.old.in_transaction ≡ false → conn.new.in_transaction ≡ false }
 {
+    soundness_by_look_ups();
     let found = by_number::record(alloc, conn, number, at)?;
     match found {
-        Some(entry) => is_entry_shown(alloc, conn, caller, &entry, at),
-        None => Ok(false),
+        Some(entry) => {
+            let shown = is_entry_shown(alloc, conn, caller, &entry, at)?;
+            Ok((shown, found_as(RrrRecord::shown(number, Some(entry)))))
+        }
+        None => Ok((false, Found::Nothing)),
     }
 }
 
@@ -203,4 +211,29 @@ pub(crate) fn shown_of<S: Alter>(
 {
     let interest = interest_by(alloc, conn, caller, entries, at)?;
     Ok(shown_by(alloc, interest, caller.party, entries)?)
+}
+
+/// Whether a unit is shown to a caller at a moment by the caller's interest in it, and if so those of its entries that the caller sees.
+pub(crate) fn unit_with_entries<S: Alter>(
+    alloc: Global,
+    conn: &mut Connection<S>,
+    caller: Caller,
+    unit: u64,
+    at: i64,
+) -> Result<(bool, Found), ReadFault>
+    requires role { sees_by_interest caller.role kinds.Rrr ≡ true }
+    requires open { HasCleanDisk (state S.Store conn.old) → IsTrue (state S.Store conn.old).is_open }
+    requires land { HasCleanDisk (state S.Store conn.old) → IsLand (state S.Store conn.old).now.schema }
+    ensures look { IsLook result (λ it. IsToldWith (λ r. is_shown_by_interest r caller kinds.Unit unit) caller kinds.Unit unit at (state S.Store conn.old).now.trees it) (state S.Store conn.old) (state S.Store conn.new) }
+    ensures mode { conn.old.in_transaction ≡ false → conn.new.in_transaction ≡ false }
+{
+    soundness_by_look_ups();
+    interests_tell_sight();
+    let all = of_unit::entries(alloc, conn, unit, at)?;
+    let interest = interest_by(alloc, conn, caller, &all, at)?;
+    if !interest.shows_unit() {
+        return Ok((false, Found::Nothing));
+    }
+    let shown = shown_by(alloc, interest, caller.party, &all)?;
+    Ok((true, Found::Entries(shown)))
 }

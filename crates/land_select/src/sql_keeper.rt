@@ -4,6 +4,7 @@ ghost use Rattle.land_keep.specs.Moments.{last_moment};
 
 use crate::asking::answer;
 use crate::denial::Denial;
+use crate::kept::{Kept, forget, found_of, kept_for, object_of};
 use crate::object::ObjectAt;
 use crate::sight::Sight;
 use crate::slicing::Sliced;
@@ -26,33 +27,51 @@ use land_rules::verdict::Verdict;
 use land_tables::tables::Tables;
 use sqlite::Alter;
 use std::alloc::Global;
+use std::marker::Model;
 
 /// A keeper over tables, whatever their store: what a caller sees of a kind is selected by joins, objects and title sheets are looked up by
-/// their numbers, and so are what is judged and the slices of acts.
+/// their numbers, and so are what is judged and the slices of acts. What was found of an object as the verdict on it was given is kept for the
+/// reply, so that it is not looked up again. Contracts see the tables.
 pub struct SqlKeeper<S: Alter> {
     /// The tables.
     tables: Tables<S>,
+    /// What was found as the last request was judged, until its object or sheet is asked for, or anything else.
+    kept: Option<Kept>,
+}
+
+impl<S: Alter> Model for SqlKeeper<S> {
+    ghost use Rattle.land_keep.specs.Keeping.{IsLive};
+    ghost use Rattle.land_select.specs.Kept.{IsKeptOf};
+    ghost use Rattle.land_tables.specs.Office.{IsHonest, Office, held, office_code};
+
+    ghost Value = { Office S };
+
+    ghost coded = { office_code S.code };
+
+    ghost view = { λ k. k.tables };
+
+    ghost invariant = { λ k. IsLive (IsHonest S.Store k.tables) k.tables.is_closed → IsKeptOf (held S.Store k.tables) k.kept };
 }
 
 impl<S: Alter + Drop> Drop for SqlKeeper<S> {
     fn drop(self) {
-        let SqlKeeper { tables: _ } = self;
+        let SqlKeeper { tables: _, kept: _ } = self;
     }
 }
 
 impl<S: Alter> SqlKeeper<S> {
     /// A keeper over tables, closed if a call of their store has failed.
     pub fn new(tables: Tables<S>) -> SqlKeeper<S>
-        ensures { result.tables ≡ tables }
+        ensures { result ≡ tables }
     {
-        SqlKeeper { tables }
+        SqlKeeper { tables, kept: None }
     }
 
     /// Hands the tables back, as they are.
     pub fn into_tables(self) -> Tables<S>
-        ensures { result ≡ self.tables }
+        ensures { result ≡ self }
     {
-        let SqlKeeper { tables } = self;
+        let SqlKeeper { tables, kept: _ } = self;
         tables
     }
 }
@@ -64,11 +83,11 @@ impl<S: Alter> Keeper for SqlKeeper<S> {
     ghost use Rattle.land_keep.specs.Timeline.{last_stamp};
     ghost use Rattle.land_tables.specs.Office.{IsHonest, held};
 
-    ghost timeline = { λ keeper. held S.Store keeper.tables };
+    ghost timeline = { λ keeper. held S.Store keeper };
 
-    ghost closed = { λ keeper. keeper.tables.is_closed };
+    ghost closed = { λ keeper. keeper.is_closed };
 
-    ghost honest = { λ keeper. IsHonest S.Store keeper.tables };
+    ghost honest = { λ keeper. IsHonest S.Store keeper };
 
     fn last(&self) -> i64 {
         self.tables.last()
@@ -85,6 +104,7 @@ impl<S: Alter> Keeper for SqlKeeper<S> {
         ask: &Ask,
         now: i64,
     ) -> Result<Verdict, StoreFault> {
+        forget(&mut self.kept);
         let at = named_moment(ask).unwrap_or(now);
         soundness_by_look_ups();
         let asked_for = at.min(LAST_MOMENT);
@@ -94,7 +114,10 @@ impl<S: Alter> Keeper for SqlKeeper<S> {
             past: at < now,
             moment: asked_for,
         };
-        answer(alloc, &mut self.tables, &denial)
+        let told = answer(alloc, &mut self.tables, &denial)?;
+        let (verdict, found) = told;
+        self.kept = kept_for(caller, ask, at, found);
+        Ok(verdict)
     }
 
     fn sight(
@@ -104,6 +127,7 @@ impl<S: Alter> Keeper for SqlKeeper<S> {
         kind: Kind,
         at: i64,
     ) -> Result<NumberList, StoreFault> {
+        forget(&mut self.kept);
         let sight = Sight {
             caller,
             kind,
@@ -119,6 +143,13 @@ impl<S: Alter> Keeper for SqlKeeper<S> {
         number: u64,
         at: i64,
     ) -> Result<Option<Object>, StoreFault> {
+        if self.tables.is_closed() {
+            return Err(StoreFault::Closed);
+        }
+        let kept = self.kept.take();
+        if let Some(found) = object_of(kept, kind, number, at) {
+            return Ok(Some(found));
+        }
         soundness_by_look_ups();
         let looked_at = at.min(LAST_MOMENT);
         let object = ObjectAt {
@@ -136,17 +167,21 @@ impl<S: Alter> Keeper for SqlKeeper<S> {
         unit: u64,
         at: i64,
     ) -> Result<Option<View>, StoreFault> {
+        let kept = self.kept.take();
+        let found = found_of(kept, caller, unit, at);
         let moment = at.min(LAST_MOMENT);
         let seen = UnitSeen {
             caller,
             unit,
             moment,
+            found: &found,
         };
-        let found = answer(alloc, &mut self.tables, &seen)?;
-        Ok(naming(found, at))
+        let shown = answer(alloc, &mut self.tables, &seen)?;
+        Ok(naming(shown, at))
     }
 
     fn slice(&mut self, alloc: Global, caller: Caller, act: &Act) -> Result<Slice, StoreFault> {
+        forget(&mut self.kept);
         soundness_by_look_ups();
         let sliced = Sliced {
             caller,
@@ -158,6 +193,7 @@ impl<S: Alter> Keeper for SqlKeeper<S> {
     }
 
     fn write(&mut self, alloc: Global, change: &Change, stamp: i64) -> Result<(), StoreFault> {
+        forget(&mut self.kept); // The change may be of what was found.
         self.tables.write(alloc, change, stamp)
     }
 }

@@ -15,7 +15,7 @@ ghost use Rattle.sqlite.specs.State.{HasCleanDisk};
 
 use land_core::ask::Ask;
 use land_core::caller::Caller;
-use land_core::kind::{Kind, PartyKind};
+use land_core::kind::PartyKind;
 use land_core::laws::soundness_by_look_ups;
 use land_core::mutation::MutationRecord;
 use land_core::party::PartyRecord;
@@ -27,7 +27,7 @@ use land_rules::denials::evidence::evidence_of;
 use land_rules::denials::laws::{evidence_is_enough, looked_up_is_enough};
 use land_rules::denials::standing::{decided, discharged, standing_verdict};
 use land_rules::verdict::Verdict;
-use land_select_joins::lookups::presence::stands;
+use land_select_joins::lookups::presence::party_stands;
 use land_select_joins::lookups::{by_number, of_party};
 use land_tables_rows::listing::fault::ReadFault;
 use sqlite::{Alter, Connection};
@@ -60,7 +60,7 @@ fn person<S: Alter>(
     if is_held(&roles, caller) {
         return Ok((true, roles));
     }
-    let there = stands(alloc, conn, Kind::Party, caller.party, at)?;
+    let there = party_stands(alloc, conn, caller.party, at)?;
     Ok((there, roles))
 }
 

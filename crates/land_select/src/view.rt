@@ -3,8 +3,11 @@ ghost use Rattle.std.specs.FinMap as map;
 ghost use Rattle.std.specs.List.{list_any};
 ghost use Rattle.std.specs.Prelude.{◌≡◌, false, nat_eq, map as map_list, [], IfOk, IsTrue, Some};
 ghost use Rattle.land_core.specs.Entries.{only};
+ghost use Rattle.land_core.specs.declared.caller.Caller.{Caller as Who};
+ghost use Rattle.land_core.specs.declared.kind.Kind.TheVariants as kinds;
 ghost use Rattle.land_keep.specs.Sheets.{entries_seen, parcels_at, shown_parcel, view_at};
-ghost use Rattle.land_select.specs.Views.{IsShown, in_sight, name_among, named_among, named_at, view_from, with_name};
+ghost use Rattle.land_select.specs.Kept.{IsFound, IsObjectFound};
+ghost use Rattle.land_select.specs.Views.{IsShown, IsShownGiven, in_sight, name_among, named_among, named_at, view_from, with_name};
 ghost use Rattle.land_select_joins.specs.Lookups.Parts.{IsPart};
 ghost use Rattle.land_tables_schema.specs.Land.{IsLand};
 ghost use Rattle.land_tables_schema.specs.Rows.Looks.{IsLook};
@@ -14,10 +17,12 @@ ghost use Rattle.sqlite.specs.State.{HasCleanDisk};
 use crate::asking::Question;
 use crate::awaited::awaited_of;
 use crate::interests::shown_of;
+use crate::kept::Found;
 use land_core::caller::Caller;
 use land_core::duplicate::Duplicate;
 use land_core::kind::Kind;
 use land_core::laws::soundness_by_look_ups;
+use land_core::object::Object;
 use land_core::parcel::{Parcel, ParcelRecord};
 use land_core::party::PartyRecord;
 use land_core::records::Records;
@@ -185,44 +190,71 @@ fn entries_in_sight<S: Alter>(
     Ok(listed_entries(alloc, &entries, listed.as_slice())?)
 }
 
-/// The entries of a unit that a caller sees at a moment, by ascending numbers, with the names of their parties.
+/// Some entries of a unit, those that somebody sees, by ascending numbers, with the names of their parties.
+fn with_names<S: Alter>(
+    alloc: Global,
+    conn: &mut Connection<S>,
+    unit: u64,
+    entries: &Records<RrrRecord>,
+    at: i64,
+) -> Result<Sequence<NamedRrr>, ReadFault>
+    requires land { HasCleanDisk (state S.Store conn.old) → IsLand (state S.Store conn.old).now.schema }
+    ensures look { (caller : Who) → IsLook result (λ it. IsShownGiven (λ r. entries.now ≡ in_sight r caller unit) (λ r. entries_seen r caller unit) at (state S.Store conn.old).now.trees it)
+        (state S.Store conn.old) (state S.Store conn.new) }
+    ensures mode { conn.old.in_transaction ≡ false → conn.new.in_transaction ≡ false }
+{
+    let found = parties(alloc, conn, unit, at)?;
+    Ok(named_entries(alloc, entries, found.as_slice())?)
+}
+
+/// The entries of a unit that a caller sees at a moment, by ascending numbers, with the names of their parties: those that were found, or else
+/// those that are looked up.
 fn seen_entries<S: Alter>(
     alloc: Global,
     conn: &mut Connection<S>,
     caller: Caller,
     unit: u64,
     at: i64,
+    found: &Found,
 ) -> Result<Sequence<NamedRrr>, ReadFault>
     requires open { HasCleanDisk (state S.Store conn.old) → IsTrue (state S.Store conn.old).is_open }
     requires land { HasCleanDisk (state S.Store conn.old) → IsLand (state S.Store conn.old).now.schema }
-    ensures look { IsLook result (λ it. IsShown (λ r. entries_seen r caller unit) at (state S.Store conn.old).now.trees it) (state S.Store conn.old) (state S.Store conn.new) }
+    ensures look { IsLook result (λ it. IsShownGiven (λ r. IsFound r caller kinds.Unit unit found.now) (λ r. entries_seen r caller unit) at (state S.Store conn.old).now.trees it)
+        (state S.Store conn.old) (state S.Store conn.new) }
     ensures mode { conn.old.in_transaction ≡ false → conn.new.in_transaction ≡ false }
 {
-    soundness_by_look_ups();
-    let entries = entries_in_sight(alloc, conn, caller, unit, at)?;
-    let found = parties(alloc, conn, unit, at)?;
-    Ok(named_entries(alloc, &entries, found.as_slice())?)
+    match found {
+        Found::Entries(entries) => with_names(alloc, conn, unit, entries, at),
+        Found::Object(_) | Found::Nothing => {
+            let entries = entries_in_sight(alloc, conn, caller, unit, at)?;
+            with_names(alloc, conn, unit, &entries, at)
+        }
+    }
 }
 
 /// A unit that stands, as a caller sees it.
 fn view_with<S: Alter>(
     alloc: Global,
     conn: &mut Connection<S>,
-    caller: Caller,
-    unit: u64,
-    at: i64,
-    found: UnitRecord,
+    seen: UnitSeen<'_>,
+    unit_record: UnitRecord,
 ) -> Result<Option<View>, ReadFault>
     requires open { HasCleanDisk (state S.Store conn.old) → IsTrue (state S.Store conn.old).is_open }
     requires land { HasCleanDisk (state S.Store conn.old) → IsLand (state S.Store conn.old).now.schema }
-    ensures look { IsLook result (λ it. IsShown (λ r. Some (view_from r caller unit at found)) at (state S.Store conn.old).now.trees it)
+    ensures look { IsLook result (λ it. IsShownGiven (λ r. IsFound r seen.entry.caller kinds.Unit seen.entry.unit seen.entry.found.now) (λ r. Some (view_from r seen.entry.caller seen.entry.unit seen.entry.moment unit_record)) seen.entry.moment (state S.Store conn.old).now.trees it)
         (state S.Store conn.old) (state S.Store conn.new) }
     ensures mode { conn.old.in_transaction ≡ false → conn.new.in_transaction ≡ false }
 {
     soundness_by_look_ups();
-    let parcels = parcels_of(alloc, conn, unit, at)?;
-    let rrrs = seen_entries(alloc, conn, caller, unit, at)?;
-    let UnitRecord { name, checked } = found;
+    let UnitSeen {
+        caller,
+        unit,
+        moment,
+        found,
+    } = seen;
+    let parcels = parcels_of(alloc, conn, unit, moment)?;
+    let rrrs = seen_entries(alloc, conn, caller, unit, moment, found)?;
+    let UnitRecord { name, checked } = unit_record;
     Ok(Some(View {
         unit: Unit {
             number: unit,
@@ -231,55 +263,82 @@ fn view_with<S: Alter>(
         },
         parcels,
         rrrs,
-        at,
+        at: moment,
     }))
+}
+
+/// The record of a unit at a moment, or `None`: that of the unit that was found, or else the one that is looked up.
+fn record_of<S: Alter>(
+    alloc: Global,
+    conn: &mut Connection<S>,
+    unit: u64,
+    at: i64,
+    found: &Found,
+) -> Result<Option<UnitRecord>, ReadFault>
+    requires open { HasCleanDisk (state S.Store conn.old) → IsTrue (state S.Store conn.old).is_open }
+    requires land { HasCleanDisk (state S.Store conn.old) → IsLand (state S.Store conn.old).now.schema }
+    ensures look { IsLook result (λ it. IsShownGiven (λ r. IsObjectFound r kinds.Unit unit found.now) (λ r. map.get r.units unit) at (state S.Store conn.old).now.trees it)
+        (state S.Store conn.old) (state S.Store conn.new) }
+    ensures mode { conn.old.in_transaction ≡ false → conn.new.in_transaction ≡ false }
+{
+    soundness_by_look_ups();
+    match found {
+        Found::Object(Object::Unit(it)) => Ok(Some(UnitRecord {
+            name: it.name.copy(alloc)?,
+            checked: it.checked,
+        })),
+        Found::Object(_) | Found::Entries(_) | Found::Nothing => {
+            by_number::record(alloc, conn, unit, at)
+        }
+    }
 }
 
 /// The unit that stands, as a caller sees it, or `None`.
 fn view<S: Alter>(
     alloc: Global,
     conn: &mut Connection<S>,
-    caller: Caller,
-    unit: u64,
-    at: i64,
+    seen: UnitSeen<'_>,
 ) -> Result<Option<View>, ReadFault>
     requires open { HasCleanDisk (state S.Store conn.old) → IsTrue (state S.Store conn.old).is_open }
     requires land { HasCleanDisk (state S.Store conn.old) → IsLand (state S.Store conn.old).now.schema }
-    ensures look { IsLook result (λ it. IsShown (λ r. view_at r caller unit at) at (state S.Store conn.old).now.trees it)
+    ensures look { IsLook result (λ it. IsShownGiven (λ r. IsFound r seen.entry.caller kinds.Unit seen.entry.unit seen.entry.found.now) (λ r. view_at r seen.entry.caller seen.entry.unit seen.entry.moment) seen.entry.moment (state S.Store conn.old).now.trees it)
         (state S.Store conn.old) (state S.Store conn.new) }
     ensures mode { conn.old.in_transaction ≡ false → conn.new.in_transaction ≡ false }
 {
-    soundness_by_look_ups();
-    let known = by_number::record(alloc, conn, unit, at)?;
+    let known = record_of(alloc, conn, seen.unit, seen.moment, seen.found)?;
     match known {
-        Some(found) => view_with(alloc, conn, caller, unit, at, found),
+        Some(unit_record) => view_with(alloc, conn, seen, unit_record),
         None => Ok(None),
     }
 }
 
 /// How a caller sees a unit at a moment.
 #[derive(Clone, Copy, Debug)]
-pub(crate) struct UnitSeen {
+pub(crate) struct UnitSeen<'a> {
     /// Who asks.
     pub(crate) caller: Caller,
     /// The number of the unit.
     pub(crate) unit: u64,
     /// The moment, in milliseconds since 1970 UTC.
     pub(crate) moment: i64,
+    /// What was found as this was judged.
+    pub(crate) found: &'a Found,
 }
 
-impl Question<Option<View>> for UnitSeen {
+impl Question<Option<View>> for UnitSeen<'_> {
+    ghost use Rattle.land_core.specs.declared.kind.Kind.TheVariants as kinds;
     ghost use Rattle.land_keep.specs.Sheets.{view_at};
-    ghost use Rattle.land_select.specs.Views.{IsShown};
+    ghost use Rattle.land_select.specs.Kept.{IsFound};
+    ghost use Rattle.land_select.specs.Views.{IsShownGiven};
 
-    ghost answers = { λ it db found. IsShown (λ r. view_at r it.caller it.unit it.moment) it.moment db found };
+    ghost answers = { λ it db shown. IsShownGiven (λ r. IsFound r it.caller kinds.Unit it.unit it.found.now) (λ r. view_at r it.caller it.unit it.moment) it.moment db shown };
 
     fn ask<S: Alter>(
         &self,
         alloc: Global,
         conn: &mut Connection<S>,
     ) -> Result<Option<View>, ReadFault> {
-        view(alloc, conn, self.caller, self.unit, self.moment)
+        view(alloc, conn, *self)
     }
 }
 

@@ -4,7 +4,7 @@ use Rattle.land_core.specs.Numbers.{is_number}
 use Rattle.land_select_joins.proofs.Joined.{IsJoin, Says, complete, from, numbered, sound}
 use Rattle.land_select_joins.proofs.Known as known
 use Rattle.land_select_joins.proofs.Known.{caller, same, still, word}
-use Rattle.land_select_joins.proofs.Places.{IsWithin, Place, What, as_stored, mutations, names, parcels, parties, row_of, rrrs, sources, units, versions}
+use Rattle.land_select_joins.proofs.Places.{IsWithin, Place, What, as_stored, mutations, names, parties, row_of, units, versions}
 use Rattle.land_select_joins.proofs.Selected.{IsVersion, of, stood, undecided, version}
 use Rattle.land_select_joins.proofs.Sets.{plainly}
 use Rattle.land_select_joins.specs.Joins.Meaning.{given}
@@ -30,9 +30,6 @@ use Rattle.sqlite_value.specs.Order.{Row}
 abbrev pub places_of : NumberLookUp → List Place
 places_of look_up.Party = parties ∷ []
 places_of look_up.Unit = units ∷ []
-places_of look_up.Parcel = parcels ∷ []
-places_of look_up.Entry = rrrs ∷ []
-places_of look_up.Source = sources ∷ []
 places_of look_up.LodgerOfMutation = mutations ∷ []
 places_of look_up.LodgersOnUnit = names ∷ mutations ∷ []
 
@@ -40,9 +37,6 @@ places_of look_up.LodgersOnUnit = names ∷ mutations ∷ []
 abbrev pub filter_of : NumberLookUp → List Term
 filter_of look_up.Party = known.itself
 filter_of look_up.Unit = same (col 1 1) caller ∷ still 1 4
-filter_of look_up.Parcel = same (col 1 1) caller ∷ still 1 6
-filter_of look_up.Entry = same (col 1 1) caller ∷ still 1 12
-filter_of look_up.Source = same (col 1 1) caller ∷ still 1 4
 filter_of look_up.LodgerOfMutation = same (col 1 1) caller ∷ still 1 9
 filter_of look_up.LodgersOnUnit = same (col 2 1) (col 1 1) ∷ same (col 1 2) caller ∷ word (col 2 8) (codes "lodged") ∷ still 1 3 ++ still 2 9
 
@@ -50,45 +44,12 @@ filter_of look_up.LodgersOnUnit = same (col 2 1) (col 1 1) ∷ same (col 1 2) ca
 abbrev pub shown_of : NumberLookUp → Term
 shown_of look_up.Party = col 1 1
 shown_of look_up.Unit = col 1 1
-shown_of look_up.Parcel = col 1 1
-shown_of look_up.Entry = col 1 1
-shown_of look_up.Source = col 1 1
 shown_of look_up.LodgerOfMutation = col 1 2
 shown_of look_up.LodgersOnUnit = col 2 2
 
 unit_join : IsJoin (number_text_of look_up.Unit) (units ∷ []) (filter_of look_up.Unit) (col 1 1)
 unfolding understood everything
 unit_join = record {
-  asks = λ indexes. record { names = codes "number" ∷ []; command = refl; unlisted = refl; plain = (refl, refl) };
-  meant = λ indexes. refl;
-  accepted = λ indexes caller t. refl;
-  simple = refl;
-  known = λ caller t v. refl;
-}
-
-parcel_join : IsJoin (number_text_of look_up.Parcel) (parcels ∷ []) (filter_of look_up.Parcel) (col 1 1)
-unfolding understood everything
-parcel_join = record {
-  asks = λ indexes. record { names = codes "number" ∷ []; command = refl; unlisted = refl; plain = (refl, refl) };
-  meant = λ indexes. refl;
-  accepted = λ indexes caller t. refl;
-  simple = refl;
-  known = λ caller t v. refl;
-}
-
-entry_join : IsJoin (number_text_of look_up.Entry) (rrrs ∷ []) (filter_of look_up.Entry) (col 1 1)
-unfolding understood everything
-entry_join = record {
-  asks = λ indexes. record { names = codes "number" ∷ []; command = refl; unlisted = refl; plain = (refl, refl) };
-  meant = λ indexes. refl;
-  accepted = λ indexes caller t. refl;
-  simple = refl;
-  known = λ caller t v. refl;
-}
-
-source_join : IsJoin (number_text_of look_up.Source) (sources ∷ []) (filter_of look_up.Source) (col 1 1)
-unfolding understood everything
-source_join = record {
   asks = λ indexes. record { names = codes "number" ∷ []; command = refl; unlisted = refl; plain = (refl, refl) };
   meant = λ indexes. refl;
   accepted = λ indexes caller t. refl;
@@ -119,9 +80,6 @@ lodgers_join = record {
 pub join_of : (l : NumberLookUp) → IsJoin (number_text_of l) (places_of l) (filter_of l) (shown_of l)
 join_of look_up.Party = known.itself_join
 join_of look_up.Unit = unit_join
-join_of look_up.Parcel = parcel_join
-join_of look_up.Entry = entry_join
-join_of look_up.Source = source_join
 join_of look_up.LodgerOfMutation = lodger_join
 join_of look_up.LodgersOnUnit = lodgers_join
 
@@ -138,24 +96,6 @@ module _ (h : History) (number : ℕ) (t : ℤ) (told : ℕ) where
   a_unit = (
     (λ g. (g.0.what, stood t h.units g.0 g.1 g.2.0.1.0 g.2.0.1.1.0, g.2.0.0, g.2.1)),
     (λ s. let v = version t h.units s.0 s.1 in (of s.0 v.since v.until, v.has, ((s.2, (v.begun, (v.going, tt))), s.3))),
-  )
-
-  a_parcel : Says (parcels ∷ []) (filter_of look_up.Parcel) (col 1 1) h number t told ↔ tells look_up.Parcel t h number told
-  a_parcel = (
-    (λ g. (g.0.what, stood t h.parcels g.0 g.1 g.2.0.1.0 g.2.0.1.1.0, g.2.0.0, g.2.1)),
-    (λ s. let v = version t h.parcels s.0 s.1 in (of s.0 v.since v.until, v.has, ((s.2, (v.begun, (v.going, tt))), s.3))),
-  )
-
-  an_entry : Says (rrrs ∷ []) (filter_of look_up.Entry) (col 1 1) h number t told ↔ tells look_up.Entry t h number told
-  an_entry = (
-    (λ g. (g.0.what, stood t h.rrrs g.0 g.1 g.2.0.1.0 g.2.0.1.1.0, g.2.0.0, g.2.1)),
-    (λ s. let v = version t h.rrrs s.0 s.1 in (of s.0 v.since v.until, v.has, ((s.2, (v.begun, (v.going, tt))), s.3))),
-  )
-
-  a_source : Says (sources ∷ []) (filter_of look_up.Source) (col 1 1) h number t told ↔ tells look_up.Source t h number told
-  a_source = (
-    (λ g. (g.0.what, stood t h.sources g.0 g.1 g.2.0.1.0 g.2.0.1.1.0, g.2.0.0, g.2.1)),
-    (λ s. let v = version t h.sources s.0 s.1 in (of s.0 v.since v.until, v.has, ((s.2, (v.begun, (v.going, tt))), s.3))),
   )
 
   a_lodger : Says (mutations ∷ []) (filter_of look_up.LodgerOfMutation) (col 1 2) h number t told ↔ tells look_up.LodgerOfMutation t h number told
@@ -190,9 +130,6 @@ module _ (h : History) (number : ℕ) (t : ℤ) (told : ℕ) where
 pub told_by : (l : NumberLookUp) (h : History) (number : ℕ) (t : ℤ) (told : ℕ) → Says (places_of l) (filter_of l) (shown_of l) h number t told ↔ tells l t h number told
 told_by look_up.Party = a_party
 told_by look_up.Unit = a_unit
-told_by look_up.Parcel = a_parcel
-told_by look_up.Entry = an_entry
-told_by look_up.Source = a_source
 told_by look_up.LodgerOfMutation = a_lodger
 told_by look_up.LodgersOnUnit = lodgers
 
@@ -209,9 +146,6 @@ module _ (db : Trees) (moments : List Moment) (h : History) (held : HoldsHistory
   number_within : (l : NumberLookUp) (number told : ℕ) → tells l t h number told → is_number number ≡ true
   number_within look_up.Party number told x = moved x.0.0 number x.2 (within parties x.0 (version t h.parties x.0 x.1))
   number_within look_up.Unit number told x = moved x.0.0 number x.2 (within units x.0 (version t h.units x.0 x.1))
-  number_within look_up.Parcel number told x = moved x.0.0 number x.2 (within parcels x.0 (version t h.parcels x.0 x.1)).0
-  number_within look_up.Entry number told x = moved x.0.0 number x.2 (within rrrs x.0 (version t h.rrrs x.0 x.1)).1
-  number_within look_up.Source number told x = moved x.0.0 number x.2 (within sources x.0 (version t h.sources x.0 x.1))
   number_within look_up.LodgerOfMutation number told x = moved x.0.0 number x.2 (within mutations x.0 (version t h.mutations x.0 x.1)).1
   number_within look_up.LodgersOnUnit number told x = moved x.naming.unit number x.named (within names x.naming (version t h.namings x.naming x.naming_stands)).1
 

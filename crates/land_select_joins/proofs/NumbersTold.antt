@@ -9,7 +9,6 @@ use Rattle.std.specs.List.{Contains, list_any}
 use Rattle.std.specs.Ordering.{nat_cmp}
 use Rattle.land_core.specs.Entries.{has}
 use Rattle.land_core.specs.Register.{stands}
-use Rattle.land_core.specs.declared.kind.Kind.{Kind}
 use Rattle.land_core.specs.declared.kind.Kind.TheVariants as kind
 use Rattle.land_core.specs.declared.register.Register.{Register}
 use Rattle.land_rules.specs.Relations.{has_lodged, is_lodger_of, is_lodger_on}
@@ -17,7 +16,7 @@ use Rattle.land_select_joins.proofs.Containing.{any_decides, first, in_nothing}
 use Rattle.land_select_joins.proofs.Standing.{at_decides, has_decides}
 use Rattle.land_select_joins.proofs.Views.{awaits_decides}
 use Rattle.land_select_joins.specs.Joins.Running.{AreAll}
-use Rattle.land_select_joins.specs.Lookups.Numbers.{IsItsOwn, look_up_of, tells}
+use Rattle.land_select_joins.specs.Lookups.Numbers.{IsItsOwn, tells}
 use Rattle.land_select_joins.specs.declared.lookups.number_look_up.NumberLookUp.TheVariants as look_up
 use Rattle.land_tables_history.specs.History.{StandsAt}
 use Rattle.land_tables_history.specs.Standing.{IsPartAt}
@@ -46,20 +45,15 @@ own_there t versions m part number =
     Decides-like (has m number) (λ under. (under.0.0, (under.0, under.1, under.2, refl))) (λ it. (it.1.0, it.1.1, it.1.2)) (has_decides t versions m part number)
 
 module _ (r : Register) (t : ℤ) (h : History) (is : StandsAt t h r) where
-  there : (k : Kind) (number : ℕ) → Decides (stands r k number) ((n : ℕ) × tells (look_up_of k) t h number n)
-  there kind.Party number = own_there t h.parties r.parties is.parties number
-  there kind.Unit number = own_there t h.units r.units is.units number
-  there kind.Parcel number = own_there t h.parcels r.parcels is.parcels number
-  there kind.Rrr number = own_there t h.rrrs r.rrrs is.rrrs number
-  there kind.Source number = own_there t h.sources r.sources is.sources number
-  there kind.Mutation number =
-      Decides-like (has r.mutations number) (λ under. (under.0.1.lodger, (under.0, under.1, under.2, refl))) (λ it. (it.1.0, it.1.1, it.1.2))
-      (has_decides t h.mutations r.mutations is.mutations number)
+  -- a number is found where a party stands
+  pub party_told : (number : ℕ) (numbers : List ℕ) → AreAll numbers (tells look_up.Party t h number) → not (nat_eq (length numbers) 0) ≡ stands r kind.Party number
+  party_told number numbers all =
+      same_from_decides (not (nat_eq (length numbers) 0)) (stands r kind.Party number) (some_wanted (tells look_up.Party t h number) numbers all) (own_there t h.parties r.parties is.parties number)
 
-  -- numbers are found where an object stands
-  pub stands_told : (k : Kind) (number : ℕ) (numbers : List ℕ) → AreAll numbers (tells (look_up_of k) t h number) → not (nat_eq (length numbers) 0) ≡ stands r k number
-  stands_told k number numbers all =
-      same_from_decides (not (nat_eq (length numbers) 0)) (stands r k number) (some_wanted (tells (look_up_of k) t h number) numbers all) (there k number)
+  -- and where a unit does
+  pub unit_told : (number : ℕ) (numbers : List ℕ) → AreAll numbers (tells look_up.Unit t h number) → not (nat_eq (length numbers) 0) ≡ stands r kind.Unit number
+  unit_told number numbers all =
+      same_from_decides (not (nat_eq (length numbers) 0)) (stands r kind.Unit number) (some_wanted (tells look_up.Unit t h number) numbers all) (own_there t h.units r.units is.units number)
 
   -- a party is found where it lodged a mutation
   pub lodger_told : (party number : ℕ) (numbers : List ℕ) → AreAll numbers (tells look_up.LodgerOfMutation t h number) → list_any (nat_eq party) numbers ≡ has_lodged r party number

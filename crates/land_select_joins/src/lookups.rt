@@ -16,5 +16,5 @@ pub mod of_party;
 pub mod of_unit;
 pub mod office;
 pub mod presence;
-mod shown;
+pub mod shown;
 pub mod texts;

@@ -1,7 +1,5 @@
 -- Which numbers a look-up of numbers finds, by what stands at a moment.
 use Rattle.std.specs.Prelude.{◌≡◌, ℕ, ℤ, List}
-use Rattle.land_core.specs.declared.kind.Kind.{Kind}
-use Rattle.land_core.specs.declared.kind.Kind.TheVariants as kind
 use Rattle.land_core.specs.declared.mutation.MutationRecord.{MutationRecord}
 use Rattle.land_select_joins.specs.Joins.Meaning.{AreNumberRows}
 use Rattle.land_select_joins.specs.Joins.Running.{AreAll, OfHeld}
@@ -13,15 +11,6 @@ use Rattle.land_tables_history.specs.declared.version.Version.{Version}
 use Rattle.sqlite_trees.specs.Tree.{Trees}
 use Rattle.sqlite_value.specs.Order.{Row}
 
--- the look-up that finds a number exactly where an object of a kind stands: of a mutation its lodger, else its own
-abbrev pub look_up_of : Kind → NumberLookUp
-look_up_of kind.Party = look_up.Party
-look_up_of kind.Unit = look_up.Unit
-look_up_of kind.Parcel = look_up.Parcel
-look_up_of kind.Rrr = look_up.Entry
-look_up_of kind.Source = look_up.Source
-look_up_of kind.Mutation = look_up.LodgerOfMutation
-
 -- a number is the given one, and a record stands under it
 abbrev pub IsItsOwn : {V : Type 0} → ℤ → List (Version (ℕ × V)) → (given number : ℕ) → Type 0
 IsItsOwn {V = V} t versions given number = (it : ℕ × V) × Stands t versions it × (it.0 ≡ given) × (it.0 ≡ number)
@@ -30,9 +19,6 @@ IsItsOwn {V = V} t versions given number = (it : ℕ × V) × Stands t versions 
 abbrev pub tells : NumberLookUp → (t : ℤ) → History → (given : ℕ) → (number : ℕ) → Type 0
 tells look_up.Party t h given number = IsItsOwn t h.parties given number
 tells look_up.Unit t h given number = IsItsOwn t h.units given number
-tells look_up.Parcel t h given number = IsItsOwn t h.parcels given number
-tells look_up.Entry t h given number = IsItsOwn t h.rrrs given number
-tells look_up.Source t h given number = IsItsOwn t h.sources given number
 tells look_up.LodgerOfMutation t h given number = (it : ℕ × MutationRecord) × Stands t h.mutations it × (it.0 ≡ given) × (it.1.lodger ≡ number)
 tells look_up.LodgersOnUnit t h given number = Awaits t h number given
 

@@ -25,8 +25,5 @@ text_of look_up.Administrators = texts.ADMINISTRATORS.now
 abbrev pub number_text_of : NumberLookUp → List ℕ
 number_text_of number_look_up.Party = own.ITSELF.now
 number_text_of number_look_up.Unit = texts.UNIT_NUMBER.now
-number_text_of number_look_up.Parcel = texts.PARCEL_NUMBER.now
-number_text_of number_look_up.Entry = texts.ENTRY_NUMBER.now
-number_text_of number_look_up.Source = texts.SOURCE_NUMBER.now
 number_text_of number_look_up.LodgerOfMutation = texts.LODGER_OF_MUTATION.now
 number_text_of number_look_up.LodgersOnUnit = texts.LODGERS_ON_UNIT.now

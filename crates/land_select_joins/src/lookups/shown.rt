@@ -24,7 +24,7 @@ use land_tables_rows::reading::from_row::FromRow;
 use std::alloc::{AllocError, Global};
 
 /// What is shown as it stands in its own table.
-pub(crate) trait Shown: Numbered
+pub trait Shown: Numbered
 where
     Version<(u64, Self)>: FromRow,
 {

@@ -59,18 +59,6 @@ pub const ADMINISTRATORS: &str =
 pub const UNIT_NUMBER: &str =
     "SELECT number FROM unit WHERE number = ?1 AND since <= ?2 AND ?2 < until";
 
-/// The number of a parcel, where it stands.
-pub const PARCEL_NUMBER: &str =
-    "SELECT number FROM parcel WHERE number = ?1 AND since <= ?2 AND ?2 < until";
-
-/// The number of an entry, where it stands.
-pub const ENTRY_NUMBER: &str =
-    "SELECT number FROM rrr WHERE number = ?1 AND since <= ?2 AND ?2 < until";
-
-/// The number of a source, where it stands.
-pub const SOURCE_NUMBER: &str =
-    "SELECT number FROM source WHERE number = ?1 AND since <= ?2 AND ?2 < until";
-
 /// Who lodged the mutation of a number.
 pub const LODGER_OF_MUTATION: &str =
     "SELECT lodger FROM mutation WHERE number = ?1 AND since <= ?2 AND ?2 < until";

@@ -16,7 +16,7 @@ returns g c =
     let wanted = c.args.wanted in
     let old = g.O.Write.contents c.args.output.now in
     let new = g.O.Write.contents call.new.writer in
-    let tl = held S c.new-keeper.result.tables in
+    let tl = held S c.new-keeper.result in
     let alike : to_z w64 (of_z w64 wanted.clock) ≡ wanted.clock = search rules in
     subst₂ (λ from to. IsExtractedOver S from wanted to old new call.result) c.new-keeper.ensures (sym c.into_tables.ensures) (record {
       was = call.ensures.was;

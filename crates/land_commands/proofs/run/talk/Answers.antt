@@ -22,4 +22,4 @@ returns g c =
     let begun = c.in-Ok.ensures in
     let it = simp (to_z-of_z, c.new-keeper.ensures, begun.is_open, begun.timeline (memory_is_clean c.in-Ok.tables.conn)) at c.serve.ensures.served in
     IfSome_then (g.I.Read.remaining c.args.input.now) it
-    (λ bytes served. (served.0, serves_honestly reads_as_set _ (memory_is_clean c.serve.new.keeper.tables.conn) bytes (at_start c.args.reading) served.0 _ _ _ served.1))
+    (λ bytes served. (served.0, serves_honestly reads_as_set _ (memory_is_clean c.serve.new.keeper.conn) bytes (at_start c.args.reading) served.0 _ _ _ served.1))

@@ -23,7 +23,7 @@ pub returns-clause-look : goal.returns-clause-look
 returns-clause-look g c =
     let a = state g.S.Store c.args.conn.now in
     let b = state g.S.Store c.is_lodger_on.new.conn in
-    let d = state g.S.Store c.stands.new.conn in
+    let d = state g.S.Store c.unit_stands.new.conn in
     let t = c.args.at in
     let party = c.args.caller.party in
     let unit = c.args.unit in

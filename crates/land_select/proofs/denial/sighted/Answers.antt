@@ -1,7 +1,6 @@
 use Rattle.std.proofs.Common.{rules, ◌≡◌, subst, sym, to_z, of_z, w64}
 use Rattle.land_core.specs.declared.ask.Ask.{Ask}
-use Rattle.land_rules.specs.Rules.{first_denial, sight_rules}
-use Rattle.land_select.specs.Views.{IsShown}
+use Rattle.land_select.specs.Kept.{IsSightedWith}
 use Rattle.land_tables_schema.specs.Rows.Looks.{IsLook}
 use Rattle.sqlite.specs.Held.{state}
 use Rattle.land_select.proofs.denial.sighted.Goals as goal
@@ -12,12 +11,12 @@ returns-in-View-clause-look g c =
     let t = c.args.at in
     let when : to_z w64 (of_z w64 t) ≡ t = search rules in
     let look = rw when at c.viewing.ensures.look in
-    subst (λ (it : Ask). IsLook c.viewing.result (IsShown (λ r. first_denial (sight_rules r c.args.caller it)) t a.now.trees) a (state g.S.Store c.viewing.new.conn)) (sym c.in-View.is) look
+    subst (λ (it : Ask). IsLook c.viewing.result (IsSightedWith c.args.caller it t a.now.trees) a (state g.S.Store c.viewing.new.conn)) (sym c.in-View.is) look
 
 pub returns-in-Sheet-clause-look : goal.returns-in-Sheet-clause-look
 returns-in-Sheet-clause-look g c =
     let a = state g.S.Store c.args.conn.now in
     let t = c.args.at in
     let when : to_z w64 (of_z w64 t) ≡ t = search rules in
-    let look = rw when at c.viewing-in-Sheet.ensures.look in
-    subst (λ (it : Ask). IsLook c.viewing-in-Sheet.result (IsShown (λ r. first_denial (sight_rules r c.args.caller it)) t a.now.trees) a (state g.S.Store c.viewing-in-Sheet.new.conn)) (sym c.in-Sheet.is) look
+    let look = rw when at c.sheet.ensures.look in
+    subst (λ (it : Ask). IsLook c.sheet.result (IsSightedWith c.args.caller it t a.now.trees) a (state g.S.Store c.sheet.new.conn)) (sym c.in-Sheet.is) look

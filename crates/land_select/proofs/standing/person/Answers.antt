@@ -27,12 +27,12 @@ returns-then-is_held-clause-look g c =
 
 pub returns-in_err-there-clause-look : goal.returns-in_err-there-clause-look
 returns-in_err-there-clause-look g c =
-    look_fails (state g.S.Store c.args.conn.now) (state g.S.Store c.roles.new.conn) (state g.S.Store c.stands.new.conn) c.from_residual-in_err-there.result c.from_residual-in_err-there.ensures.0 c.in_ok-roles.ensures.look c.in_err-there.ensures.look
+    look_fails (state g.S.Store c.args.conn.now) (state g.S.Store c.roles.new.conn) (state g.S.Store c.party_stands.new.conn) c.from_residual-in_err-there.result c.from_residual-in_err-there.ensures.0 c.in_ok-roles.ensures.look c.in_err-there.ensures.look
 
 pub returns-clause-look : goal.returns-clause-look
 returns-clause-look g c =
     let a = state g.S.Store c.args.conn.now in
-    let d = state g.S.Store c.stands.new.conn in
+    let d = state g.S.Store c.party_stands.new.conn in
     let party = c.args.caller.party in
     let t = c.args.at in
     let when : to_z w64 (of_z w64 t) ≡ t = search rules in

@@ -1,7 +1,9 @@
 use Rattle.std.proofs.Common.{rules, ◌≡◌, ap₂, subst, to_z, of_z, w64, Ok, Some}
+use Rattle.land_core.specs.declared.kind.Kind.TheVariants as kind
 use Rattle.land_keep.specs.Sheets.{entries_seen, parcels_at}
 use Rattle.land_select.proofs.Viewed.{have_members}
-use Rattle.land_select.specs.Views.{IsShown}
+use Rattle.land_select.specs.Kept.{IsFound}
+use Rattle.land_select.specs.Views.{IsShownGiven}
 use Rattle.land_select_joins.specs.Lookups.Parts.{IsPart}
 use Rattle.land_tables_rows.specs.declared.listing.fault.ReadFault.{ReadFault}
 use Rattle.land_tables_schema.proofs.Looking.{look_fails, look_then, look_told}
@@ -17,17 +19,18 @@ returns-in_err-rrrs-clause-look g c =
 pub returns-clause-look : goal.returns-clause-look
 returns-clause-look g c =
     let a = state g.S.Store c.args.conn.now in
-    let caller = c.args.caller in
-    let unit = c.args.unit in
-    let t = c.args.at in
+    let caller = c.args.seen.caller in
+    let unit = c.args.seen.unit in
+    let t = c.args.seen.moment in
+    let found = c.args.seen.found.now in
     let when : to_z w64 (of_z w64 t) ≡ t = search rules in
     let parcels = c.in_ok-parcels.parcels in
     let rrrs = c.in_ok-rrrs.rrrs in
-    let both : IsLook {X = Unit {0}} {E = ReadFault} (Ok tt) (λ _. IsPart (λ r. parcels_at r unit) t a.now.trees parcels × IsShown (λ r. entries_seen r caller unit) t a.now.trees rrrs)
+    let both : IsLook {X = Unit {0}} {E = ReadFault} (Ok tt) (λ _. IsPart (λ r. parcels_at r unit) t a.now.trees parcels × IsShownGiven (λ r. IsFound r caller kind.Unit unit found) (λ r. entries_seen r caller unit) t a.now.trees rrrs)
     a (state g.S.Store c.seen_entries.new.conn) =
     look_then a (state g.S.Store c.parcels_of.new.conn) (state g.S.Store c.seen_entries.new.conn) (rw when at c.in_ok-parcels.ensures.look) (rw when at c.in_ok-rrrs.ensures.look)
-    (λ clean same one two. (one, subst (λ (now : Database). IsShown (λ r. entries_seen r caller unit) t now.trees rrrs) same two)) in
+    (λ clean same one two. (one, subst (λ (now : Database). IsShownGiven (λ r. IsFound r caller kind.Unit unit found) (λ r. entries_seen r caller unit) t now.trees rrrs) same two)) in
     look_told a (state g.S.Store c.seen_entries.new.conn) _ both
-    (λ clean both moments h held r premise stands.
-    rw when (ap₂ (λ ps es. Some (record { unit = record { number = unit; name = c.args.found.name; checked = c.args.found.checked }; parcels = ps; rrrs = es; at = t }))
-    (both.0 moments h held r (have_members c.soundness_by_look_ups.ensures r premise) stands) (both.1 moments h held r premise stands)))
+    (λ clean both moments h held r premise stands given.
+    rw when (ap₂ (λ ps es. Some (record { unit = record { number = unit; name = c.args.unit_record.name; checked = c.args.unit_record.checked }; parcels = ps; rrrs = es; at = t }))
+    (both.0 moments h held r (have_members c.soundness_by_look_ups.ensures r premise) stands) (both.1 moments h held r premise stands given)))

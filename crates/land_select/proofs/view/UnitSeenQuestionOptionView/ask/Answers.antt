@@ -1,14 +1,4 @@
-use Rattle.std.proofs.Common.{of_z, rules, subst, to_z, w64, ◌≡◌}
-use Rattle.std.specs.Prelude.{ℤ}
-use Rattle.land_keep.specs.Sheets.{view_at}
-use Rattle.land_select.specs.Views.{IsShown}
-use Rattle.land_tables_schema.specs.Rows.Looks.{IsLook}
-use Rattle.sqlite.specs.Held.{state}
 use Rattle.land_select.proofs.view.UnitSeenQuestionOptionView.ask.Goals as goal
 
 pub returns-clause-look : goal.returns-clause-look
-returns-clause-look g c =
-    let a = state g.S.Store c.args.conn.now in
-    let it = c.args.self.now in
-    let t : to_z w64 (of_z w64 it.moment) ≡ it.moment = search rules in
-    subst (λ (x : ℤ). IsLook c.view.result (IsShown (λ r. view_at r it.caller it.unit x) x a.now.trees) a (state g.S.Store c.view.new.conn)) t c.view.ensures.look
+returns-clause-look g c = c.view.ensures.look

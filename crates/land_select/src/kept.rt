@@ -1,0 +1,125 @@
+//! What was found of the register as a request was judged, kept for its reply.
+ghost use Rattle.std.specs.Prelude.{◌≡◌, IfSome, None, Some, true};
+ghost use Rattle.land_core.specs.Register.{object_at};
+ghost use Rattle.land_core.specs.declared.kind.Kind.TheVariants as kinds;
+ghost use Rattle.land_keep.specs.Timeline.{Timeline, register_at};
+ghost use Rattle.land_select.specs.Kept.{IsFound, IsFoundFor, IsKeptOf, found_as};
+
+use land_core::ask::Ask;
+use land_core::caller::Caller;
+use land_core::kind::Kind;
+use land_core::object::Object;
+use land_core::records::Records;
+use land_core::rrr::RrrRecord;
+
+/// What was found of the register as a request was judged.
+#[derive(Debug, Drop)]
+pub(crate) enum Found {
+    /// Nothing that the reply needs.
+    Nothing,
+    /// The object that is asked for.
+    Object(Object),
+    /// Those entries of the unit that is asked for that the caller sees.
+    Entries(Records<RrrRecord>),
+}
+
+/// What was found, and for which request.
+#[derive(Debug, Drop)]
+pub(crate) struct Kept {
+    /// Who asks.
+    pub(crate) caller: Caller,
+    /// The kind of the object that is asked for.
+    pub(crate) kind: Kind,
+    /// Its number.
+    pub(crate) number: u64,
+    /// The moment that is asked about, in milliseconds since 1970 UTC.
+    pub(crate) moment: i64,
+    /// What was found.
+    pub(crate) found: Found,
+}
+
+impl Kept {
+    /// Whether this was found as an object was asked for at a moment.
+    fn is_of(&self, kind: Kind, number: u64, at: i64) -> bool
+        ensures { result ≡ true → (self.now.kind ≡ kind) × (self.now.number ≡ number) × (self.now.moment ≡ at) }
+    {
+        self.kind == kind && self.number == number && self.moment == at
+    }
+
+    /// Whether this was found as a caller asked.
+    fn is_from(&self, caller: Caller) -> bool
+        ensures { result ≡ true → self.now.caller ≡ caller }
+    {
+        self.caller == caller
+    }
+}
+
+/// An object, where there is one, as what was found.
+pub(crate) fn found_as(object: Option<Object>) -> Found
+    ensures { result ≡ found_as object }
+{
+    match object {
+        Some(it) => Found::Object(it),
+        None => Found::Nothing,
+    }
+}
+
+/// Keeps what was found for the view of an object or the sheet of a unit. For lists and acts nothing is kept.
+pub(crate) fn kept_for(caller: Caller, ask: &Ask, at: i64, found: Found) -> Option<Kept>
+    ensures { (tl : Timeline) → IsFoundFor (register_at tl at) caller ask.now found → IsKeptOf tl result }
+{
+    let (kind, number) = match ask {
+        Ask::View { kind, number, .. } => (*kind, *number),
+        Ask::Sheet { unit, .. } => (Kind::Unit, *unit),
+        Ask::List { .. } | Ask::Do(_) => return None,
+    };
+    Some(Kept {
+        caller,
+        kind,
+        number,
+        moment: at,
+        found,
+    })
+}
+
+/// Lets go what was kept.
+pub(crate) fn forget(kept: &mut Option<Kept>)
+    ensures { kept.new ≡ None }
+{
+    *kept = None;
+}
+
+/// The object of a kind and a number at a moment, where it was kept.
+pub(crate) fn object_of(kept: Option<Kept>, kind: Kind, number: u64, at: i64) -> Option<Object>
+    ensures { (tl : Timeline) → IsKeptOf tl kept → IfSome result (λ it. object_at (register_at tl at) kind number ≡ Some it) }
+{
+    match kept {
+        Some(it) => {
+            if !it.is_of(kind, number, at) {
+                return None;
+            }
+            let Kept { found, .. } = it;
+            match found {
+                Found::Object(object) => Some(object),
+                Found::Nothing | Found::Entries(_) => None,
+            }
+        }
+        None => None,
+    }
+}
+
+/// What was kept for a caller of a unit at a moment, where something was.
+pub(crate) fn found_of(kept: Option<Kept>, caller: Caller, unit: u64, at: i64) -> Found
+    ensures { (tl : Timeline) → IsKeptOf tl kept → IsFound (register_at tl at) caller kinds.Unit unit result }
+{
+    match kept {
+        Some(it) => {
+            if !it.is_from(caller) || !it.is_of(Kind::Unit, unit, at) {
+                return Found::Nothing;
+            }
+            let Kept { found, .. } = it;
+            found
+        }
+        None => Found::Nothing,
+    }
+}
