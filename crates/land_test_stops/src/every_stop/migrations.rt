@@ -2,14 +2,14 @@
 //! fails, the fault is 502. Opened again, the files hold the register of the first version or that of the second, these where it was told.
 use crate::every_stop::changes::{MOST, Which, stopping};
 use crate::every_stop::disks::{Disks, ENDLESS, Image, have_stopped, lose_power};
-use crate::every_stop::opening::{Room, Store, files_of, opened, options};
+use crate::every_stop::opening::{Room, files_of, opened, options};
 use crate::every_stop::registers::first_files;
 use land_tables::fault::AdoptFault;
 use land_tables::tables::Tables;
 use land_test_scenario::looks::{look_at, look_at_steps};
 use land_test_scenario::stop::{Stop, expect};
 use land_test_tables::tables::migrating::{AFTER, BEFORE};
-use sqlite::{Connection, Error, ErrorCode};
+use sqlite::{Alter, Connection, Error, ErrorCode};
 use std::alloc::Global;
 
 /// What becomes of a migration.
@@ -46,7 +46,7 @@ fn unmigrated(fault: AdoptFault) -> Ending {
 }
 
 /// Tables that were migrated hold the register of the scenario.
-fn is_last(tables: &Tables<Store>) -> Ending {
+fn is_last<S: Alter>(tables: &Tables<S>) -> Ending {
     if tables.last() == 1017 && tables.next() == 30 {
         Ending::Migrated
     } else {
@@ -54,10 +54,10 @@ fn is_last(tables: &Tables<Store>) -> Ending {
     }
 }
 
-fn migrate_store(alloc: Global, conn: Connection<Store>) -> (Ending, Disks) {
+fn migrate_store<S: Alter>(alloc: Global, conn: Connection<S>) -> (Ending, Connection<S>) {
     match Tables::migrate(alloc, conn) {
-        Ok(tables) => (is_last(&tables), files_of(tables.into_connection())),
-        Err((conn, fault)) => (unmigrated(fault), files_of(conn)),
+        Ok(tables) => (is_last(&tables), tables.into_connection()),
+        Err((conn, fault)) => (unmigrated(fault), conn),
     }
 }
 
@@ -67,13 +67,16 @@ fn migrate_files(alloc: Global, files: Disks, room: Room) -> (Ending, Disks) {
         return (Ending::Other, files);
     }
     match Connection::open_files(alloc, files, options(room)) {
-        Ok(conn) => migrate_store(alloc, conn),
+        Ok(conn) => {
+            let (ending, conn) = migrate_store(alloc, conn);
+            (ending, files_of(conn))
+        }
         Err((error, left)) => (unopened(error), left.into_files()),
     }
 }
 
 /// By which version the tables in a store were made, which hold the register of the scenario; 0 where it is none of these.
-fn version_of(alloc: Global, conn: Connection<Store>) -> Result<u64, Stop> {
+fn version_of<S: Alter + Drop>(alloc: Global, conn: Connection<S>) -> Result<u64, Stop> {
     match Tables::adopt(alloc, conn) {
         Ok(tables) => {
             let mut conn = tables.into_connection();
@@ -88,7 +91,7 @@ fn version_of(alloc: Global, conn: Connection<Store>) -> Result<u64, Stop> {
 }
 
 /// Tables of the first version are migrated, and have then the rows of the scenario.
-fn first_of(alloc: Global, conn: Connection<Store>) -> Result<u64, Stop> {
+fn first_of<S: Alter + Drop>(alloc: Global, conn: Connection<S>) -> Result<u64, Stop> {
     let mut conn = conn;
     look_at(alloc, &mut conn, BEFORE)?;
     match Tables::migrate(alloc, conn) {

@@ -8,7 +8,7 @@ use land_tables::tables::Tables;
 use land_test_scenario::doubles::Sink;
 use land_test_scenario::stop::Stop;
 use land_test_scenario::talk::Talk;
-use sqlite::{Connection, Error, ErrorCode, FileStore, Options};
+use sqlite::{Alter, Connection, Error, ErrorCode, FileStore, Options};
 use sqlite_disk::{Fuse, Memory};
 use std::alloc::Global;
 
@@ -54,35 +54,35 @@ pub struct Asked<'a> {
     pub talk: &'a Talk,
 }
 
-fn by_tables(
+fn by_tables<S: Alter>(
     alloc: Global,
-    tables: Tables<Store>,
+    tables: Tables<S>,
     talk: &Talk,
     told: &mut Sink,
-) -> (Ending, Tables<Store>) {
+) -> (Ending, Tables<S>) {
     let mut keeper = TableKeeper::new(tables);
     let ending = ask(alloc, &mut keeper, talk, told);
     (ending, keeper.into_tables())
 }
 
-fn by_joins(
+fn by_joins<S: Alter>(
     alloc: Global,
-    tables: Tables<Store>,
+    tables: Tables<S>,
     talk: &Talk,
     told: &mut Sink,
-) -> (Ending, Tables<Store>) {
+) -> (Ending, Tables<S>) {
     let mut keeper = SqlKeeper::new(tables);
     let ending = ask(alloc, &mut keeper, talk, told);
     (ending, keeper.into_tables())
 }
 
 /// Asks over tables.
-fn over(
+fn over<S: Alter>(
     alloc: Global,
-    tables: Tables<Store>,
+    tables: Tables<S>,
     asked: Asked<'_>,
     told: &mut Sink,
-) -> (Ending, Tables<Store>) {
+) -> (Ending, Tables<S>) {
     match asked.way {
         Way::Tables => by_tables(alloc, tables, asked.talk, told),
         Way::Joins => by_joins(alloc, tables, asked.talk, told),
@@ -112,18 +112,18 @@ fn untaken(fault: AdoptFault) -> Ending {
     }
 }
 
-fn ask_store(
+fn ask_store<S: Alter>(
     alloc: Global,
-    conn: Connection<Store>,
+    conn: Connection<S>,
     asked: Asked<'_>,
     told: &mut Sink,
-) -> (Ending, Disks) {
+) -> (Ending, Connection<S>) {
     match Tables::adopt(alloc, conn) {
         Ok(tables) => {
             let (ending, tables) = over(alloc, tables, asked, told);
-            (ending, files_of(tables.into_connection()))
+            (ending, tables.into_connection())
         }
-        Err((conn, fault)) => (untaken(fault), files_of(conn)),
+        Err((conn, fault)) => (untaken(fault), conn),
     }
 }
 
@@ -138,7 +138,10 @@ pub fn ask_files(
         return (Ending::Other, files);
     }
     match Connection::open_files(alloc, files, options(asked.room)) {
-        Ok(conn) => ask_store(alloc, conn, asked, told),
+        Ok(conn) => {
+            let (ending, conn) = ask_store(alloc, conn, asked, told);
+            (ending, files_of(conn))
+        }
         Err((error, left)) => (unopened(error), left.into_files()),
     }
 }

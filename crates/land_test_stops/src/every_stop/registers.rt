@@ -4,6 +4,7 @@ use crate::every_stop::opening::{Room, Store, files_of, opened};
 use crate::every_stop::rows::rows_at;
 use land_core::limits::LAST_MOMENT;
 use land_tables::table_keeper::TableKeeper;
+use land_tables::tables::Tables;
 use land_test_scenario::looks::{look_at_more, look_at_steps};
 use land_test_scenario::playing::{play, play_more};
 use land_test_scenario::scenario::{MORE, STEPS};
@@ -11,7 +12,7 @@ use land_test_scenario::stop::Stop;
 use land_test_scenario::talk::{OFFICE, Row, Talk, Told};
 use land_test_tables::cases::playing::{created, played, taken};
 use land_test_tables::tables::migrating::TO_FIRST;
-use sqlite::{Connection, MemStore};
+use sqlite::{Alter, Connection, Error, MemStore};
 use std::alloc::{AllocError, Global};
 
 /// A change: how many steps come before it, the stamp of the last of them, and its own.
@@ -107,12 +108,24 @@ fn new_store(alloc: Global) -> Result<Connection<Store>, Stop> {
     opened(alloc, files, Room::Tight)
 }
 
+/// Plays steps over tables, and gives back their store.
+fn play_over<S: Alter>(
+    alloc: Global,
+    tables: Tables<S>,
+    steps: &Talk,
+) -> (Result<(), Stop>, Connection<S>) {
+    let mut keeper = TableKeeper::new(tables);
+    let done = play(alloc, &mut keeper, &[], steps);
+    (done, keeper.into_tables().into_connection())
+}
+
 /// Files in which the steps before a change are played. Their log holds the last step, which the database file has not got yet.
 fn played_files(alloc: Global, change: &Change) -> Result<Disks, Stop> {
-    let mut keeper = TableKeeper::new(created(new_store(alloc)?)?);
     let steps = steps_before(alloc, change)?;
-    play(alloc, &mut keeper, &[], &steps)?;
-    Ok(files_of(keeper.into_tables().into_connection()))
+    let (done, conn) = play_over(alloc, created(new_store(alloc)?)?, &steps);
+    let files = files_of(conn);
+    done?;
+    Ok(files)
 }
 
 fn image_before(alloc: Global, change: &Change) -> Result<Image, Stop> {
@@ -123,9 +136,17 @@ fn image_before(alloc: Global, change: &Change) -> Result<Image, Stop> {
 /// Files of the first version in which the scenario is played. Their log holds what made them so.
 pub fn first_files(alloc: Global) -> Result<Image, Stop> {
     let files = played_files(alloc, &PLAYED)?;
-    let mut conn = opened(alloc, files, Room::Ample)?;
-    conn.execute_batch(TO_FIRST)?;
-    Ok(Image::of(alloc, &files_of(conn))?)
+    let (done, conn) = lowered(opened(alloc, files, Room::Ample)?);
+    let files = files_of(conn);
+    done?;
+    Ok(Image::of(alloc, &files)?)
+}
+
+/// Makes the first version of a store, and gives it back.
+fn lowered<S: Alter>(conn: Connection<S>) -> (Result<(), Error>, Connection<S>) {
+    let mut conn = conn;
+    let done = conn.execute_batch(TO_FIRST);
+    (done, conn)
 }
 
 /// A store in memory after the scenario: it has the rows that are known.
@@ -162,6 +183,11 @@ pub fn story_of(alloc: Global, change: &Change) -> Result<Story, Stop> {
 /// All rows of the register that files hold, which are opened and taken.
 pub fn rows_in(alloc: Global, image: &Image) -> Result<String, Stop> {
     let conn = opened(alloc, image.disks(alloc, ENDLESS)?, Room::Ample)?;
+    taken_rows(alloc, conn)
+}
+
+/// All rows of the register in a store, which is taken.
+fn taken_rows<S: Alter + Drop>(alloc: Global, conn: Connection<S>) -> Result<String, Stop> {
     let mut conn = taken(alloc, conn)?.into_connection();
     rows_at(alloc, &mut conn, LAST_MOMENT)
 }
