@@ -4,5 +4,6 @@ pub mod Keeping
 pub mod Laws
 pub mod Machine
 pub mod Moments
+pub mod Named
 pub mod Sheets
 pub mod Timeline

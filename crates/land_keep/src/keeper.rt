@@ -5,10 +5,12 @@ ghost use Rattle.land_core.specs.Register.{object_at};
 ghost use Rattle.land_keep.specs.Keeping.{Closes, CanWrite, IsLive};
 ghost use Rattle.land_keep.specs.Machine.{verdict_at, moment_of, written};
 ghost use Rattle.land_keep.specs.Moments.{last_moment};
+ghost use Rattle.land_keep.specs.Named.{objects_at};
 ghost use Rattle.land_keep.specs.Sheets.{view_at};
 ghost use Rattle.land_keep.specs.Timeline.{Timeline, IsSoundTimeline, last_stamp, last_register, register_at};
 ghost use Rattle.land_rules.specs.Rules.{seen_of};
 
+use crate::named::NamedObject;
 use crate::store_fault::StoreFault;
 use crate::view::View;
 use land_acts::slice::Slice;
@@ -18,7 +20,7 @@ use land_core::caller::Caller;
 use land_core::change::Change;
 use land_core::kind::Kind;
 use land_core::object::Object;
-use land_core::sequence::NumberList;
+use land_core::sequence::{NumberList, Sequence};
 use land_rules::verdict::Verdict;
 use std::alloc::Global;
 
@@ -82,6 +84,20 @@ pub trait Keeper {
         at: i64,
     ) -> Result<Option<Object>, StoreFault>
         ensures value { honest self.new → IfOk result (λ it. it ≡ object_at (register_at (timeline self.old) at) kind number) }
+        ensures same { IsLive (honest self.new) (closed self.new) → timeline self.new ≡ timeline self.old }
+        ensures was { honest self.new → honest self.old }
+        ensures closes { Closes (closed self.old) (closed self.new) result };
+
+    /// The objects of a kind that stand at a moment under some numbers, in the order of these, as they are listed. It may read all of the
+    /// kind from the least of the numbers to the greatest.
+    fn objects(
+        &mut self,
+        alloc: Global,
+        kind: Kind,
+        numbers: &[u64],
+        at: i64,
+    ) -> Result<Sequence<NamedObject>, StoreFault>
+        ensures value { honest self.new → IfOk result (λ it. it ≡ objects_at (register_at (timeline self.old) at) kind numbers.now) }
         ensures same { IsLive (honest self.new) (closed self.new) → timeline self.new ≡ timeline self.old }
         ensures was { honest self.new → honest self.old }
         ensures closes { Closes (closed self.old) (closed self.new) result };

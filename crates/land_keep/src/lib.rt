@@ -6,6 +6,7 @@ pub mod keeper;
 pub mod laws;
 pub mod machine;
 pub mod moments;
+pub mod named;
 pub mod plain_keeper;
 pub mod prepared;
 pub mod reply;

@@ -7,6 +7,7 @@ ghost use Rattle.land_keep.specs.Timeline.{IsSoundTimeline, new_timeline, versio
 use crate::keeper::Keeper;
 use crate::laws::writing_keeps_soundness;
 use crate::moments::named_moment;
+use crate::named::{NamedObject, objects_of};
 use crate::store_fault::StoreFault;
 use crate::timeline::Version;
 use crate::view::{View, view_of};
@@ -18,7 +19,7 @@ use land_core::change::Change;
 use land_core::kind::Kind;
 use land_core::object::Object;
 use land_core::register::Register;
-use land_core::sequence::NumberList;
+use land_core::sequence::{NumberList, Sequence};
 use land_rules::rules::{seen, verdict};
 use land_rules::verdict::Verdict;
 use std::alloc::{AllocError, Global};
@@ -108,6 +109,7 @@ impl PlainKeeper {
 impl Keeper for PlainKeeper {
     ghost use Rattle.land_acts.specs.Slices.{slice_of};
     ghost use Rattle.land_core.specs.Register.{object_at};
+    ghost use Rattle.land_keep.specs.Named.{objects_at};
     ghost use Rattle.land_keep.specs.Sheets.{view_at};
     ghost use Rattle.land_keep.specs.Timeline.{last_stamp};
 
@@ -164,6 +166,18 @@ impl Keeper for PlainKeeper {
         let nothing = Register::nothing(alloc);
         let then = self.register_at(at, &nothing);
         Ok(then.object(alloc, kind, number)?)
+    }
+
+    fn objects(
+        &mut self,
+        alloc: Global,
+        kind: Kind,
+        numbers: &[u64],
+        at: i64,
+    ) -> Result<Sequence<NamedObject>, StoreFault> {
+        let nothing = Register::nothing(alloc);
+        let then = self.register_at(at, &nothing);
+        Ok(objects_of(alloc, then, kind, numbers)?)
     }
 
     fn view(

@@ -108,7 +108,7 @@ fn entries_of(
 }
 
 /// What a party is called; nothing where it does not stand.
-fn name_of(alloc: Global, register: &Register, party: u64) -> Result<Text, AllocError>
+pub(crate) fn name_of(alloc: Global, register: &Register, party: u64) -> Result<Text, AllocError>
     ensures { IfOk result (λ it. it ≡ name_at register.now party) }
 {
     match register.parties.get(party) {

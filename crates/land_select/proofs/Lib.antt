@@ -5,6 +5,7 @@ pub mod Found
 pub mod Gathering
 pub mod Judged
 pub mod Keeping
+pub mod Listing
 pub mod Looks
 pub mod Named
 pub mod NamedObjects

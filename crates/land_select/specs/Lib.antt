@@ -2,6 +2,7 @@
 pub mod Asking
 pub mod Kept
 pub mod Laws
+pub mod Listing
 pub mod Slices
 pub mod Verdicts
 pub mod Views

@@ -82,6 +82,13 @@ pub(crate) fn kept_for(caller: Caller, ask: &Ask, at: i64, found: Found) -> Opti
     })
 }
 
+/// Keeps what was found, in place of what was kept before.
+pub(crate) fn keep(kept: &mut Option<Kept>, found: Option<Kept>)
+    ensures { kept.new ≡ found }
+{
+    *kept = found;
+}
+
 /// Lets go what was kept.
 pub(crate) fn forget(kept: &mut Option<Kept>)
     ensures { kept.new ≡ None }

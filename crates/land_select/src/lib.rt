@@ -9,6 +9,7 @@ mod kept;
 pub mod laws;
 mod naming;
 mod object;
+mod objects;
 mod sheet;
 mod shown;
 mod sight;

@@ -4,8 +4,9 @@ ghost use Rattle.land_keep.specs.Moments.{last_moment};
 
 use crate::asking::answer;
 use crate::denial::Denial;
-use crate::kept::{Kept, forget, found_of, kept_for, object_of};
+use crate::kept::{Kept, forget, found_of, keep, kept_for, object_of};
 use crate::object::ObjectAt;
+use crate::objects::ObjectsAt;
 use crate::sight::Sight;
 use crate::slicing::Sliced;
 use crate::view::{UnitSeen, naming};
@@ -18,9 +19,10 @@ use land_core::kind::Kind;
 use land_core::laws::soundness_by_look_ups;
 use land_core::limits::LAST_MOMENT;
 use land_core::object::Object;
-use land_core::sequence::NumberList;
+use land_core::sequence::{NumberList, Sequence};
 use land_keep::keeper::Keeper;
 use land_keep::moments::named_moment;
+use land_keep::named::NamedObject;
 use land_keep::store_fault::StoreFault;
 use land_keep::view::View;
 use land_rules::verdict::Verdict;
@@ -79,6 +81,7 @@ impl<S: Alter> SqlKeeper<S> {
 impl<S: Alter> Keeper for SqlKeeper<S> {
     ghost use Rattle.land_acts.specs.Slices.{slice_of};
     ghost use Rattle.land_core.specs.Register.{object_at};
+    ghost use Rattle.land_keep.specs.Named.{objects_at};
     ghost use Rattle.land_keep.specs.Sheets.{view_at};
     ghost use Rattle.land_keep.specs.Timeline.{last_stamp};
     ghost use Rattle.land_tables.specs.Office.{IsHonest, held};
@@ -116,7 +119,8 @@ impl<S: Alter> Keeper for SqlKeeper<S> {
         };
         let told = answer(alloc, &mut self.tables, &denial)?;
         let (verdict, found) = told;
-        self.kept = kept_for(caller, ask, at, found);
+        let kept = kept_for(caller, ask, at, found);
+        keep(&mut self.kept, kept);
         Ok(verdict)
     }
 
@@ -158,6 +162,24 @@ impl<S: Alter> Keeper for SqlKeeper<S> {
             moment: looked_at,
         };
         answer(alloc, &mut self.tables, &object)
+    }
+
+    fn objects(
+        &mut self,
+        alloc: Global,
+        kind: Kind,
+        numbers: &[u64],
+        at: i64,
+    ) -> Result<Sequence<NamedObject>, StoreFault> {
+        forget(&mut self.kept);
+        soundness_by_look_ups();
+        let moment = at.min(LAST_MOMENT);
+        let listed = ObjectsAt {
+            kind,
+            numbers,
+            moment,
+        };
+        answer(alloc, &mut self.tables, &listed)
     }
 
     fn view(

@@ -22,6 +22,8 @@ pub mod Persons
 pub mod Places
 pub mod Principals
 pub mod Queries
+pub mod RangeQueries
+pub mod Ranges
 pub mod Records
 pub mod References
 pub mod Seeing

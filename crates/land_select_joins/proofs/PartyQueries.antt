@@ -1,11 +1,12 @@
--- The text of the parties of the entries of a unit as a join of two tables, and what its rows say.
-use Rattle.std.proofs.Common.{◌≡◌, ◌↔◌, ℕ, ℤ, List, [], ◌∷◌, ◌++◌, codes, map as map_list, nat_eq, true, ◌&&◌, Ok, Err, IfErr, IfOk, Some, Result, inl, inr, refl, sym, ap, subst, ◌∙◌}
-use Rattle.std.proofs.lemmas.Bool.Decides.{Decides-and, Decides-eqb}
+-- The texts of the parties of some entries as joins of two tables, and what their rows say.
+use Rattle.std.proofs.Common.{◌≡◌, ◌↔◌, ℕ, ℤ, List, [], ◌∷◌, ◌++◌, codes, map as map_list, nat_eq, int_le, int_lt, Bool, true, ◌&&◌, Ok, Err, IfErr, IfOk, Some, Result, inl, inr, refl, sym, ap, subst, ◌∙◌}
+use Rattle.std.proofs.lemmas.Bool.Decides.{Decides-and, Decides-eqb, Decides-like}
 use Rattle.std.specs.Bool.{Decides}
 use Rattle.std.specs.FinMap as map
 use Rattle.std.specs.List.{AllByRecursion, Contains, list_all}
 use Rattle.land_core.specs.declared.party.PartyRecord.{PartyRecord}
 use Rattle.land_core.specs.declared.register.Register.{Register}
+use Rattle.land_core.specs.declared.rrr.RrrRecord.{RrrRecord}
 use Rattle.land_select_joins.proofs.Containing.{from_map, to_map}
 use Rattle.land_select_joins.proofs.Joined.{Asks, from}
 use Rattle.land_select_joins.proofs.Known.{caller, same, still}
@@ -16,12 +17,13 @@ use Rattle.land_select_joins.proofs.Selected.{of, stood, version}
 use Rattle.land_select_joins.proofs.Sets.{answered, answers, plainly}
 use Rattle.land_select_joins.proofs.Shapes.{AreShapes, SayAll, all_decided, is_shape, shape_itself}
 use Rattle.land_select_joins.proofs.Standing.{some_decides, stood as standing_under, there}
-use Rattle.land_select_joins.proofs.Tested.{asked_is}
+use Rattle.land_select_joins.proofs.RangeQueries.{asked, in_range, ranged}
+use Rattle.land_select_joins.proofs.Tested.{asked_is, itself}
 use Rattle.land_select_joins.specs.Joins.Meaning.{given}
 use Rattle.land_select_joins.specs.Joins.Running.{HoldsNone, asked_for}
-use Rattle.land_select_joins.specs.Lookups.Parties.{ArePartiesIn, ArePartyRows, HasEntryIn, SayParties, has_entry_in}
+use Rattle.land_select_joins.specs.Lookups.Parties.{ArePartiesAmong, ArePartyRows, HasEntry, SayParties, has_entry_among, of_range, of_unit}
 use Rattle.land_select_joins.specs.Sights.Selections.{Entry, Stands}
-use Rattle.land_select_joins.specs.declared.lookups.texts.TheConstants.{PARTIES_OF_UNIT}
+use Rattle.land_select_joins.specs.declared.lookups.texts.TheConstants.{PARTIES_OF_ENTRIES, PARTIES_OF_UNIT}
 use Rattle.land_tables_history.specs.History.{StandsAt}
 use Rattle.land_tables_history.specs.declared.history.History.{History}
 use Rattle.land_tables_history.specs.declared.moment.Moment.{Moment}
@@ -49,36 +51,28 @@ use Rattle.sqlite_value.specs.Order.{Row}
 abbrev tables : List place.Place
 tables = place.rrrs ∷ place.parties ∷ []
 
--- the tests: of ON, of the unit, and of the lifespans
-abbrev pub filter : List Term
-filter = same (col 2 1) (col 1 3) ∷ same (col 1 2) caller ∷ still 1 12 ++ still 2 4
-
-abbrev pub query : Query
-query = plainly (from tables) filter (columns_of 2 1 5)
-
--- the text is that query and nothing else
-pub asks : (indexes : List Index) → Asks (land_with indexes) PARTIES_OF_UNIT.now query
-unfolding understood everything
-asks indexes = record { names = codes "number" ∷ codes "name" ∷ codes "kind" ∷ codes "since" ∷ codes "until" ∷ []; command = refl; unlisted = refl; plain = (refl, refl) }
-
 abbrev PartyVersion : Type 0
 PartyVersion = Version (ℕ × PartyRecord)
 
+abbrev query_of : List Term → Query
+query_of filter = plainly (from tables) filter (columns_of 2 1 5)
+
 -- ---- rows
 
-module _ (db : Trees) (moments : List Moment) (h : History) (held : HoldsHistory db moments h) (unit : ℕ) (t : ℤ) (rows : List Row)
-    (a : IsAnswer query (overlay db []) (given (asked_for unit) t) rows) where
-  abbrev params : Row
-  params = given (asked_for unit) t
+-- versions of an entry and of its party that stand, where the entry is meant
+abbrev IsPair : (t : ℤ) → (ℕ → RrrRecord → Bool) → Version Entry → PartyVersion → Type 0
+IsPair t meant e p =
+    (p.what.0 ≡ e.what.1.party) × ((meant e.what.0 e.what.1 ≡ true) × ((int_le e.since t ≡ true) × ((int_lt t e.until ≡ true) × ((int_le p.since t ≡ true) × ((int_lt t p.until ≡ true) × Unit {0})))))
 
-  -- the rows of an entry and of a party pass where the versions that they say do
-  passing : (e : Version Entry) (p : PartyVersion) (one other : Row) → place.IsOf place.rrrs e one → place.IsOf place.parties p other
-      → Decides (list_all (holds (params ∷ one ∷ other ∷ [])) filter) (SayAll filter (params ∷ shape place.rrrs e ∷ shape place.parties p ∷ []))
-  passing e p one other is its =
-      all_decided filter (params ∷ shape place.rrrs e ∷ shape place.parties p ∷ []) (params ∷ one ∷ other ∷ [])
-      (shape_itself params, (is_shape (shape place.rrrs e) one is.0, (is_shape (shape place.parties p) other its.0, tt))) refl
+-- rows of an entry and of a party pass where the versions that they say are such a pair
+abbrev Pairs : (t : ℤ) → (ℕ → RrrRecord → Bool) → List Term → (params : Row) → Type 0
+Pairs t meant filter params =
+    (e : Version Entry) (p : PartyVersion) (one other : Row) → place.IsOf place.rrrs e one → place.IsOf place.parties p other
+    → Decides (list_all (holds (params ∷ one ∷ other ∷ [])) filter) (IsPair t meant e p)
 
-  said_so : (row : Row) → Has rows row → (v : PartyVersion) × (parties.said row ≡ Ok v) × HasEntryIn t h unit v.what
+module _ (t : ℤ) (meant : ℕ → RrrRecord → Bool) (filter : List Term) (params : Row) (paired : Pairs t meant filter params) (db : Trees) (moments : List Moment) (h : History) (held : HoldsHistory db moments h)
+    (rows : List Row) (a : IsAnswer (query_of filter) (overlay db []) params rows) where
+  said_so : (row : Row) → Has rows row → (v : PartyVersion) × (parties.said row ≡ Ok v) × HasEntry t h meant v.what
   said_so row has =
       let it = answered (from tables) filter (columns_of 2 1 5) refl (overlay db []) params rows a row has in
       let one = it.1.0 in
@@ -86,8 +80,7 @@ module _ (db : Trees) (moments : List Moment) (h : History) (held : HoldsHistory
       let env = it.1.2.2 in
       let e = read_of db moments h held place.rrrs one (subst (λ rows. Has rows one) (as_stored db place.rrrs) it.1.1) in
       let p = read_of db moments h held place.parties other (subst (λ rows. Has rows other) (as_stored db place.parties) it.1.2.1) in
-      let is = shows place.rrrs one e.0 e.2 in
-      let say = (passing e.0 p.0 one other is (shows place.parties other p.0 p.2)).0 (subst (λ (x : Env). list_all (holds x) filter ≡ true) env it.2) in
+      let say = (paired e.0 p.0 one other (shows place.rrrs one e.0 e.2) (shows place.parties other p.0 p.2)).0 (subst (λ (x : Env). list_all (holds x) filter ≡ true) env it.2) in
       let shown : row ≡ columns_from 1 5 other = it.3 ∙ ap (eval_all (columns_of 2 1 5)) env in (
         p.0,
         ap parties.said shown ∙ p.2,
@@ -95,30 +88,78 @@ module _ (db : Trees) (moments : List Moment) (h : History) (held : HoldsHistory
           party_stands = stood t h.parties p.0 p.1 say.1.1.1.1.0 say.1.1.1.1.1.0;
           entry = e.0.what;
           entry_stands = stood t h.rrrs e.0 e.1 say.1.1.0 say.1.1.1.0;
-          in_unit = (Decides-eqb e.0.what.1.unit unit).0 ((asked_is e.0.what.1.unit unit is.1.2).1 say.1.0);
+          is_meant = say.1.0;
           of_party = sym say.0;
         },
       )
 
-  is_said : (party : ℕ × PartyRecord) → HasEntryIn t h unit party → (row : Row) × Has rows row × ((v : PartyVersion) × (parties.said row ≡ Ok v) × (v.what ≡ party))
+  is_said : (party : ℕ × PartyRecord) → HasEntry t h meant party → (row : Row) × Has rows row × ((v : PartyVersion) × (parties.said row ≡ Ok v) × (v.what ≡ party))
   is_said party it =
       let e = version t h.rrrs it.entry it.entry_stands in
       let p = version t h.parties party it.party_stands in
       let one = read_back db moments h held place.rrrs (of it.entry e.since e.until) e.has in
       let other = read_back db moments h held place.parties (of party p.since p.until) p.has in
-      let is = shows place.rrrs one.0 (of it.entry e.since e.until) one.2 in
-      let asked = (asked_is it.entry.1.unit unit is.1.2).0 ((Decides-eqb it.entry.1.unit unit).1 it.in_unit) in
       let passed =
-      (passing (of it.entry e.since e.until) (of party p.since p.until) one.0 other.0 is (shows place.parties other.0 (of party p.since p.until) other.2)).1
-      (sym it.of_party, (asked, (e.begun, (e.going, (p.begun, (p.going, tt)))))) in (
+      (paired (of it.entry e.since e.until) (of party p.since p.until) one.0 other.0 (shows place.rrrs one.0 (of it.entry e.since e.until) one.2) (shows place.parties other.0 (of party p.since p.until) other.2)).1
+      (sym it.of_party, (it.is_meant, (e.begun, (e.going, (p.begun, (p.going, tt)))))) in (
         columns_from 1 5 other.0,
         answers (from tables) filter (columns_of 2 1 5) refl (overlay db []) params rows a (params ∷ one.0 ∷ other.0 ∷ [])
             (one.0, subst (λ rows. Has rows one.0) (sym (as_stored db place.rrrs)) one.1, (other.0, subst (λ rows. Has rows other.0) (sym (as_stored db place.parties)) other.1, refl)) passed,
         (of party p.since p.until, other.2, refl),
       )
 
-pub are_party_rows : (unit : ℕ) (t : ℤ) (db : Trees) (rows : List Row) → IsAnswer query (overlay db []) (given (asked_for unit) t) rows → ArePartyRows unit t db rows
-are_party_rows unit t db rows a moments h held = record { each = said_so db moments h held unit t rows a; all = is_said db moments h held unit t rows a }
+-- ---- the entries of a unit
+
+abbrev unit_filter : List Term
+unit_filter = same (col 2 1) (col 1 3) ∷ same (col 1 2) caller ∷ still 1 12 ++ still 2 4
+
+abbrev pub unit_query : Query
+unit_query = query_of unit_filter
+
+-- the text is that query and nothing else
+pub asks_unit : (indexes : List Index) → Asks (land_with indexes) PARTIES_OF_UNIT.now unit_query
+unfolding understood everything
+asks_unit indexes = record { names = codes "number" ∷ codes "name" ∷ codes "kind" ∷ codes "since" ∷ codes "until" ∷ []; command = refl; unlisted = refl; plain = (refl, refl) }
+
+unit_pairs : (unit : ℕ) (t : ℤ) → Pairs t (of_unit unit) unit_filter (given (asked_for unit) t)
+unit_pairs unit t e p one other is its =
+    let params = given (asked_for unit) t in
+    let asked = asked_is e.what.1.unit unit is.1.2 in
+    Decides-like (list_all (holds (params ∷ one ∷ other ∷ [])) unit_filter) (λ h. (h.0, (asked.1 h.1.0, h.1.1))) (λ h. (h.0, (asked.0 h.1.0, h.1.1)))
+    (all_decided unit_filter (params ∷ shape place.rrrs e ∷ shape place.parties p ∷ []) (params ∷ one ∷ other ∷ [])
+    (shape_itself params, (is_shape (shape place.rrrs e) one is.0, (is_shape (shape place.parties p) other its.0, tt))) refl)
+
+pub are_unit_rows : (unit : ℕ) (t : ℤ) (db : Trees) (rows : List Row) → IsAnswer unit_query (overlay db []) (given (asked_for unit) t) rows → ArePartyRows (of_unit unit) t db rows
+are_unit_rows unit t db rows a moments h held =
+    let params = given (asked_for unit) t in
+    record { each = said_so t (of_unit unit) unit_filter params (unit_pairs unit t) db moments h held rows a; all = is_said t (of_unit unit) unit_filter params (unit_pairs unit t) db moments h held rows a }
+
+-- ---- the entries of a range
+
+abbrev range_filter : List Term
+range_filter = same (col 2 1) (col 1 3) ∷ ranged 1 (still 1 12 ++ still 2 4)
+
+abbrev pub range_query : Query
+range_query = query_of range_filter
+
+-- the text is that query and nothing else
+pub asks_range : (indexes : List Index) → Asks (land_with indexes) PARTIES_OF_ENTRIES.now range_query
+unfolding understood everything
+asks_range indexes = record { names = codes "number" ∷ codes "name" ∷ codes "kind" ∷ codes "since" ∷ codes "until" ∷ []; command = refl; unlisted = refl; plain = (refl, refl) }
+
+range_pairs : (first last : ℕ) (t : ℤ) → Pairs t (of_range first last) range_filter (asked first last t)
+range_pairs first last t e p one other is its =
+    let params = asked first last t in
+    let within = in_range first last e.what.0 is.1.1 in
+    Decides-like (list_all (holds (params ∷ one ∷ other ∷ [])) range_filter) (λ h. (h.0, (within.1 (h.1.0, h.1.1.0), h.1.1.1))) (λ h. let ends = within.0 h.1.0 in (h.0, (ends.0, (ends.1, h.1.1))))
+    (all_decided range_filter (params ∷ shape place.rrrs e ∷ shape place.parties p ∷ []) (params ∷ one ∷ other ∷ [])
+    (shape_itself params, (is_shape (shape place.rrrs e) one is.0, (is_shape (shape place.parties p) other its.0, tt))) refl)
+
+pub are_range_rows : (first last : ℕ) (t : ℤ) (db : Trees) (rows : List Row) → IsAnswer range_query (overlay db []) (asked first last t) rows → ArePartyRows (of_range first last) t db rows
+are_range_rows first last t db rows a moments h held =
+    let params = asked first last t in
+    let pairs = range_pairs first last t in
+    record { each = said_so t (of_range first last) range_filter params pairs db moments h held rows a; all = is_said t (of_range first last) range_filter params pairs db moments h held rows a }
 
 -- ---- what is read of them
 
@@ -153,24 +194,24 @@ module _ (rows : List Row) (Wanted : ℕ × PartyRecord → Type 0) (say : SayPa
   readable [] sub = tt
   readable (row ∷ more) sub = let one = say.each row (sub row (inl refl)) in ((one.0, one.1), readable more (λ r has. sub r (inr has)))
 
--- a party that has an entry in a unit, by what stands
-entry_decides : (r : Register) (t : ℤ) (h : History) → StandsAt t h r → (unit party : ℕ)
-    → Decides (has_entry_in r unit party) ((e : Entry) × Stands t h.rrrs e × ((e.1.unit ≡ unit) × (e.1.party ≡ party)))
-entry_decides r t h is unit party =
-    some_decides t h.rrrs r.rrrs is.rrrs (λ n e. nat_eq e.unit unit && nat_eq e.party party) (λ e. (e.1.unit ≡ unit) × (e.1.party ≡ party))
-    (λ e standing. Decides-and (nat_eq e.1.unit unit) (nat_eq e.1.party party) (Decides-eqb e.1.unit unit) (Decides-eqb e.1.party party))
+-- a party that has an entry that is meant, by what stands
+entry_decides : (r : Register) (t : ℤ) (h : History) → StandsAt t h r → (meant : ℕ → RrrRecord → Bool) (party : ℕ)
+    → Decides (has_entry_among r meant party) ((e : Entry) × Stands t h.rrrs e × ((meant e.0 e.1 ≡ true) × (e.1.party ≡ party)))
+entry_decides r t h is meant party =
+    some_decides t h.rrrs r.rrrs is.rrrs (λ n e. meant n e && nat_eq e.party party) (λ e. (meant e.0 e.1 ≡ true) × (e.1.party ≡ party))
+    (λ e standing. Decides-and (meant e.0 e.1) (nat_eq e.1.party party) (itself (meant e.0 e.1)) (Decides-eqb e.1.party party))
 
-module _ (unit : ℕ) (t : ℤ) (db : Trees) (rows : List Row) (are : ArePartyRows unit t db rows) where
-  pub parties_told : (r : Result (List PartyVersion) ReadFault) → IsRead parties.said rows r → IfOk r (ArePartiesIn unit t db)
+module _ (meant : ℕ → RrrRecord → Bool) (t : ℤ) (db : Trees) (rows : List Row) (are : ArePartyRows meant t db rows) where
+  pub parties_told : (r : Result (List PartyVersion) ReadFault) → IsRead parties.said rows r → IfOk r (ArePartiesAmong meant t db)
   parties_told (Ok versions) read = λ moments h held r is party.
-      let all = all_read rows (HasEntryIn t h unit) (are moments h held) versions (each_all parties.said rows versions read) party in
-      let decided = entry_decides r t h is unit party.0 in (
-        (λ among. let it = all.0 among in (decided.1 (it.entry, it.entry_stands, (it.in_unit, it.of_party)), there t h.parties r.parties is.parties party it.party_stands)),
+      let all = all_read rows (HasEntry t h meant) (are moments h held) versions (each_all parties.said rows versions read) party in
+      let decided = entry_decides r t h is meant party.0 in (
+        (λ among. let it = all.0 among in (decided.1 (it.entry, it.entry_stands, (it.is_meant, it.of_party)), there t h.parties r.parties is.parties party it.party_stands)),
         (λ both. let e = decided.0 both.0 in all.1 (record {
           party_stands = standing_under t h.parties r.parties is.parties party.0 party.1 both.1;
           entry = e.0;
           entry_stands = e.1;
-          in_unit = e.2.0;
+          is_meant = e.2.0;
           of_party = e.2.1;
         })),
       )
@@ -179,5 +220,5 @@ module _ (unit : ℕ) (t : ℤ) (db : Trees) (rows : List Row) (are : ArePartyRo
   pub none_held : (r : Result (List PartyVersion) ReadFault) → IsRead parties.said rows r → IfErr r (HoldsNone db)
   none_held (Ok versions) read = tt
   none_held (Err fault) read = λ is moments h held.
-      let it = each_from parties.said rows (readable rows (HasEntryIn t h unit) (are moments h held) rows (λ r has. has)) in
+      let it = each_from parties.said rows (readable rows (HasEntry t h meant) (are moments h held) rows (λ r has. has)) in
       (read (λ e. absurd (let a = is in let b = e in cc))).1 it.0 it.1

@@ -13,7 +13,7 @@ use Rattle.land_select_joins.proofs.Queries.{filter_of, project_of, query_of, sh
 use Rattle.land_select_joins.proofs.Standing.{entry_found, entry_there}
 use Rattle.land_select_joins.specs.Joins.Meaning.{given}
 use Rattle.land_select_joins.specs.Joins.Running.{HoldsNone, OfHeld, asked_for}
-use Rattle.land_select_joins.specs.Lookups.Finding.{AreRows, AreRowsOf, AreSaidOf, CannotBeSaid, Found, IsOneOf, is_meant, listing_of, wanted}
+use Rattle.land_select_joins.specs.Lookups.Finding.{AreRows, AreRowsOf, AreSaid, AreSaidOf, CannotBeSaid, CannotSay, Found, IsOneOf, is_meant, listing_of, wanted}
 use Rattle.land_select_joins.specs.Lookups.Numbered.{IsFoundBy}
 use Rattle.land_select_joins.specs.Lookups.Parts.{IsPart}
 use Rattle.land_select_joins.specs.declared.lookups.look_up.LookUp.{LookUp}
@@ -71,12 +71,12 @@ are_rows_of l number t db rows answer =
     are_rows (listing_of l) (filter_of l) (project_of l) (given (asked_for number) t) (is_meant l number) t db (stored l db) (shown l (given (asked_for number) t)) (λ r v e. tests l r v e number t) rows answer
 
 -- what is read of such rows
-module _ {X : Type 0} (said : Row → Result X WireFault) (l : LookUp) (number : ℕ) (t : ℤ) (db : Trees) (rows : List Row) (are : AreRowsOf l number t db rows) where
-  pub said_of : (r : Result (List X) ReadFault) → IsRead said rows r → IfOk r (AreSaidOf said l number t db)
+module _ {X : Type 0} (said : Row → Result X WireFault) (Are : List Row → Type 0) (rows : List Row) (are : Are rows) where
+  pub said_of : (r : Result (List X) ReadFault) → IsRead said rows r → IfOk r (AreSaid said Are)
   said_of (Ok xs) read = (rows, are, read)
   said_of (Err fault) read = tt
 
-  pub cannot_be_said : (r : Result (List X) ReadFault) → IsRead said rows r → IfErr r (CannotBeSaid said l number t db)
+  pub cannot_be_said : (r : Result (List X) ReadFault) → IsRead said rows r → IfErr r (CannotSay said Are)
   cannot_be_said (Ok xs) read = tt
   cannot_be_said (Err fault) read = λ is. (rows, are, (read (λ e. absurd (let a = is in let b = e in cc))).1)
 

@@ -32,11 +32,11 @@ module _ (p : Place) (r : Row) (v : Version (What p)) (e : (reading p).said (col
 abbrev pub Lives : (t since until : ℤ) → Type 0
 Lives t since until = (int_le since t ≡ true) × ((int_lt t until ≡ true) × Unit {0})
 
-itself : (b : Bool) → Decides b (b ≡ true)
+pub itself : (b : Bool) → Decides b (b ≡ true)
 itself b = ((λ h. h), (λ h. h))
 
 -- a version stands, and is meant
-meant_lives : (b c : Bool) (P : Type 0) (t since until : ℤ) → Decides c P → Decides b (P × Lives t since until) → b ≡ ((int_le since t && int_lt t until) && c)
+pub meant_lives : (b c : Bool) (P : Type 0) (t since until : ℤ) → Decides c P → Decides b (P × Lives t since until) → b ≡ ((int_le since t && int_lt t until) && c)
 meant_lives b c P t since until means passes =
     same_from_decides b ((int_le since t && int_lt t until) && c) passes
     (Decides-like ((int_le since t && int_lt t until) && c) (λ h. (h.1, (h.0.0, (h.0.1, tt)))) (λ h. ((h.1.0, h.1.1.0), h.0))

@@ -4,4 +4,5 @@ pub mod Numbered
 pub mod Numbers
 pub mod Parties
 pub mod Parts
+pub mod Ranges
 pub mod Texts

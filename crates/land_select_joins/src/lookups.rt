@@ -18,3 +18,4 @@ pub mod office;
 pub mod presence;
 pub mod shown;
 pub mod texts;
+pub mod within;

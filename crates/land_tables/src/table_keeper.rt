@@ -10,9 +10,10 @@ use land_core::caller::Caller;
 use land_core::change::Change;
 use land_core::kind::Kind;
 use land_core::object::Object;
-use land_core::sequence::NumberList;
+use land_core::sequence::{NumberList, Sequence};
 use land_keep::keeper::Keeper;
 use land_keep::moments::named_moment;
+use land_keep::named::{NamedObject, objects_of};
 use land_keep::store_fault::StoreFault;
 use land_keep::view::{View, view_of};
 use land_rules::rules::{seen, verdict};
@@ -52,6 +53,7 @@ impl<S: Alter> TableKeeper<S> {
 impl<S: Alter> Keeper for TableKeeper<S> {
     ghost use Rattle.land_acts.specs.Slices.{slice_of as slice_in};
     ghost use Rattle.land_core.specs.Register.{object_at};
+    ghost use Rattle.land_keep.specs.Named.{objects_at};
     ghost use Rattle.land_keep.specs.Sheets.{view_at};
     ghost use Rattle.land_keep.specs.Timeline.{last_stamp};
     ghost use Rattle.land_tables.specs.Office.{IsHonest, held};
@@ -106,6 +108,17 @@ impl<S: Alter> Keeper for TableKeeper<S> {
     ) -> Result<Option<Object>, StoreFault> {
         let then = self.tables.read_at(alloc, at)?;
         Ok(then.object(alloc, kind, number)?)
+    }
+
+    fn objects(
+        &mut self,
+        alloc: Global,
+        kind: Kind,
+        numbers: &[u64],
+        at: i64,
+    ) -> Result<Sequence<NamedObject>, StoreFault> {
+        let then = self.tables.read_at(alloc, at)?;
+        Ok(objects_of(alloc, &then, kind, numbers)?)
     }
 
     fn view(

@@ -181,13 +181,11 @@ fn write_whole(line: &mut String, reply: &Reply) -> Result<(), AllocError> {
     }
 }
 
-/// Whether two replies are alike in all that they tell. A reply of 501 is want of memory.
-pub fn are_alike(alloc: Global, one: &Reply, other: &Reply) -> Result<bool, AllocError> {
+/// A reply in words, with all that it tells. A reply of 501 is want of memory.
+pub fn told_whole(alloc: Global, reply: &Reply) -> Result<String, AllocError> {
     let mut line = String::new(alloc);
-    write_whole(&mut line, one)?;
-    let mut other_line = String::new(alloc);
-    write_whole(&mut other_line, other)?;
-    Ok(line.as_str() == other_line.as_str())
+    write_whole(&mut line, reply)?;
+    Ok(line)
 }
 
 /// Whether a reply is this line. A reply of 501 is want of memory.

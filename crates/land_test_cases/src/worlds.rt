@@ -3,14 +3,13 @@ use crate::asked::OFFICE;
 use crate::rows::keeper_after;
 use crate::steps::{ANNA, BANK, BEN, NORA, SAM, WITH_FIELD, WITH_GARDEN, WITH_MANDATE};
 use crate::stop::{Stop, expect};
-use crate::told::are_alike;
+use crate::told::told_whole;
 use land_core::ask::{Ask, Request};
 use land_core::caller::Caller;
 use land_core::kind::Kind;
 use land_core::role::Role;
+use land_keep::keeper::Keeper;
 use land_keep::machine::answer;
-use land_keep::plain_keeper::PlainKeeper;
-use land_keep::reply::Reply;
 use std::alloc::Global;
 
 /// What is looked at in a world.
@@ -89,13 +88,14 @@ fn ask_of(look: Look, at: Option<i64>) -> Ask {
     }
 }
 
-fn reply_to(
+/// All that a keeper tells of a look, in words.
+fn told_by<K: Keeper>(
     alloc: Global,
-    keeper: &mut PlainKeeper,
+    keeper: &mut K,
     caller: Caller,
     look: Look,
     at: Option<i64>,
-) -> Result<Reply, Stop> {
+) -> Result<String, Stop> {
     let request = Request {
         caller,
         ask: ask_of(look, at),
@@ -103,18 +103,19 @@ fn reply_to(
     if !request.is_well_formed() {
         return Err(Stop::Unmade("a request that is well formed"));
     }
-    Ok(answer(alloc, keeper, NOW, &request))
+    let reply = answer(alloc, keeper, NOW, &request);
+    Ok(told_whole(alloc, &reply)?)
 }
 
 /// Two registers through time, and who is told that they differ.
 #[derive(Drop)]
-struct Worlds {
-    one: PlainKeeper,
-    other: PlainKeeper,
+struct Worlds<'a, K> {
+    one: &'a mut K,
+    other: &'a mut K,
     seers: &'static [Seer],
 }
 
-impl Worlds {
+impl<K: Keeper> Worlds<'_, K> {
     fn differ(
         &mut self,
         alloc: Global,
@@ -122,9 +123,9 @@ impl Worlds {
         look: Look,
         at: Option<i64>,
     ) -> Result<bool, Stop> {
-        let one = reply_to(alloc, &mut self.one, caller, look, at)?;
-        let other = reply_to(alloc, &mut self.other, caller, look, at)?;
-        Ok(!are_alike(alloc, &one, &other)?)
+        let one = told_by(alloc, self.one, caller, look, at)?;
+        let other = told_by(alloc, self.other, caller, look, at)?;
+        Ok(one.as_str() != other.as_str())
     }
 
     /// The first view of a kind, by numbers from 1 to 20, whose replies differ.
@@ -205,18 +206,24 @@ impl Worlds {
         }
         Ok(())
     }
+}
 
-    /// Every party, and one that does not stand, in every role, at every moment, is told the same of both worlds in all views, lists and
-    /// sheets, but for the seers, of whom each is told its own difference first.
-    fn are_told_alike_to_all(&mut self, alloc: Global) -> Result<(), Stop> {
-        for party in 1..9 {
-            for role in ROLES {
-                let caller = Caller { party, role: *role };
-                self.are_told_alike(alloc, caller)?;
-            }
+/// Every party, and one that does not stand, in every role, at every moment, is told the same of both worlds in all views, lists and
+/// sheets, but for the seers, of whom each is told its own difference first.
+fn are_told_alike_to_all<K: Keeper>(
+    alloc: Global,
+    one: &mut K,
+    other: &mut K,
+    seers: &'static [Seer],
+) -> Result<(), Stop> {
+    let mut worlds = Worlds { one, other, seers };
+    for party in 1..9 {
+        for role in ROLES {
+            let caller = Caller { party, role: *role };
+            worlds.are_told_alike(alloc, caller)?;
         }
-        Ok(())
     }
+    Ok(())
 }
 
 /// The first difference that a caller may be told of.
@@ -233,20 +240,14 @@ fn difference_for(seers: &[Seer], caller: Caller, at: Option<i64>) -> Option<Loo
 
 /// Two worlds that differ in a unit: those who do not see it are told the same of both, and to all others it is the first difference.
 pub fn are_alike_to_whom_they_look_alike(alloc: Global) -> Result<(), Stop> {
-    let mut worlds = Worlds {
-        one: keeper_after(alloc, WITH_GARDEN)?,
-        other: keeper_after(alloc, WITH_FIELD)?,
-        seers: SEERS_OF_THE_UNIT,
-    };
-    worlds.are_told_alike_to_all(alloc)
+    let mut one = keeper_after(alloc, WITH_GARDEN)?;
+    let mut other = keeper_after(alloc, WITH_FIELD)?;
+    are_told_alike_to_all(alloc, &mut one, &mut other, SEERS_OF_THE_UNIT)
 }
 
 /// Two worlds of which one has a mandate more: its agent alone is told a difference, as a citizen, from the mandate on.
 pub fn a_mandate_is_told_to_its_agent_alone(alloc: Global) -> Result<(), Stop> {
-    let mut worlds = Worlds {
-        one: keeper_after(alloc, WITH_GARDEN)?,
-        other: keeper_after(alloc, WITH_MANDATE)?,
-        seers: SEERS_BY_THE_MANDATE,
-    };
-    worlds.are_told_alike_to_all(alloc)
+    let mut one = keeper_after(alloc, WITH_GARDEN)?;
+    let mut other = keeper_after(alloc, WITH_MANDATE)?;
+    are_told_alike_to_all(alloc, &mut one, &mut other, SEERS_BY_THE_MANDATE)
 }

@@ -87,14 +87,20 @@ AreRowsOf l number t db rows = AreRows (listing_of l) (is_meant l number) t db r
 abbrev pub AreRowsLodgedAs : (lodger : ℕ) → (reference : List ℕ) → (t : ℤ) → Trees → List Row → Type 0
 AreRowsLodgedAs lodger reference t db rows = AreRows mutations (λ mutation. is_lodged_as lodger reference mutation.1) t db rows
 
--- this is what such rows say
-abbrev pub AreSaidOf : {X : Type 0} → (Row → Result X WireFault) → LookUp → (number : ℕ) → (t : ℤ) → Trees → List X → Type 0
-AreSaidOf said l number t db xs = (rows : List Row) × AreRowsOf l number t db rows × (each_of said rows ≡ Ok xs)
+-- this is what rows of some kind say
+abbrev pub AreSaid : {X : Type 0} → (Row → Result X WireFault) → (List Row → Type 0) → List X → Type 0
+AreSaid said Are xs = (rows : List Row) × Are rows × (each_of said rows ≡ Ok xs)
 
 -- a fault that says that rows cannot be read is right: such rows say nothing
+abbrev pub CannotSay : {X : Type 0} → (Row → Result X WireFault) → (List Row → Type 0) → ReadFault → Type 0
+CannotSay {X} said Are fault = fault ≡ Unreadable → (rows : List Row) × Are rows × ((xs : List X) → each_of said rows ≢ Ok xs)
+
+-- the same of the rows of what is looked for by a number
+abbrev pub AreSaidOf : {X : Type 0} → (Row → Result X WireFault) → LookUp → (number : ℕ) → (t : ℤ) → Trees → List X → Type 0
+AreSaidOf said l number t db xs = AreSaid said (AreRowsOf l number t db) xs
+
 abbrev pub CannotBeSaid : {X : Type 0} → (Row → Result X WireFault) → LookUp → (number : ℕ) → (t : ℤ) → Trees → ReadFault → Type 0
-CannotBeSaid {X} said l number t db fault = fault ≡ Unreadable
-    → (rows : List Row) × AreRowsOf l number t db rows × ((xs : List X) → each_of said rows ≢ Ok xs)
+CannotBeSaid said l number t db fault = CannotSay said (AreRowsOf l number t db) fault
 
 -- the record of one of some versions, none where there are none
 abbrev pub IsOneOf : {V : Type 0} → List (Version (ℕ × V)) → Option V → Type 0

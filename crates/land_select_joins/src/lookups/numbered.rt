@@ -2,11 +2,14 @@
 ghost use Rattle.std.specs.FinMap.{FinMap};
 ghost use Rattle.std.specs.Ordering.{nat_cmp};
 ghost use Rattle.land_core.specs.declared.register.Register.{Register};
-ghost use Rattle.land_select_joins.specs.Lookups.Numbered.{IsFoundBy};
+ghost use Rattle.land_core.specs.declared.kind.Kind.{Kind as WhichKind};
+ghost use Rattle.land_core.specs.declared.kind.Kind.TheVariants as kinds;
+ghost use Rattle.land_select_joins.specs.Lookups.Numbered.{IsFoundBy, IsFoundWithin};
 ghost use Rattle.land_select_joins.specs.declared.lookups.look_up.LookUp.{LookUp as Which};
 ghost use Rattle.land_select_joins.specs.declared.lookups.look_up.LookUp.TheVariants as look_up;
 
 use crate::lookups::look_up::LookUp;
+use land_core::kind::Kind;
 use land_core::mutation::MutationRecord;
 use land_core::parcel::ParcelRecord;
 use land_core::party::PartyRecord;
@@ -32,6 +35,15 @@ where
 
     /// It finds what stands.
     ghost found: { IsFoundBy ⟦<Version<(u64, Self)> as FromRow>⟧.said BY_NUMBER part };
+
+    /// Their kind.
+    const KIND: Kind;
+
+    /// Their kind.
+    ghost KIND: { WhichKind };
+
+    /// The text of the kind finds what stands under the numbers of a range.
+    ghost within: { IsFoundWithin ⟦<Version<(u64, Self)> as FromRow>⟧.said KIND part };
 }
 
 impl Numbered for PartyRecord {
@@ -42,6 +54,12 @@ impl Numbered for PartyRecord {
     ghost BY_NUMBER = { look_up.Party };
 
     ghost found = { λ db moments h held. record { versions = h.parties; stand = λ t r stands. stands.parties; found = λ number t rows are. are h.parties held.the_parties.said } };
+
+    const KIND: Kind = Kind::Party;
+
+    ghost KIND = { kinds.Party };
+
+    ghost within = { λ db moments h held. record { versions = h.parties; stand = λ t r stands. stands.parties; found = λ first last t rows are. are h.parties held.the_parties.said } };
 }
 
 impl Numbered for UnitRecord {
@@ -52,6 +70,12 @@ impl Numbered for UnitRecord {
     ghost BY_NUMBER = { look_up.Unit };
 
     ghost found = { λ db moments h held. record { versions = h.units; stand = λ t r stands. stands.units; found = λ number t rows are. are h.units held.the_units.said } };
+
+    const KIND: Kind = Kind::Unit;
+
+    ghost KIND = { kinds.Unit };
+
+    ghost within = { λ db moments h held. record { versions = h.units; stand = λ t r stands. stands.units; found = λ first last t rows are. are h.units held.the_units.said } };
 }
 
 impl Numbered for ParcelRecord {
@@ -62,6 +86,12 @@ impl Numbered for ParcelRecord {
     ghost BY_NUMBER = { look_up.Parcel };
 
     ghost found = { λ db moments h held. record { versions = h.parcels; stand = λ t r stands. stands.parcels; found = λ number t rows are. are h.parcels held.the_parcels.said } };
+
+    const KIND: Kind = Kind::Parcel;
+
+    ghost KIND = { kinds.Parcel };
+
+    ghost within = { λ db moments h held. record { versions = h.parcels; stand = λ t r stands. stands.parcels; found = λ first last t rows are. are h.parcels held.the_parcels.said } };
 }
 
 impl Numbered for RrrRecord {
@@ -72,6 +102,12 @@ impl Numbered for RrrRecord {
     ghost BY_NUMBER = { look_up.Entry };
 
     ghost found = { λ db moments h held. record { versions = h.rrrs; stand = λ t r stands. stands.rrrs; found = λ number t rows are. are h.rrrs held.the_rrrs.said } };
+
+    const KIND: Kind = Kind::Rrr;
+
+    ghost KIND = { kinds.Rrr };
+
+    ghost within = { λ db moments h held. record { versions = h.rrrs; stand = λ t r stands. stands.rrrs; found = λ first last t rows are. are h.rrrs held.the_rrrs.said } };
 }
 
 impl Numbered for SourceRecord {
@@ -82,6 +118,12 @@ impl Numbered for SourceRecord {
     ghost BY_NUMBER = { look_up.Source };
 
     ghost found = { λ db moments h held. record { versions = h.sources; stand = λ t r stands. stands.sources; found = λ number t rows are. are h.sources held.the_sources.said } };
+
+    const KIND: Kind = Kind::Source;
+
+    ghost KIND = { kinds.Source };
+
+    ghost within = { λ db moments h held. record { versions = h.sources; stand = λ t r stands. stands.sources; found = λ first last t rows are. are h.sources held.the_sources.said } };
 }
 
 impl Numbered for MutationRecord {
@@ -92,4 +134,10 @@ impl Numbered for MutationRecord {
     ghost BY_NUMBER = { look_up.Mutation };
 
     ghost found = { λ db moments h held. record { versions = h.mutations; stand = λ t r stands. stands.mutations; found = λ number t rows are. are h.mutations held.the_mutations.said } };
+
+    const KIND: Kind = Kind::Mutation;
+
+    ghost KIND = { kinds.Mutation };
+
+    ghost within = { λ db moments h held. record { versions = h.mutations; stand = λ t r stands. stands.mutations; found = λ first last t rows are. are h.mutations held.the_mutations.said } };
 }

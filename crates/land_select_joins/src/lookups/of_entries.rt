@@ -1,7 +1,7 @@
-//! The parties of the entries of a unit.
+//! The parties of the entries of a unit, or of a range of numbers.
 ghost use Rattle.std.specs.Prelude.{◌≡◌, false, IfErr};
 ghost use Rattle.land_select_joins.specs.Joins.Running.{HoldsNone};
-ghost use Rattle.land_select_joins.specs.Lookups.Parties.{ArePartiesIn, ArePartyRows};
+ghost use Rattle.land_select_joins.specs.Lookups.Parties.{ArePartiesIn, ArePartiesWithin, ArePartyRows, of_range, of_unit};
 ghost use Rattle.land_tables_schema.specs.Land.{IsLand};
 ghost use Rattle.land_tables_schema.specs.Rows.Looks.{IsLook};
 ghost use Rattle.sqlite.specs.Held.{state};
@@ -10,6 +10,7 @@ ghost use Rattle.sqlite.specs.State.{HasCleanDisk};
 use crate::joins::running::asked_for;
 use crate::lookups::finding::read;
 use crate::lookups::texts;
+use crate::lookups::within::BEYOND;
 use land_core::party::PartyRecord;
 use land_core::sequence::Sequence;
 use land_tables_history::version::Version;
@@ -21,7 +22,7 @@ use std::alloc::Global;
 /// The rows of the parties of the entries of a unit at a moment, in whatever order.
 fn rows_of<S: Alter>(conn: &mut Connection<S>, unit: u64, at: i64) -> Result<Vec<Row>, Error>
     requires land { HasCleanDisk (state S.Store conn.old) → IsLand (state S.Store conn.old).now.schema }
-    ensures look { IsLook result (λ rows. ArePartyRows unit at (state S.Store conn.old).now.trees rows.items) (state S.Store conn.old) (state S.Store conn.new) }
+    ensures look { IsLook result (λ rows. ArePartyRows (of_unit unit) at (state S.Store conn.old).now.trees rows.items) (state S.Store conn.old) (state S.Store conn.new) }
     ensures mode { conn.old.in_transaction ≡ false → conn.new.in_transaction ≡ false }
 {
     conn.query_all(
@@ -44,5 +45,44 @@ pub fn parties<S: Alter>(
     ensures mode { conn.old.in_transaction ≡ false → conn.new.in_transaction ≡ false }
 {
     let rows = rows_of(conn, unit, at)?;
+    read(alloc, rows.as_slice())
+}
+
+/// The rows of the parties of the entries of a range of numbers at a moment, in whatever order.
+fn rows_within<S: Alter>(
+    conn: &mut Connection<S>,
+    first: u64,
+    last: u64,
+    at: i64,
+) -> Result<Vec<Row>, Error>
+    requires land { HasCleanDisk (state S.Store conn.old) → IsLand (state S.Store conn.old).now.schema }
+    ensures look { IsLook result (λ rows. ArePartyRows (of_range first last) at (state S.Store conn.old).now.trees rows.items) (state S.Store conn.old) (state S.Store conn.new) }
+    ensures mode { conn.old.in_transaction ≡ false → conn.new.in_transaction ≡ false }
+{
+    conn.query_all(
+        texts::PARTIES_OF_ENTRIES,
+        &[
+            of_number(first.min(BEYOND)),
+            of_moment(at),
+            of_number(last.min(BEYOND)),
+        ],
+    )
+}
+
+/// The parties of the entries of a range of numbers, whose ends belong to it, that stand at a moment, in milliseconds since 1970 UTC, in
+/// whatever order, and a party as often as it has an entry there. 520: the tables hold no history. 501: there was no memory.
+pub fn parties_within<S: Alter>(
+    alloc: Global,
+    conn: &mut Connection<S>,
+    first: u64,
+    last: u64,
+    at: i64,
+) -> Result<Sequence<Version<(u64, PartyRecord)>>, ReadFault>
+    requires land { HasCleanDisk (state S.Store conn.old) → IsLand (state S.Store conn.old).now.schema }
+    ensures look { IsLook result (λ it. ArePartiesWithin first last at (state S.Store conn.old).now.trees it) (state S.Store conn.old) (state S.Store conn.new) }
+    ensures unreadable { HasCleanDisk (state S.Store conn.new) → IfErr result (HoldsNone (state S.Store conn.old).now.trees) }
+    ensures mode { conn.old.in_transaction ≡ false → conn.new.in_transaction ≡ false }
+{
+    let rows = rows_within(conn, first, last, at)?;
     read(alloc, rows.as_slice())
 }

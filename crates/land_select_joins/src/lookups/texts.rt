@@ -1,7 +1,8 @@
 //! The text of each look-up.
 //!
 //! In each of them parameter 1 is the number that is given, and parameter 2 the moment in milliseconds since 1970 UTC; parameter 3 is the
-//! reference, where one is given. A row stands where the moment is not before its `since` and is before its `until`.
+//! reference, where one is given, and of a range of numbers the last one, where parameter 1 is the first. A row stands where the moment is
+//! not before its `since` and is before its `until`.
 
 /// The party of a number.
 pub const PARTY: &str =
@@ -70,3 +71,31 @@ pub const LODGERS_ON_UNIT: &str =
 /// The parties of the entries of a unit, a party as often as it has one.
 pub const PARTIES_OF_UNIT: &str =
     "SELECT party.number, party.name, party.kind, party.since, party.until FROM rrr JOIN party ON party.number = rrr.party WHERE rrr.unit = ?1 AND rrr.since <= ?2 AND ?2 < rrr.until AND party.since <= ?2 AND ?2 < party.until";
+
+/// The parties of a range of numbers.
+pub const PARTIES_WITHIN: &str =
+    "SELECT number, name, kind, since, until FROM party WHERE ?1 <= number AND number <= ?3 AND since <= ?2 AND ?2 < until";
+
+/// The units of a range of numbers.
+pub const UNITS_WITHIN: &str =
+    "SELECT number, name, checked, since, until FROM unit WHERE ?1 <= number AND number <= ?3 AND since <= ?2 AND ?2 < until";
+
+/// The parcels of a range of numbers.
+pub const PARCELS_WITHIN: &str =
+    "SELECT number, unit, label, outline, source, since, until FROM parcel WHERE ?1 <= number AND number <= ?3 AND since <= ?2 AND ?2 < until";
+
+/// The entries of a range of numbers.
+pub const ENTRIES_WITHIN: &str =
+    "SELECT number, unit, party, class, num, den, amount, currency, place, words, source, since, until FROM rrr WHERE ?1 <= number AND number <= ?3 AND since <= ?2 AND ?2 < until";
+
+/// The sources of a range of numbers.
+pub const SOURCES_WITHIN: &str =
+    "SELECT number, kind, title, since, until FROM source WHERE ?1 <= number AND number <= ?3 AND since <= ?2 AND ?2 < until";
+
+/// The mutations of a range of numbers.
+pub const MUTATIONS_WITHIN: &str =
+    "SELECT number, lodger, reference, source, lodged, act, content, state, since, until FROM mutation WHERE ?1 <= number AND number <= ?3 AND since <= ?2 AND ?2 < until";
+
+/// The parties of the entries of a range of numbers, a party as often as it has one.
+pub const PARTIES_OF_ENTRIES: &str =
+    "SELECT party.number, party.name, party.kind, party.since, party.until FROM rrr JOIN party ON party.number = rrr.party WHERE ?1 <= rrr.number AND rrr.number <= ?3 AND rrr.since <= ?2 AND ?2 < rrr.until AND party.since <= ?2 AND ?2 < party.until";

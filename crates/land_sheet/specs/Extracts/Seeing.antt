@@ -4,34 +4,29 @@ use Rattle.std.specs.Option.{option_map}
 use Rattle.std.specs.List.{AllByRecursion}
 use Rattle.land_core.specs.Register.{object_at}
 use Rattle.land_core.specs.declared.kind.Kind.{Kind}
-use Rattle.land_core.specs.declared.object.Object.{Object}
 use Rattle.land_core.specs.declared.register.Register.{Register}
 use Rattle.land_keep.specs.Keeping.{Closes}
+use Rattle.land_keep.specs.Named.{named}
+use Rattle.land_keep.specs.declared.named.NamedObject.{NamedObject}
 use Rattle.land_keep.specs.declared.store_fault.StoreFault.{StoreFault}
-use Rattle.land_sheet.specs.Extracts.{name_in}
-use Rattle.land_sheet.specs.declared.extracts.extract_row.ExtractRow.{ExtractRow}
 
--- an object with what its row shows beside it
-abbrev pub told_of : Register → Object → ExtractRow
-told_of r it = record { object = it; name = name_in r it }
-
--- what a row is made of: what stands under a number; of what does not stand there is none
-abbrev pub told_at : Register → Kind → (number : ℕ) → Option ExtractRow
-told_at r k number = option_map (told_of r) (object_at r k number)
+-- what is listed of what stands under a number; of what does not stand there is none
+abbrev pub told_at : Register → Kind → (number : ℕ) → Option NamedObject
+told_at r k number = option_map (named r) (object_at r k number)
 
 -- an object stands under each of these numbers
 abbrev pub AllStand : Register → Kind → List ℕ → Type 0
 AllStand r k numbers = AllByRecursion (λ number. IsSome (object_at r k number)) numbers
 
--- where numbers are left a row is given, of the object under the first of them; where none is left none is given
-abbrev pub Gives : Register → Kind → (left : List ℕ) → Option ExtractRow → Type 0
+-- where numbers are left what stands under the first of them is given; where none is left nothing is
+abbrev pub Gives : Register → Kind → (left : List ℕ) → Option NamedObject → Type 0
 Gives r k [] None = Unit {0}
 Gives r k [] (Some row) = ⊥
 Gives r k (number ∷ numbers) None = ⊥
-Gives r k (number ∷ numbers) (Some row) = (object_at r k number ≡ Some row.object) × (row.name ≡ name_in r row.object)
+Gives r k (number ∷ numbers) (Some row) = told_at r k number ≡ Some row
 
 -- a row leaves the numbers behind the first; where there is none, or a fault, nothing is left
-abbrev pub Leaves : (before : List ℕ) → Result (Option ExtractRow) StoreFault → (after : List ℕ) → Type 0
+abbrev pub Leaves : (before : List ℕ) → Result (Option NamedObject) StoreFault → (after : List ℕ) → Type 0
 Leaves [] (Ok None) after = after ≡ []
 Leaves [] (Ok (Some row)) after = ⊥
 Leaves [] (Err fault) after = ⊥
@@ -40,6 +35,6 @@ Leaves (number ∷ numbers) (Ok (Some row)) after = after ≡ numbers
 Leaves (number ∷ numbers) (Err fault) after = after ≡ []
 
 -- the keeper is asked only where numbers are left, and its faults go as they do
-abbrev pub ClosesAt : (left : List ℕ) → (before after : Bool) → Result (Option ExtractRow) StoreFault → Type 0
+abbrev pub ClosesAt : (left : List ℕ) → (before after : Bool) → Result (Option NamedObject) StoreFault → Type 0
 ClosesAt [] before after result = after ≡ before
 ClosesAt (number ∷ numbers) before after result = Closes before after result

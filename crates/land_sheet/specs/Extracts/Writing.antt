@@ -1,13 +1,20 @@
 -- What is written of an extract, and what its result tells.
 use Rattle.std.specs.Prelude.{◌≡◌, ◌⊎◌, ℕ, List, [], Option, Result, Ok, Err}
 use Rattle.std.specs.Io.KnownBytes.{Appends}
+use Rattle.std.specs.List.{flat_map}
+use Rattle.land_keep.specs.declared.named.NamedObject.{NamedObject}
 use Rattle.land_keep.specs.declared.reply.Reply.{Reply}
 use Rattle.land_keep.specs.declared.reply.Reply.TheVariants as reply
 use Rattle.land_keep.specs.declared.store_fault.StoreFault.{StoreFault}
 use Rattle.land_sheet.specs.declared.extracts.fault.ExtractFault.{ExtractFault}
 use Rattle.land_sheet.specs.declared.extracts.fault.ExtractFault.TheVariants.{Denied, Fault, Write, Store}
+use Rattle.land_sheet.specs.Rows.{object_row}
 use Rattle.land_sheet.specs.declared.extracts.list.Listed.{Listed}
 use Rattle.land_streams.specs.Writing.{IsFront, IsWhole}
+
+-- the rows of some objects as they are listed, one after another
+abbrev pub rows_of : List NamedObject → List ℕ
+rows_of objects = flat_map (λ it. object_row it.object it.name) objects
 
 -- a text is written behind so many bytes: whole, or, where the writer or the store fails, its first bytes
 abbrev pub IsPut : (text : List ℕ) → (before : ℕ) → (old new : Option (List ℕ)) → Result ℕ ExtractFault → Type 0

@@ -4,20 +4,17 @@ ghost use Rattle.land_keep.specs.Keeping.{Closes, IsLive};
 ghost use Rattle.land_keep.specs.Machine.{now_of};
 ghost use Rattle.land_keep.specs.Timeline.{register_at};
 ghost use Rattle.land_sheet.specs.Extracts.{extract_of, list_reply, rows_at};
-ghost use Rattle.land_sheet.specs.Extracts.Left.{left_of};
-ghost use Rattle.land_sheet.specs.Extracts.Seeing.{AllStand};
-ghost use Rattle.land_sheet.specs.Extracts.Writing.{IsExtracted, IsPut, of_store};
+ghost use Rattle.land_sheet.specs.Extracts.Writing.{IsExtracted, IsPut, of_store, rows_of};
 ghost use Rattle.land_sheet.specs.Rows.{object_row};
 
-use crate::extracts::extract_row::ExtractRow;
 use crate::extracts::fault::ExtractFault;
 use crate::extracts::list::list;
-use crate::extracts::seen::{Seen, each_seen};
+use crate::extracts::part::part_end;
 use crate::rows::{csv_header, csv_row};
 use land_core::caller::Caller;
 use land_core::kind::Kind;
-use land_core::sequence::NumberList;
 use land_keep::keeper::Keeper;
+use land_keep::named::NamedObject;
 use land_keep::store_fault::StoreFault;
 use land_streams::put::put;
 use std::alloc::Global;
@@ -45,70 +42,66 @@ pub fn extract_to<K: Keeper, W: Write>(
     let listed = list(alloc, keeper, clock, caller, kind, at)?;
     let header = csv_header(alloc, kind)?;
     match put(writer, 0, header.as_slice()) {
-        Ok(written) => write_seen(
-            alloc,
-            keeper,
-            kind,
-            listed.at,
-            listed.numbers,
-            writer,
-            written,
-        ),
+        Ok(written) => {
+            let numbers = listed.numbers.as_slice();
+            write_parts(alloc, keeper, kind, listed.at, numbers, writer, written)
+        }
         Err(written) => Err(ExtractFault::Write { written }),
     }
 }
 
-/// Writes the rows of objects at a moment, all of which stand, behind so many bytes, and says how many are written then.
-fn write_seen<K: Keeper, W: Write>(
+/// Writes the rows of the objects of a kind that stand at a moment under these numbers, behind so many bytes, and says how many are
+/// written then. The objects are read part by part, so that no more memory is held than a part takes.
+fn write_parts<K: Keeper, W: Write>(
     alloc: Global,
     keeper: &mut K,
     kind: Kind,
     at: i64,
-    numbers: NumberList,
+    numbers: &[u64],
     writer: &mut W,
     before: u64,
 ) -> Result<u64, ExtractFault>
     requires { K.closed keeper.old ≡ false }
-    ensures put { K.honest keeper.new → AllStand (register_at (K.timeline keeper.old) at) kind numbers
-        → IsPut (rows_at (register_at (K.timeline keeper.old) at) kind numbers) before (W.contents writer.old) (W.contents writer.new) result }
+    ensures put { K.honest keeper.new → IsPut (rows_at (register_at (K.timeline keeper.old) at) kind numbers.now) before
+        (W.contents writer.old) (W.contents writer.new) result }
     ensures was { K.honest keeper.new → K.honest keeper.old }
     ensures same { IsLive (K.honest keeper.new) (K.closed keeper.new) → K.timeline keeper.new ≡ K.timeline keeper.old }
     ensures closes { Closes (K.closed keeper.old) (K.closed keeper.new) (of_store result) }
 {
-    let mut seen = each_seen(alloc, keeper, &numbers, kind, at);
-    write_rows(alloc, &mut seen, writer, before)
+    let mut written = before;
+    let mut given = 0;
+    'parts: while given < numbers.len() {
+        let end = part_end(numbers, given);
+        match keeper.objects(alloc, kind, &numbers[given..end], at) {
+            Ok(part) => written = write_rows(alloc, part.as_slice(), writer, written)?,
+            Err(fault) => return Err(ExtractFault::Store { fault, written }),
+        }
+        given = end;
+    }
+    Ok(written)
 }
 
-/// Writes the rows that are left of what is seen behind so many bytes, and says how many are written then.
-fn write_rows<K: Keeper, W: Write>(
+/// Writes the rows of some objects behind so many bytes, and says how many are written then.
+fn write_rows<W: Write>(
     alloc: Global,
-    seen: &mut Seen<'_, K>,
+    rows: &[NamedObject],
     writer: &mut W,
     before: u64,
 ) -> Result<u64, ExtractFault>
-    requires { K.closed seen.old.keeper.now ≡ false }
-    ensures put { K.honest seen.new.keeper.now → AllStand (register_at (K.timeline seen.old.keeper.now) seen.old.at) seen.old.kind (left_of seen.old)
-        → IsPut (rows_at (register_at (K.timeline seen.old.keeper.now) seen.old.at) seen.old.kind (left_of seen.old)) before
-        (W.contents writer.old) (W.contents writer.new) result }
-    ensures was { K.honest seen.new.keeper.now → K.honest seen.old.keeper.now }
-    ensures same { IsLive (K.honest seen.new.keeper.now) (K.closed seen.new.keeper.now) → K.timeline seen.new.keeper.now ≡ K.timeline seen.old.keeper.now }
-    ensures closes { Closes (K.closed seen.old.keeper.now) (K.closed seen.new.keeper.now) (of_store result) }
-    ensures same_reference { seen.new.keeper.ghost_name ≡ seen.old.keeper.ghost_name }
+    ensures put { IsPut (rows_of rows.now) before (W.contents writer.old) (W.contents writer.new) result }
+    ensures closes { Closes false false (of_store result) }
 {
     let mut written = before;
-    'rows: loop {
-        match seen.next() {
-            Ok(Some(row)) => written = write_row(alloc, &row, writer, written)?,
-            Ok(None) => return Ok(written),
-            Err(fault) => return Err(ExtractFault::Store { fault, written }),
-        }
+    'rows: for row in rows {
+        written = write_row(alloc, row, writer, written)?;
     }
+    Ok(written)
 }
 
 /// Writes a row behind so many bytes, made whole first, and says how many are written then.
 fn write_row<W: Write>(
     alloc: Global,
-    row: &ExtractRow,
+    row: &NamedObject,
     writer: &mut W,
     before: u64,
 ) -> Result<u64, ExtractFault>

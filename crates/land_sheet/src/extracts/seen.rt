@@ -6,12 +6,12 @@ ghost use Rattle.land_rules.specs.Rules.{seen_of};
 ghost use Rattle.land_sheet.specs.Extracts.Left.{left_of};
 ghost use Rattle.land_sheet.specs.Extracts.Seeing.{AllStand, ClosesAt, Gives, Leaves};
 
-use crate::extracts::extract_row::ExtractRow;
 use crate::extracts::row::row_of;
 use land_core::caller::Caller;
 use land_core::kind::Kind;
 use land_core::sequence::NumberList;
 use land_keep::keeper::Keeper;
+use land_keep::named::NamedObject;
 use land_keep::store_fault::StoreFault;
 use std::alloc::Global;
 
@@ -71,7 +71,7 @@ pub fn each_seen<'a, K: Keeper>(
 
 impl<'a, K: Keeper> Seen<'a, K> {
     /// The row of the next object, or `None` once all are given. After an error it is `None` from then on.
-    pub fn next(&mut self) -> Result<Option<ExtractRow>, StoreFault>
+    pub fn next(&mut self) -> Result<Option<NamedObject>, StoreFault>
         ensures gives { K.honest self.new.keeper.now → AllStand (register_at (K.timeline self.old.keeper.now) self.old.at) self.old.kind (left_of self.old)
             → IfOk result (Gives (register_at (K.timeline self.old.keeper.now) self.old.at) self.old.kind (left_of self.old)) }
         ensures leaves { Leaves (left_of self.old) result (left_of self.new) }

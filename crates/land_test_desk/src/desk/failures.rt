@@ -2,6 +2,7 @@
 use crate::desk::office::{Office, common, is_want_of_memory, open_sink};
 use land_desk::serve::{DeskFault, Served};
 use land_keep::keeper::Keeper;
+use land_keep::plain_keeper::PlainKeeper;
 use land_streams::send::send;
 use land_test_scenario::doubles::{Pieces, Sink};
 use land_test_scenario::stop::{Stop, expect};
@@ -44,7 +45,8 @@ struct Left {
 
 /// Serves the rows, which come one byte at a time, of which so many can be read.
 fn serve_rows(alloc: Global, talk: &Talk, reads: u64, sink: &mut Sink) -> Result<Left, Stop> {
-    let mut office = Office::new(alloc, &[])?;
+    let mut keeper = PlainKeeper::new(alloc)?;
+    let mut office = Office::of(&mut keeper);
     let reader = Pieces {
         left: talk.input.as_slice(),
         piece: 1,

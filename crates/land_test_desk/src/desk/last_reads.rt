@@ -1,6 +1,7 @@
 //! Requests after which the connection ends: the reader is not asked again.
 use crate::desk::office::{Office, is_want_of_memory, open_sink};
 use land_desk::serve::Served;
+use land_keep::plain_keeper::PlainKeeper;
 use land_test_scenario::doubles::Pieces;
 use land_test_scenario::stop::{Stop, expect};
 use land_test_scenario::talk::{Talk, Told};
@@ -21,7 +22,8 @@ fn is_served_by_one_read(alloc: Global, row: &Last) -> Result<bool, Stop> {
     let mut talk = Talk::new(alloc)?;
     talk.tell(Told::Fault(row.1), true)?;
     let mut sink = open_sink(alloc, talk.output.len())?;
-    let mut office = Office::new(alloc, &[])?;
+    let mut keeper = PlainKeeper::new(alloc)?;
+    let mut office = Office::of(&mut keeper);
     let mut reader = Pieces {
         left: row.0,
         piece: 4096,

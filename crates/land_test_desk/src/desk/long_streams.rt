@@ -1,5 +1,6 @@
 //! A stream of a thousand requests in one input, and one whose bytes come one by one.
 use crate::desk::office::{Office, is_answered};
+use land_keep::plain_keeper::PlainKeeper;
 use land_test_scenario::scenario::STEPS;
 use land_test_scenario::stop::{Stop, expect};
 use land_test_scenario::talk::{Talk, Told};
@@ -71,7 +72,8 @@ fn wrong_byte_by_byte(alloc: Global) -> Result<Option<(&'static str, usize)>, St
     for (place, step) in STEPS.iter().take(10).enumerate() {
         talk.ask("the scenario", place, step)?;
     }
-    let mut office = Office::new(alloc, &[])?;
+    let mut keeper = PlainKeeper::new(alloc)?;
+    let mut office = Office::of(&mut keeper);
     office.first_wrong(alloc, &talk, 1)
 }
 

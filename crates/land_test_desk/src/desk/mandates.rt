@@ -1,5 +1,6 @@
 //! Mandates as bytes: what is told where the first twelve steps of the scenario were made.
 use crate::desk::office::Office;
+use land_keep::plain_keeper::PlainKeeper;
 use land_test_scenario::mandates::MANDATES;
 use land_test_scenario::scenario::STEPS;
 use land_test_scenario::stop::Stop;
@@ -42,7 +43,8 @@ fn talk(alloc: Global) -> Result<Talk, AllocError> {
 /// The name and the place of the first request that is answered otherwise.
 fn first_wrong(alloc: Global) -> Result<Option<(&'static str, usize)>, Stop> {
     let talk = talk(alloc)?;
-    let mut office = Office::new(alloc, &[])?;
+    let mut keeper = PlainKeeper::new(alloc)?;
+    let mut office = Office::of(&mut keeper);
     office.first_wrong(alloc, &talk, 1000)
 }
 

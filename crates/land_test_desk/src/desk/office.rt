@@ -7,22 +7,22 @@ pub use land_test_scenario::playing::open_sink;
 use land_test_scenario::stop::Stop;
 pub use land_test_scenario::talk::common;
 use land_test_scenario::talk::{Talk, Told};
-use std::alloc::{AllocError, Global};
+use std::alloc::Global;
 
-/// A register in memory, with its clock.
+/// A register, with its clock.
 #[derive(Drop)]
-pub struct Office {
-    pub keeper: PlainKeeper,
+pub struct Office<'a, K> {
+    pub keeper: &'a mut K,
     pub clock: Readings,
 }
 
-impl Office {
-    /// A new register. The clock reads these moments in turn, and then 1000 each time.
-    pub fn new(alloc: Global, clock: &'static [i64]) -> Result<Office, AllocError> {
-        Ok(Office {
-            keeper: PlainKeeper::new(alloc)?,
-            clock: Readings { left: clock },
-        })
+impl<'a, K: Keeper> Office<'a, K> {
+    /// The office of a register. The clock reads 1000 each time.
+    pub fn of(keeper: &'a mut K) -> Office<'a, K> {
+        Office {
+            keeper,
+            clock: Readings { left: &[] },
+        }
     }
 
     /// Serves a stream, whose reader is lent.
@@ -32,7 +32,7 @@ impl Office {
         reader: &mut Pieces<'_>,
         writer: &mut Sink,
     ) -> Result<Served, DeskFault> {
-        serve(alloc, reader, writer, &mut self.keeper, &mut self.clock)
+        serve(alloc, reader, writer, self.keeper, &mut self.clock)
     }
 
     /// Serves a stream.
@@ -107,7 +107,8 @@ pub fn is_answered(
     replies: u64,
     answer: &[u8],
 ) -> Result<bool, Stop> {
-    let mut office = Office::new(alloc, &[])?;
+    let mut keeper = PlainKeeper::new(alloc)?;
+    let mut office = Office::of(&mut keeper);
     office.answers(alloc, input, piece, replies, answer)
 }
 

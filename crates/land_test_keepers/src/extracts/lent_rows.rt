@@ -5,8 +5,8 @@ use land_core::kind::Kind;
 use land_core::object::Object;
 use land_core::role::Role;
 use land_keep::keeper::Keeper;
+use land_keep::named::NamedObject;
 use land_select::sql_keeper::SqlKeeper;
-use land_sheet::extracts::extract_row::ExtractRow;
 use land_sheet::extracts::seen::{Seen, each_seen, numbers_seen};
 use land_test_scenario::playing::{plain, play_steps};
 use land_test_scenario::stop::{Stop, expect};
@@ -29,7 +29,7 @@ const ENTRIES: &[(u64, &str)] = &[
 ];
 
 /// Whether a row is of the entry of this number, and its party is called so.
-fn is_row(row: &ExtractRow, wanted: (u64, &str)) -> bool {
+fn is_row(row: &NamedObject, wanted: (u64, &str)) -> bool {
     match &row.object {
         Object::Rrr(entry) => entry.number == wanted.0 && row.name.as_str() == wanted.1,
         _ => false,

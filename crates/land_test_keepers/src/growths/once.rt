@@ -116,7 +116,8 @@ fn is_shown_once<K: Keeper>(
     mark(rt, "the verdict")?;
     expect(reply.is_allowed(alloc, keeper)?, reply.0, place)?;
     mark(rt, "once it was judged")?;
-    expect(reply.is_shown(alloc, keeper)?, reply.0, place)
+    expect(reply.is_shown(alloc, keeper)?, reply.0, place)?;
+    mark(rt, "what comes between")
 }
 
 /// Each of them, by joins. A line comes after the last.

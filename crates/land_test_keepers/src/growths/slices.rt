@@ -94,7 +94,7 @@ fn discharge(alloc: Global) -> Result<Act, AllocError> {
 }
 
 /// The act that is asked for.
-fn act_of(alloc: Global, asked: Asked) -> Result<Act, AllocError> {
+fn act_of(alloc: Global, asked: &Asked) -> Result<Act, AllocError> {
     match asked {
         Asked::Enrol => enrol(alloc),
         Asked::Grant => Ok(Act::Grant(Grant {
@@ -132,7 +132,7 @@ fn is_given<K: Keeper>(alloc: Global, keeper: &mut K, sliced: &Sliced) -> Result
         party: sliced.1,
         role: sliced.2,
     };
-    let act = act_of(alloc, sliced.3)?;
+    let act = act_of(alloc, &sliced.3)?;
     gives(alloc, keeper, caller, &act, sliced.4)
 }
 

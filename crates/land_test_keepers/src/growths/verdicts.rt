@@ -81,17 +81,25 @@ const JUDGED: &[Judged] = &[
 ];
 
 /// What is asked for, as a keeper is asked.
-fn ask_of(asked: Asked) -> Ask {
+fn ask_of(asked: &Asked) -> Ask {
     match asked {
         Asked::View(kind, number) => Ask::View {
-            kind,
-            number,
+            kind: *kind,
+            number: *number,
             at: None,
         },
-        Asked::Sheet(unit) => Ask::Sheet { unit, at: None },
-        Asked::Grant(party, role) => Ask::Do(Act::Grant(Grant { party, role })),
-        Asked::Approve(mutation) => Ask::Do(Act::Approve(Decision { mutation })),
-        Asked::Lift(rrr) => Ask::Do(Act::Lift(Lift { rrr })),
+        Asked::Sheet(unit) => Ask::Sheet {
+            unit: *unit,
+            at: None,
+        },
+        Asked::Grant(party, role) => Ask::Do(Act::Grant(Grant {
+            party: *party,
+            role: *role,
+        })),
+        Asked::Approve(mutation) => Ask::Do(Act::Approve(Decision {
+            mutation: *mutation,
+        })),
+        Asked::Lift(rrr) => Ask::Do(Act::Lift(Lift { rrr: *rrr })),
     }
 }
 
@@ -126,7 +134,7 @@ fn is_judged<K: Keeper>(alloc: Global, keeper: &mut K, judged: &Judged) -> Resul
         party: judged.1,
         role: judged.2,
     };
-    let ask = ask_of(judged.3);
+    let ask = ask_of(&judged.3);
     is_denied_by(alloc, keeper, caller, &ask, judged.4)
 }
 

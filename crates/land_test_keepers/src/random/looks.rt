@@ -62,9 +62,9 @@ const MOMENTS: u32 = 3;
 
 /// How many numbers of a kind a caller is shown at a moment, the same in memory and by joins, and where that is drawn by the tables read
 /// whole.
-fn shown_at(
+fn shown_at<P: Keeper, T: Keeper, J: Keeper>(
     alloc: Global,
-    keepers: &mut Keepers,
+    keepers: &mut Keepers<'_, P, T, J>,
     dice: &mut Dice,
     caller: Caller,
     kind: Kind,
@@ -73,17 +73,17 @@ fn shown_at(
     let wanted = keepers.plain.sight(alloc, caller, kind, at)?;
     let wanted = wanted.as_slice();
     if dice.throw(ONE_IN) == 0 {
-        expect_sight(alloc, &mut keepers.tables, caller, kind, at, wanted)?;
+        expect_sight(alloc, keepers.tables, caller, kind, at, wanted)?;
     }
-    expect_sight(alloc, &mut keepers.joins, caller, kind, at, wanted)?;
+    expect_sight(alloc, keepers.joins, caller, kind, at, wanted)?;
     keepers.lists = keepers.lists.saturating_add(1);
     Ok(wanted.len())
 }
 
 /// How many numbers of a kind a caller is shown now and at moments that are drawn.
-fn shown(
+fn shown<P: Keeper, T: Keeper, J: Keeper>(
     alloc: Global,
-    keepers: &mut Keepers,
+    keepers: &mut Keepers<'_, P, T, J>,
     dice: &mut Dice,
     caller: Caller,
     kind: Kind,
@@ -98,9 +98,9 @@ fn shown(
 }
 
 /// How many numbers of a kind some callers are shown in a role.
-fn shown_to(
+fn shown_to<P: Keeper, T: Keeper, J: Keeper>(
     alloc: Global,
-    keepers: &mut Keepers,
+    keepers: &mut Keepers<'_, P, T, J>,
     dice: &mut Dice,
     parties: &[u64],
     role: Role,
@@ -118,9 +118,9 @@ fn shown_to(
 }
 
 /// Of how many pairs of a role and a kind some of these callers are shown anything.
-fn pairs_shown(
+fn pairs_shown<P: Keeper, T: Keeper, J: Keeper>(
     alloc: Global,
-    keepers: &mut Keepers,
+    keepers: &mut Keepers<'_, P, T, J>,
     dice: &mut Dice,
     parties: &[u64],
 ) -> Result<usize, Stop> {
@@ -136,9 +136,9 @@ fn pairs_shown(
 }
 
 /// The same of all parties that stand now.
-fn pairs_shown_to_parties(
+fn pairs_shown_to_parties<P: Keeper, T: Keeper, J: Keeper>(
     alloc: Global,
-    keepers: &mut Keepers,
+    keepers: &mut Keepers<'_, P, T, J>,
     dice: &mut Dice,
 ) -> Result<usize, Stop> {
     let last = keepers.plain.last();
@@ -149,7 +149,11 @@ fn pairs_shown_to_parties(
 /// Each keeper shows the same to all parties and to strangers. Parties are shown something in 30 of the 36 pairs of a role and a kind: not
 /// sources as citizen, conveyancer or bank, and not units, entries or sources as certified surveyor. Strangers are shown something where
 /// nothing is asked of who they are: parcels in four roles, and all six kinds in two.
-pub fn look_around(alloc: Global, keepers: &mut Keepers, dice: &mut Dice) -> Result<(), Stop> {
+pub fn look_around<P: Keeper, T: Keeper, J: Keeper>(
+    alloc: Global,
+    keepers: &mut Keepers<'_, P, T, J>,
+    dice: &mut Dice,
+) -> Result<(), Stop> {
     let pairs = pairs_shown_to_parties(alloc, keepers, dice)?;
     expect(pairs == 30, "pairs shown to parties", pairs)?;
     let pairs = pairs_shown(alloc, keepers, dice, STRANGERS)?;

@@ -1,10 +1,14 @@
 //! Registers that chance makes.
+use crate::each::new_tables;
 use crate::random::dice::Dice;
 use crate::random::drawn::{OFFICE, draw};
 use crate::random::keepers::Keepers;
 use crate::random::looks::{KINDS, look_around};
 use crate::random::page::Page;
 use land_keep::keeper::Keeper;
+use land_keep::plain_keeper::PlainKeeper;
+use land_select::sql_keeper::SqlKeeper;
+use land_tables::table_keeper::TableKeeper;
 use land_test_scenario::stop::{Stop, expect};
 use std::alloc::Global;
 
@@ -19,22 +23,25 @@ const OBJECTS: usize = 390;
 const LISTS: usize = 3800;
 
 /// One request more, which now and then is the one before it again, is told alike.
-fn tell_one(
+fn tell_one<P: Keeper, T: Keeper, J: Keeper>(
     alloc: Global,
-    keepers: &mut Keepers,
+    keepers: &mut Keepers<'_, P, T, J>,
     page: &mut Page,
     dice: &mut Dice,
     place: u32,
 ) -> Result<(), Stop> {
     if dice.throw(12) != 0 || place == 1 {
-        let drawn = draw(alloc, &mut keepers.plain, dice, place)?;
+        let drawn = draw(alloc, keepers.plain, dice, place)?;
         page.write(dice, &drawn)?;
     }
     keepers.tell_alike(alloc, page, place as usize)
 }
 
 /// How many objects stand now.
-fn objects(alloc: Global, keepers: &mut Keepers) -> Result<usize, Stop> {
+fn objects<P: Keeper, T: Keeper, J: Keeper>(
+    alloc: Global,
+    keepers: &mut Keepers<'_, P, T, J>,
+) -> Result<usize, Stop> {
     let last = keepers.plain.last();
     let mut count = 0usize;
     for kind in KINDS {
@@ -45,9 +52,9 @@ fn objects(alloc: Global, keepers: &mut Keepers) -> Result<usize, Stop> {
 }
 
 /// Makes so many requests one after another; each is told alike.
-fn tell_all(
+fn tell_all<P: Keeper, T: Keeper, J: Keeper>(
     alloc: Global,
-    keepers: &mut Keepers,
+    keepers: &mut Keepers<'_, P, T, J>,
     page: &mut Page,
     dice: &mut Dice,
 ) -> Result<(), Stop> {
@@ -58,14 +65,22 @@ fn tell_all(
 }
 
 /// The same, of which a good part was done, denied and refused.
-fn tell_enough(alloc: Global, keepers: &mut Keepers, dice: &mut Dice) -> Result<(), Stop> {
+fn tell_enough<P: Keeper, T: Keeper, J: Keeper>(
+    alloc: Global,
+    keepers: &mut Keepers<'_, P, T, J>,
+    dice: &mut Dice,
+) -> Result<(), Stop> {
     let mut page = Page::new(alloc)?;
     tell_all(alloc, keepers, &mut page, dice)?;
     page.tally.expect_enough()
 }
 
 /// Makes a register of a seed: it has changed often enough, has enough objects, and is shown alike.
-fn play(alloc: Global, keepers: &mut Keepers, seed: u64) -> Result<(), Stop> {
+fn play<P: Keeper, T: Keeper, J: Keeper>(
+    alloc: Global,
+    keepers: &mut Keepers<'_, P, T, J>,
+    seed: u64,
+) -> Result<(), Stop> {
     let mut dice = Dice { state: seed };
     keepers.play_scenario(alloc)?;
     tell_enough(alloc, keepers, &mut dice)?;
@@ -78,7 +93,15 @@ fn play(alloc: Global, keepers: &mut Keepers, seed: u64) -> Result<(), Stop> {
 }
 
 fn are_alike(alloc: Global, seed: u64) -> Result<(), Stop> {
-    let mut keepers = Keepers::new(alloc)?;
+    let mut plain = PlainKeeper::new(alloc)?;
+    let mut tables = TableKeeper::new(new_tables(alloc)?);
+    let mut joins = SqlKeeper::new(new_tables(alloc)?);
+    let mut keepers = Keepers {
+        plain: &mut plain,
+        tables: &mut tables,
+        joins: &mut joins,
+        lists: 0,
+    };
     play(alloc, &mut keepers, seed)
 }
 

@@ -41,5 +41,6 @@ invariant_of-self-2 g c live =
     let answer = rw (c.self.view_is, now, t, u) at (c.in_ok-told.ensures.value live.0) in
     let found = (verdict_told c.soundness_by_look_ups.ensures s c.args.caller ask c.args.now at c.min-asked_for.result is_moment (look_moment at c.min-asked_for.result least) it answer).1 in
     let same = rw c.self.view_is at (c.in_ok-told.ensures.same live) in
-    c.kept_for.ensures (held g.S.Store c.answer.new.tables)
-    (subst (λ (x : ℤ). IsFoundFor (register_at (held g.S.Store c.answer.new.tables) x) c.args.caller ask it.1) (sym t) (subst (λ (tl : Timeline). IsFoundFor (register_at tl at) c.args.caller ask it.1) (sym same) found))
+    let kept = c.kept_for-kept.ensures (held g.S.Store c.answer.new.tables)
+    (subst (λ (x : ℤ). IsFoundFor (register_at (held g.S.Store c.answer.new.tables) x) c.args.caller ask it.1) (sym t) (subst (λ (tl : Timeline). IsFoundFor (register_at tl at) c.args.caller ask it.1) (sym same) found)) in
+    rw c.keep.ensures kept

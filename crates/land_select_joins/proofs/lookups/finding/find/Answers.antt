@@ -12,7 +12,7 @@ returns-clause-look g c =
     let when : to_z w64 (of_z w64 c.args.at) ≡ c.args.at = search rules in
     let look = rw when at c.in_ok-rows.ensures.look in
     look_told old (state g.S.Store c.rows_of.new.conn) c.read.result look
-    (λ clean are. said_of g.X.FromRow.said l c.args.number c.args.at old.now.trees c.as_slice.result.now (subst (AreRowsOf l c.args.number c.args.at old.now.trees) (sym c.as_slice.ensures.value) are) c.read.result c.read.ensures)
+    (λ clean are. said_of g.X.FromRow.said (AreRowsOf l c.args.number c.args.at old.now.trees) c.as_slice.result.now (subst (AreRowsOf l c.args.number c.args.at old.now.trees) (sym c.as_slice.ensures.value) are) c.read.result c.read.ensures)
 
 pub returns-clause-unreadable : goal.returns-clause-unreadable
 returns-clause-unreadable g c clean =
@@ -20,5 +20,5 @@ returns-clause-unreadable g c clean =
     let l = c.args.look_up in
     let when : to_z w64 (of_z w64 c.args.at) ≡ c.args.at = search rules in
     let look = rw when at c.in_ok-rows.ensures.look in
-    cannot_be_said g.X.FromRow.said l c.args.number c.args.at old.now.trees c.as_slice.result.now
+    cannot_be_said g.X.FromRow.said (AreRowsOf l c.args.number c.args.at old.now.trees) c.as_slice.result.now
     (subst (AreRowsOf l c.args.number c.args.at old.now.trees) (sym c.as_slice.ensures.value) (look.given clean)) c.read.result c.read.ensures

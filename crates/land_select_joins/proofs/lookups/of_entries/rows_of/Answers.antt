@@ -1,9 +1,9 @@
 use Rattle.std.proofs.Common.{rules, ◌≡◌, to_z, of_z, w64}
 use Rattle.land_select_joins.proofs.Asked.{looks}
-use Rattle.land_select_joins.proofs.PartyQueries.{are_party_rows, asks, query}
+use Rattle.land_select_joins.proofs.PartyQueries.{are_unit_rows, asks_unit, unit_query}
 use Rattle.land_select_joins.specs.Joins.Meaning.{given}
 use Rattle.land_select_joins.specs.Joins.Running.{asked_for}
-use Rattle.land_select_joins.specs.Lookups.Parties.{ArePartyRows}
+use Rattle.land_select_joins.specs.Lookups.Parties.{ArePartyRows, of_unit}
 use Rattle.land_select_joins.specs.declared.lookups.texts.TheConstants.{PARTIES_OF_UNIT}
 use Rattle.sqlite.specs.Held.{state}
 use Rattle.land_select_joins.proofs.lookups.of_entries.rows_of.Goals as goal
@@ -14,5 +14,5 @@ returns-clause-look g c =
     let new = state g.S.Store c.query_all.new.self in
     let when : to_z w64 (of_z w64 c.args.at) ≡ c.args.at = search rules in
     let e = rw (c.of_number.ensures, c.asked_for.ensures, c.of_moment.ensures, when) at c.query_all.ensures in
-    looks PARTIES_OF_UNIT.now query asks (given (asked_for c.args.unit) c.args.at) old new (λ rows. rows.items) c.query_all.result
-    (ArePartyRows c.args.unit c.args.at old.now.trees) (are_party_rows c.args.unit c.args.at old.now.trees) c.requires.land e.ok e.err e.survives
+    looks PARTIES_OF_UNIT.now unit_query asks_unit (given (asked_for c.args.unit) c.args.at) old new (λ rows. rows.items) c.query_all.result
+    (ArePartyRows (of_unit c.args.unit) c.args.at old.now.trees) (are_unit_rows c.args.unit c.args.at old.now.trees) c.requires.land e.ok e.err e.survives

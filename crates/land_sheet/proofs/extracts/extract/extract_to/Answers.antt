@@ -8,9 +8,7 @@ use Rattle.land_keep.specs.Timeline.{register_at}
 use Rattle.land_keep.specs.declared.reply.Reply.TheVariants as reply
 use Rattle.land_rules.specs.Rules.{seen_of}
 use Rattle.land_sheet.proofs.Puts.{extracted, not_told, put_then}
-use Rattle.land_sheet.proofs.Standing.{all_stand}
 use Rattle.land_sheet.specs.Extracts.{list_reply, rows_at}
-use Rattle.land_sheet.specs.Extracts.Seeing.{AllStand}
 use Rattle.land_sheet.specs.Extracts.Writing.{IsListed, IsPut, Lists}
 use Rattle.land_sheet.specs.Rows.{header_text}
 use Rattle.land_streams.proofs.Fronts.{front_of}
@@ -36,26 +34,25 @@ returns-in-Ok-clause-extracted g c honest =
     let alike_at : to_z w64 (of_z w64 c.in_ok-listed.listed.at) ≡ c.in_ok-listed.listed.at = search rules in
     let tl = g.K.Keeper.timeline c.args.keeper.now in
     let t = unwrap_or c.args.at (now_of c.args.clock tl) in
-    let trust = c.write_seen.ensures.was honest in
+    let trust = c.write_parts.ensures.was honest in
     let given = subst (λ (clock : ℤ). list_reply clock c.args.caller c.args.kind c.args.at tl ≡ reply.Numbers c.in_ok-listed.listed.numbers) alike (c.in_ok-listed.ensures.listed trust) in
     let lists : Lists (list_reply c.args.clock c.args.caller c.args.kind c.args.at tl) = (c.in_ok-listed.listed.numbers, given) in
     let same : g.K.Keeper.timeline c.list.new.keeper ≡ tl = c.in_ok-listed.ensures.same (trust, (opens _ _ tt c.in_ok-listed.ensures.closes).1) in
     let moment : c.in_ok-listed.listed.at ≡ t = c.in_ok-listed.ensures.moment trust ∙ ap (λ (clock : ℤ). unwrap_or c.args.at (now_of clock tl)) alike in
     let seen : c.in_ok-listed.listed.numbers ≡ seen_of (register_at tl t) c.args.caller c.args.kind = rw moment at (c.in_ok-listed.ensures.seen trust) in
-    let stand : AllStand (register_at (g.K.Keeper.timeline c.list.new.keeper) (to_z w64 (of_z w64 c.in_ok-listed.listed.at))) c.args.kind c.in_ok-listed.listed.numbers =
-    rw (alike_at, same, moment, seen) (all_stand (register_at tl t) c.args.caller c.args.kind) in
+    let numbers : c.as_slice-numbers.result.now ≡ seen_of (register_at tl t) c.args.caller c.args.kind = c.as_slice-numbers.ensures ∙ seen in
     let a = g.W.Write.contents c.args.writer.now in
     let b = g.W.Write.contents c.put.new.writer in
-    let d = g.W.Write.contents c.write_seen.new.writer in
+    let d = g.W.Write.contents c.write_parts.new.writer in
     let header : c.as_slice.result.now ≡ header_text c.args.kind = c.as_slice.ensures.value ∙ c.in_ok-header.ensures in
     let first = subst (λ (text : List ℕ). IsWhole text 0 c.in-Ok.written a b) header c.in-Ok.ensures.ok in
-    let rows = subst (λ (text : List ℕ). IsPut text c.in-Ok.written b d c.write_seen.result)
-    (ap₂ (λ (r : Register) (ns : List ℕ). rows_at r c.args.kind ns) (ap₂ register_at same (alike_at ∙ moment)) seen) (c.write_seen.ensures.put honest stand) in
-    extracted _ _ a d c.write_seen.result lists (put_then (header_text c.args.kind) (rows_at (register_at tl t) c.args.kind (seen_of (register_at tl t) c.args.caller c.args.kind)) 0 c.in-Ok.written a b d c.write_seen.result first rows)
+    let rows = subst (λ (text : List ℕ). IsPut text c.in-Ok.written b d c.write_parts.result)
+    (ap₂ (λ (r : Register) (ns : List ℕ). rows_at r c.args.kind ns) (ap₂ register_at same (alike_at ∙ moment)) numbers) (c.write_parts.ensures.put honest) in
+    extracted _ _ a d c.write_parts.result lists (put_then (header_text c.args.kind) (rows_at (register_at tl t) c.args.kind (seen_of (register_at tl t) c.args.caller c.args.kind)) 0 c.in-Ok.written a b d c.write_parts.result first rows)
 
 -- the header is cut short
-pub returns-in-Err-clause-extracted : goal.returns-in-Err-clause-extracted
-returns-in-Err-clause-extracted g c honest =
+pub returns-clause-extracted : goal.returns-clause-extracted
+returns-clause-extracted g c honest =
     let alike : to_z w64 (of_z w64 c.args.clock) ≡ c.args.clock = search rules in
     let tl = g.K.Keeper.timeline c.args.keeper.now in
     let it = register_at tl (unwrap_or c.args.at (now_of c.args.clock tl)) in

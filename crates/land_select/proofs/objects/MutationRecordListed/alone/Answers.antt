@@ -1,0 +1,5 @@
+use Rattle.land_select.proofs.Listing.{mutations_alone}
+use Rattle.land_select.proofs.objects.MutationRecordListed.alone.Goals as goal
+
+pub returns : goal.returns
+returns c r first last is = rw c.nothing.ensures (mutations_alone c.args.found r first last is)

@@ -1,0 +1,248 @@
+//! Objects of a kind as they are listed: all of a range of numbers by one text, and the parties of entries by one more.
+ghost use Rattle.std.specs.FinMap as map;
+ghost use Rattle.std.specs.List.{AllByRecursion};
+ghost use Rattle.std.specs.Prelude.{◌≡◌, ℕ, false, true, map as map_list, IfOk};
+ghost use Rattle.land_core.specs.Entries.{only, with_entries};
+ghost use Rattle.land_core.specs.Register.{nothing};
+ghost use Rattle.land_core.specs.declared.kind.Kind.TheVariants as kinds;
+ghost use Rattle.land_core.specs.declared.register.Register.{Register as Whole};
+ghost use Rattle.land_keep.specs.Named.{objects_at};
+ghost use Rattle.land_select.specs.Listing.{ListsAlike, ListsRange};
+ghost use Rattle.land_select_joins.specs.Lookups.Parts.{IsPart};
+ghost use Rattle.land_select_joins.specs.Lookups.Ranges.{is_within};
+ghost use Rattle.land_tables_history.specs.declared.version.Version.{Version as Spanned};
+ghost use Rattle.land_tables_schema.specs.Land.{IsLand};
+ghost use Rattle.land_tables_schema.specs.Rows.Looks.{IsLook};
+ghost use Rattle.sqlite.specs.Held.{state};
+ghost use Rattle.sqlite.specs.State.{HasCleanDisk};
+
+use crate::asking::Question;
+use land_core::duplicate::Duplicate;
+use land_core::kind::Kind;
+use land_core::mutation::MutationRecord;
+use land_core::parcel::ParcelRecord;
+use land_core::party::PartyRecord;
+use land_core::records::Records;
+use land_core::register::Register;
+use land_core::rrr::RrrRecord;
+use land_core::sequence::Sequence;
+use land_core::source::SourceRecord;
+use land_core::unit::UnitRecord;
+use land_keep::named::{NamedObject, objects_of};
+use land_select_joins::lookups::numbered::Numbered;
+use land_select_joins::lookups::of_entries::parties_within;
+use land_select_joins::lookups::within::records;
+use land_tables_history::version::Version;
+use land_tables_rows::listing::fault::ReadFault;
+use land_tables_rows::reading::from_row::FromRow;
+use sqlite::{Alter, Connection};
+use std::alloc::{AllocError, Global};
+
+/// What is listed as it stands in its own table.
+pub(crate) trait Listed: Numbered + Duplicate
+where
+    Version<(u64, Self)>: FromRow,
+{
+    /// A register that has these and nothing else.
+    fn alone(alloc: Global, found: Records<Self>) -> Register
+        ensures { (r : Whole) (first last : ℕ) → found ≡ only (λ n v. is_within first last n) (Self.part r) → ListsAlike Self.KIND first last result r };
+}
+
+impl Listed for PartyRecord {
+    fn alone(alloc: Global, found: Records<PartyRecord>) -> Register
+        ensures { (r : Whole) (first last : ℕ) → found ≡ only (λ n v. is_within first last n) r.parties → ListsAlike kinds.Party first last result r }
+    {
+        Register {
+            parties: found,
+            ..Register::nothing(alloc)
+        }
+    }
+}
+
+impl Listed for UnitRecord {
+    fn alone(alloc: Global, found: Records<UnitRecord>) -> Register
+        ensures { (r : Whole) (first last : ℕ) → found ≡ only (λ n v. is_within first last n) r.units → ListsAlike kinds.Unit first last result r }
+    {
+        Register {
+            units: found,
+            ..Register::nothing(alloc)
+        }
+    }
+}
+
+impl Listed for ParcelRecord {
+    fn alone(alloc: Global, found: Records<ParcelRecord>) -> Register
+        ensures { (r : Whole) (first last : ℕ) → found ≡ only (λ n v. is_within first last n) r.parcels → ListsAlike kinds.Parcel first last result r }
+    {
+        Register {
+            parcels: found,
+            ..Register::nothing(alloc)
+        }
+    }
+}
+
+impl Listed for SourceRecord {
+    fn alone(alloc: Global, found: Records<SourceRecord>) -> Register
+        ensures { (r : Whole) (first last : ℕ) → found ≡ only (λ n v. is_within first last n) r.sources → ListsAlike kinds.Source first last result r }
+    {
+        Register {
+            sources: found,
+            ..Register::nothing(alloc)
+        }
+    }
+}
+
+impl Listed for MutationRecord {
+    fn alone(alloc: Global, found: Records<MutationRecord>) -> Register
+        ensures { (r : Whole) (first last : ℕ) → found ≡ only (λ n v. is_within first last n) r.mutations → ListsAlike kinds.Mutation first last result r }
+    {
+        Register {
+            mutations: found,
+            ..Register::nothing(alloc)
+        }
+    }
+}
+
+/// A register that lists the objects of a kind in a range as they stand at a moment.
+fn ranged<V: Listed, S: Alter>(
+    alloc: Global,
+    conn: &mut Connection<S>,
+    first: u64,
+    last: u64,
+    at: i64,
+) -> Result<Register, ReadFault>
+where
+    Version<(u64, V)>: FromRow,
+    requires land { HasCleanDisk (state S.Store conn.old) → IsLand (state S.Store conn.old).now.schema }
+    ensures look { IsLook result (λ it. ListsRange V.KIND first last at (state S.Store conn.old).now.trees it) (state S.Store conn.old) (state S.Store conn.new) }
+    ensures mode { conn.old.in_transaction ≡ false → conn.new.in_transaction ≡ false }
+{
+    let found = records::<V, S>(alloc, conn, first, last, at)?;
+    Ok(V::alone(alloc, found))
+}
+
+/// The records of some parties, of which one may be there more than once.
+fn records_of(
+    alloc: Global,
+    parties: &[Version<(u64, PartyRecord)>],
+) -> Result<Records<PartyRecord>, AllocError>
+    ensures { IfOk result (λ it. it ≡ with_entries map.empty (map_list (λ (v : Spanned (ℕ × PartyRecord)). v.what) parties.now)) }
+{
+    let mut records = Records::new(alloc);
+    for party in parties {
+        records.insert(party.what.0, party.what.1.copy(alloc)?)?;
+    }
+    Ok(records)
+}
+
+/// A register that has these entries and these parties, and nothing else.
+fn entries_alone(
+    alloc: Global,
+    entries: Records<RrrRecord>,
+    parties: &[Version<(u64, PartyRecord)>],
+) -> Result<Register, AllocError>
+    ensures { IfOk result (λ it. it ≡ record nothing { rrrs = entries; parties = with_entries map.empty (map_list (λ (v : Spanned (ℕ × PartyRecord)). v.what) parties.now) }) }
+{
+    let parties = records_of(alloc, parties)?;
+    let mut register = Register::nothing(alloc);
+    register.rrrs = entries;
+    register.parties = parties;
+    Ok(register)
+}
+
+/// A register that lists the entries of a range as they stand at a moment.
+fn entries<S: Alter>(
+    alloc: Global,
+    conn: &mut Connection<S>,
+    first: u64,
+    last: u64,
+    at: i64,
+) -> Result<Register, ReadFault>
+    requires land { HasCleanDisk (state S.Store conn.old) → IsLand (state S.Store conn.old).now.schema }
+    ensures look { IsLook result (λ it. ListsRange kinds.Rrr first last at (state S.Store conn.old).now.trees it) (state S.Store conn.old) (state S.Store conn.new) }
+    ensures mode { conn.old.in_transaction ≡ false → conn.new.in_transaction ≡ false }
+{
+    let found = records::<RrrRecord, S>(alloc, conn, first, last, at)?;
+    let parties = parties_within(alloc, conn, first, last, at)?;
+    Ok(entries_alone(alloc, found, parties.as_slice())?)
+}
+
+/// A register that lists the objects of a kind in a range as they stand at a moment, whatever the kind.
+fn register_of<S: Alter>(
+    alloc: Global,
+    conn: &mut Connection<S>,
+    kind: Kind,
+    first: u64,
+    last: u64,
+    at: i64,
+) -> Result<Register, ReadFault>
+    requires land { HasCleanDisk (state S.Store conn.old) → IsLand (state S.Store conn.old).now.schema }
+    ensures look { IsLook result (λ it. ListsRange kind first last at (state S.Store conn.old).now.trees it) (state S.Store conn.old) (state S.Store conn.new) }
+    ensures mode { conn.old.in_transaction ≡ false → conn.new.in_transaction ≡ false }
+{
+    match kind {
+        Kind::Party => ranged::<PartyRecord, S>(alloc, conn, first, last, at),
+        Kind::Unit => ranged::<UnitRecord, S>(alloc, conn, first, last, at),
+        Kind::Parcel => ranged::<ParcelRecord, S>(alloc, conn, first, last, at),
+        Kind::Rrr => entries(alloc, conn, first, last, at),
+        Kind::Source => ranged::<SourceRecord, S>(alloc, conn, first, last, at),
+        Kind::Mutation => ranged::<MutationRecord, S>(alloc, conn, first, last, at),
+    }
+}
+
+/// A range in which some numbers lie: from the least of them to the greatest.
+fn range_of(numbers: &[u64]) -> (u64, u64)
+    ensures { AllByRecursion (λ n. is_within result.0 result.1 n ≡ true) numbers.now }
+{
+    let mut first = u64::MAX;
+    let mut last = 0u64;
+    for number in numbers {
+        first = first.min(*number);
+        last = last.max(*number);
+    }
+    (first, last)
+}
+
+/// The objects of a kind that stand at a moment under some numbers, in the order of these, as they are listed.
+fn objects<S: Alter>(
+    alloc: Global,
+    conn: &mut Connection<S>,
+    kind: Kind,
+    numbers: &[u64],
+    at: i64,
+) -> Result<Sequence<NamedObject>, ReadFault>
+    requires land { HasCleanDisk (state S.Store conn.old) → IsLand (state S.Store conn.old).now.schema }
+    ensures look { IsLook result (λ it. IsPart (λ r. objects_at r kind numbers.now) at (state S.Store conn.old).now.trees it) (state S.Store conn.old) (state S.Store conn.new) }
+    ensures mode { conn.old.in_transaction ≡ false → conn.new.in_transaction ≡ false }
+{
+    let range = range_of(numbers);
+    let (first, last) = range;
+    let register = register_of(alloc, conn, kind, first, last, at)?;
+    Ok(objects_of(alloc, &register, kind, numbers)?)
+}
+
+/// Which objects of a kind stand under some numbers at a moment.
+#[derive(Clone, Copy)]
+pub(crate) struct ObjectsAt<'a> {
+    /// Their kind.
+    pub(crate) kind: Kind,
+    /// Their numbers.
+    pub(crate) numbers: &'a [u64],
+    /// The moment, in milliseconds since 1970 UTC.
+    pub(crate) moment: i64,
+}
+
+impl Question<Sequence<NamedObject>> for ObjectsAt<'_> {
+    ghost use Rattle.land_keep.specs.Named.{objects_at};
+    ghost use Rattle.land_select_joins.specs.Lookups.Parts.{IsPart};
+
+    ghost answers = { λ it db found. IsPart (λ r. objects_at r it.kind it.numbers.now) it.moment db found };
+
+    fn ask<S: Alter>(
+        &self,
+        alloc: Global,
+        conn: &mut Connection<S>,
+    ) -> Result<Sequence<NamedObject>, ReadFault> {
+        objects(alloc, conn, self.kind, self.numbers, self.moment)
+    }
+}

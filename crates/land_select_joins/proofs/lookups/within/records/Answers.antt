@@ -1,0 +1,22 @@
+use Rattle.std.proofs.Common.{rules, ◌≡◌, to_z, of_z, w64}
+use Rattle.land_select_joins.proofs.Ranges.{are_within, none_within}
+use Rattle.land_select_joins.proofs.Records.{none_held}
+use Rattle.land_tables_schema.proofs.Looking.{look_told}
+use Rattle.sqlite.specs.Held.{state}
+use Rattle.land_select_joins.proofs.lookups.within.records.Goals as goal
+
+pub returns-clause-look : goal.returns-clause-look
+returns-clause-look g c =
+    let old = state g.S.Store c.args.conn.now in
+    let when : to_z w64 (of_z w64 c.args.at) ≡ c.args.at = search rules in
+    let look = rw when at c.in_ok-found.ensures.look in
+    let made = rw (when, c.as_slice.ensures) at c.in_ok-part_at.ensures.stands in
+    look_told old (state g.S.Store c.find.new.conn) _ look
+    (λ clean said. are_within _ _ _ g.met.V.Numbered.within c.args.first c.args.last c.args.at old.now.trees c.in_ok-found.found said _ made)
+
+pub returns-in_err-found-clause-unreadable : goal.returns-in_err-found-clause-unreadable
+returns-in_err-found-clause-unreadable g c clean =
+    let when : to_z w64 (of_z w64 c.args.at) ≡ c.args.at = search rules in
+    let fault = c.in_err-found.field-0.0 in
+    let cannot = rw when at (c.in_err-found.ensures.unreadable clean) in
+    none_held _ c.from_residual.result fault c.from_residual.ensures.1 (none_within _ _ _ g.met.V.Numbered.within c.args.first c.args.last c.args.at _ fault cannot)

@@ -1,0 +1,106 @@
+//! Records of a range of numbers.
+ghost use Rattle.std.specs.Prelude.{◌≡◌, false, IfErr};
+ghost use Rattle.land_core.specs.Entries.{only};
+ghost use Rattle.land_select_joins.specs.Joins.Running.{HoldsNone};
+ghost use Rattle.land_select_joins.specs.Lookups.Finding.{AreSaid, CannotSay};
+ghost use Rattle.land_select_joins.specs.Lookups.Parts.{IsPart};
+ghost use Rattle.land_select_joins.specs.Lookups.Ranges.{AreRowsWithin, is_within, text_within};
+ghost use Rattle.land_tables_schema.specs.Land.{IsLand};
+ghost use Rattle.land_tables_schema.specs.Rows.Looks.{IsLook};
+ghost use Rattle.sqlite.specs.Held.{state};
+ghost use Rattle.sqlite.specs.State.{HasCleanDisk};
+
+use crate::lookups::finding::read;
+use crate::lookups::numbered::Numbered;
+use crate::lookups::texts;
+use land_core::duplicate::Duplicate;
+use land_core::kind::Kind;
+use land_core::records::Records;
+use land_core::sequence::Sequence;
+use land_tables_history::part::part_at;
+use land_tables_history::version::Version;
+use land_tables_rows::listing::fault::ReadFault;
+use land_tables_rows::reading::from_row::FromRow;
+use land_tables_schema::rows::cells::{of_moment, of_number};
+use sqlite::{Alter, Connection, Error, Row};
+use std::alloc::Global;
+
+/// More than any object's number.
+pub(crate) const BEYOND: u64 = 1_000_000_001;
+
+/// The text that selects a range of a kind. Parameter 1 is its first number, parameter 3 its last one, and parameter 2 the moment in
+/// milliseconds since 1970 UTC.
+pub fn text_within(kind: Kind) -> &'static str
+    ensures { result.now ≡ text_within kind }
+{
+    match kind {
+        Kind::Party => texts::PARTIES_WITHIN,
+        Kind::Unit => texts::UNITS_WITHIN,
+        Kind::Parcel => texts::PARCELS_WITHIN,
+        Kind::Rrr => texts::ENTRIES_WITHIN,
+        Kind::Source => texts::SOURCES_WITHIN,
+        Kind::Mutation => texts::MUTATIONS_WITHIN,
+    }
+}
+
+/// The rows of a kind that stand at a moment under the numbers of a range, in whatever order.
+fn rows_of<S: Alter>(
+    conn: &mut Connection<S>,
+    kind: Kind,
+    first: u64,
+    last: u64,
+    at: i64,
+) -> Result<Vec<Row>, Error>
+    requires land { HasCleanDisk (state S.Store conn.old) → IsLand (state S.Store conn.old).now.schema }
+    ensures look { IsLook result (λ rows. AreRowsWithin kind first last at (state S.Store conn.old).now.trees rows.items) (state S.Store conn.old) (state S.Store conn.new) }
+    ensures mode { conn.old.in_transaction ≡ false → conn.new.in_transaction ≡ false }
+{
+    conn.query_all(
+        text_within(kind),
+        &[
+            of_number(first.min(BEYOND)),
+            of_moment(at),
+            of_number(last.min(BEYOND)),
+        ],
+    )
+}
+
+/// What the rows say of a kind that stand at a moment under the numbers of a range, in whatever order. 520: one of them cannot be read.
+/// 501: there was no memory.
+fn find<V: Numbered, S: Alter>(
+    alloc: Global,
+    conn: &mut Connection<S>,
+    first: u64,
+    last: u64,
+    at: i64,
+) -> Result<Sequence<Version<(u64, V)>>, ReadFault>
+where
+    Version<(u64, V)>: FromRow,
+    requires land { HasCleanDisk (state S.Store conn.old) → IsLand (state S.Store conn.old).now.schema }
+    ensures look { IsLook result (λ it. AreSaid ⟦<Version<(u64, V)> as FromRow>⟧.said (AreRowsWithin V.KIND first last at (state S.Store conn.old).now.trees) it) (state S.Store conn.old) (state S.Store conn.new) }
+    ensures unreadable { HasCleanDisk (state S.Store conn.new) → IfErr result (CannotSay ⟦<Version<(u64, V)> as FromRow>⟧.said (AreRowsWithin V.KIND first last at (state S.Store conn.old).now.trees)) }
+    ensures mode { conn.old.in_transaction ≡ false → conn.new.in_transaction ≡ false }
+{
+    let rows = rows_of(conn, V::KIND, first, last, at)?;
+    read(alloc, rows.as_slice())
+}
+
+/// The records of a kind that stand at a moment, in milliseconds since 1970 UTC, under the numbers of a range, whose ends belong to it.
+/// 520: the tables hold no history. 501: there was no memory.
+pub fn records<V: Numbered + Duplicate, S: Alter>(
+    alloc: Global,
+    conn: &mut Connection<S>,
+    first: u64,
+    last: u64,
+    at: i64,
+) -> Result<Records<V>, ReadFault>
+where
+    Version<(u64, V)>: FromRow,
+    requires land { HasCleanDisk (state S.Store conn.old) → IsLand (state S.Store conn.old).now.schema }
+    ensures look { IsLook result (λ it. IsPart (λ r. only (λ n v. is_within first last n) (V.part r)) at (state S.Store conn.old).now.trees it) (state S.Store conn.old) (state S.Store conn.new) }
+    ensures unreadable { HasCleanDisk (state S.Store conn.new) → IfErr result (HoldsNone (state S.Store conn.old).now.trees) }
+    ensures mode { conn.old.in_transaction ≡ false → conn.new.in_transaction ≡ false }
+{
+    let found = find::<V, S>(alloc, conn, first, last, at)?;
+    Ok(part_at(alloc, found.as_slice(), at)?)
+}
