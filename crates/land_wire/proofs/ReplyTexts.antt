@@ -1,5 +1,5 @@
 -- The texts of replies, without the words of JSON.
-use Rattle.std.proofs.Common.{◌≡◌, ℕ, List, ◌++◌, refl, ap, codes, false, Bool, Option, Some, None, decimal, pos}
+use Rattle.std.proofs.Common.{◌≡◌, ◌∙◌, ℕ, List, ◌++◌, refl, ap, codes, false, Bool, Option, Some, None, decimal, pos, sym}
 use Rattle.land_core.specs.declared.object.Object.{Object}
 use Rattle.land_keep.specs.declared.reply.Reply.{Reply}
 use Rattle.land_keep.specs.declared.reply.Reply.TheVariants as reply
@@ -35,6 +35,10 @@ pub written_text : (r : Reply) {value : Data} (text : List ℕ) → reply_data r
     → (has_float value ≡ false → text ≡ compact_text value) → reply_text r ≡ Some text
 unfolding reply_text
 written_text r text built written = rw (built, written (reply_has_no_float r built)) refl
+
+-- a text that the reply has in plain words
+pub told_plainly : (r : Reply) (plain text : List ℕ) → reply_text r ≡ Some plain → text ≡ plain → reply_text r ≡ Some text
+told_plainly r plain text law e = law ∙ ap Some (sym e)
 
 -- ---- the texts
 

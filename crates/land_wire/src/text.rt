@@ -1,10 +1,14 @@
-//! The texts of replies, by `serde_json`.
-ghost use Rattle.std.specs.Prelude.{◌≡◌, IfOk, Some, false, string_bytes};
+//! The texts of replies: numbers are written as they stand, objects and what is told of acts by `serde_json`.
+ghost use Rattle.std.specs.Prelude.{◌≡◌, ◌++◌, IfOk, OnOk, Some, codes, decimal, false, map, string_bytes};
+ghost use Rattle.land_wire.specs.Replies.{IsStoreFault, done_data, is_sheet, numbers_text, reply_text, short_text};
+ghost use Rattle.land_wire_json.specs.Texts.Objects.{object_data};
+ghost use Rattle.land_wire_json.specs.Texts.Values.{after_comma, one_member};
 ghost use Rattle.land_keep.specs.declared.reply.Reply.TheVariants as reply;
-ghost use Rattle.land_wire.specs.Replies.{IsStoreFault, done_data, is_sheet, reply_data, reply_text};
 ghost use Rattle.serde_json.specs.View.{view};
 
+use itoa::Buffer;
 use land_core::change::Done;
+use land_core::object::Object;
 use land_keep::reply::Reply;
 use land_wire_json::texts::object::object_value;
 use land_wire_json::texts::values::numbers_value;
@@ -16,7 +20,47 @@ pub fn reply_text(alloc: Global, reply: &Reply) -> Result<String, AllocError>
     requires { is_sheet reply.now ≡ false }
     ensures { IfOk result (λ text. reply_text reply.now ≡ Some (string_bytes text)) }
 {
-    reply_value(alloc, reply)?.to_string(alloc)
+    match reply {
+        Reply::Object(object) => shown_value(alloc, object)?.to_string(alloc),
+        Reply::Numbers(numbers) => numbers_text(alloc, numbers.as_slice()),
+        Reply::Sheet(_) => unreachable!(),
+        Reply::Done(done) => done_value(alloc, done)?.to_string(alloc),
+        Reply::Denied(rule) => short_text(alloc, "denied", u64::from(*rule)),
+        Reply::Fault(fault) => short_text(alloc, "fault", u64::from(*fault)),
+        Reply::Refused(refusal) => short_text(alloc, "refused", u64::from(*refusal)),
+        Reply::Store(fault) => short_text(alloc, "store", u64::from(*fault)),
+    }
+}
+
+/// The text of one number under a word.
+fn short_text(alloc: Global, word: &str, number: u64) -> Result<String, AllocError>
+    ensures { IfOk result (λ text. string_bytes text ≡ short_text word.now number) }
+{
+    format!(in alloc; "{{\"{word}\":{number}}}")
+}
+
+/// The text of a list of numbers.
+fn numbers_text(alloc: Global, numbers: &[u64]) -> Result<String, AllocError>
+    ensures { IfOk result (λ text. string_bytes text ≡ numbers_text numbers.now) }
+{
+    let mut text = String::from_str(alloc, "{\"numbers\":[")?;
+    if let [first, later @ ..] = numbers {
+        text.push_str(Buffer::new().format(*first))?;
+        push_later(&mut text, later)?;
+    }
+    text.push_str("]}")?;
+    Ok(text)
+}
+
+/// Writes numbers behind others, each after a comma.
+fn push_later(text: &mut String, numbers: &[u64]) -> Result<(), AllocError>
+    ensures { OnOk result (string_bytes text.new ≡ string_bytes text.old ++ after_comma (map decimal numbers.now)) }
+{
+    for number in numbers {
+        text.push_str(",")?;
+        text.push_str(Buffer::new().format(*number))?;
+    }
+    Ok(())
 }
 
 /// Whether a reply is a title sheet, whose text is no JSON.
@@ -38,40 +82,15 @@ pub fn store_text(number: u16) -> &'static str
     }
 }
 
-fn reply_value(alloc: Global, reply: &Reply) -> Result<Value, AllocError>
-    requires { is_sheet reply.now ≡ false }
-    ensures { IfOk result (λ value. reply_data reply.now ≡ Some (view value)) }
+/// An object under its word.
+fn shown_value(alloc: Global, object: &Object) -> Result<Value, AllocError>
+    ensures { IfOk result (λ value. view value ≡ one_member (codes "object") (object_data object.now)) }
 {
-    match reply {
-        Reply::Object(object) => {
-            let shown = object_value(alloc, object)?;
-            json!(in alloc; {"object": shown})
-        }
-        Reply::Numbers(numbers) => {
-            let listed = numbers_value(alloc, numbers.as_slice())?;
-            json!(in alloc; {"numbers": listed})
-        }
-        Reply::Sheet(_) => unreachable!(),
-        Reply::Done(done) => done_value(alloc, done),
-        Reply::Denied(rule) => {
-            let rule = *rule;
-            json!(in alloc; {"denied": rule})
-        }
-        Reply::Fault(fault) => {
-            let fault = *fault;
-            json!(in alloc; {"fault": fault})
-        }
-        Reply::Refused(refusal) => {
-            let refusal = *refusal;
-            json!(in alloc; {"refused": refusal})
-        }
-        Reply::Store(fault) => {
-            let fault = *fault;
-            json!(in alloc; {"store": fault})
-        }
-    }
+    let shown = object_value(alloc, object)?;
+    json!(in alloc; {"object": shown})
 }
 
+/// What is told of an act that was done.
 fn done_value(alloc: Global, done: &Done) -> Result<Value, AllocError>
     ensures { IfOk result (λ value. view value ≡ done_data done.now) }
 {

@@ -25,6 +25,7 @@ const TABLES: &[Table] = &[
         "lodger, reference, source, lodged, act, content, state",
     ),
     Table("names", "mutation, unit", "0"),
+    Table("mandate", "principal, agent", "0"),
 ];
 
 /// The rows of a table that begin up to a moment, where what ends later does not end.
