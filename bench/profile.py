@@ -58,6 +58,11 @@ PARTS = {
     MEMORY: "malloc free realloc calloc _int_malloc _int_free _int_realloc _int_memalign sysmalloc unlink_chunk memcpy memset memmove"
             " memcmp bcmp __memcpy __memset __memmove __memcmp rattle_alloc rattle_dealloc rattle_realloc std_alloc",
 }
+# What these functions take with all that they call, memory too.
+WHOLE = {
+    "of it: a head, its fields and its route read": "land_desk::turn::request_at",
+    "of it: a reply's text and head": "land_desk::exchange::answered",
+}
 # The parts of an opening, each with the beginnings of the names of the functions that lead into it.
 OPENING = {
     "the kit opens the file, checks its pages and trees": "sqlite::file",
@@ -184,19 +189,27 @@ def row(*cells):
     print("| " + " | ".join(cells) + " |", flush=True)
 
 
-def table(columns):
-    """Prints the parts of requests, and the whole under them."""
+def whole_of(calls, begin):
+    """The instructions of what is called by a name that begins so, with all that it calls."""
+    return sum(count for (caller, called), count in calls.items() if called.startswith(begin) and not caller.startswith(begin))
+
+
+def table(columns, calls):
+    """Prints the parts of requests, the whole under them, and what of it some functions take."""
     whole = [sum(sums.values()) for sums in columns]
     row("part", *ASKED)
     print("|---" * (1 + len(ASKED)) + "|")
     for part in (*PARTS, REST):
         row(part, *(cell(sums[part], all_parts) for sums, all_parts in zip(columns, whole)))
     row("all", *(f"{all_parts / 1000:,.1f}" for all_parts in whole))
+    for words, begin in WHOLE.items():
+        row(words, *(cell(whole_of(it, begin), all_parts) for it, all_parts in zip(calls, whole)))
 
 
 def requests(run, folder):
     print(f"\nThousands of instructions of one request, `land {run.__name__}`:\n")
-    table([divided(*of_one(folder, run, asked), PARTS)[0] for asked in ASKED.values()])
+    counted = [of_one(folder, run, asked) for asked in ASKED.values()]
+    table([divided(*it, PARTS)[0] for it in counted], [calls for _, calls in counted])
 
 
 def opening(folder):
