@@ -27,8 +27,8 @@ use land_streams::buffer::drop_front;
 use land_streams::counted_reader::CountedReader;
 use land_streams::send::send;
 use land_streams::stream_fault::StreamFault;
+use land_wire::fields::caller_at;
 use land_wire::framing::connection::{ends, is_head};
-use land_wire::framing::header_map::header_map;
 use land_wire::framing::item::{Front, read_item};
 use land_wire::reading::read_routed;
 use land_wire::routes::table::Goal;
@@ -149,11 +149,11 @@ fn request_at(
     ensures well_formed { IfOk result (λ asked. is_well_formed_request asked ≡ true) }
     ensures moment { IfOk result (λ asked. IsStated (at_of asked.ask)) }
 {
-    let fields = header_map(alloc, buffer, &headers[..spans.headers])?;
+    let caller = caller_at(buffer, &headers[..spans.headers]);
     let method = spans.method.of(buffer);
     let target = target_at(buffer, headers, spans, length);
     let body = &buffer[spans.len..spans.len + length];
-    read_routed(alloc, router, method, target, &fields, body)
+    read_routed(alloc, router, method, target, caller, body)
 }
 
 /// The target of the request that stands at the front of the buffer, which is UTF-8 as every head's is.

@@ -25,12 +25,15 @@ pub fn title_sheet(alloc: Global, view: &View) -> Result<String, AllocError>
     sheet_on(alloc, view, date, moment)
 }
 
+/// So many bytes hold the sheet of a unit with a parcel and a few entries; a longer one grows.
+const SHEET_ROOM: usize = 512;
+
 /// The sheet of a view with a date and a moment.
 #[tactic(auto, unfolding(crate::specs::Sheets::sheet_text))]
 fn sheet_on(alloc: Global, view: &View, date: Date, moment: u64) -> Result<String, AllocError>
     ensures { IfOk result (λ text. string_bytes text ≡ sheet_text view.now (parts_of date) moment) }
 {
-    let mut text = String::new(alloc);
+    let mut text = String::with_capacity(alloc, SHEET_ROOM)?;
     push_head(&mut text, &view.unit, date, moment)?;
     push_parcel_part(&mut text, alloc, view.parcels.as_slice())?;
     push_entry_part(&mut text, view.rrrs.as_slice())?;

@@ -1,12 +1,13 @@
 -- Names of fields in a header map.
-use Rattle.std.proofs.Common.{◌≡◌, ℕ, List, [], ◌∷◌, ◌++◌, map, Bool, true, false, refl, sym, ◌∙◌, ap, bytes_eq, append-nil, append_assoc, if◌then◌else◌}
+use Rattle.std.proofs.Common.{◌≡◌, ℕ, ◌<◌, List, [], ◌∷◌, ◌++◌, length, map, Bool, true, false, Ok, Err, refl, sym, ◌∙◌, ap, arith, bytes_eq, append-nil, append_assoc, if◌then◌else◌}
 use Rattle.std.proofs.lemmas.Slice.Eq.{bytes_eq-Decides}
 use Rattle.std.specs.List.{fold}
 use Rattle.std.specs.Str.{str_eq_ignore_ascii_case}
 use Rattle.http_header.specs.FieldValue.{FieldValue, plain_value}
 use Rattle.http_header.specs.HeaderMap.{Entry, Entries, append, get_all}
 use Rattle.http_header.specs.Token.{lowercase}
-use Rattle.land_wire.specs.Fields.{with_field, field_map, values_named}
+use Rattle.land_wire.specs.Fields.{with_field, field_map, only_value, values_named}
+use Rattle.land_wire_json.specs.declared.bodies.wire_fault.WireFault.TheVariants as fault
 
 abbrev if_named : Bool → FieldValue → List FieldValue
 if_named b value = if b then value ∷ [] else []
@@ -79,3 +80,22 @@ pub names_in_any_case : (fields : List (List ℕ × List ℕ)) (name : List ℕ)
     → get_all (field_map fields) (lowercase name) ≡ map plain_value (values_named name fields)
 names_in_any_case fields name =
     folded [] fields (lowercase name) ∙ ap (λ (values : List (List ℕ)). map plain_value values) (in_any_case name fields)
+
+-- ---- the only value of a name
+
+pub only_of_none : (fields : List (List ℕ × List ℕ)) (name : List ℕ) → values_named name fields ≡ []
+    → only_value (get_all (field_map fields) (lowercase name)) ≡ Err fault.Field
+only_of_none fields name none = rw (names_in_any_case fields name, none) refl
+
+pub only_of_one : (fields : List (List ℕ × List ℕ)) (name value : List ℕ) → values_named name fields ≡ value ∷ []
+    → only_value (get_all (field_map fields) (lowercase name)) ≡ Ok value
+only_of_one fields name value one = rw (names_in_any_case fields name, one) refl
+
+repeated : (values : List (List ℕ)) → 1 < length values → only_value (map plain_value values) ≡ Err fault.Field
+repeated [] more = absurd (omega arith)
+repeated (value ∷ []) more = absurd (omega arith)
+repeated (first ∷ second ∷ values) more = refl
+
+pub only_of_more : (fields : List (List ℕ × List ℕ)) (name : List ℕ) → 1 < length (values_named name fields)
+    → only_value (get_all (field_map fields) (lowercase name)) ≡ Err fault.Field
+only_of_more fields name more = rw (names_in_any_case fields name) (repeated (values_named name fields) more)

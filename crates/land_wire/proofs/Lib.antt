@@ -2,7 +2,6 @@
 pub mod ActNames
 pub mod FieldNames
 pub mod FrameLemmas
-pub mod HeaderLemmas
 pub mod ItemLemmas
 pub mod ListingLemmas
 pub mod Readings

@@ -15,7 +15,7 @@ use Rattle.land_wire.specs.Fields.{caller_in}
 use Rattle.land_wire.specs.Laws.{BodiesOfReadsDoNotCount, GetsDoNothing, OtherMethodsAskForActs, StatedMomentsAreMoments, AskedMomentsAreMoments, IsStated, is_done}
 use Rattle.land_wire.specs.Numbers.{decimal_in, number_in, moment_in}
 use Rattle.land_wire.specs.Queries.{no_query, at_in}
-use Rattle.land_wire.specs.Reading.{allowed, ask_of, parts_reading, reading, resource_at}
+use Rattle.land_wire.specs.Reading.{allowed, ask_of, parts_reading, reading_by, resource_at}
 use Rattle.land_wire.specs.Routes.{Resource, list, view, sheet, act}
 use Rattle.land_wire.specs.Routes.Targets.{path_of, query_of}
 use Rattle.land_wire.specs.declared.routes.act_word.ActWord.{ActWord}
@@ -184,13 +184,14 @@ ask_of-moment (view kind part) query body = bind (number_in part) (λ number. lo
 ask_of-moment (sheet part) query body = bind (number_in part) (λ unit. looked_at-moment (λ at. ask.Sheet unit at) query (λ at. refl))
 ask_of-moment (act word) query body = bind (no_query query) (λ none. bind (act_in word body) (λ wanted. record { if_ok = tt }))
 
-read-moment : (method target : List ℕ) (fields : Entries FieldValue) (body : List ℕ) → Ensures StatesMoment (reading method target fields body)
+read-moment : (method target : List ℕ) (asking : Result Caller WireFault) (body : List ℕ)
+    → Ensures StatesMoment (reading_by method target asking body)
 unfolding parts_reading
-read-moment method target fields body =
+read-moment method target asking body =
     bind (resource_at (path_of target)) (λ named.
     bind (allowed named method) (λ permit.
-    bind (caller_in fields) (λ caller.
+    bind asking (λ caller.
     asked_for caller (ask_of named (query_of target) body) (ask_of-moment named (query_of target) body))))
 
 pub asked_moments : AskedMomentsAreMoments
-asked_moments method target fields body = (read-moment method target fields body).if_ok
+asked_moments method target asking body = (read-moment method target asking body).if_ok

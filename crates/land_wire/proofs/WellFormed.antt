@@ -1,18 +1,16 @@
 -- Each request that is read keeps the limits of its fields.
 use Rattle.std.proofs.Common.{◌≡◌, ℕ, List, true, Result, Ok, Err, refl, IfOk}
-use Rattle.http_header.specs.FieldValue.{FieldValue}
-use Rattle.http_header.specs.HeaderMap.{Entries}
 use Rattle.land_core.specs.Acts.{is_well_formed, is_well_formed_ask, is_well_formed_request}
 use Rattle.land_core.specs.declared.act.Act.{Act}
 use Rattle.land_core.specs.declared.act.Act.TheVariants as act
 use Rattle.land_core.specs.declared.ask.Ask.{Ask}
 use Rattle.land_core.specs.declared.ask.Request.{Request}
+use Rattle.land_core.specs.declared.caller.Caller.{Caller}
 use Rattle.land_wire.specs.Acts.{act_in, act_of, lodged}
-use Rattle.land_wire.specs.Fields.{caller_in}
 use Rattle.land_wire.specs.Laws.{ReadingsAreWellFormed}
 use Rattle.land_wire.specs.Numbers.{number_in}
 use Rattle.land_wire.specs.Queries.{no_query, at_in}
-use Rattle.land_wire.specs.Reading.{allowed, ask_of, parts_reading, reading, resource_at}
+use Rattle.land_wire.specs.Reading.{allowed, ask_of, parts_reading, reading_by, resource_at}
 use Rattle.land_wire.specs.Routes.{Resource, list, view, sheet, act as act_path}
 use Rattle.land_wire.specs.Routes.Targets.{path_of, query_of}
 use Rattle.land_wire.specs.declared.routes.act_word.ActWord.{ActWord}
@@ -91,17 +89,17 @@ ask_of-well_formed law (sheet part) query body = bind (number_in part) (λ unit.
 ask_of-well_formed law (act_path which) query body =
     bind (no_query query) (λ none. bind_with (act_in which body) (act_in-well_formed law which body) (λ wanted h. record { if_ok = h }))
 
-read-well_formed : BodiesAreWellFormed → (method target : List ℕ) (fields : Entries FieldValue) (body : List ℕ)
-    → Ensures MayBeRead (reading method target fields body)
+read-well_formed : BodiesAreWellFormed → (method target : List ℕ) (asking : Result Caller WireFault) (body : List ℕ)
+    → Ensures MayBeRead (reading_by method target asking body)
 unfolding parts_reading
-read-well_formed law method target fields body =
+read-well_formed law method target asking body =
     bind (resource_at (path_of target)) (λ resource.
     bind (allowed resource method) (λ permit.
-    bind (caller_in fields) (λ caller.
+    bind asking (λ caller.
     bind_with (ask_of resource (query_of target) body) (ask_of-well_formed law resource (query_of target) body) (λ asked h. record { if_ok = h }))))
 
 pub reading-well_formed : BodiesAreWellFormed → ReadingsAreWellFormed
-reading-well_formed law method target fields body = (read-well_formed law method target fields body).if_ok
+reading-well_formed law method target asking body = (read-well_formed law method target asking body).if_ok
 
 -- what holds of the wanted value holds of a value that is it
 pub of_given : (P : Request → Type 0) (found wanted : Result Request WireFault) → Gives (λ it. it) found wanted → IfOk wanted P → IfOk found P

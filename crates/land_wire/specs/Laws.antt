@@ -1,11 +1,12 @@
 -- Laws of the edge, each over the definitions alone.
-use Rattle.std.specs.Prelude.{◌≡◌, ℕ, ℤ, pos, Bool, true, false, List, map, codes, bytes_eq, Option, Some, None, IfOk}
+use Rattle.std.specs.Prelude.{◌≡◌, ℕ, ℤ, pos, Bool, true, false, List, map, codes, bytes_eq, Option, Some, None, IfOk, Result}
 use Rattle.http_header.specs.FieldValue.{FieldValue, plain_value}
 use Rattle.http_header.specs.HeaderMap.{Entries, get_all}
 use Rattle.http_header.specs.Token.{lowercase}
 use Rattle.land_core.specs.Acts.{is_well_formed_request}
 use Rattle.land_core.specs.declared.ask.Ask.{Ask}
 use Rattle.land_core.specs.declared.ask.Ask.TheVariants as ask
+use Rattle.land_core.specs.declared.caller.Caller.{Caller}
 use Rattle.land_core.specs.declared.object.Object.{Object}
 use Rattle.land_keep.specs.Machine.{at_of}
 use Rattle.land_keep.specs.Moments.{IsMoment}
@@ -13,16 +14,17 @@ use Rattle.land_keep.specs.declared.reply.Reply.{Reply}
 use Rattle.land_keep.specs.declared.reply.Reply.TheVariants as reply
 use Rattle.land_wire.specs.Fields.{field_map, values_named}
 use Rattle.land_wire.specs.Queries.{at_in}
-use Rattle.land_wire.specs.Reading.{reading}
+use Rattle.land_wire.specs.Reading.{reading, reading_by}
 use Rattle.land_wire.specs.Replies.{reply_text, short_text, numbers_text, done_text, shown_text}
 use Rattle.land_wire.specs.ReplyLimits.{IsReplyWithin}
 use Rattle.land_wire_json.specs.Texts.Objects.{object_text}
+use Rattle.land_wire_json.specs.declared.bodies.wire_fault.WireFault.{WireFault}
 
 -- each request that is read keeps the limits of its fields
 abbrev pub ReadingsAreWellFormed : Type 0
 ReadingsAreWellFormed =
-    (method target : List ℕ) (fields : Entries FieldValue) (body : List ℕ)
-    → IfOk (reading method target fields body) (λ request. is_well_formed_request request ≡ true)
+    (method target : List ℕ) (asking : Result Caller WireFault) (body : List ℕ)
+    → IfOk (reading_by method target asking body) (λ request. is_well_formed_request request ≡ true)
 
 -- the body of a GET is not looked at
 abbrev pub BodiesOfReadsDoNotCount : Type 0
@@ -60,8 +62,8 @@ StatedMomentsAreMoments = (query : List ℕ) → IfOk (at_in query) IsStated
 -- and so does the one that a request asks for, if it states one
 abbrev pub AskedMomentsAreMoments : Type 0
 AskedMomentsAreMoments =
-    (method target : List ℕ) (fields : Entries FieldValue) (body : List ℕ)
-    → IfOk (reading method target fields body) (λ request. IsStated (at_of request.ask))
+    (method target : List ℕ) (asking : Result Caller WireFault) (body : List ℕ)
+    → IfOk (reading_by method target asking body) (λ request. IsStated (at_of request.ask))
 
 -- in the header map of a head's fields a name has the values of the fields with that name in any letter case
 abbrev pub NamesAreInAnyCase : Type 0

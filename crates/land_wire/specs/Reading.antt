@@ -5,6 +5,7 @@ use Rattle.http_header.specs.HeaderMap.{Entries}
 use Rattle.land_core.specs.declared.ask.Ask.{Ask}
 use Rattle.land_core.specs.declared.ask.Ask.TheVariants as ask
 use Rattle.land_core.specs.declared.ask.Request.{Request}
+use Rattle.land_core.specs.declared.caller.Caller.{Caller}
 use Rattle.land_wire.specs.Acts.{act_in}
 use Rattle.land_wire.specs.Fields.{caller_in}
 use Rattle.land_wire.specs.Numbers.{number_in}
@@ -42,14 +43,18 @@ ask_of (act word) query body = do
   Ok (ask.Do wanted)
 
 -- the request, or the first fault in this order: the route, its method, the caller's fields, what is asked
-unfoldable pub parts_reading : (method path query : List ℕ) → Entries FieldValue → (body : List ℕ) → Result Request WireFault
-parts_reading method path query fields body = do
+unfoldable pub parts_reading : (method path query : List ℕ) → Result Caller WireFault → (body : List ℕ) → Result Request WireFault
+parts_reading method path query asking body = do
   resource ← resource_at path
   permit ← allowed resource method
-  caller ← caller_in fields
+  caller ← asking
   asked ← ask_of resource query body
   Ok (record { caller = caller; ask = asked })
 
 -- the same of a target, which is a path and a query
+abbrev pub reading_by : (method target : List ℕ) → Result Caller WireFault → (body : List ℕ) → Result Request WireFault
+reading_by method target asking body = parts_reading method (path_of target) (query_of target) asking body
+
+-- the same of a head's fields, which say who asks
 abbrev pub reading : (method target : List ℕ) → Entries FieldValue → (body : List ℕ) → Result Request WireFault
-reading method target fields body = parts_reading method (path_of target) (query_of target) fields body
+reading method target fields body = reading_by method target (caller_in fields) body

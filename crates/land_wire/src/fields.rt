@@ -1,17 +1,20 @@
-//! The fields of a head: a header map, and who asks by it.
-ghost use Rattle.std.specs.Prelude.{◌≡◌, OnOk, OnErr};
+//! The fields of a head: a header map, and who asks by it or by the head itself.
+ghost use Rattle.std.specs.Prelude.{◌≡◌, OnOk, OnErr, All, length, map};
 ghost use Rattle.std.specs.Result.{IsErrOf};
 ghost use Rattle.http_header.specs.FieldName.{IsFieldName};
 ghost use Rattle.http_header.specs.FieldValue.{IsFieldValue};
 ghost use Rattle.http_header.specs.HeaderMap.{RefusesAppend, get_all};
 ghost use Rattle.http_header.specs.Token.{lowercase};
-ghost use Rattle.land_wire.specs.Fields.{caller_in, only_value, party_in, role_in, with_field};
+ghost use Rattle.httparse.specs.Spans.{IsHeaderWithin, header_bytes};
+ghost use Rattle.land_wire.specs.Fields.{caller_in, field_map, only_value, party_in, role_in, with_field};
 ghost use Rattle.land_wire_json.specs.Bodies.WireFaults.{seen_by};
 
+use crate::framing::named::{Occurrence, look_up};
 use crate::numbers::read_number;
 use http_header::{
     HeaderMap, HeaderMapError, HeaderName, HeaderNameError, HeaderValue, HeaderValueError,
 };
+use httparse::spans::HeaderSpan;
 use land_core::caller::Caller;
 use land_core::role::Role;
 use land_wire_json::bodies::wire_fault::WireFault;
@@ -84,6 +87,42 @@ pub fn read_role(fields: &HeaderMap) -> Result<Role, WireFault>
     ensures { result ≡ role_in fields.now }
 {
     role_of(only_value(fields, "register-role")?)
+}
+
+/// Who asks, by the fields at these spans of a head, as `read_caller` reads them in the map of those fields: the same faults, and no map.
+pub fn caller_at(head: &[u8], fields: &[HeaderSpan]) -> Result<Caller, WireFault>
+    requires { All (IsHeaderWithin (length head.now)) fields.now }
+    ensures { result ≡ caller_in (field_map (map (header_bytes head.now) fields.now)) }
+{
+    Ok(Caller {
+        party: party_at(head, fields)?,
+        role: role_at(head, fields)?,
+    })
+}
+
+fn party_at(head: &[u8], fields: &[HeaderSpan]) -> Result<u64, WireFault>
+    requires { All (IsHeaderWithin (length head.now)) fields.now }
+    ensures { result ≡ party_in (field_map (map (header_bytes head.now) fields.now)) }
+{
+    read_number(value_at(head, fields, "register-party")?)
+}
+
+fn role_at(head: &[u8], fields: &[HeaderSpan]) -> Result<Role, WireFault>
+    requires { All (IsHeaderWithin (length head.now)) fields.now }
+    ensures { result ≡ role_in (field_map (map (header_bytes head.now) fields.now)) }
+{
+    role_of(value_at(head, fields, "register-role")?)
+}
+
+fn value_at<'h>(head: &'h [u8], fields: &[HeaderSpan], name: &str) -> Result<&'h [u8], WireFault>
+    requires { All (IsHeaderWithin (length head.now)) fields.now }
+    ensures { seen_by (λ value. value.now) result ≡ only_value (get_all (field_map (map (header_bytes head.now) fields.now)) (lowercase name.now)) }
+{
+    match look_up(head, fields, name) {
+        Occurrence::Once(value) => Ok(value.of(head)),
+        Occurrence::Absent => Err(WireFault::Field),
+        Occurrence::Repeated => Err(WireFault::Field),
+    }
 }
 
 fn only_value<'m>(fields: &'m HeaderMap, name: &str) -> Result<&'m [u8], WireFault>

@@ -4,7 +4,6 @@ pub mod connection;
 pub mod frame_fault;
 pub mod framing;
 pub mod head;
-pub mod header_map;
 pub mod item;
 pub mod laws;
 pub mod listing;

@@ -3,7 +3,7 @@ ghost use Rattle.std.specs.Prelude.{◌≡◌, [], IfOk, true};
 ghost use Rattle.land_core.specs.Acts.{is_well_formed_request};
 ghost use Rattle.land_keep.specs.Machine.{at_of};
 ghost use Rattle.land_wire.specs.Laws.{IsStated};
-ghost use Rattle.land_wire.specs.Reading.{allowed, ask_of, parts_reading, reading, resource_at};
+ghost use Rattle.land_wire.specs.Reading.{allowed, ask_of, parts_reading, reading, reading_by, resource_at};
 ghost use Rattle.land_wire.specs.Routes.{act, list, resource, sheet, view};
 ghost use Rattle.land_wire.specs.Routes.Table.{FindsRoutes};
 ghost use Rattle.land_wire_json.specs.Bodies.WireFaults.{Gives, seen_by};
@@ -19,6 +19,7 @@ use crate::routes::table::{Goal, routes};
 use crate::routes::target::split_target;
 use http_header::HeaderMap;
 use land_core::ask::{Ask, Request};
+use land_core::caller::Caller;
 use land_core::kind::Kind;
 use land_wire_json::bodies::wire_fault::WireFault;
 use matchit::Router;
@@ -37,30 +38,31 @@ pub fn read_request(
     ensures moment { IfOk result (λ request. IsStated (at_of request.ask)) }
 {
     let router = routes(alloc)?;
-    read_routed(alloc, &router, method, target, fields, body)
+    let caller = read_caller(fields);
+    read_routed(alloc, &router, method, target, caller, body)
 }
 
-/// Reads a request of its method, target, fields and body, by a router that `routes` made. The first fault is answered,
-/// in this order: 136 no such route, 137 another method, the fields `Register-Party` (131, 132) and `Register-Role`
-/// (131, 134), 132 the number in the path, the query (131, 132), and the faults of an act's body: 130 no JSON, then
-/// those of its fields. The body of a GET is not looked at. 501: there was no memory.
+/// Reads a request of its method, target and body, and of who asks by the fields `Register-Party` and `Register-Role` or their fault, by a
+/// router that `routes` made. The first fault is answered, in this order: 136 no such route, 137 another method, the fields (131, 132, 134),
+/// 132 the number in the path, the query (131, 132), and the faults of an act's body: 130 no JSON, then those of its fields. The body of a
+/// GET is not looked at. 501: there was no memory.
 pub fn read_routed(
     alloc: Global,
     router: &Router<Goal>,
     method: &[u8],
     target: &str,
-    fields: &HeaderMap,
+    caller: Result<Caller, WireFault>,
     body: &[u8],
 ) -> Result<Request, WireFault>
     requires { FindsRoutes router.now }
-    ensures reads { Gives (λ it. it) result (reading method.now target.now fields.now body.now) }
+    ensures reads { Gives (λ it. it) result (reading_by method.now target.now caller body.now) }
     ensures well_formed { IfOk result (λ request. is_well_formed_request request ≡ true) }
     ensures moment { IfOk result (λ request. IsStated (at_of request.ask)) }
 {
     laws::readings_are_well_formed();
     laws::stated_moments_are_moments();
     let (path, query) = split_target(target);
-    read_parts(alloc, router, method, path, query.as_bytes(), fields, body)
+    read_parts(alloc, router, method, path, query.as_bytes(), caller, body)
 }
 
 #[tactic(auto, unfolding(crate::specs::Reading::parts_reading))]
@@ -70,15 +72,15 @@ fn read_parts(
     method: &[u8],
     path: &str,
     query: &[u8],
-    fields: &HeaderMap,
+    caller: Result<Caller, WireFault>,
     body: &[u8],
 ) -> Result<Request, WireFault>
     requires { FindsRoutes router.now }
-    ensures { Gives (λ it. it) result (parts_reading method.now path.now query.now fields.now body.now) }
+    ensures { Gives (λ it. it) result (parts_reading method.now path.now query.now caller body.now) }
 {
     let route = route_at(router, path)?;
     check_method(&route, method)?;
-    let caller = read_caller(fields)?;
+    let caller = caller?;
     let ask = read_ask(alloc, &route, query, body)?;
     Ok(Request { caller, ask })
 }

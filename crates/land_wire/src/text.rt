@@ -1,18 +1,17 @@
-//! The texts of replies: numbers are written as they stand, objects and what is told of acts by `serde_json`.
+//! The texts of replies: numbers are written as they stand, objects and what is told of acts field by field.
 ghost use Rattle.std.specs.Prelude.{◌≡◌, ◌++◌, IfOk, OnOk, Some, codes, decimal, false, map, string_bytes};
 ghost use Rattle.land_wire.specs.Replies.{IsStoreFault, done_data, is_sheet, numbers_text, reply_text, short_text};
 ghost use Rattle.land_wire_json.specs.Texts.Objects.{object_data};
 ghost use Rattle.land_wire_json.specs.Texts.Values.{after_comma, one_member};
 ghost use Rattle.land_keep.specs.declared.reply.Reply.TheVariants as reply;
-ghost use Rattle.serde_json.specs.View.{view};
+ghost use Rattle.serde_json.specs.Written.{compact_text};
 
 use itoa::Buffer;
 use land_core::change::Done;
 use land_core::object::Object;
 use land_keep::reply::Reply;
-use land_wire_json::texts::object::object_value;
-use land_wire_json::texts::values::numbers_value;
-use serde_json::{Value, json};
+use land_wire_json::texts::fields::{Field, Shown, new_text, text_of, write_object};
+use land_wire_json::texts::object::write_as_shown;
 use std::alloc::{AllocError, Global};
 
 /// The text of a reply that is no title sheet: compact JSON, keys in the order of their bytes.
@@ -21,10 +20,10 @@ pub fn reply_text(alloc: Global, reply: &Reply) -> Result<String, AllocError>
     ensures { IfOk result (λ text. reply_text reply.now ≡ Some (string_bytes text)) }
 {
     match reply {
-        Reply::Object(object) => shown_value(alloc, object)?.to_string(alloc),
+        Reply::Object(object) => object_text(alloc, object),
         Reply::Numbers(numbers) => numbers_text(alloc, numbers.as_slice()),
         Reply::Sheet(_) => unreachable!(),
-        Reply::Done(done) => done_value(alloc, done)?.to_string(alloc),
+        Reply::Done(done) => done_text(alloc, done),
         Reply::Denied(rule) => short_text(alloc, "denied", u64::from(*rule)),
         Reply::Fault(fault) => short_text(alloc, "fault", u64::from(*fault)),
         Reply::Refused(refusal) => short_text(alloc, "refused", u64::from(*refusal)),
@@ -39,11 +38,16 @@ fn short_text(alloc: Global, word: &str, number: u64) -> Result<String, AllocErr
     format!(in alloc; "{{\"{word}\":{number}}}")
 }
 
+/// So many bytes hold a number of the register and a comma.
+const DIGITS_ROOM: usize = 11;
+
 /// The text of a list of numbers.
 fn numbers_text(alloc: Global, numbers: &[u64]) -> Result<String, AllocError>
     ensures { IfOk result (λ text. string_bytes text ≡ numbers_text numbers.now) }
 {
-    let mut text = String::from_str(alloc, "{\"numbers\":[")?;
+    let room = numbers.len().saturating_mul(DIGITS_ROOM).saturating_add(16);
+    let mut text = String::with_capacity(alloc, room)?;
+    text.push_str("{\"numbers\":[")?;
     if let [first, later @ ..] = numbers {
         text.push_str(Buffer::new().format(*first))?;
         push_later(&mut text, later)?;
@@ -82,20 +86,28 @@ pub fn store_text(number: u16) -> &'static str
     }
 }
 
-/// An object under its word.
-fn shown_value(alloc: Global, object: &Object) -> Result<Value, AllocError>
-    ensures { IfOk result (λ value. view value ≡ one_member (codes "object") (object_data object.now)) }
+/// The text of an object, under its word.
+fn object_text(alloc: Global, object: &Object) -> Result<String, AllocError>
+    ensures { IfOk result (λ text. string_bytes text ≡ compact_text (one_member (codes "object") (object_data object.now))) }
 {
-    let shown = object_value(alloc, object)?;
-    json!(in alloc; {"object": shown})
+    let mut out = new_text(alloc)?;
+    out.begin_object()?;
+    out.key("object")?;
+    write_as_shown(alloc, &mut out, object)?;
+    out.end_object()?;
+    Ok(text_of(out))
 }
 
-/// What is told of an act that was done.
-fn done_value(alloc: Global, done: &Done) -> Result<Value, AllocError>
-    ensures { IfOk result (λ value. view value ≡ done_data done.now) }
+/// The text of what is told of an act that was done.
+fn done_text(alloc: Global, done: &Done) -> Result<String, AllocError>
+    ensures { IfOk result (λ text. string_bytes text ≡ compact_text (done_data done.now)) }
 {
-    let made = numbers_value(alloc, done.made.as_slice())?;
-    let number = done.number;
-    let stamp = done.stamp;
-    json!(in alloc; {"made": made, "number": number, "stamp": stamp})
+    let fields = [
+        Field("made", Shown::Numbers(done.made.as_slice())),
+        Field("number", Shown::Number(done.number)),
+        Field("stamp", Shown::Moment(done.stamp)),
+    ];
+    let mut out = new_text(alloc)?;
+    write_object(alloc, &mut out, &fields)?;
+    Ok(text_of(out))
 }

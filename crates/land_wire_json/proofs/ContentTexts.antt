@@ -1,25 +1,18 @@
 -- Texts of what mutations ask for, without the words of JSON.
-use Rattle.std.proofs.Common.{◌≡◌, ◌∙◌, ℕ, List, [], ◌∷◌, ◌++◌, map, false, true, Option, Some, None, refl, ap, codes, decimal}
+use Rattle.std.proofs.Common.{◌≡◌, ◌∙◌, ℕ, List, [], ◌∷◌, ◌++◌, map, true, false, Option, Some, None, refl, ap, codes, decimal}
 use Rattle.land_core.specs.declared.content.Content.{Content}
 use Rattle.land_core.specs.declared.content.Content.TheVariants as content
 use Rattle.land_core.specs.declared.merger.Merger.{Merger}
 use Rattle.land_core.specs.declared.subdivision.Part.{Part}
 use Rattle.land_core.specs.declared.subdivision.Subdivision.{Subdivision}
-use Rattle.land_wire_json.proofs.Floats.{content_has_no_float}
 use Rattle.land_wire_json.proofs.PartyTexts.{all_numbers, one_more}
 use Rattle.land_wire_json.specs.Texts.Mergers.{merger_data, merger_text}
-use Rattle.land_wire_json.specs.Texts.Mutations.{content_data, content_text, spelled_content}
+use Rattle.land_wire_json.specs.Texts.Mutations.{content_text, spelled_content}
 use Rattle.land_wire_json.specs.Texts.Subdivisions.{name_members, part_data, first_text, name_text, part_text, subdivision_data, subdivision_text}
 use Rattle.land_wire_json.specs.Texts.Values.{number_data, after_comma, with_commas, outline_text, string_text}
 use Rattle.serde_json.proofs.OnLiterals.{serde_json_on_literals}
-use Rattle.serde_json.specs.Data.{Data}
 use Rattle.serde_json.specs.View.{items_of}
-use Rattle.serde_json.specs.Written.{compact_text, items_text, members_text, has_float}
-
--- what is written for the content's JSON is its text
-pub written_content : (it : Content) {value : Data} (text : List ℕ) → value ≡ content_data it
-    → (has_float value ≡ false → text ≡ compact_text value) → text ≡ content_text it
-written_content it text built written = written (ap has_float built ∙ content_has_no_float it) ∙ ap compact_text built
+use Rattle.serde_json.specs.Written.{compact_text, items_text, members_text}
 
 -- ---- subdivisions
 

@@ -4,7 +4,6 @@ pub mod ContentReading
 pub mod ContentTexts
 pub mod DecimalLemmas
 pub mod ExactTexts
-pub mod Floats
 pub mod ObjectTexts
 pub mod OutlineTexts
 pub mod PartyTexts
@@ -12,4 +11,5 @@ pub mod SameFields
 pub mod SameTexts
 pub mod ShareReading
 pub mod ShareTexts
+pub mod Steps
 pub mod WellFormed

@@ -1,5 +1,6 @@
 -- Definitions of what objects and contents say.
 pub mod Exact
+pub mod Fields
 pub mod Laws
 pub mod Limits
 pub mod Mergers

@@ -1,6 +1,8 @@
 //! Objects, and what mutations ask for, in JSON and as texts.
 
+pub mod fields;
 pub mod laws;
+pub mod members;
 pub mod merger;
 pub mod mutation;
 pub mod object;
@@ -10,4 +12,3 @@ pub mod rrr;
 pub mod source;
 pub mod subdivision;
 pub mod unit;
-pub mod values;

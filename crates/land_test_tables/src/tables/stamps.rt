@@ -8,7 +8,8 @@ use land_keep::plain_keeper::PlainKeeper;
 use land_tables::tables::Tables;
 use land_test_scenario::playing::plain_more;
 use land_test_scenario::stop::{Stop, expect};
-use land_wire_json::texts::object::object_value;
+use land_wire_json::texts::fields::{new_text, text_of};
+use land_wire_json::texts::object::write_as_shown;
 use sqlite::Alter;
 use std::alloc::{AllocError, Global};
 
@@ -60,9 +61,13 @@ const AT: &[At] = &[
 ];
 
 /// An object as it is shown, and nothing where there is none.
-fn text_of(alloc: Global, object: &Option<Object>) -> Result<String, AllocError> {
+fn text_shown(alloc: Global, object: &Option<Object>) -> Result<String, AllocError> {
     match object {
-        Some(object) => object_value(alloc, object)?.to_string(alloc),
+        Some(object) => {
+            let mut out = new_text(alloc)?;
+            write_as_shown(alloc, &mut out, object)?;
+            Ok(text_of(out))
+        }
         None => Ok(String::new(alloc)),
     }
 }
@@ -70,7 +75,7 @@ fn text_of(alloc: Global, object: &Option<Object>) -> Result<String, AllocError>
 /// What stands under a number in a register, as it is shown.
 fn text_in(alloc: Global, register: &Register, what: (Kind, u64)) -> Result<String, Stop> {
     let object = register.object(alloc, what.0, what.1)?;
-    Ok(text_of(alloc, &object)?)
+    Ok(text_shown(alloc, &object)?)
 }
 
 /// What the plain keeper has under it at a moment.
@@ -81,7 +86,7 @@ fn text_at(
     at: i64,
 ) -> Result<String, Stop> {
     let object = plain.object(alloc, what.0, what.1, at)?;
-    Ok(text_of(alloc, &object)?)
+    Ok(text_shown(alloc, &object)?)
 }
 
 /// Whether what stands under a number in a register is what the plain keeper has at a moment.

@@ -1,11 +1,9 @@
 -- Parties in JSON.
 use Rattle.std.specs.Prelude.{ℕ, List, ◌++◌, map, codes, decimal}
 use Rattle.land_core.specs.Words.{party_word, role_word}
-use Rattle.land_core.specs.declared.kind.PartyKind.TheVariants as kind
 use Rattle.land_core.specs.declared.member.Member.{Member}
 use Rattle.land_core.specs.declared.party.Party.{Party}
 use Rattle.land_core.specs.declared.role.Role.{Role}
-use Rattle.land_core.specs.declared.role.Role.TheVariants as role
 use Rattle.land_wire_json.specs.Texts.Values.{number_data, share_data, share_text, with_commas, quoted_word}
 use Rattle.serde_json.specs.Data.{Data, string, array, object, no_members, member}
 use Rattle.serde_json.specs.View.{items_of}

@@ -1,22 +1,26 @@
 //! What mergers ask for, in JSON.
-ghost use Rattle.std.specs.Prelude.{◌≡◌, IfOk};
+ghost use Rattle.land_wire_json.specs.Texts.Fields.{AddsValue};
 ghost use Rattle.land_wire_json.specs.Texts.Mergers.{merger_data};
-ghost use Rattle.serde_json.specs.View.{view};
 
-use crate::texts::values::numbers_value;
+use crate::texts::fields::{Field, Shown, write_object};
+use json::Writer;
 use land_core::merger::Merger;
-use serde_json::{Value, json};
 use std::alloc::{AllocError, Global};
 
 /// The fields of a merger.
-pub(crate) fn merger_value(alloc: Global, merger: &Merger) -> Result<Value, AllocError>
-    ensures { IfOk result (λ value. view value ≡ merger_data merger.now) }
+pub(crate) fn write_merger(
+    alloc: Global,
+    out: &mut Writer,
+    merger: &Merger,
+) -> Result<(), AllocError>
+    ensures { AddsValue result out.old out.new (merger_data merger.now) }
 {
-    let label = merger.label.as_str();
-    let others = numbers_value(alloc, merger.others.as_slice())?;
-    let printed = merger.outline.write_wkt()?;
-    let outline = printed.as_str();
-    let parcels = numbers_value(alloc, merger.parcels.as_slice())?;
-    let unit = merger.unit;
-    json!(in alloc; {"label": label, "others": others, "outline": outline, "parcels": parcels, "unit": unit})
+    let fields = [
+        Field("label", Shown::Text(merger.label.as_str())),
+        Field("others", Shown::Numbers(merger.others.as_slice())),
+        Field("outline", Shown::Outline(&merger.outline)),
+        Field("parcels", Shown::Numbers(merger.parcels.as_slice())),
+        Field("unit", Shown::Number(merger.unit)),
+    ];
+    write_object(alloc, out, &fields)
 }

@@ -1,30 +1,40 @@
 //! Mutations in JSON, and what they ask for.
 ghost use Rattle.std.specs.Prelude.{◌≡◌, IfOk, string_bytes};
+ghost use Rattle.land_wire_json.specs.Texts.Fields.{AddsValue};
 ghost use Rattle.land_wire_json.specs.Texts.Mutations.{content_data, content_text, discharge_data, mortgage_data, mutation_data, transfer_data};
-ghost use Rattle.serde_json.specs.View.{view};
 
-use crate::texts::merger::merger_value;
-use crate::texts::subdivision::subdivision_value;
-use crate::texts::values::share_value;
+use crate::texts::fields::{Field, Shown, new_text, text_of, write_fields, write_object};
+use crate::texts::members::write_text;
+use crate::texts::merger::write_merger;
+use crate::texts::subdivision::write_subdivision;
+use json::Writer;
 use land_core::content::{Content, Discharge, Mortgage, Transfer};
 use land_core::mutation::Mutation;
 use land_core::words::{act_word, state_word};
-use serde_json::{Value, json};
 use std::alloc::{AllocError, Global};
 
 /// A mutation as it is shown.
-pub(crate) fn mutation_value(alloc: Global, mutation: &Mutation) -> Result<Value, AllocError>
-    ensures { IfOk result (λ value. view value ≡ mutation_data mutation.now) }
+pub(crate) fn write_mutation(
+    alloc: Global,
+    out: &mut Writer,
+    mutation: &Mutation,
+) -> Result<(), AllocError>
+    ensures { AddsValue result out.old out.new (mutation_data mutation.now) }
 {
-    let act = act_word(&mutation.content);
-    let content = content_value(alloc, &mutation.content)?;
-    let lodged = mutation.lodged;
-    let lodger = mutation.lodger;
-    let number = mutation.number;
-    let reference = mutation.reference.as_str();
-    let source = mutation.source;
-    let state = state_word(mutation.state);
-    json!(in alloc; {"act": act, "content": content, "lodged": lodged, "lodger": lodger, "number": number, "reference": reference, "source": source, "state": state})
+    let lodging = [
+        Field("lodged", Shown::Moment(mutation.lodged)),
+        Field("lodger", Shown::Number(mutation.lodger)),
+        Field("number", Shown::Number(mutation.number)),
+        Field("reference", Shown::Text(mutation.reference.as_str())),
+        Field("source", Shown::Number(mutation.source)),
+        Field("state", Shown::Text(state_word(mutation.state))),
+    ];
+    out.begin_object()?;
+    write_text(out, "act", act_word(&mutation.content))?;
+    out.key("content")?;
+    write_content(alloc, out, &mutation.content)?;
+    write_fields(alloc, out, &lodging)?;
+    out.end_object()
 }
 
 /// What a mutation asks for as it is written: compact JSON, keys in the order of their bytes, without the word of its act.
@@ -32,46 +42,54 @@ pub(crate) fn mutation_value(alloc: Global, mutation: &Mutation) -> Result<Value
 pub fn content_text(alloc: Global, content: &Content) -> Result<String, AllocError>
     ensures { IfOk result (λ text. string_bytes text ≡ content_text content.now) }
 {
-    content_value(alloc, content)?.to_string(alloc)
+    let mut out = new_text(alloc)?;
+    write_content(alloc, &mut out, content)?;
+    Ok(text_of(out))
 }
 
 /// The fields of a content, without the word of its act.
-fn content_value(alloc: Global, content: &Content) -> Result<Value, AllocError>
-    ensures { IfOk result (λ value. view value ≡ content_data content.now) }
+fn write_content(alloc: Global, out: &mut Writer, content: &Content) -> Result<(), AllocError>
+    ensures { AddsValue result out.old out.new (content_data content.now) }
 {
     match content {
-        Content::Transfer(it) => transfer_value(alloc, it),
-        Content::Subdivision(it) => subdivision_value(alloc, it),
-        Content::Merger(it) => merger_value(alloc, it),
-        Content::Mortgage(it) => mortgage_value(alloc, it),
-        Content::Discharge(it) => discharge_value(alloc, it),
+        Content::Transfer(it) => write_transfer(alloc, out, it),
+        Content::Subdivision(it) => write_subdivision(alloc, out, it),
+        Content::Merger(it) => write_merger(alloc, out, it),
+        Content::Mortgage(it) => write_mortgage(alloc, out, it),
+        Content::Discharge(it) => write_discharge(alloc, out, it),
     }
 }
 
-fn transfer_value(alloc: Global, transfer: &Transfer) -> Result<Value, AllocError>
-    ensures { IfOk result (λ value. view value ≡ transfer_data transfer.now) }
+fn write_transfer(alloc: Global, out: &mut Writer, transfer: &Transfer) -> Result<(), AllocError>
+    ensures { AddsValue result out.old out.new (transfer_data transfer.now) }
 {
-    let receiver = transfer.receiver;
-    let right = transfer.right;
-    let share = share_value(alloc, transfer.share)?;
-    let unit = transfer.unit;
-    json!(in alloc; {"receiver": receiver, "right": right, "share": share, "unit": unit})
+    let fields = [
+        Field("receiver", Shown::Number(transfer.receiver)),
+        Field("right", Shown::Number(transfer.right)),
+        Field("share", Shown::Share(transfer.share)),
+        Field("unit", Shown::Number(transfer.unit)),
+    ];
+    write_object(alloc, out, &fields)
 }
 
-fn mortgage_value(alloc: Global, mortgage: &Mortgage) -> Result<Value, AllocError>
-    ensures { IfOk result (λ value. view value ≡ mortgage_data mortgage.now) }
+fn write_mortgage(alloc: Global, out: &mut Writer, mortgage: &Mortgage) -> Result<(), AllocError>
+    ensures { AddsValue result out.old out.new (mortgage_data mortgage.now) }
 {
-    let amount = mortgage.amount;
-    let creditor = mortgage.creditor;
-    let currency = mortgage.currency.as_str();
-    let unit = mortgage.unit;
-    json!(in alloc; {"amount": amount, "creditor": creditor, "currency": currency, "unit": unit})
+    let fields = [
+        Field("amount", Shown::Number(mortgage.amount)),
+        Field("creditor", Shown::Number(mortgage.creditor)),
+        Field("currency", Shown::Text(mortgage.currency.as_str())),
+        Field("unit", Shown::Number(mortgage.unit)),
+    ];
+    write_object(alloc, out, &fields)
 }
 
-fn discharge_value(alloc: Global, discharge: &Discharge) -> Result<Value, AllocError>
-    ensures { IfOk result (λ value. view value ≡ discharge_data discharge.now) }
+fn write_discharge(alloc: Global, out: &mut Writer, discharge: &Discharge) -> Result<(), AllocError>
+    ensures { AddsValue result out.old out.new (discharge_data discharge.now) }
 {
-    let mortgage = discharge.mortgage;
-    let unit = discharge.unit;
-    json!(in alloc; {"mortgage": mortgage, "unit": unit})
+    let fields = [
+        Field("mortgage", Shown::Number(discharge.mortgage)),
+        Field("unit", Shown::Number(discharge.unit)),
+    ];
+    write_object(alloc, out, &fields)
 }

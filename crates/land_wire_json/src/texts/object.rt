@@ -1,28 +1,27 @@
 //! Objects in JSON.
-ghost use Rattle.std.specs.Prelude.{◌≡◌, IfOk};
+ghost use Rattle.land_wire_json.specs.Texts.Fields.{AddsValue};
 ghost use Rattle.land_wire_json.specs.Texts.Objects.{object_data};
-ghost use Rattle.serde_json.specs.View.{view};
 
-use crate::texts::mutation::mutation_value;
-use crate::texts::parcel::parcel_value;
-use crate::texts::party::party_value;
-use crate::texts::rrr::rrr_value;
-use crate::texts::source::source_value;
-use crate::texts::unit::unit_value;
+use crate::texts::mutation::write_mutation;
+use crate::texts::parcel::write_parcel;
+use crate::texts::party::write_party;
+use crate::texts::rrr::write_rrr;
+use crate::texts::source::write_source;
+use crate::texts::unit::write_unit;
+use json::Writer;
 use land_core::object::Object;
-use serde_json::Value;
 use std::alloc::{AllocError, Global};
 
-/// An object as it is shown, in JSON; an error is a want of memory.
-pub fn object_value(alloc: Global, object: &Object) -> Result<Value, AllocError>
-    ensures { IfOk result (λ value. view value ≡ object_data object.now) }
+/// Writes an object as it is shown; an error is a want of memory.
+pub fn write_as_shown(alloc: Global, out: &mut Writer, object: &Object) -> Result<(), AllocError>
+    ensures { AddsValue result out.old out.new (object_data object.now) }
 {
     match object {
-        Object::Party(party) => party_value(alloc, party),
-        Object::Unit(unit) => unit_value(alloc, unit),
-        Object::Parcel(parcel) => parcel_value(alloc, parcel),
-        Object::Rrr(entry) => rrr_value(alloc, entry),
-        Object::Source(source) => source_value(alloc, source),
-        Object::Mutation(mutation) => mutation_value(alloc, mutation),
+        Object::Party(party) => write_party(alloc, out, party),
+        Object::Unit(unit) => write_unit(alloc, out, unit),
+        Object::Parcel(parcel) => write_parcel(alloc, out, parcel),
+        Object::Rrr(entry) => write_rrr(alloc, out, entry),
+        Object::Source(source) => write_source(alloc, out, source),
+        Object::Mutation(mutation) => write_mutation(alloc, out, mutation),
     }
 }

@@ -1,22 +1,27 @@
 //! Parcels in JSON.
-ghost use Rattle.std.specs.Prelude.{◌≡◌, IfOk};
+ghost use Rattle.land_wire_json.specs.Texts.Fields.{AddsValue};
 ghost use Rattle.land_wire_json.specs.Texts.Parcels.{parcel_data};
-ghost use Rattle.serde_json.specs.View.{view};
 
+use crate::texts::fields::{Field, Shown, write_object};
+use json::Writer;
 use land_core::parcel::Parcel;
-use serde_json::{Value, json};
 use std::alloc::{AllocError, Global};
 
 /// A parcel as it is shown, with twice the area of its outline.
-pub(crate) fn parcel_value(alloc: Global, parcel: &Parcel) -> Result<Value, AllocError>
-    ensures { IfOk result (λ value. view value ≡ parcel_data parcel.now) }
+pub(crate) fn write_parcel(
+    alloc: Global,
+    out: &mut Writer,
+    parcel: &Parcel,
+) -> Result<(), AllocError>
+    ensures { AddsValue result out.old out.new (parcel_data parcel.now) }
 {
-    let doubled = parcel.outline.doubled_area();
-    let label = parcel.label.as_str();
-    let number = parcel.number;
-    let printed = parcel.outline.write_wkt()?;
-    let outline = printed.as_str();
-    let source = parcel.source;
-    let unit = parcel.unit;
-    json!(in alloc; {"doubled": doubled, "label": label, "number": number, "outline": outline, "source": source, "unit": unit})
+    let fields = [
+        Field("doubled", Shown::Number(parcel.outline.doubled_area())),
+        Field("label", Shown::Text(parcel.label.as_str())),
+        Field("number", Shown::Number(parcel.number)),
+        Field("outline", Shown::Outline(&parcel.outline)),
+        Field("source", Shown::Number(parcel.source)),
+        Field("unit", Shown::Number(parcel.unit)),
+    ];
+    write_object(alloc, out, &fields)
 }

@@ -1,19 +1,25 @@
 //! Sources in JSON.
-ghost use Rattle.std.specs.Prelude.{◌≡◌, IfOk};
+ghost use Rattle.land_wire_json.specs.Texts.Fields.{AddsValue};
 ghost use Rattle.land_wire_json.specs.Texts.Sources.{source_data};
-ghost use Rattle.serde_json.specs.View.{view};
 
+use crate::texts::fields::{Field, Shown, write_object};
+use json::Writer;
 use land_core::source::Source;
 use land_core::words::source_word;
-use serde_json::{Value, json};
 use std::alloc::{AllocError, Global};
 
 /// A source as it is shown.
-pub(crate) fn source_value(alloc: Global, source: &Source) -> Result<Value, AllocError>
-    ensures { IfOk result (λ value. view value ≡ source_data source.now) }
+pub(crate) fn write_source(
+    alloc: Global,
+    out: &mut Writer,
+    source: &Source,
+) -> Result<(), AllocError>
+    ensures { AddsValue result out.old out.new (source_data source.now) }
 {
-    let kind = source_word(source.kind);
-    let number = source.number;
-    let title = source.title.as_str();
-    json!(in alloc; {"kind": kind, "number": number, "title": title})
+    let fields = [
+        Field("kind", Shown::Text(source_word(source.kind))),
+        Field("number", Shown::Number(source.number)),
+        Field("title", Shown::Text(source.title.as_str())),
+    ];
+    write_object(alloc, out, &fields)
 }

@@ -1,18 +1,20 @@
 //! Units in JSON.
-ghost use Rattle.std.specs.Prelude.{◌≡◌, IfOk};
+ghost use Rattle.land_wire_json.specs.Texts.Fields.{AddsValue};
 ghost use Rattle.land_wire_json.specs.Texts.Units.{unit_data};
-ghost use Rattle.serde_json.specs.View.{view};
 
+use crate::texts::fields::{Field, Shown, write_object};
+use json::Writer;
 use land_core::unit::Unit;
-use serde_json::{Value, json};
 use std::alloc::{AllocError, Global};
 
 /// A unit as it is shown.
-pub(crate) fn unit_value(alloc: Global, unit: &Unit) -> Result<Value, AllocError>
-    ensures { IfOk result (λ value. view value ≡ unit_data unit.now) }
+pub(crate) fn write_unit(alloc: Global, out: &mut Writer, unit: &Unit) -> Result<(), AllocError>
+    ensures { AddsValue result out.old out.new (unit_data unit.now) }
 {
-    let checked = unit.checked;
-    let name = unit.name.as_str();
-    let number = unit.number;
-    json!(in alloc; {"checked": checked, "name": name, "number": number})
+    let fields = [
+        Field("checked", Shown::Truth(unit.checked)),
+        Field("name", Shown::Text(unit.name.as_str())),
+        Field("number", Shown::Number(unit.number)),
+    ];
+    write_object(alloc, out, &fields)
 }

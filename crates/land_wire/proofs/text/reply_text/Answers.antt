@@ -1,14 +1,13 @@
-use Rattle.std.proofs.Common.{Some, ap, string_bytes, sym}
+use Rattle.std.proofs.Common.{string_bytes}
 use Rattle.std.proofs.lemmas.Result.{IfOk-weaker}
 use Rattle.land_keep.specs.declared.reply.Reply.TheVariants as reply
 use Rattle.land_wire.proofs.ReplyTexts as texts
 use Rattle.land_wire.proofs.text.reply_text.Goals as goal
 
-pub returns-in_ok-shown_value-in-Object : goal.returns-in_ok-shown_value-in-Object
-returns-in_ok-shown_value-in-Object c =
-    let built = ap Some (sym c.in_ok-shown_value-in-Object.ensures) in
+pub returns-in-Object : goal.returns-in-Object
+returns-in-Object c =
     rw c.in-Object.is
-    (IfOk-weaker c.to_string.result _ _ (λ text. texts.written_text (reply.Object _) (string_bytes text) built) c.to_string.ensures.text)
+    (IfOk-weaker c.object_text.result _ _ (λ text. texts.told_plainly (reply.Object _) _ (string_bytes text) (texts.object_json _)) c.object_text.ensures)
 
 pub returns-in-Numbers : goal.returns-in-Numbers
 returns-in-Numbers c =
@@ -16,11 +15,10 @@ returns-in-Numbers c =
     rw c.in-Numbers.is
     (IfOk-weaker c.numbers_text.result _ _ (λ text. texts.told_plainly (reply.Numbers _) _ (string_bytes text) (texts.numbers-text _)) told)
 
-pub returns-in_ok-done_value-in-Done : goal.returns-in_ok-done_value-in-Done
-returns-in_ok-done_value-in-Done c =
-    let built = ap Some (sym c.in_ok-done_value-in-Done.ensures) in
+pub returns-in-Done : goal.returns-in-Done
+returns-in-Done c =
     rw c.in-Done.is
-    (IfOk-weaker c.to_string-in-Done.result _ _ (λ text. texts.written_text (reply.Done _) (string_bytes text) built) c.to_string-in-Done.ensures.text)
+    (IfOk-weaker c.done_text.result _ _ (λ text. texts.told_plainly (reply.Done _) _ (string_bytes text) (texts.done_json _)) c.done_text.ensures)
 
 pub returns-in-Denied : goal.returns-in-Denied
 returns-in-Denied c =

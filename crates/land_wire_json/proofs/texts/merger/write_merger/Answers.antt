@@ -1,0 +1,4 @@
+use Rattle.land_wire_json.proofs.texts.merger.write_merger.Goals as goal
+
+pub returns : goal.returns
+returns c = rw (c.as_str.ensures, c.as_slice.ensures, c.as_slice-2.ensures) at c.write_object.ensures

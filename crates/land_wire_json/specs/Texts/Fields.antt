@@ -1,0 +1,67 @@
+-- Objects of JSON as lists of fields, and what a writer holds once they are written.
+use Rattle.std.specs.Prelude.{◌≡◌, ℕ, List, [], ◌∷◌, ◌++◌, codes, Option, Some, None, Result, OnOk}
+use Rattle.json.specs.Token.{Token}
+use Rattle.json.specs.Token as token
+use Rattle.json.specs.Tree.{json_tokens}
+use Rattle.json.specs.Written.{Written}
+use Rattle.land_shape.specs.Place.{Place}
+use Rattle.land_shape.specs.Printed.{printed}
+use Rattle.land_wire_json.specs.declared.texts.fields.Field.{Field}
+use Rattle.land_wire_json.specs.declared.texts.fields.Shown.{Shown}
+use Rattle.land_wire_json.specs.declared.texts.fields.Shown.TheVariants as shown
+use Rattle.land_wire_json.specs.Texts.Parties.{members_data, roles_data}
+use Rattle.land_wire_json.specs.Texts.Subdivisions.{first_data, parts_data}
+use Rattle.land_wire_json.specs.Texts.Values.{number_data, numbers_data, share_data}
+use Rattle.serde_json.specs.Data.{Data, number, boolean, string}
+use Rattle.serde_json.specs.Find.{of_integer}
+use Rattle.serde_json.specs.Written.{outline}
+
+-- what a field shows, in JSON
+abbrev pub shown_data : Shown → Data
+shown_data (shown.Number n) = number_data n
+shown_data (shown.Moment stamp) = number (of_integer stamp)
+shown_data (shown.Truth it) = boolean it
+shown_data (shown.Text text) = string text.now
+shown_data (shown.Share share) = share_data share
+shown_data (shown.Outline ring) = string (printed ring.now)
+shown_data (shown.Numbers numbers) = numbers_data numbers.now
+shown_data (shown.Members members) = members_data members.now
+shown_data (shown.Roles roles) = roles_data roles.now
+shown_data (shown.First part) = first_data part.now
+shown_data (shown.Parts parts) = parts_data parts.now
+
+-- a name, and a value behind it
+abbrev pub member_tokens : List ℕ → Data → List Token
+member_tokens name value = token.key name ∷ json_tokens (outline value)
+
+-- fields one after the other, without the brackets of an object
+abbrev pub fields_tokens : List Field → List Token
+fields_tokens [] = []
+fields_tokens (field ∷ fields) = member_tokens field.0.now (shown_data field.1) ++ fields_tokens fields
+
+-- fields in front of what stands behind them
+abbrev pub fields_before : List Field → List Token → List Token
+fields_before [] rest = rest
+fields_before (field ∷ fields) rest = member_tokens field.0.now (shown_data field.1) ++ fields_before fields rest
+
+-- an object of these fields
+abbrev pub object_tokens : List Field → List Token
+object_tokens fields = token.begin_object ∷ fields_before fields (token.end_object ∷ [])
+
+-- tokens are written behind those that stood there; where there is no memory, some of them may be
+pub record Adds {E : Type 0} (r : Result (Unit {0}) E) (old new : Written) (tokens : List Token) : Type 0 where
+  pub added : OnOk r (new.tokens ≡ old.tokens ++ tokens)
+  pub before : new.before ≡ old.before
+
+-- a value of JSON is written
+abbrev pub AddsValue : {E : Type 0} → Result (Unit {0}) E → Written → Written → Data → Type 0
+AddsValue r old new value = Adds r old new (json_tokens (outline value))
+
+-- a label, and an outline as it is printed, under their names
+abbrev pub plan_tokens : List ℕ → List Place → List Token
+plan_tokens label ring = member_tokens (codes "label") (string label) ++ member_tokens (codes "outline") (string (printed ring))
+
+-- the name of a new unit under its name, if there is one
+abbrev pub unit_tokens : Option (List ℕ) → List Token
+unit_tokens None = []
+unit_tokens (Some name) = member_tokens (codes "unit") (string name)

@@ -1,0 +1,114 @@
+//! Objects of JSON, written field by field.
+ghost use Rattle.std.specs.Prelude.{◌≡◌, [], string_bytes, IfOk};
+ghost use Rattle.json.specs.Print.{print};
+ghost use Rattle.land_wire_json.specs.Texts.Fields.{Adds, AddsValue, fields_tokens, member_tokens, object_tokens, shown_data};
+
+use crate::texts::members::{
+    write_first, write_members, write_numbers, write_outline, write_parts, write_roles, write_share,
+};
+use json::Writer;
+use land_core::act::NewParcel;
+use land_core::member::Member;
+use land_core::role::Role;
+use land_core::subdivision::Part;
+use land_fraction::Fraction;
+use land_shape::Ring;
+use std::alloc::{AllocError, Global};
+
+/// What a field shows.
+#[derive(Clone, Copy)]
+pub enum Shown<'a> {
+    /// A number of the register, an amount in minor units, or an area in square millimetres.
+    Number(u64),
+    /// A moment, in milliseconds since 1970 UTC.
+    Moment(i64),
+    /// Whether something holds.
+    Truth(bool),
+    /// A text, or a word of the register.
+    Text(&'a str),
+    /// A share, as it is printed.
+    Share(Fraction),
+    /// An outline, as it is printed.
+    Outline(&'a Ring),
+    /// Numbers, in their order.
+    Numbers(&'a [u64]),
+    /// The members of a group.
+    Members(&'a [Member]),
+    /// The roles of a party.
+    Roles(&'a [Role]),
+    /// The part of a parcel that stays in its unit.
+    First(&'a NewParcel),
+    /// The other parts of a parcel.
+    Parts(&'a [Part]),
+}
+
+/// A field of an object: its name, and what it shows.
+#[derive(Clone, Copy)]
+pub struct Field<'a>(pub &'a str, pub Shown<'a>);
+
+/// Writes an object of these fields, in their order. An error is a want of memory.
+pub fn write_object(alloc: Global, out: &mut Writer, fields: &[Field<'_>]) -> Result<(), AllocError>
+    ensures { Adds result out.old out.new (object_tokens fields.now) }
+{
+    out.begin_object()?;
+    write_fields(alloc, out, fields)?;
+    out.end_object()
+}
+
+/// Writes fields without the brackets of an object. An error is a want of memory.
+pub(crate) fn write_fields(
+    alloc: Global,
+    out: &mut Writer,
+    fields: &[Field<'_>],
+) -> Result<(), AllocError>
+    ensures { Adds result out.old out.new (fields_tokens fields.now) }
+{
+    for field in fields {
+        write_field(alloc, out, field)?;
+    }
+    Ok(())
+}
+
+fn write_field(alloc: Global, out: &mut Writer, field: &Field<'_>) -> Result<(), AllocError>
+    ensures { Adds result out.old out.new (member_tokens field.now.0.now (shown_data field.now.1)) }
+{
+    out.key(field.0)?;
+    write_shown(alloc, out, &field.1)
+}
+
+fn write_shown(alloc: Global, out: &mut Writer, shown: &Shown<'_>) -> Result<(), AllocError>
+    ensures { AddsValue result out.old out.new (shown_data shown.now) }
+{
+    match shown {
+        Shown::Number(number) => out.u64(*number),
+        Shown::Moment(moment) => out.i64(*moment),
+        Shown::Truth(it) => out.boolean(*it),
+        Shown::Text(text) => out.string(text),
+        Shown::Share(share) => write_share(alloc, out, *share),
+        Shown::Outline(outline) => write_outline(out, outline),
+        Shown::Numbers(numbers) => write_numbers(out, numbers),
+        Shown::Members(members) => write_members(alloc, out, members),
+        Shown::Roles(roles) => write_roles(out, roles),
+        Shown::First(part) => write_first(out, part),
+        Shown::Parts(parts) => write_parts(out, parts),
+    }
+}
+
+/// A writer with room for what most replies have. An error is a want of memory.
+pub fn new_text(alloc: Global) -> Result<Writer, AllocError>
+    ensures tokens { IfOk result (λ out. out.tokens ≡ []) }
+    ensures before { IfOk result (λ out. out.before ≡ []) }
+{
+    Ok(Writer::new(Vec::with_capacity(alloc, 256)?))
+}
+
+/// What was written from the beginning, as a text.
+pub fn text_of(out: Writer) -> String
+    requires { out.before ≡ [] }
+    ensures { string_bytes result ≡ print out.tokens }
+{
+    match String::from_utf8(out.into_inner()) {
+        Ok(text) => text,
+        Err(_) => unreachable!(),
+    }
+}
