@@ -107,11 +107,6 @@ rows_listed r k [] = refl
 rows_listed r k (n ∷ ns) =
     flat_map-append row_text_of (named_at r k n) (objects_at r k ns) ∙ ap₂ (λ (a b : List ℕ). a ++ b) (one_row r (object_at r k n)) (rows_listed r k ns)
 
--- the rows from a place on are the one there, and those behind it
-pub one_left : (rows : List NamedObject) (i : ℕ) (row : NamedObject) → i < length rows → row ≡ get_or rows i row → rows_of (drop i rows) ≡ object_row row.object row.name ++ rows_of (drop (i + 1) rows)
-one_left rows i row inside is =
-    ap (λ (l : List NamedObject). rows_of l) (drop_more rows i row inside) ∙ ap (λ (it : NamedObject). row_text_of it ++ rows_of (drop (i + 1) rows)) (sym is)
-
 -- the rows from a place on are those up to another one, and those from there on
 rows_parted : (r : Register) (k : Kind) (numbers : List ℕ) (given end : ℕ) → given ≤ end → rows_at r k (drop given numbers) ≡ rows_at r k (slice_range numbers given end) ++ rows_at r k (drop end numbers)
 rows_parted r k numbers given end below =

@@ -1,7 +1,8 @@
 -- Extracts: the columns of each kind, and the fields of an object in them. A field that an object lacks is empty.
-use Rattle.std.specs.Prelude.{List, [], ◌∷◌, ◌++◌, ℕ, codes, decimal}
+use Rattle.std.specs.Prelude.{◌≡◌, List, [], ◌∷◌, ◌++◌, ℕ, codes, decimal, false}
 use Rattle.std.specs.Fmt.{signed_decimal}
-use Rattle.csv.specs.Writing.{default_writer, row_text}
+use Rattle.csv.specs.Writing.{default_writer, fields_written, has_written, row_text, writer_setup}
+use Rattle.csv.specs.declared.writer.Writer.{Writer}
 use Rattle.land_core.specs.Words.{act_word, class_word, party_word, source_word, state_word}
 use Rattle.land_core.specs.declared.kind.Kind.{Kind}
 use Rattle.land_core.specs.declared.kind.Kind.TheVariants as kind
@@ -90,3 +91,7 @@ header_text kind = row_text default_writer (columns_of kind)
 
 abbrev pub object_row : Object → (name : List ℕ) → List ℕ
 object_row it name = row_text default_writer (fields_of it name)
+
+-- a writer with the default settings that has begun no row that is not ended
+abbrev pub IsBetweenRows : {W : Type 0} → Writer W → Type 0
+IsBetweenRows writer = (writer_setup writer ≡ default_writer) × (fields_written writer ≡ 0) × (has_written writer ≡ false)

@@ -1,16 +1,18 @@
 //! The rows of extracts, as the writer of `csv` writes them with its default settings.
-ghost use Rattle.std.specs.Prelude.{◌≡◌, ◌++◌, ◌∷◌, [], IfOk, OnOk, decimal, map, string_bytes};
+ghost use Rattle.std.specs.Io.KnownBytes.{Appends};
+ghost use Rattle.std.specs.Prelude.{◌≡◌, ◌++◌, ◌∷◌, [], IfOk, OnOk, Some, decimal, map, string_bytes};
 ghost use Rattle.std.specs.Fmt.{signed_decimal};
-ghost use Rattle.csv.specs.Writing.{default_writer, row_text};
+ghost use Rattle.csv.specs.Writing.{default_writer, row_text, text_written};
 ghost use Rattle.land_fraction.specs.Text.{text_of};
 ghost use Rattle.land_shape.specs.Outline.{doubled_area};
 ghost use Rattle.land_shape.specs.Printed.{printed};
 ghost use Rattle.land_sheet.specs.Areas.{square_metres};
-ghost use Rattle.land_sheet.specs.Rows.{class_fields, columns_of, entry_start, fields_of, header_text, mutation_fields, object_row, outline_fields, parcel_fields, parcel_start, party_fields, rrr_fields, source_fields, unit_fields};
+ghost use Rattle.land_sheet.specs.Extracts.Writing.{rows_of};
+ghost use Rattle.land_sheet.specs.Rows.{IsBetweenRows, class_fields, columns_of, entry_start, fields_of, header_text, mutation_fields, object_row, outline_fields, parcel_fields, parcel_start, party_fields, rrr_fields, source_fields, unit_fields};
 
 use crate::areas::square_metres;
 use crate::words::checked_word;
-use csv::WriterBuilder;
+use csv::{Writer, WriterBuilder};
 use land_core::kind::Kind;
 use land_core::mutation::Mutation;
 use land_core::object::Object;
@@ -21,8 +23,13 @@ use land_core::source::Source;
 use land_core::unit::Unit;
 use land_core::words::{act_word, class_word, party_word, source_word, state_word};
 use land_fraction::Fraction;
+use land_keep::named::NamedObject;
 use land_shape::Ring;
 use std::alloc::{AllocError, Global};
+use std::io::Write;
+
+/// How many columns the rows of a kind have, at most.
+const MOST_COLUMNS: usize = 11;
 
 /// The first row of an extract: the names of the columns of a kind, ended by a line feed. An error is a want of memory.
 pub fn csv_header(alloc: Global, kind: Kind) -> Result<Vec<u8>, AllocError>
@@ -77,34 +84,98 @@ fn columns_of(kind: Kind) -> &'static [&'static [u8]]
 pub fn csv_row(alloc: Global, object: &Object, name: &str) -> Result<Vec<u8>, AllocError>
     ensures { IfOk result (λ row. row.items ≡ object_row object.now name.now) }
 {
-    let mut fields = Vec::new(alloc);
-    push_object(&mut fields, alloc, object, name)?;
-    row_of(alloc, fields.as_slice())
+    let mut writer = row_writer(alloc);
+    write_object(&mut writer, alloc, object, name)?;
+    written_by(writer)
 }
 
-/// A row of texts.
-fn row_of(alloc: Global, fields: &[String]) -> Result<Vec<u8>, AllocError>
-    ensures { IfOk result (λ row. row.items ≡ row_text default_writer (map string_bytes fields.now)) }
+/// The rows of some objects of one kind as they are listed, one after another, each ended by a line feed. An error is a want of memory.
+pub(crate) fn csv_rows(alloc: Global, rows: &[NamedObject]) -> Result<Vec<u8>, AllocError>
+    ensures { IfOk result (λ text. text.items ≡ rows_of rows.now) }
 {
-    let mut lent: Vec<&[u8]> = Vec::new(alloc);
+    let mut writer = row_writer(alloc);
+    write_objects(&mut writer, alloc, rows)?;
+    written_by(writer)
+}
+
+/// A writer of rows that has written nothing.
+fn row_writer(alloc: Global) -> Writer<Vec<u8>>
+    ensures between { IsBetweenRows result }
+    ensures nothing { text_written (λ v. Some v.items) result ≡ Some [] }
+{
+    WriterBuilder::new().from_writer(Vec::new(alloc))
+}
+
+/// What a writer of rows has written.
+fn written_by(writer: Writer<Vec<u8>>) -> Result<Vec<u8>, AllocError>
+    ensures { IfOk result (λ text. text_written (λ v. Some v.items) writer ≡ Some text.items) }
+{
+    match writer.into_inner() {
+        Ok(text) => Ok(text),
+        Err(_) => Err(AllocError),
+    }
+}
+
+/// Writes the rows of some objects of one kind as they are listed, one after another.
+fn write_objects<W: Write + Drop>(
+    writer: &mut Writer<W>,
+    alloc: Global,
+    rows: &[NamedObject],
+) -> Result<(), AllocError>
+    requires between { IsBetweenRows writer.old }
+    ensures text { OnOk result (Appends (text_written W.contents writer.old) (text_written W.contents writer.new) (rows_of rows.now)) }
+{
+    'rows: for row in rows {
+        write_object(writer, alloc, &row.object, row.name.as_str())?;
+    }
+    Ok(())
+}
+
+/// Writes the row of an object.
+fn write_object<W: Write + Drop>(
+    writer: &mut Writer<W>,
+    alloc: Global,
+    object: &Object,
+    name: &str,
+) -> Result<(), AllocError>
+    requires between { IsBetweenRows writer.old }
+    ensures text { OnOk result (Appends (text_written W.contents writer.old) (text_written W.contents writer.new) (object_row object.now name.now)) }
+    ensures between { OnOk result (IsBetweenRows writer.new) }
+{
+    let mut fields = Vec::with_capacity(alloc, MOST_COLUMNS)?;
+    push_object(&mut fields, alloc, object, name)?;
+    write_texts(writer, alloc, fields.as_slice())
+}
+
+/// Writes a row of texts.
+fn write_texts<W: Write + Drop>(
+    writer: &mut Writer<W>,
+    alloc: Global,
+    fields: &[String],
+) -> Result<(), AllocError>
+    requires between { IsBetweenRows writer.old }
+    ensures text { OnOk result (Appends (text_written W.contents writer.old) (text_written W.contents writer.new) (row_text default_writer (map string_bytes fields.now))) }
+    ensures between { OnOk result (IsBetweenRows writer.new) }
+{
+    let mut lent: Vec<&[u8]> = Vec::with_capacity(alloc, MOST_COLUMNS)?;
     for field in fields {
         lent.push(field.as_bytes())?;
     }
-    row_bytes(alloc, lent.as_slice())
+    match writer.write_fields(lent.as_slice()) {
+        Ok(()) => Ok(()),
+        Err(_) => Err(AllocError),
+    }
 }
 
 /// A row of fields.
 fn row_bytes(alloc: Global, fields: &[&[u8]]) -> Result<Vec<u8>, AllocError>
     ensures { IfOk result (λ row. row.items ≡ row_text default_writer (map (λ field. field.now) fields.now)) }
 {
-    let mut writer = WriterBuilder::new().from_writer(Vec::new(alloc));
+    let mut writer = row_writer(alloc);
     if writer.write_fields(fields).is_err() {
         return Err(AllocError);
     }
-    match writer.into_inner() {
-        Ok(row) => Ok(row),
-        Err(_) => Err(AllocError),
-    }
+    written_by(writer)
 }
 
 /// A text as a field.

@@ -1,16 +1,15 @@
-//! Extracts, written row by row.
+//! Extracts, written part by part.
 ghost use Rattle.std.specs.Prelude.{◌≡◌, false, unwrap_or};
 ghost use Rattle.land_keep.specs.Keeping.{Closes, IsLive};
 ghost use Rattle.land_keep.specs.Machine.{now_of};
 ghost use Rattle.land_keep.specs.Timeline.{register_at};
 ghost use Rattle.land_sheet.specs.Extracts.{extract_of, list_reply, rows_at};
 ghost use Rattle.land_sheet.specs.Extracts.Writing.{IsExtracted, IsPut, of_store, rows_of};
-ghost use Rattle.land_sheet.specs.Rows.{object_row};
 
 use crate::extracts::fault::ExtractFault;
 use crate::extracts::list::list;
 use crate::extracts::part::part_end;
-use crate::rows::{csv_header, csv_row};
+use crate::rows::{csv_header, csv_rows};
 use land_core::caller::Caller;
 use land_core::kind::Kind;
 use land_keep::keeper::Keeper;
@@ -21,8 +20,8 @@ use std::alloc::Global;
 use std::io::Write;
 
 /// Writes the extract of a kind: the names of its columns, then a row for each object that the caller sees at a moment, in ascending
-/// order, now where no moment is named. Each row is made whole before it is written. The result is the number of bytes written. Nothing
-/// in the register changes. A keeper whose store fails is closed from then on.
+/// order, now where no moment is named. The rows of a part are made whole before they are written. The result is the number of bytes
+/// written. Nothing in the register changes. A keeper whose store fails is closed from then on.
 pub fn extract_to<K: Keeper, W: Write>(
     alloc: Global,
     keeper: &mut K,
@@ -81,7 +80,7 @@ fn write_parts<K: Keeper, W: Write>(
     Ok(written)
 }
 
-/// Writes the rows of some objects behind so many bytes, and says how many are written then.
+/// Writes the rows of some objects behind so many bytes, made whole first, and says how many are written then.
 fn write_rows<W: Write>(
     alloc: Global,
     rows: &[NamedObject],
@@ -91,25 +90,8 @@ fn write_rows<W: Write>(
     ensures put { IsPut (rows_of rows.now) before (W.contents writer.old) (W.contents writer.new) result }
     ensures closes { Closes false false (of_store result) }
 {
-    let mut written = before;
-    'rows: for row in rows {
-        written = write_row(alloc, row, writer, written)?;
-    }
-    Ok(written)
-}
-
-/// Writes a row behind so many bytes, made whole first, and says how many are written then.
-fn write_row<W: Write>(
-    alloc: Global,
-    row: &NamedObject,
-    writer: &mut W,
-    before: u64,
-) -> Result<u64, ExtractFault>
-    ensures put { IsPut (object_row row.now.object row.now.name) before (W.contents writer.old) (W.contents writer.new) result }
-    ensures closes { Closes false false (of_store result) }
-{
-    match csv_row(alloc, &row.object, row.name.as_str()) {
-        Ok(line) => match put(writer, before, line.as_slice()) {
+    match csv_rows(alloc, rows) {
+        Ok(lines) => match put(writer, before, lines.as_slice()) {
             Ok(after) => Ok(after),
             Err(after) => Err(ExtractFault::Write { written: after }),
         },

@@ -1,6 +1,0 @@
-use Rattle.std.proofs.Common.{◌≡◌, map, take, string_bytes}
-use Rattle.land_sheet.proofs.rows.row_of.Given as goal
-
--- the bytes of the texts so far
-abbrev pub invariant-loop-field : goal.invariant-loop-field
-invariant-loop-field l = map (λ field. field.now) l.lent.items ≡ map string_bytes (take l.field-index l.fields)
