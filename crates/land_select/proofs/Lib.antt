@@ -9,6 +9,7 @@ pub mod Listing
 pub mod Looks
 pub mod Named
 pub mod NamedObjects
+pub mod PartySight
 pub mod Passing
 pub mod Seen
 pub mod ShownByInterest

@@ -3,6 +3,7 @@ pub mod Asking
 pub mod Kept
 pub mod Laws
 pub mod Listing
+pub mod Parties
 pub mod Slices
 pub mod Verdicts
 pub mod Views

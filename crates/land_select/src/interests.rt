@@ -33,7 +33,8 @@ use land_tables_rows::listing::fault::ReadFault;
 use sqlite::{Alter, Connection};
 use std::alloc::{AllocError, Global};
 
-fn is_citizen(role: Role) -> bool
+/// Whether a role is that of a citizen.
+pub(crate) fn is_citizen(role: Role) -> bool
     ensures { result ≡ is_role role roles.Citizen }
 {
     role == Role::Citizen
@@ -65,7 +66,7 @@ fn together(groups: NumberList, circle: &[u64]) -> Result<NumberList, AllocError
 
 /// The names in which a citizen holds at a moment, in whatever order: those of its circle at that moment, and of the groups of which one of it
 /// is a member. For another role none is looked for.
-fn names_of<S: Alter>(
+pub(crate) fn names_of<S: Alter>(
     alloc: Global,
     conn: &mut Connection<S>,
     caller: Caller,

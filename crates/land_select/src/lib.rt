@@ -10,6 +10,7 @@ pub mod laws;
 mod naming;
 mod object;
 mod objects;
+mod party;
 mod sheet;
 mod shown;
 mod sight;

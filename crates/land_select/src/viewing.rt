@@ -14,6 +14,7 @@ ghost use Rattle.sqlite.specs.State.{HasCleanDisk};
 
 use crate::awaited::{awaited, unit_awaited};
 use crate::kept::{Found, found_as};
+use crate::party::party_in_sight;
 use crate::shown::shown_by_interest;
 use crate::view::is_listed;
 use land_core::caller::Caller;
@@ -37,7 +38,7 @@ use sqlite::{Alter, Connection};
 use std::alloc::Global;
 
 /// Whether an object stands at a moment, and the object.
-fn standing_object<S: Alter>(
+pub(crate) fn standing_object<S: Alter>(
     alloc: Global,
     conn: &mut Connection<S>,
     caller: Caller,
@@ -57,7 +58,7 @@ fn standing_object<S: Alter>(
 /// Whether a caller sees an object at a moment, and what is found of it on the way. Where the caller is shown all objects of the kind, one look
 /// by its number finds it; where it is shown those that it lodged, one tells who lodged it. The entries of one unit, or of those that a mutation
 /// names, and a citizen's groups are read where the caller's interest in a unit tells; who lodged what names the unit, where a conveyancer
-/// awaits it; else the list of those that it sees.
+/// awaits it; who is told of a party, where they are few; else the list of those that it sees.
 fn in_sight<S: Alter>(
     alloc: Global,
     conn: &mut Connection<S>,
@@ -89,6 +90,9 @@ fn in_sight<S: Alter>(
     }
     if sees_by_awaiting(caller.role, kind) {
         return awaited(alloc, conn, caller, kind, number, at);
+    }
+    if kind == Kind::Party {
+        return party_in_sight(alloc, conn, caller, number, at);
     }
     let listed = sight(alloc, conn, caller, kind, at)?;
     Ok((is_listed(listed.as_slice(), number), Found::Nothing))

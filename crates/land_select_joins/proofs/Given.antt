@@ -1,6 +1,6 @@
 -- The rows that the text of a selection answers are the numbers that the selection gives.
 use Rattle.std.proofs.Common.{ℕ, ℤ, List, [], ◌∷◌}
-use Rattle.land_select_joins.proofs.Joined.{complete, from, numbered, sound}
+use Rattle.land_select_joins.proofs.Joined.{complete, from, known_in, numbered, sound}
 use Rattle.land_select_joins.proofs.JoinedByNobody.{asked_so}
 use Rattle.land_select_joins.proofs.Places.{as_stored}
 use Rattle.land_select_joins.proofs.Selected.{filter_of, join_of, places_of, selected, shown_of}
@@ -20,15 +20,15 @@ query_of s = plainly (from (places_of s)) (filter_of s) (shown_of s ∷ [])
 pub are_rows_of : (s : Selection) (t : ℤ) (caller : ℕ) (db : Trees) (rows : List Row) → IsAnswer (query_of s) (overlay db []) (given (asked_for caller) t) rows → AreRowsOf s t caller db rows
 are_rows_of s t caller db rows a moments h held =
     let asked = asked_for caller in
-    let join = join_of s in
     let ps = places_of s in
     let fs = filter_of s in
+    let terms = known_in (text_of s) ps fs (shown_of s) (join_of s) in
     record {
-      each = numbered (text_of s) ps fs (shown_of s) join db (overlay db []) (as_stored db) moments h held asked t rows a;
+      each = numbered ps fs (shown_of s) terms db (overlay db []) (as_stored db) moments h held asked t rows a;
       meant = λ n.
           let it = selected s h asked t n in
           let so = asked_so db moments h held t n s caller in (
-            (λ has. so.0 (it.0 (sound (text_of s) ps fs (shown_of s) join db (overlay db []) (as_stored db) moments h held asked t rows a n has))),
-            (λ x. complete (text_of s) ps fs (shown_of s) join db (overlay db []) (as_stored db) moments h held asked t rows a n (it.1 (so.1 x))),
+            (λ has. so.0 (it.0 (sound ps fs (shown_of s) terms db (overlay db []) (as_stored db) moments h held asked t rows a n has))),
+            (λ x. complete ps fs (shown_of s) terms db (overlay db []) (as_stored db) moments h held asked t rows a n (it.1 (so.1 x))),
           );
     }

@@ -118,12 +118,20 @@ pub record IsJoin (text : List ℕ) (places : List Place) (filter : List Term) (
   pub simple : is_simple shown ≡ true
   pub known : (caller : ℕ) (t : ℤ) → ForAll places (λ s. (are_known filter s && is_whole (eval shown s)) ≡ true) (start caller t)
 
+-- what rows say decides the terms, and one number is shown
+pub record IsKnown (places : List Place) (filter : List Term) (shown : Term) : Type 0 where
+  pub simple : is_simple shown ≡ true
+  pub known : (caller : ℕ) (t : ℤ) → ForAll places (λ s. (are_known filter s && is_whole (eval shown s)) ≡ true) (start caller t)
+
+pub known_in : (text : List ℕ) (places : List Place) (filter : List Term) (shown : Term) → IsJoin text places filter shown → IsKnown places filter shown
+known_in text places filter shown is = record { simple = is.simple; known = is.known }
+
 -- there are versions of which all the terms say so, and the number is theirs
 abbrev pub Says : (places : List Place) (filter : List Term) (shown : Term) → History → (caller : ℕ) → (t : ℤ) → (number : ℕ) → Type 0
 Says places filter shown h caller t number = Finds h places (λ s. SayAll filter s × (number_in (eval shown s) ≡ number)) (start caller t)
 
-module _ (text : List ℕ) (places : List Place) (filter : List Term) (shown : Term) (is : IsJoin text places filter shown) where
-  module _ (db over : Trees) (stored : (p : Place) → over (tree p) ≡ db (tree p)) (moments : List Moment) (h : History) (held : HoldsHistory db moments h) (caller : ℕ) (t : ℤ) (rows : List Row)
+module _ (places : List Place) (filter : List Term) (shown : Term) where
+  module _ (is : IsKnown places filter shown) (db over : Trees) (stored : (p : Place) → over (tree p) ≡ db (tree p)) (moments : List Moment) (h : History) (held : HoldsHistory db moments h) (caller : ℕ) (t : ℤ) (rows : List Row)
       (a : IsAnswer (plainly (from places) filter (shown ∷ [])) over (given caller t) rows) where
     abbrev Sure : Env → Type 0
     Sure s = (are_known filter s && is_whole (eval shown s)) ≡ true
@@ -174,19 +182,20 @@ module _ (text : List ℕ) (places : List Place) (filter : List Term) (shown : T
         let passed = passes number it.1 it.0 it.4.0 it.3 it.4.1 in
         subst (Has rows) (sym passed.1) (answers (from places) filter (shown ∷ []) (joined places) over (given caller t) rows a it.0 it.2 passed.0)
 
-  pub meaning : (indexes : List Index) (db : Trees) (moments : List Moment) (h : History) (caller : ℕ) (t : ℤ) (Wanted : ℕ → Type 0) → HoldsHistory db moments h
+  pub meaning : (text : List ℕ) (is : IsJoin text places filter shown) (indexes : List Index) (db : Trees) (moments : List Moment) (h : History) (caller : ℕ) (t : ℤ) (Wanted : ℕ → Type 0) → HoldsHistory db moments h
       → ((number : ℕ) → Says places filter shown h caller t number ↔ Wanted number) → GivesNumbers text indexes db caller t Wanted
-  meaning indexes db moments h caller t Wanted held is_so =
+  meaning text is indexes db moments h caller t Wanted held is_so =
+      let terms = known_in text places filter shown is in
       let here : Database = record { schema = land_with indexes; trees = db } in
       let rows = answer_of (from places) filter (shown ∷ []) (overlay db []) (given caller t) in
       record {
         each = λ rows reads.
             let a = (subst (λ k. Reads k here (given caller t) rows) (is.meant indexes) reads).answer Null in
             record {
-              each = numbered db (overlay db []) (as_stored db) moments h held caller t rows a;
+              each = numbered terms db (overlay db []) (as_stored db) moments h held caller t rows a;
               meant = λ n. (
-                (λ has. (is_so n).0 (sound db (overlay db []) (as_stored db) moments h held caller t rows a n has)),
-                (λ wanted. complete db (overlay db []) (as_stored db) moments h held caller t rows a n ((is_so n).1 wanted)),
+                (λ has. (is_so n).0 (sound terms db (overlay db []) (as_stored db) moments h held caller t rows a n has)),
+                (λ wanted. complete terms db (overlay db []) (as_stored db) moments h held caller t rows a n ((is_so n).1 wanted)),
               );
             };
         rows = rows;

@@ -26,6 +26,7 @@ pub mod RangeQueries
 pub mod Ranges
 pub mod Records
 pub mod References
+pub mod SeerQueries
 pub mod Seeing
 pub mod Selected
 pub mod Sets

@@ -1,7 +1,7 @@
 -- The text of each look-up of numbers as a join of tables, and what it gives.
 use Rattle.std.proofs.Common.{◌≡◌, ◌↔◌, ℕ, ℤ, List, [], ◌∷◌, ◌++◌, codes, Bool, true, false, if◌then◌else◌, refl, sym, ap, ◌∙◌, true≢false}
 use Rattle.land_core.specs.Numbers.{is_number}
-use Rattle.land_select_joins.proofs.Joined.{IsJoin, Says, complete, from, numbered, sound}
+use Rattle.land_select_joins.proofs.Joined.{IsJoin, Says, complete, from, known_in, numbered, sound}
 use Rattle.land_select_joins.proofs.Known as known
 use Rattle.land_select_joins.proofs.Known.{caller, same, still, word}
 use Rattle.land_select_joins.proofs.Places.{IsWithin, Place, What, as_stored, mutations, names, parties, row_of, units, versions}
@@ -169,15 +169,15 @@ query_of l = plainly (from (places_of l)) (filter_of l) (shown_of l ∷ [])
 pub are_rows_of : (l : NumberLookUp) (number : ℕ) (t : ℤ) (db : Trees) (rows : List Row) → IsAnswer (query_of l) (overlay db []) (given (asked_for number) t) rows → AreRowsToldBy l number t db rows
 are_rows_of l number t db rows a moments h held =
     let asked = asked_for number in
-    let join = join_of l in
     let ps = places_of l in
     let fs = filter_of l in
+    let terms = known_in (number_text_of l) ps fs (shown_of l) (join_of l) in
     record {
-      each = numbered (number_text_of l) ps fs (shown_of l) join db (overlay db []) (as_stored db) moments h held asked t rows a;
+      each = numbered ps fs (shown_of l) terms db (overlay db []) (as_stored db) moments h held asked t rows a;
       meant = λ n.
           let it = told_by l h asked t n in
           let so = asked_so db moments h held t l number n in (
-            (λ has. so.0 (it.0 (sound (number_text_of l) ps fs (shown_of l) join db (overlay db []) (as_stored db) moments h held asked t rows a n has))),
-            (λ x. complete (number_text_of l) ps fs (shown_of l) join db (overlay db []) (as_stored db) moments h held asked t rows a n (it.1 (so.1 x))),
+            (λ has. so.0 (it.0 (sound ps fs (shown_of l) terms db (overlay db []) (as_stored db) moments h held asked t rows a n has))),
+            (λ x. complete ps fs (shown_of l) terms db (overlay db []) (as_stored db) moments h held asked t rows a n (it.1 (so.1 x))),
           );
     }

@@ -116,19 +116,19 @@ lodged_test state.Lodged = refl
 lodged_test state.Approved = refl
 lodged_test state.Refused = refl
 
-abbrev HasWord : Class → List ℕ → Type 0
+abbrev pub HasWord : Class → List ℕ → Type 0
 HasWord c w = entry_word c ≡ w
 
-abbrev IsRightWord : Class → Type 0
+abbrev pub IsRightWord : Class → Type 0
 IsRightWord c = HasWord c (codes "ownership") ⊎ (HasWord c (codes "lease") ⊎ HasWord c (codes "usufruct"))
 
-a_right : (c : Class) → Decides (is_right c) (IsRightWord c)
+pub a_right : (c : Class) → Decides (is_right c) (IsRightWord c)
 a_right c = Decides-at _ _ (right_test c) (Decides-or _ _ (bytes_eq-Decides (entry_word c) (codes "ownership")) (Decides-or _ _ (bytes_eq-Decides (entry_word c) (codes "lease")) (bytes_eq-Decides (entry_word c) (codes "usufruct"))))
 
 an_ownership : (c : Class) → Decides (is_right_of Ownership c) (HasWord c (codes "ownership"))
 an_ownership c = Decides-at _ _ (ownership_test c) (bytes_eq-Decides (entry_word c) (codes "ownership"))
 
-a_mortgage : (c : Class) → Decides (is_mortgage c) (HasWord c (codes "mortgage"))
+pub a_mortgage : (c : Class) → Decides (is_mortgage c) (HasWord c (codes "mortgage"))
 a_mortgage c = Decides-at _ _ (mortgage_test c) (bytes_eq-Decides (entry_word c) (codes "mortgage"))
 
 pub undecided : (s : MutationState) → Decides (is_open s) (state_word s ≡ codes "lodged")
@@ -145,22 +145,22 @@ no_mortgage c = is_false (is_mortgage c) (a_mortgage c)
 other_word : (c : Class) → is_mortgage c ≡ false → ¬ HasWord c (codes "mortgage")
 other_word c = not_from_Decides (is_mortgage c) (a_mortgage c)
 
-abbrev SaysToHolder : (held seen : Class) → Type 0
+abbrev pub SaysToHolder : (held seen : Class) → Type 0
 SaysToHolder held seen = (¬ HasWord seen (codes "mortgage")) ⊎ HasWord held (codes "ownership")
 
-to_holder : (held seen : Entry) → SaysToHolder held.1.class seen.1.class → IsToldToHolder held seen
+pub to_holder : (held seen : Entry) → SaysToHolder held.1.class seen.1.class → IsToldToHolder held seen
 to_holder held seen (inl other) = inl (no_mortgage seen.1.class other)
 to_holder held seen (inr owner) = inr ((an_ownership held.1.class).1 owner)
 
-by_holder : (held seen : Entry) → IsToldToHolder held seen → SaysToHolder held.1.class seen.1.class
+pub by_holder : (held seen : Entry) → IsToldToHolder held seen → SaysToHolder held.1.class seen.1.class
 by_holder held seen (inl other) = inl (other_word seen.1.class other)
 by_holder held seen (inr owner) = inr ((an_ownership held.1.class).0 owner)
 
-to_creditor : (caller : ℕ) (seen : Entry) → (¬ HasWord seen.1.class (codes "mortgage")) ⊎ (seen.1.party ≡ caller) → IsToldToCreditor caller seen
+pub to_creditor : (caller : ℕ) (seen : Entry) → (¬ HasWord seen.1.class (codes "mortgage")) ⊎ (seen.1.party ≡ caller) → IsToldToCreditor caller seen
 to_creditor caller seen (inl other) = inl (no_mortgage seen.1.class other)
 to_creditor caller seen (inr own) = inr own
 
-by_creditor : (caller : ℕ) (seen : Entry) → IsToldToCreditor caller seen → (¬ HasWord seen.1.class (codes "mortgage")) ⊎ (seen.1.party ≡ caller)
+pub by_creditor : (caller : ℕ) (seen : Entry) → IsToldToCreditor caller seen → (¬ HasWord seen.1.class (codes "mortgage")) ⊎ (seen.1.party ≡ caller)
 by_creditor caller seen (inl other) = inl (other_word seen.1.class other)
 by_creditor caller seen (inr own) = inr own
 
@@ -710,4 +710,4 @@ selected selection.LodgedParties = lodged_parties
 -- a text gives what its selection selects
 pub texts_select : TextsSelect
 texts_select s indexes db moments h caller t held =
-    meaning (text_of s) (places_of s) (filter_of s) (shown_of s) (join_of s) indexes db moments h caller t (selects s t h caller) held (selected s h caller t)
+    meaning (places_of s) (filter_of s) (shown_of s) (text_of s) (join_of s) indexes db moments h caller t (selects s t h caller) held (selected s h caller t)

@@ -1,5 +1,6 @@
 -- What a join of tables answers, as a set.
-use Rattle.std.proofs.Common.{◌≡◌, inl, inr, pos, negsuc, List, [], ◌∷◌, ◌++◌, map, flat_map, None, Bool, true, false, cond, refl, sym, ap, ap₂, subst, ◌∙◌, true≢false, IsPermutation, IsSorted, Equal}
+use Rattle.std.proofs.Common.{◌≡◌, ◌<◌, inl, inr, ℕ, pos, negsuc, List, [], ◌∷◌, ◌++◌, length, map, flat_map, None, Bool, true, false, cond, refl, sym, ap, ap₂, subst, ◌∙◌, true≢false, IsPermutation, IsSorted, Equal, arith}
+use Rattle.std.proofs.lemmas.List.{length-take, take_all}
 use Rattle.std.proofs.lemmas.List.Sorted.{Contains-permutation, IsPermutation-refl, IsPermutation-sym, IsPermutation-map}
 use Rattle.std.specs.List.{list_all}
 use Rattle.sqlite.specs.declared.types.Value.{Value}
@@ -60,6 +61,28 @@ matches_all db filter _ env e plain h passed = absurd (true≢false (sym plain))
 abbrev pub plainly : Join → List Term → List Term → Query
 plainly from filter project =
     record { from = from; filter = filter; group = None; project = project; distinct = false; collations = []; order = []; limit = lit (Int (negsuc 0)); offset = lit (Int (pos 0)) }
+
+-- the same, of which only so many rows are given
+abbrev pub cut : (most : ℕ) → Join → List Term → List Term → Query
+cut most from filter project = record (plainly from filter project) { limit = lit (Int (pos most)) }
+
+-- where they are less, no row was cut off
+pub uncut : (most : ℕ) (from : Join) (filter project : List Term) (db : Trees) (params : Row) (rows : List Row) → length rows < most → IsAnswer (cut most from filter project) db params rows
+    → IsAnswer (plainly from filter project) db params rows
+uncut most from filter project db params rows few a =
+    let all = map (λ (o : Output). o.1) a.ordered in
+    let long = length-take most all in
+    let short = subst (λ l. length l < most) a.shown few in
+    record {
+      staged = a.staged;
+      grouped = a.grouped;
+      kept = a.kept;
+      distinct = a.distinct;
+      ordered = a.ordered;
+      same = a.same;
+      sorted = a.sorted;
+      shown = a.shown ∙ take_all most all (omega (arith, long, short));
+    }
 
 module _ (from : Join) (filter project : List Term) (plain : is_inner from ≡ true) (db : Trees) (params : Row) (rows : List Row) where
   shown_all : (a : IsAnswer (plainly from filter project) db params rows) → IsPermutation (map (eval_all project) (matches db filter from (params ∷ []))) rows

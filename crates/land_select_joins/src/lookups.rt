@@ -16,6 +16,8 @@ pub mod of_party;
 pub mod of_unit;
 pub mod office;
 pub mod presence;
+pub mod relation;
+pub mod seers;
 pub mod shown;
 pub mod texts;
 pub mod within;

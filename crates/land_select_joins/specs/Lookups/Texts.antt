@@ -5,6 +5,8 @@ use Rattle.land_select_joins.specs.declared.lookups.look_up.LookUp.{LookUp}
 use Rattle.land_select_joins.specs.declared.lookups.look_up.LookUp.TheVariants as look_up
 use Rattle.land_select_joins.specs.declared.lookups.number_look_up.NumberLookUp.{NumberLookUp}
 use Rattle.land_select_joins.specs.declared.lookups.number_look_up.NumberLookUp.TheVariants as number_look_up
+use Rattle.land_select_joins.specs.declared.lookups.relation.Relation.{Relation}
+use Rattle.land_select_joins.specs.declared.lookups.relation.Relation.TheVariants as relation
 use Rattle.land_select_joins.specs.declared.lookups.texts.TheConstants as texts
 
 abbrev pub text_of : LookUp → List ℕ
@@ -27,3 +29,9 @@ number_text_of number_look_up.Party = own.ITSELF.now
 number_text_of number_look_up.Unit = texts.UNIT_NUMBER.now
 number_text_of number_look_up.LodgerOfMutation = texts.LODGER_OF_MUTATION.now
 number_text_of number_look_up.LodgersOnUnit = texts.LODGERS_ON_UNIT.now
+
+-- and of each relation by which somebody is told of a party
+abbrev pub seer_text_of : Relation → List ℕ
+seer_text_of relation.Holding = texts.SEERS_BY_HOLDING.now
+seer_text_of relation.Crediting = texts.SEERS_BY_CREDITING.now
+seer_text_of relation.Awaiting = texts.SEERS_BY_AWAITING.now

@@ -2,7 +2,7 @@
 //!
 //! In each of them parameter 1 is the number that is given, and parameter 2 the moment in milliseconds since 1970 UTC; parameter 3 is the
 //! reference, where one is given, and of a range of numbers the last one, where parameter 1 is the first. A row stands where the moment is
-//! not before its `since` and is before its `until`.
+//! not before its `since` and is before its `until`. A text that ends in `LIMIT` gives some of the rows that it would give without.
 
 /// The party of a number.
 pub const PARTY: &str =
@@ -99,3 +99,16 @@ pub const MUTATIONS_WITHIN: &str =
 /// The parties of the entries of a range of numbers, a party as often as it has one.
 pub const PARTIES_OF_ENTRIES: &str =
     "SELECT party.number, party.name, party.kind, party.since, party.until FROM rrr JOIN party ON party.number = rrr.party WHERE ?1 <= rrr.number AND rrr.number <= ?3 AND rrr.since <= ?2 AND ?2 < rrr.until AND party.since <= ?2 AND ?2 < party.until";
+
+/// Who holds a right in the unit of an entry of a party that is told to its holder, one as often as it is told of one. More rows than
+/// seventeen are not read.
+pub const SEERS_BY_HOLDING: &str =
+    "SELECT held.party FROM rrr AS seen JOIN rrr AS held ON held.unit = seen.unit WHERE seen.party = ?1 AND held.class IN ('ownership', 'lease', 'usufruct') AND (seen.class <> 'mortgage' OR held.class = 'ownership') AND seen.since <= ?2 AND ?2 < seen.until AND held.since <= ?2 AND ?2 < held.until LIMIT 17";
+
+/// Who has a mortgage on the unit of an entry of a party that is told to its creditor, likewise.
+pub const SEERS_BY_CREDITING: &str =
+    "SELECT held.party FROM rrr AS seen JOIN rrr AS held ON held.unit = seen.unit WHERE seen.party = ?1 AND held.class = 'mortgage' AND (seen.class <> 'mortgage' OR seen.party = held.party) AND seen.since <= ?2 AND ?2 < seen.until AND held.since <= ?2 AND ?2 < held.until LIMIT 17";
+
+/// Who lodged what is undecided and names the unit of an entry of a party, likewise.
+pub const SEERS_BY_AWAITING: &str =
+    "SELECT mutation.lodger FROM rrr JOIN names ON names.unit = rrr.unit JOIN mutation ON mutation.number = names.mutation WHERE rrr.party = ?1 AND mutation.state = 'lodged' AND rrr.since <= ?2 AND ?2 < rrr.until AND names.since <= ?2 AND ?2 < names.until AND mutation.since <= ?2 AND ?2 < mutation.until LIMIT 17";

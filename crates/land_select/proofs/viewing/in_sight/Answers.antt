@@ -1,5 +1,12 @@
-use Rattle.std.proofs.Common.{rules, ◌≡◌, nat_eq, sym, to_z, of_z, w64, ap, ◌∙◌}
+use Rattle.std.proofs.Common.{rules, ◌≡◌, true, nat_eq, refl, sym, to_z, of_z, w64, ap, subst, ◌∙◌}
+use Rattle.std.proofs.lemmas.Bool.{false≢true}
 use Rattle.std.specs.List.{list_any}
+use denote.Enum.Bare.{sameb}
+use Rattle.land_core.specs.contracts.kind.Kind.{the_type}
+use Rattle.land_core.specs.declared.kind.Kind.{Kind}
+use Rattle.land_core.specs.declared.kind.Kind.TheVariants.{Party, Unit, Parcel, Rrr, Source, Mutation}
+use Rattle.land_rules.specs.Rules.{sees}
+use Rattle.land_select.specs.Kept.{IsToldWith}
 use Rattle.land_select.proofs.Looks.{look_means}
 use Rattle.land_select.proofs.Viewed.{have_members}
 use Rattle.land_tables_schema.proofs.Looking.{look_told}
@@ -44,6 +51,25 @@ returns-then-sees_by_awaiting-clause-look g c =
     (λ it is moments h held r premise stands.
     let told = is moments h held r premise stands in
     (told.0 ∙ sym (c.what_is_awaited_is_seen.ensures r premise c.args.caller c.args.kind c.args.number by), told.1))
+
+-- the kind of parties alone compares equal to it
+same_kind : (kind : Kind) → sameb the_type kind Party ≡ true → kind ≡ Party
+same_kind Party same = refl
+same_kind Unit same = absurd (false≢true same)
+same_kind Parcel same = absurd (false≢true same)
+same_kind Rrr same = absurd (false≢true same)
+same_kind Source same = absurd (false≢true same)
+same_kind Mutation same = absurd (false≢true same)
+
+pub returns-then-eq-clause-look : goal.returns-then-eq-clause-look
+returns-then-eq-clause-look g c =
+    let a = state g.S.Store c.args.conn.now in
+    let when : to_z w64 (of_z w64 c.args.at) ≡ c.args.at = search rules in
+    let look = rw when at c.party_in_sight.ensures.look in
+    let party = same_kind c.args.kind (sym c.eq.ensures ∙ c.if-eq.true) in
+    look_means a (state g.S.Store c.party_in_sight.new.conn) c.party_in_sight.result look
+    (λ it told.
+    subst (λ (kind : Kind). IsToldWith (λ r. sees r c.args.caller kind c.args.number) c.args.caller kind c.args.number c.args.at a.now.trees it) (sym party) told)
 
 pub returns-clause-look : goal.returns-clause-look
 returns-clause-look g c =
