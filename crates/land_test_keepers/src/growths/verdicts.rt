@@ -30,12 +30,14 @@ enum Asked {
 /// What is judged: its name, who asks, in which role, for what, and the rule that denies it, 0 where none does.
 struct Judged(&'static str, u64, Role, Asked, u8);
 
-/// The garden, the ownership in it, and its subdivision, which Sam lodged.
+/// The garden, the ownership in it, its subdivision, which Sam lodged, and its owner.
 const GARDEN: Asked = Asked::View(Kind::Unit, 9);
 
 const OWNERSHIP: Asked = Asked::View(Kind::Rrr, 21);
 
 const SUBDIVISION: Asked = Asked::View(Kind::Mutation, 23);
+
+const BEN: Asked = Asked::View(Kind::Party, 3);
 
 /// Nora holds nothing, Ben owns the garden, Sam has a lease in it and the bank a mortgage on it.
 const JUDGED: &[Judged] = &[
@@ -46,6 +48,16 @@ const JUDGED: &[Judged] = &[
     Judged("a sheet, denied", 5, Role::Citizen, Asked::Sheet(9), 11),
     Judged("a sheet, allowed", 6, Role::Citizen, Asked::Sheet(9), 0),
     Judged("a unit, to a bank", 4, Role::Bank, GARDEN, 0),
+    Judged("a party, denied", 5, Role::Citizen, BEN, 13),
+    Judged("a party, allowed", 6, Role::Citizen, BEN, 0),
+    Judged("a party, to a bank", 4, Role::Bank, BEN, 0),
+    Judged(
+        "a party, to a surveyor",
+        6,
+        Role::CertifiedSurveyor,
+        BEN,
+        24,
+    ),
     Judged("a unit, to a notary", 5, Role::Notary, GARDEN, 0),
     Judged("a mutation, denied", 5, Role::Citizen, SUBDIVISION, 14),
     Judged("a mutation, allowed", 3, Role::Citizen, SUBDIVISION, 0),

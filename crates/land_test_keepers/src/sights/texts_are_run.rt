@@ -44,10 +44,13 @@ const CALLERS: &[Caller] = &[
 ];
 
 /// The moment of the last step.
-const LAST: i64 = 1017;
+pub(crate) const LAST: i64 = 1017;
+
+/// A connection over such a store.
+pub(crate) type Recorded = Connection<Recorder<MemStore>>;
 
 /// A connection over a store of which is marked what is read.
-fn connected(alloc: Global) -> Result<Connection<Recorder<MemStore>>, Stop> {
+fn connected(alloc: Global) -> Result<Recorded, Stop> {
     let store = Recorder::over(MemStore::new(alloc, &[])?);
     match Connection::over(alloc, store) {
         Ok(conn) => Ok(conn),
@@ -56,7 +59,7 @@ fn connected(alloc: Global) -> Result<Connection<Recorder<MemStore>>, Stop> {
 }
 
 /// The register after the scenario, in such a store.
-fn played(alloc: Global) -> Result<SqlKeeper<Recorder<MemStore>>, Stop> {
+pub(crate) fn played(alloc: Global) -> Result<SqlKeeper<Recorder<MemStore>>, Stop> {
     let tables = match Tables::create(connected(alloc)?) {
         Ok(tables) => tables,
         Err((_, fault)) => return Err(Stop::from(fault)),
@@ -77,16 +80,12 @@ fn read_by_keeper(alloc: Global, caller: Caller) -> Result<Reads, Stop> {
 }
 
 /// The text that gives those whose mandate a citizen holds, whose parameters are as those of the texts of a list.
-const MANDATES: &str =
+pub(crate) const MANDATES: &str =
     "SELECT principal, agent, since, until FROM mandate WHERE agent = ?1 AND since <= ?2 AND ?2 < until";
 
 /// Runs the texts of a list, whose first parameter is the caller and whose second is the moment; of a citizen's list, but of parcels, which
 /// everybody sees, that of its mandates before, of which there are none here.
-fn run_texts(
-    conn: &mut Connection<Recorder<MemStore>>,
-    caller: Caller,
-    kind: Kind,
-) -> Result<(), Stop> {
+fn run_texts(conn: &mut Recorded, caller: Caller, kind: Kind) -> Result<(), Stop> {
     let party = i64::try_from(caller.party).unwrap_or(0);
     let params = [ValueRef::Int(party), ValueRef::Int(LAST)];
     if caller.role == Role::Citizen && kind != Kind::Parcel {
