@@ -47,8 +47,8 @@ READS = {
     ("citizen", "its units"): of_circle("holder/UNITS", "group/UNITS"),                        # Sight
     ("citizen", "the entries in its sight"): of_circle("holder/ENTRIES", "group/ENTRIES"),     # Sight
     ("citizen", "the parties in its sight"): PARTIES,                                          # Sight
-    ("citizen", "a party in its sight"): [                                                     # viewing::in_sight: sight; ObjectAt
-        *PARTIES, "PARTY $2 now", "ROLES_OF_PARTY $2 now", "MEMBERS_OF_GROUP $2 now"],
+    ("citizen", "a party in its sight"): [                                                     # party::party_in_sight, ObjectAt
+        *GROUPS, "SEERS_BY_HOLDING $2 now", "PARTY $2 now", "ROLES_OF_PARTY $2 now", "MEMBERS_OF_GROUP $2 now"],
     ("citizen", "an entry in its sight"): [*ENTRY, *GROUPS],                                   # interests::entry_shown
     ("citizen", "an entry that is denied"): [*ENTRY, *GROUPS],                                 # interests::entry_shown
     ("citizen", "a parcel"): ["PARCEL $2 now"],                                                # viewing::standing_object
