@@ -309,6 +309,7 @@ def asked(known):
         (*bank, "an entry that is denied", f"/rrrs/{other}"),
         (*bank, "the title sheet", f"/units/{unit}/sheet"),
         (BANK, "bank", "an entry, where it has a mortgage on all other units", f"/rrrs/{other}"),
+        (BANK, "bank", "an owner, where it has a mortgage on all other units", f"/parties/{partner}"),
         (partner, "citizen", "a mutation of its unit", f"/mutations/{mutation}"),
         (*citizen, "a mutation that is denied", f"/mutations/{mutation}"),
         (*conveyancer, "a mutation, where it lodged all that there are", f"/mutations/{mutation}"),

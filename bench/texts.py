@@ -61,6 +61,8 @@ READS = {
     ("bank", "an entry that is denied"): ENTRY,                                                # interests::entry_shown
     ("bank", "the title sheet"): [*UNIT, *RECORD, *PARCELS, *NAMES],                           # interests::unit_with_entries, UnitSeen
     ("bank", "an entry, where it has a mortgage on all other units"): ENTRY,                   # interests::entry_shown
+    ("bank", "an owner, where it has a mortgage on all other units"): [                        # party::party_in_sight, ObjectAt
+        "SEERS_BY_CREDITING $2 now", "PARTY $2 now", "ROLES_OF_PARTY $2 now", "MEMBERS_OF_GROUP $2 now"],
     ("citizen", "a mutation of its unit"): [*NAMING, *GROUPS],                                 # naming::mutation_shown
     ("citizen", "a mutation that is denied"): [*NAMING, *GROUPS],                              # naming::mutation_shown
     ("conveyancer", "a mutation, where it lodged all that there are"): ["LODGER_OF_MUTATION $2 now", "MUTATION $2 now"],  # has_lodged, ObjectAt
