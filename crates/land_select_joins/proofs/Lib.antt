@@ -27,6 +27,7 @@ pub mod Ranges
 pub mod Records
 pub mod References
 pub mod SeerQueries
+pub mod SeerWays
 pub mod Seeing
 pub mod Selected
 pub mod Sets
@@ -35,4 +36,5 @@ pub mod Standing
 pub mod Tested
 pub mod United
 pub mod Views
+pub mod Ways
 pub mod Words

@@ -110,7 +110,7 @@ versions mutations h = h.mutations
 versions names h = h.namings
 versions mandates h = h.mandates
 
-keeps : (db : Trees) (moments : List Moment) (h : History) → HoldsHistory db moments h → (p : Place) → Keeps (reading p) db (versions p h)
+pub keeps : (db : Trees) (moments : List Moment) (h : History) → HoldsHistory db moments h → (p : Place) → Keeps (reading p) db (versions p h)
 keeps db moments h held parties = held.the_parties
 keeps db moments h held roles = held.the_roles
 keeps db moments h held members = held.the_members

@@ -1,14 +1,14 @@
 -- The text of each relation by which somebody is told of a party as a join of tables, and what it gives.
-use Rattle.std.proofs.Common.{◌≡◌, ◌↔◌, ℕ, ℤ, List, [], ◌∷◌, ◌++◌, codes, Bool, true, false, if◌then◌else◌, refl, sym, ap, subst, ◌∙◌, true≢false, arith}
+use Rattle.std.proofs.Common.{◌≡◌, ◌↔◌, ℕ, ℤ, ◌≤◌, List, [], ◌∷◌, ◌++◌, length, codes, Bool, true, false, if◌then◌else◌, refl, sym, ap, subst, ◌∙◌, true≢false, arith}
 use Rattle.land_core.specs.Numbers.{is_number}
 use Rattle.land_select_joins.proofs.Joined.{Asks, IsKnown, Says, complete, from, numbered, sound}
 use Rattle.land_select_joins.proofs.Known.{a_mortgage as with_mortgage, a_right as with_right, caller, is_shown, not_word, same, still, word}
 use Rattle.land_select_joins.proofs.Places.{Place, as_stored, mutations, names, row_of, rrrs}
 use Rattle.land_select_joins.proofs.Selected.{a_mortgage, a_right, by_creditor, by_holder, of, stood, to_creditor, to_holder, undecided, version}
 use Rattle.land_select_joins.proofs.Sets.{cut, uncut}
-use Rattle.land_select_joins.specs.Joins.Meaning.{given}
-use Rattle.land_select_joins.specs.Joins.Running.{asked_for}
-use Rattle.land_select_joins.specs.Lookups.Seers.{AreFewSeerRows, IsSeer}
+use Rattle.land_select_joins.specs.Joins.Meaning.{AreNumberRows, given}
+use Rattle.land_select_joins.specs.Joins.Running.{OfHeld, asked_for}
+use Rattle.land_select_joins.specs.Lookups.Seers.{IsSeer}
 use Rattle.land_select_joins.specs.Lookups.Texts.{seer_text_of}
 use Rattle.land_select_joins.specs.Sights.Selections.{Entry, IsToldToCreditor, Stands}
 use Rattle.land_select_joins.specs.declared.lookups.relation.Relation.{Relation}
@@ -58,7 +58,7 @@ asks relation.Holding indexes = record { names = codes "party" ∷ []; command =
 asks relation.Crediting indexes = record { names = codes "party" ∷ []; command = refl; unlisted = refl; plain = (refl, refl) }
 asks relation.Awaiting indexes = record { names = codes "lodger" ∷ []; command = refl; unlisted = refl; plain = (refl, refl) }
 
-known_of : (relation : Relation) → IsKnown (places_of relation) (filter_of relation) (shown_of relation)
+pub known_of : (relation : Relation) → IsKnown (places_of relation) (filter_of relation) (shown_of relation)
 known_of relation.Holding = record { simple = refl; known = λ caller t s h. refl }
 known_of relation.Crediting = record { simple = refl; known = λ caller t s h. refl }
 known_of relation.Awaiting = record { simple = refl; known = λ caller t r n m. refl }
@@ -202,7 +202,7 @@ module _ (db : Trees) (moments : List Moment) (h : History) (held : HoldsHistory
 -- ---- answers
 
 -- what the text of a relation answers are all that it tells of, where the rows are few
-pub are_few : (relation : Relation) (party : ℕ) (t : ℤ) (db : Trees) (rows : List Row) → IsAnswer (query_of relation) (overlay db []) (given (asked_for party) t) rows → AreFewSeerRows relation party t db rows
+pub are_few : (relation : Relation) (party : ℕ) (t : ℤ) (db : Trees) (rows : List Row) → IsAnswer (query_of relation) (overlay db []) (given (asked_for party) t) rows → length rows ≤ 16 → OfHeld db (λ h. AreNumberRows rows (IsSeer relation t h party))
 are_few relation party t db rows cut_off few moments h held =
     let asked = asked_for party in
     let ps = places_of relation in

@@ -125,7 +125,7 @@ IsRightWord c = HasWord c (codes "ownership") ⊎ (HasWord c (codes "lease") ⊎
 pub a_right : (c : Class) → Decides (is_right c) (IsRightWord c)
 a_right c = Decides-at _ _ (right_test c) (Decides-or _ _ (bytes_eq-Decides (entry_word c) (codes "ownership")) (Decides-or _ _ (bytes_eq-Decides (entry_word c) (codes "lease")) (bytes_eq-Decides (entry_word c) (codes "usufruct"))))
 
-an_ownership : (c : Class) → Decides (is_right_of Ownership c) (HasWord c (codes "ownership"))
+pub an_ownership : (c : Class) → Decides (is_right_of Ownership c) (HasWord c (codes "ownership"))
 an_ownership c = Decides-at _ _ (ownership_test c) (bytes_eq-Decides (entry_word c) (codes "ownership"))
 
 pub a_mortgage : (c : Class) → Decides (is_mortgage c) (HasWord c (codes "mortgage"))

@@ -1,7 +1,7 @@
 -- What a join of tables answers, as a set.
-use Rattle.std.proofs.Common.{◌≡◌, ◌<◌, inl, inr, ℕ, pos, negsuc, List, [], ◌∷◌, ◌++◌, length, map, flat_map, None, Bool, true, false, cond, refl, sym, ap, ap₂, subst, ◌∙◌, true≢false, IsPermutation, IsSorted, Equal, arith}
-use Rattle.std.proofs.lemmas.List.{length-take, take_all}
-use Rattle.std.proofs.lemmas.List.Sorted.{Contains-permutation, IsPermutation-refl, IsPermutation-sym, IsPermutation-map}
+use Rattle.std.proofs.Common.{◌≡◌, ◌≤◌, ◌<◌, inl, inr, ℕ, pos, negsuc, List, [], ◌∷◌, ◌++◌, length, map, flat_map, None, Bool, true, false, cond, refl, sym, ap, ap₂, subst, ◌∙◌, true≢false, IsPermutation, IsSorted, Equal, arith}
+use Rattle.std.proofs.lemmas.List.{length-map, length-take, take_all}
+use Rattle.std.proofs.lemmas.List.Sorted.{length_permutation, Contains-permutation, IsPermutation-refl, IsPermutation-sym, IsPermutation-map}
 use Rattle.std.specs.List.{list_all}
 use Rattle.sqlite.specs.declared.types.Value.{Value}
 use Rattle.sqlite.specs.declared.types.Value.TheVariants.{Int}
@@ -83,6 +83,17 @@ uncut most from filter project db params rows few a =
       sorted = a.sorted;
       shown = a.shown ∙ take_all most all (omega (arith, long, short));
     }
+
+-- no more are given than are matched
+pub no_more : (most : ℕ) (from : Join) (filter project : List Term) (db : Trees) (params : Row) (rows : List Row) → IsAnswer (cut most from filter project) db params rows
+    → length rows ≤ length (matches db filter from (params ∷ []))
+no_more most from filter project db params rows a =
+    let all = matches db filter from (params ∷ []) in
+    let shown = map (λ (o : Output). o.1) a.ordered in
+    let is_cut = ap length a.shown ∙ length-take most shown in
+    let ordered = length-map a.ordered (λ (o : Output). o.1) ∙ length_permutation a.kept a.ordered a.same in
+    let kept = ap length a.distinct ∙ length-map a.staged (output (cut most from filter project)) ∙ ap length a.grouped in
+    omega (arith, is_cut, ordered, kept)
 
 module _ (from : Join) (filter project : List Term) (plain : is_inner from ≡ true) (db : Trees) (params : Row) (rows : List Row) where
   shown_all : (a : IsAnswer (plainly from filter project) db params rows) → IsPermutation (map (eval_all project) (matches db filter from (params ∷ []))) rows

@@ -1,7 +1,7 @@
 //! Who is told of a party.
-ghost use Rattle.std.specs.Prelude.{◌≡◌, length, nat_le, false, IfErr, IfSome};
+ghost use Rattle.std.specs.Prelude.{◌≡◌, length, nat_le, false, IfErr};
 ghost use Rattle.land_select_joins.specs.Joins.Running.{HoldsNone};
-ghost use Rattle.land_select_joins.specs.Lookups.Seers.{AreFewSeerRows, AreSeers};
+ghost use Rattle.land_select_joins.specs.Lookups.Seers.{AreSeerRows, AreSeers};
 ghost use Rattle.land_tables_schema.specs.Land.{IsLand};
 ghost use Rattle.land_tables_schema.specs.Rows.Looks.{IsLook};
 ghost use Rattle.sqlite.specs.Held.{state};
@@ -26,7 +26,7 @@ fn rows_of<S: Alter>(
     at: i64,
 ) -> Result<Vec<Row>, Error>
     requires land { HasCleanDisk (state S.Store conn.old) → IsLand (state S.Store conn.old).now.schema }
-    ensures look { IsLook result (λ rows. AreFewSeerRows relation party at (state S.Store conn.old).now.trees rows.items) (state S.Store conn.old) (state S.Store conn.new) }
+    ensures look { IsLook result (λ rows. AreSeerRows relation party at (state S.Store conn.old).now.trees rows.items) (state S.Store conn.old) (state S.Store conn.new) }
     ensures mode { conn.old.in_transaction ≡ false → conn.new.in_transaction ≡ false }
 {
     conn.query_all(
@@ -53,7 +53,7 @@ pub fn seers<S: Alter>(
     at: i64,
 ) -> Result<Option<NumberList>, ReadFault>
     requires land { HasCleanDisk (state S.Store conn.old) → IsLand (state S.Store conn.old).now.schema }
-    ensures look { IsLook result (λ it. IfSome it (AreSeers relation party at (state S.Store conn.old).now.trees)) (state S.Store conn.old) (state S.Store conn.new) }
+    ensures look { IsLook result (AreSeers relation party at (state S.Store conn.old).now.trees) (state S.Store conn.old) (state S.Store conn.new) }
     ensures unreadable { HasCleanDisk (state S.Store conn.new) → IfErr result (HoldsNone (state S.Store conn.old).now.trees) }
     ensures mode { conn.old.in_transaction ≡ false → conn.new.in_transaction ≡ false }
 {

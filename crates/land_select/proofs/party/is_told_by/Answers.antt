@@ -1,4 +1,4 @@
-use Rattle.std.proofs.Common.{rules, ◌≡◌, IfSome, List, ℕ, to_z, of_z, w64, Option, subst, ◌∙◌}
+use Rattle.std.proofs.Common.{rules, ◌≡◌, to_z, of_z, w64, subst, ◌∙◌}
 use Rattle.land_core.specs.declared.kind.Kind.TheVariants.{Party}
 use Rattle.land_rules.specs.Rules.{sees}
 use Rattle.land_select.proofs.PartySight.{told_seen}
@@ -21,7 +21,7 @@ returns-in-Some-clause-look g c =
     let met = rw c.as_slice.ensures at c.are_met.ensures in
     look_told a (state g.S.Store c.seers.new.conn) _ look
     (λ clean are moments h held r premise stands others.
-    let all = subst (λ (o : Option (List ℕ)). IfSome o (AreSeers c.args.relation n t a.now.trees)) c.in-Some.is are in
+    let all = subst (AreSeers c.args.relation n t a.now.trees) c.in-Some.is are in
     met
     ∙ told_seen c.selections_are_the_rules.ensures c.seen_is_exact.ensures c.circles_see_together.ensures r t h premise stands n c.args.caller c.requires.role c.args.names.now c.args.relation few others c.requires.by (all moments h held))
 

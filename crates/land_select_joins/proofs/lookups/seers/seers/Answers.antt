@@ -1,5 +1,5 @@
-use Rattle.std.proofs.Common.{rules, ◌≡◌, ◌≤◌, ◌∙◌, length, to_z, of_z, w64, Ok, Err, sym}
-use Rattle.std.proofs.lemmas.Bool.{leb-true}
+use Rattle.std.proofs.Common.{rules, ◌≡◌, ◌≤◌, ◌<◌, ◌∙◌, length, to_z, of_z, w64, Ok, Err, sym}
+use Rattle.std.proofs.lemmas.Bool.{leb-true, leb-false}
 use Rattle.land_select_joins.proofs.Counted.{none_held, numbers_told}
 use Rattle.land_select_joins.proofs.Records.{none_held as none_held_after}
 use Rattle.land_select_joins.specs.Lookups.Seers.{IsSeer}
@@ -11,7 +11,9 @@ pub returns-then-not-are_few-clause-look : goal.returns-then-not-are_few-clause-
 returns-then-not-are_few-clause-look g c =
     let when : to_z w64 (of_z w64 c.args.at) ≡ c.args.at = search rules in
     let look = rw when at c.in_ok-rows.ensures.look in
-    look_told (state g.S.Store c.args.conn.now) (state g.S.Store c.rows_of.new.conn) _ look (λ clean are. tt)
+    let rows = c.in_ok-rows.rows.items in
+    let many : 16 < length rows = leb-false (length rows) 16 (sym (rw c.as_slice.ensures.value at c.are_few.ensures) ∙ c.if-not-are_few.true) in
+    look_told (state g.S.Store c.args.conn.now) (state g.S.Store c.rows_of.new.conn) _ look (λ clean are. are.many many)
 
 pub returns-clause-look : goal.returns-clause-look
 returns-clause-look g c =
@@ -25,7 +27,7 @@ returns-clause-look g c =
     let few : length rows ≤ 16 = leb-true (length rows) 16 (sym (rw c.as_slice.ensures.value at c.are_few.ensures) ∙ c.if-not-are_few.false) in
     let read = rw c.as_slice-2.ensures.value at c.in_ok-told.ensures in
     look_told old (state g.S.Store c.rows_of.new.conn) _ look
-    (λ clean are. numbers_told (λ h. IsSeer relation t h party) old.now.trees rows (are few) (Ok c.in_ok-told.told) read)
+    (λ clean are. numbers_told (λ h. IsSeer relation t h party) old.now.trees rows (are.few few) (Ok c.in_ok-told.told) read)
 
 pub returns-in_err-told-clause-unreadable : goal.returns-in_err-told-clause-unreadable
 returns-in_err-told-clause-unreadable g c clean =
@@ -39,4 +41,4 @@ returns-in_err-told-clause-unreadable g c clean =
     let few : length rows ≤ 16 = leb-true (length rows) 16 (sym (rw c.as_slice.ensures.value at c.are_few.ensures) ∙ c.if-not-are_few.false) in
     let fault = c.in_err-told.field-0.0 in
     let read = rw c.as_slice-2.ensures.value at c.in_err-told.ensures in
-    none_held_after trees c.from_residual-in_err-told.result fault c.from_residual-in_err-told.ensures.1 (none_held (λ h. IsSeer relation t h party) trees rows (look.given clean few) (Err fault) read)
+    none_held_after trees c.from_residual-in_err-told.result fault c.from_residual-in_err-told.ensures.1 (none_held (λ h. IsSeer relation t h party) trees rows ((look.given clean).few few) (Err fault) read)
