@@ -75,7 +75,7 @@ module _ (t : ℤ) where
   pub three : {X Y Z : Type 0} (us : List (Version X)) (vs : List (Version Y)) (ws : List (Version Z)) (passes : Version X → Version Y → Version Z → Bool) (test : X → Y → Z → Bool)
       → ((u : Version X) (v : Version Y) (w : Version Z) → passes u v w ≡ (stands t u && (stands t v && (stands t w && test u.what v.what w.what))))
       → sum_by (λ u. sum_by (λ v. sum_by (λ w. cond (passes u v w) 1 0) ws) vs) us
-          ≡ sum_by (λ x. sum_by (λ y. count_by (test x y) (standing t ws)) (standing t vs)) (standing t us)
+      ≡ sum_by (λ x. sum_by (λ y. count_by (test x y) (standing t ws)) (standing t vs)) (standing t us)
   three us vs ws passes test same =
       level us (λ u. sum_by (λ v. sum_by (λ w. cond (passes u v w) 1 0) ws) vs) (λ x. sum_by (λ y. count_by (test x y) (standing t ws)) (standing t vs))
       (λ u. two (stands t u) vs ws (passes u) (test u.what) (same u))
@@ -141,8 +141,8 @@ Lives t v Rest = (int_le v.since t ≡ true) × ((int_lt t v.until ≡ true) × 
 pub lives : {X : Type 0} {Rest : Type 0} (t : ℤ) (v : Version X) (rest : Bool) → Decides rest Rest → Decides (stands t v && rest) (Lives t v Rest)
 lives t v rest d = (
   (λ e.
-  let both = and_parts (stands t v) rest e in
-  let life = and_parts (int_le v.since t) (int_lt t v.until) both.0 in
-  (life.0, (life.1, d.0 both.1))),
+      let both = and_parts (stands t v) rest e in
+      let life = and_parts (int_le v.since t) (int_lt t v.until) both.0 in
+      (life.0, (life.1, d.0 both.1))),
   (λ p. and_from (stands t v) rest (and_from (int_le v.since t) (int_lt t v.until) p.0 p.1.0) (d.1 p.1.1)),
 )
