@@ -1,28 +1,19 @@
-//! The tests of what is read and written, and of what stands on a store: routes, bodies, requests and replies as bytes, streams,
-//! connections; the tables, the keepers over them, extracts, commands and their words. Each of them is a call of a trial in
-//! `land_test_desk`, `land_test_store`, `land_test_tables`, `land_test_keepers` or `land_test_stops`; connections, clocks and words are
-//! tried here. There is nothing else here: a crate that has tests is proved twice, and its program is compiled with all that it stands on.
+//! The tests of what stands on a store: its tables, the keepers over them, extracts, commands and their words. Each of them is a call of
+//! a trial in `land_test_store`, `land_test_tables`, `land_test_keepers` or `land_test_stops`; the words are tried here. There is
+//! nothing else here: a crate that has tests is proved twice, and its program is compiled with all that it stands on.
 //!
 //! Want of memory ends a test with an `Err`, so that it fails unless an allocation was refused; all else that is wrong fails an assertion.
 //! `.ci/refusals` runs these tests with each allocation refused in turn: a test may then end for want of memory, and no assertion may fail.
 #![tactic(auto)]
 
 #[cfg(test)]
-mod callers;
-#[cfg(test)]
 mod calls_read_less;
-#[cfg(test)]
-mod clocks;
 #[cfg(test)]
 mod commands;
 #[cfg(test)]
 mod conclusion;
 #[cfg(test)]
-mod connections;
-#[cfg(test)]
 mod damage;
-#[cfg(test)]
-mod desk_rows;
 #[cfg(test)]
 mod every_growth;
 #[cfg(test)]
@@ -49,7 +40,5 @@ mod town;
 mod two_keepers;
 #[cfg(test)]
 mod versions;
-#[cfg(test)]
-mod wire;
 #[cfg(test)]
 mod words;
