@@ -1,13 +1,14 @@
 #!/usr/bin/env python3
 """Where the program's own time goes, in instructions, which other work on the machine does not change.
 
-    bench/profile.py [talk] [serve] [opening]   (all three; it needs valgrind, under which the program runs some fifty times slower)
-    LAND=PROGRAM bench/profile.py ..            another program than crates/land/out/land; its symbols have to be in it
+    bench/profile.py [talk] [serve] [listing] [opening]  (all four; it needs valgrind, under which the program runs some fifty times slower)
+    LAND=PROGRAM bench/profile.py ..                     another program than crates/land/out/land; its symbols have to be in it
 
 talk        A register is made by acts: 20 enrolments, and 10 registrations of a parcel and two rights. Then one request is asked a
             hundred times, and in a second run two hundred times. The difference, by one request, is told: starting, setting up and what
             is made once cancel out. `land talk` keeps the register in memory, and reads all requests from one file.
 serve       The same over `land serve`, which keeps the register in a new file, and is asked over one connection, each reply awaited.
+listing     A notary's list of all 2,500 units of a file of 10,000 entries, over `land serve`, by ten and by twenty lists.
 opening     `land check` over a file of 10,000 changes, as bench/check.py makes it: a party and its unit in turns.
 
 Counted by valgrind's callgrind are the instructions of the process: nothing of the kernel, which reads, writes and waits for the disk,
@@ -31,7 +32,7 @@ import joins
 import registers
 from registers import PROGRAM, square
 
-COUNT, UNITS, CHANGES = 100, 10, 10000
+COUNT, UNITS, ENTRIES, CHANGES = 100, 10, 10000, 10000
 ROUNDS = 60  # more than the calls that stand in one another
 ASKED = {
     "a citizen's units": ("GET", "/units", 2, "citizen", None),
@@ -134,8 +135,14 @@ def talk(folder, requests):
 
 def serve(folder, requests):
     """What is counted of `land serve` over a new file while it answers requests."""
-    out, file = Path(folder, "serve.out"), Path(tempfile.mkdtemp(dir=folder), "register.land")
+    file = Path(tempfile.mkdtemp(dir=folder), "register.land")
     subprocess.run([PROGRAM, "new", "--file", file], check=True)
+    return serve_over(folder, file, requests)
+
+
+def serve_over(folder, file, requests):
+    """What is counted of `land serve` over a file while it answers requests."""
+    out = Path(folder, "serve.out")
     service = joins.Service([*callgrind(out), "serve", "--file", str(file), "--port", "{port}", "--connections", "2"])
     client = joins.Client(service.port)
     if any(client.ask(request)[0] != 200 for request in requests):
@@ -150,8 +157,12 @@ def of_one(folder, run, asked):
     """What is counted of one request: that of twice as many requests, less that of so many."""
     method, path, party, role, body = asked
     request = joins.head(method, path, party, role, body)
-    few, many = (run(folder, [*set_up(), *[request] * count]) for count in (COUNT, 2 * COUNT))
-    return tuple({key: (more[key] - less[key]) / COUNT for key in more.keys() | less.keys()} for less, more in zip(few, many))
+    return each_of(COUNT, *(run(folder, [*set_up(), *[request] * count]) for count in (COUNT, 2 * COUNT)))
+
+
+def each_of(count, few, many):
+    """What is counted of each of so many requests: that of twice as many, less that of so many."""
+    return tuple({key: (more[key] - less[key]) / count for key in more.keys() | less.keys()} for less, more in zip(few, many))
 
 
 def shares(calls, beginnings):
@@ -229,7 +240,21 @@ def table_of_opening(sums, memory):
     row("all", f"{whole / 1000:,.1f}", cell(sum(memory.values()), whole))
 
 
-TOLD = {"talk": partial(requests, talk), "serve": partial(requests, serve), "opening": opening}
+def listing(folder):
+    file, count = Path(folder, "entries.land"), COUNT // 10
+    units = len(registers.of_entries(file, ENTRIES)["units"])
+    request = joins.head("GET", "/units", registers.NOTARY, "notary")
+    own, calls = each_of(count, *(serve_over(folder, file, [request] * times) for times in (count, 2 * count)))
+    sums = divided(own, calls, PARTS)[0]
+    print(f"\nThousands of instructions of a notary's list of {units:,} units, `land serve`, and instructions for each of them:\n")
+    row("part", "a list of all units", "each")
+    print("|---" * 3 + "|")
+    for part in (*PARTS, REST):
+        row(part, cell(sums[part], sum(sums.values())), f"{sums[part] / units:,.0f}")
+    row("all", f"{sum(sums.values()) / 1000:,.1f}", f"{sum(sums.values()) / units:,.0f}")
+
+
+TOLD = {"talk": partial(requests, talk), "serve": partial(requests, serve), "listing": listing, "opening": opening}
 
 
 def main():
