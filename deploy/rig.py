@@ -33,7 +33,7 @@ def program():
     path = os.environ.get("LAND")
     if not path:
         subprocess.run([os.path.join(TOP, "land")], stdin=subprocess.DEVNULL, capture_output=True)
-        words = ["bash", "-c", '. "$top/.ci/sources" && fresh_program']
+        words = ["bash", "-c", '. "$top/.ci/source-hash" && fresh_program']
         path = subprocess.run(words, env={**os.environ, "top": TOP}, stdout=subprocess.PIPE, text=True).stdout.strip()
     if not path or not os.access(path, os.X_OK):
         raise Missing(f"{path or 'a program of these sources'}: ./land --prove builds it, or LAND names another")

@@ -4,7 +4,7 @@
 //!
 //! The tests hold what no clause says: that the calls succeed up to the limits, worked examples with their full replies, and what a refused
 //! allocation leaves. Want of memory ends a test with an `Err`, so that it fails unless an allocation was refused; all else that is wrong
-//! fails an assertion. `.ci/refusals` runs these tests with each allocation refused in turn: a test may then end for want of memory, and
+//! fails an assertion. `.ci/oom-tests` runs these tests with each allocation refused in turn: a test may then end for want of memory, and
 //! no assertion may fail.
 #![tactic(auto)]
 

@@ -1,5 +1,5 @@
 //! Verdicts, objects, title sheets and what acts need, over whole tables and by look-ups, and objects and sheets once they were judged:
-//! `.ci/growths` counts how often each asks for memory.
+//! `.ci/alloc-counts` counts how often each asks for memory.
 use crate::conclusion::conclude;
 use land_test_keepers::growths::{calls_read_less, once};
 use std::test::Fail;

@@ -1,4 +1,4 @@
-//! Calls that lack memory and are made again. `.ci/refusals` refuses each of their allocations in turn: then nothing has changed, and the
+//! Calls that lack memory and are made again. `.ci/oom-tests` refuses each of their allocations in turn: then nothing has changed, and the
 //! same call succeeds.
 use crate::cases::playing::{created, taken};
 use land_core::ask::Request;

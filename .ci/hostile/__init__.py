@@ -1,1 +1,0 @@
-"""What .ci/endurance does: hostile use of the service."""

@@ -1,0 +1,1 @@
+"""What .ci/soak does: hostile use of the service."""
