@@ -5,7 +5,7 @@ SHELL := /bin/bash
 CRATE ?=
 
 .DEFAULT_GOAL := help
-.PHONY: help build test gate docs mutants bench soak deploy
+.PHONY: help build test gate docs mutants bench soak deb deploy
 
 help: ## list these targets
 	@sed -n 's/^\([a-z]*\): ## \(.*\)/make \1|\2/p' Makefile | while IFS='|' read -r name text; do printf '%-14s %s\n' "$$name" "$$text"; done
@@ -33,6 +33,9 @@ bench: ## measure requests, opening and extracts (bench/*.py), as in docs/SPEED.
 
 soak: ## fuzz, kill and fill the disk of a running server (.ci/soak); 40 minutes
 	.ci/soak
+
+deb: ## build the Debian package of the released program, out/land_VERSION_amd64.deb; 4 seconds
+	deploy/debian/build
 
 deploy: ## test the gateway, the web page, backups and failover (.ci/deploy); installs Debian packages if run as root
 	.ci/deploy

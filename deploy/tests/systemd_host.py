@@ -17,14 +17,14 @@ WITHOUT = ["setpriv", "--inh-caps=-sys_time,-sys_module", "--bounding-set=-sys_t
 WANTED = {"sysinit.target": BASE[:1], "sockets.target": BASE[1:3], "multi-user.target": BASE[3:]}
 
 # Creates the container's root (an overlay on the host's root) and executes systemd in it.
-# $1: a folder, $2: the repository.
+# $1: a folder, $2: the repository, $3: the root below the overlay.
 BEGIN = """
 set -eu
 mount --make-rprivate /
 mkdir -p "$1/layer" "$1/root"
 mount -t tmpfs tmpfs "$1/layer"
 mkdir "$1/layer/new" "$1/layer/work" "$1/layer/sources" "$1/layer/work-of-sources"
-mount -t overlay overlay -o "lowerdir=/,upperdir=$1/layer/new,workdir=$1/layer/work" "$1/root"
+mount -t overlay overlay -o "lowerdir=$3,upperdir=$1/layer/new,workdir=$1/layer/work" "$1/root"
 root=$1/root
 mount -t proc proc "$root/proc"
 mount --bind "$root/proc/sys" "$root/proc/sys"
@@ -51,7 +51,7 @@ export container=namespaces SYSTEMD_UNIT_PATH=/etc/systemd/system:/run/systemd/s
 exec /lib/systemd/systemd --unit=multi-user.target --show-status=0
 """
 
-# Creates a cgroup and runs the script above in it, in new namespaces. $1: a folder, $2: the repository, $3: the script, $4: the cgroup.
+# Creates a cgroup and runs the script above in it, in new namespaces. $1: a folder, $2: the repository, $3: the script, $4: the cgroup, $5: the root.
 GROUP = """
 set -eu
 mkdir "$1/groups"
@@ -61,7 +61,7 @@ mkdir "$1/groups/$4"
 echo $$ > "$1/groups/$4/cgroup.procs"
 umount "$1/groups"
 exec setpriv --bounding-set=-sys_time,-sys_module \\
-    unshare --pid --fork --kill-child --mount --net --uts --ipc --cgroup bash -c "$3" machine "$1" "$2"
+    unshare --pid --fork --kill-child --mount --net --uts --ipc --cgroup bash -c "$3" machine "$1" "$2" "$5"
 """
 
 # Removes the cgroup and those that systemd created in it. $1: a folder, $4: the cgroup.
@@ -73,16 +73,21 @@ find "$1/groups/$4" -depth -type d -exec rmdir {} \\;
 
 
 class SystemdHost:
-    """The container. `program` is mounted as /run/land-program, the repository as /srv/land."""
+    """The container. `program` is mounted as /run/land-program, the repository as /srv/land.
 
-    def __init__(self, program):
+    root    the folder below the overlay: this host's root, or that of another system
+    units   further units that the container can see when a package installs them in /lib/systemd/system
+    """
+
+    def __init__(self, program, root="/", units=()):
         need("unshare", "nsenter", "setpriv", "nginx", "haproxy", "openssl", "curl")
         if not ROOT or not os.access(SYSTEMD, os.X_OK):
             raise Missing("root, and systemd" if not ROOT else SYSTEMD)
         self.folder = tempfile.mkdtemp(prefix="land-systemd-", dir="/var/tmp")
         self.name = os.path.basename(self.folder)
         shutil.copy(program, os.path.join(self.folder, "land"))
-        self.copy_units()
+        self.root = root
+        self.copy_units(units)
         self.log = open(os.path.join(self.folder, "log"), "w+", encoding="utf-8")
         self.outer = subprocess.Popen(self.command(GROUP, BEGIN), stdin=subprocess.DEVNULL, stdout=self.log, stderr=self.log,
                                       start_new_session=True)
@@ -90,16 +95,18 @@ class SystemdHost:
         self.wait_for_boot()
 
     def command(self, script, inner=""):
-        return ["unshare", "--mount", "bash", "-c", script, "group", self.folder, TOP, inner, self.name]
+        return ["unshare", "--mount", "bash", "-c", script, "group", self.folder, TOP, inner, self.name, self.root]
 
-    def copy_units(self):
-        """Copies the units available at boot. The container sees no other units of the host."""
+    def copy_units(self, more):
+        """Copies the units available at boot. The container sees no other units, except those of packages that it may install."""
         base = os.path.join(self.folder, "base")
         os.makedirs(base)
         units = "/usr/lib/systemd/system"
         for name in [it for it in os.listdir(units) if it.endswith(".target")] + BASE:
             if os.path.isfile(os.path.join(units, name)):
                 shutil.copy(os.path.join(units, name), base)
+        for name in more:
+            os.symlink("/lib/systemd/system/" + name, os.path.join(base, name))
         for target, names in WANTED.items():
             os.makedirs(os.path.join(base, target + ".wants"))
             for name in names:
