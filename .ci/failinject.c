@@ -1,12 +1,15 @@
-/* Loaded before a program's own library, it refuses the call of one number: REFUSE_MEMORY of the allocations, REFUSE_READ
-   of the reads, or REFUSE_WRITE of the writes. Each refusal puts a byte on descriptor 9, so that a caller knows that the
-   program came so far. With PIECES set, a read or a write moves one byte at a time. With COUNT_MEMORY set, each line that is
-   written to standard output puts one on descriptor 9: how many allocations were asked for before it. With TELL_OPTIONS set, each
-   option that is set on a socket puts a line there: its level, its number, and the first word of its value. With REFUSE_EACH set,
-   the program, once it has written a line to standard output, goes on in a process of its own for each allocation that it asks for until
-   it writes the next line, with that one refused: in the first process the first, then the second, up to the process that asks for
-   fewer. It ends as soon as one of them ends with another status than 0, and with that status; how many were refused is put on
-   descriptor 9. What is in the file of standard output, the last process has written. */
+/* Fault injection: a shim for LD_PRELOAD that replaces malloc, realloc, read, write and setsockopt. It is controlled by the environment,
+   and writes its results to descriptor 9.
+
+   FAIL_ALLOC=N, FAIL_READ=N, FAIL_WRITE=N   the Nth allocation, read, or write to standard output fails; a byte on descriptor 9 shows that
+                       the program has reached it
+   ONE_BYTE=1          each read and write moves one byte
+   COUNT_ALLOCS=1      for each line that the program writes to standard output: a line with the number of allocations before it
+   LOG_SOCKOPTS=1      for each socket option that the program sets: a line with its level, its number and the first word of its value
+   FAIL_EACH_ALLOC=1   after the program has written its first line to standard output, it forks for each allocation up to its next line:
+                       in the first child process the first of these allocations fails, in the second child the second, until a child makes
+                       fewer allocations. If a child exits with a status other than 0, the program exits with that status at once. A line
+                       has the number of allocations that failed. The file of standard output has the output of the last child only. */
 #define _GNU_SOURCE
 #include <dlfcn.h>
 #include <errno.h>
@@ -19,7 +22,7 @@
 #include <sys/wait.h>
 #include <unistd.h>
 
-static int is_refused(long *calls, const char *name)
+static int fails(long *calls, const char *name)
 {
     const char *number = getenv(name);
     if (number == NULL || ++*calls != atol(number))
@@ -30,29 +33,30 @@ static int is_refused(long *calls, const char *name)
 
 static long allocations;
 
-/* Of REFUSE_EACH: how many lines were written, which allocation after the first of them is refused here, and whether it was asked for. */
+/* For FAIL_EACH_ALLOC: the number of lines written, the number of the allocation after the first line that fails in this process, the
+   number of allocations since that line, and whether the child has reached the one that fails. */
 static long lines, chosen, since;
-static volatile int *met;
+static volatile int *reached;
 
-static int wants_memory(void)
+static int alloc_fails(void)
 {
     static long calls;
     allocations++;
     if (lines == 1 && chosen > 0 && ++since == chosen)
-        return *met = 1;
-    return is_refused(&calls, "REFUSE_MEMORY");
+        return *reached = 1;
+    return fails(&calls, "FAIL_ALLOC");
 }
 
-/* Goes on in one process after another, and comes back in each of them. A process may take two minutes. */
-static void refuse_each(void)
+/* Forks one child after another, and returns in each child. The limit for a child is two minutes. */
+static void fail_each(void)
 {
     char line[32];
     int status;
-    met = mmap(NULL, sizeof *met, PROT_READ | PROT_WRITE, MAP_SHARED | MAP_ANONYMOUS, -1, 0);
-    if (met == MAP_FAILED)
+    reached = mmap(NULL, sizeof *reached, PROT_READ | PROT_WRITE, MAP_SHARED | MAP_ANONYMOUS, -1, 0);
+    if (reached == MAP_FAILED)
         _exit(1);
     do {
-        *met = 0;
+        *reached = 0;
         chosen++;
         pid_t child = fork();
         if (child == 0) {
@@ -63,12 +67,12 @@ static void refuse_each(void)
         }
         if (child < 0 || waitpid(child, &status, 0) != child)
             _exit(1);
-    } while (status == 0 && *met);
-    syscall(SYS_write, 9, line, snprintf(line, sizeof line, "%ld\n", chosen - !*met));
+    } while (status == 0 && *reached);
+    syscall(SYS_write, 9, line, snprintf(line, sizeof line, "%ld\n", chosen - !*reached));
     _exit(WIFEXITED(status) ? WEXITSTATUS(status) : 1);
 }
 
-static void tell_allocations(void)
+static void log_allocations(void)
 {
     char line[32];
     int size = snprintf(line, sizeof line, "%ld\n", allocations);
@@ -80,7 +84,7 @@ void *malloc(size_t size)
     static void *(*next)(size_t);
     if (next == NULL)
         next = (void *(*)(size_t))dlsym(RTLD_NEXT, "malloc");
-    if (wants_memory()) {
+    if (alloc_fails()) {
         errno = ENOMEM;
         return NULL;
     }
@@ -92,41 +96,41 @@ void *realloc(void *old, size_t size)
     static void *(*next)(void *, size_t);
     if (next == NULL)
         next = (void *(*)(void *, size_t))dlsym(RTLD_NEXT, "realloc");
-    if (wants_memory()) {
+    if (alloc_fails()) {
         errno = ENOMEM;
         return NULL;
     }
     return next(old, size);
 }
 
-static size_t piece(size_t size)
+static size_t limited(size_t size)
 {
-    return getenv("PIECES") != NULL && size > 1 ? 1 : size;
+    return getenv("ONE_BYTE") != NULL && size > 1 ? 1 : size;
 }
 
 ssize_t read(int file, void *to, size_t size)
 {
     static long calls;
-    if (is_refused(&calls, "REFUSE_READ")) {
+    if (fails(&calls, "FAIL_READ")) {
         errno = EIO;
         return -1;
     }
-    return syscall(SYS_read, file, to, piece(size));
+    return syscall(SYS_read, file, to, limited(size));
 }
 
 ssize_t write(int file, const void *from, size_t size)
 {
     static long calls;
-    if (file == 1 && is_refused(&calls, "REFUSE_WRITE")) {
+    if (file == 1 && fails(&calls, "FAIL_WRITE")) {
         errno = EIO;
         return -1;
     }
     int is_line = file == 1 && size > 0 && ((const char *)from)[size - 1] == '\n';
-    if (is_line && getenv("COUNT_MEMORY") != NULL)
-        tell_allocations();
-    if (is_line && ++lines == 1 && getenv("REFUSE_EACH") != NULL)
-        refuse_each();
-    return syscall(SYS_write, file, from, piece(size));
+    if (is_line && getenv("COUNT_ALLOCS") != NULL)
+        log_allocations();
+    if (is_line && ++lines == 1 && getenv("FAIL_EACH_ALLOC") != NULL)
+        fail_each();
+    return syscall(SYS_write, file, from, limited(size));
 }
 
 int setsockopt(int file, int level, int option, const void *value, socklen_t size)
@@ -136,7 +140,7 @@ int setsockopt(int file, int level, int option, const void *value, socklen_t siz
     if (done < 0)
         return -1;
     memcpy(&word, value, size < sizeof word ? size : sizeof word);
-    if (getenv("TELL_OPTIONS") != NULL)
+    if (getenv("LOG_SOCKOPTS") != NULL)
         syscall(SYS_write, 9, line, snprintf(line, sizeof line, "%d %d %ld\n", level, option, word));
     return 0;
 }

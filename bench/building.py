@@ -1,4 +1,4 @@
-"""Programs for measuring that are written in Rattle, proved and built."""
+"""Proves and builds benchmark programs written in Rattle."""
 import shutil
 import subprocess
 import sys
@@ -8,8 +8,8 @@ from registers import TOP
 
 
 def build(folder, source, libraries):
-    """The program of a file of bench/, proved and built in a copy of the repository, over the libraries that earlier checks left in
-    crates/*/out; `libraries` are those that it names."""
+    """Proves and builds a source file of bench/ in a copy of the repository, with the libraries that earlier checks built in crates/*/out.
+    `libraries` are those that it uses. Returns the path of the program."""
     copy = folder / "copy"
     shutil.copytree(TOP, copy, symlinks=True, ignore=lambda path, names: [
         name for name in names if name == ".git" or Path(path).name == "out" and name != "rlib"])
@@ -27,6 +27,6 @@ def build(folder, source, libraries):
 
 
 def named_by(crate):
-    """The libraries that a crate of the repository names."""
+    """Returns the libraries that a crate of the repository depends on."""
     lines = (TOP / "crates.txt").read_text().splitlines()
     return next(line for line in lines if line.startswith(f"{crate}:")).split(":")[1].split()

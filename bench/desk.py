@@ -1,11 +1,11 @@
-"""The service in Python: http.server and sqlite3 over a register's file, with the texts of the crates.
+"""The server in Python: http.server and sqlite3 on a register's file, with the SQL statements of the crates.
 
     python3 bench/desk.py FILE PORT
 
-It answers lists, views and title sheets of citizens, banks, notaries and the office, and views of units and mutations by conveyancers, as
-the program does, by texts of the program: it makes the list of what is seen where the program looks up one object. The acts enrol, register,
-transfer and approve it does with the checks that the requests of joins.py need, and no others: it writes the same rows in one commit each,
-synchronous to the disk.
+It answers lists, views and title sheets of citizens, banks, notaries and the state administrator, and views of units and mutations by
+conveyancers, as the program does and with its SQL statements, but it lists everything visible where the program looks up one object. It
+performs the acts enrol, register, transfer and approve with the checks that the requests of joins.py need, and no others: it writes the
+same rows, in one synchronous commit each.
 """
 import datetime
 import http.server
@@ -15,11 +15,11 @@ import sqlite3
 import sys
 import time
 
-from registers import OPEN, texts
+from registers import OPEN, sql_of
 
-LOOK = texts("land_select_joins/src/lookups/texts.rt")
+LOOKUPS = sql_of("land_select_joins/src/lookups/texts.rt")
 EVERY, OWN, HOLDER, GROUP, CREDITOR, LODGER, NAMED = (
-    texts(f"land_select_joins/src/joins/{name}.rt") for name in ("all", "own", "holder", "group", "creditor", "lodger", "named"))
+    sql_of(f"land_select_joins/src/joins/{name}.rt") for name in ("all", "own", "holder", "group", "creditor", "lodger", "named"))
 KINDS = {"parties": "PARTY", "units": "UNIT", "parcels": "PARCEL", "rrrs": "ENTRY", "mutations": "MUTATION"}
 ALL = {"PARTY": "PARTIES", "UNIT": "UNITS", "PARCEL": "PARCELS", "ENTRY": "ENTRIES", "MUTATION": "MUTATIONS"}
 SIGHT = {
@@ -39,11 +39,11 @@ DENIED = {("citizen", "UNIT"): 11, ("citizen", "ENTRY"): 12, ("citizen", "PARTY"
 
 
 class Denied(Exception):
-    """A rule denies what is asked: its number."""
+    """A rule denies the request. The argument is its number."""
 
 
-class Lost(Exception):
-    """The path names nothing."""
+class UnknownPath(Exception):
+    """The path is unknown."""
 
 
 def doubled_area(outline):
@@ -57,10 +57,10 @@ def share(row):
 
 def entry_object(row):
     number, unit, party, kind, _, _, amount, currency, place, words, source = row[:11]
-    shown = {"class": kind, "number": number, "party": party, "source": source, "unit": unit}
+    common = {"class": kind, "number": number, "party": party, "source": source, "unit": unit}
     if kind == "mortgage":
-        return {**shown, "amount": amount, "currency": currency, "rank": place}
-    return {**shown, "words": words} if words is not None else {**shown, "share": share(row)}
+        return {**common, "amount": amount, "currency": currency, "rank": place}
+    return {**common, "words": words} if words is not None else {**common, "share": share(row)}
 
 
 def mutation_object(row):
@@ -69,7 +69,7 @@ def mutation_object(row):
             "source": source, "state": state}
 
 
-def says(row):
+def terms(row):
     if row[3] == "mortgage":
         return f"rank {row[8]} {row[7]} {row[6]}"
     return row[9] if row[9] is not None else share(row)
@@ -80,47 +80,47 @@ def metres(doubled):
 
 
 class Register:
-    """What the service answers. `ask` runs a text, and may be exchanged for one that keeps them."""
+    """The replies of the server. `query` runs an SQL statement, and can be replaced to record them."""
 
     def __init__(self, base):
         self.base = base
-        self.ask = lambda text, *cells: base.execute(text, cells).fetchall()
+        self.query = lambda statement, *cells: base.execute(statement, cells).fetchall()
         self.last, self.next = base.execute("SELECT stamp, next FROM moments ORDER BY stamp DESC LIMIT 1").fetchone()
 
-    def stand(self, party, role):
-        found, roles = self.ask(LOOK["PARTY"], party, OPEN - 1), self.ask(LOOK["ROLES_OF_PARTY"], party, OPEN - 1)
+    def check_caller(self, party, role):
+        found, roles = self.query(LOOKUPS["PARTY"], party, OPEN - 1), self.query(LOOKUPS["ROLES_OF_PARTY"], party, OPEN - 1)
         if not found:
             raise Denied(1)
         if not any(row[1] == role for row in roles):
             raise Denied(2)
 
     def circle(self, party, role, at):
-        """The caller, and of a citizen those whose mandate it holds."""
-        return [party, *(row[0] for row in self.ask(LOOK["MANDATES_OF_AGENT"], party, at))] if role == "citizen" else [party]
+        """Returns the caller, and for a citizen its principals."""
+        return [party, *(row[0] for row in self.query(LOOKUPS["MANDATES_OF_AGENT"], party, at))] if role == "citizen" else [party]
 
     def sight(self, party, role, kind, at):
         found = SIGHT.get((role, kind), [EVERY[ALL[kind]]])
-        return sorted({number for one in self.circle(party, role, at) for text in found for number, in self.ask(text, one, at)})
+        return sorted({number for one in self.circle(party, role, at) for statement in found for number, in self.query(statement, one, at)})
 
     @staticmethod
     def sees_all(role, kind):
         return (role, kind) not in SIGHT
 
-    def look(self, kind, number, at):
-        rows = self.ask(LOOK[kind], number, at)
+    def look_up(self, kind, number, at):
+        rows = self.query(LOOKUPS[kind], number, at)
         if kind == "PARTY":
-            return rows and [(*rows[0], self.ask(LOOK["ROLES_OF_PARTY"], number, at), self.ask(LOOK["MEMBERS_OF_GROUP"], number, at))]
+            return rows and [(*rows[0], self.query(LOOKUPS["ROLES_OF_PARTY"], number, at), self.query(LOOKUPS["MEMBERS_OF_GROUP"], number, at))]
         return rows
 
-    def judge(self, party, role, kind, number, at):
+    def check_visible(self, party, role, kind, number, at):
         if self.sees_all(role, kind):
-            if not self.look(kind, number, at):
+            if not self.look_up(kind, number, at):
                 raise Denied(27)
         elif number not in self.sight(party, role, kind, at):
             raise Denied(DENIED[role, kind])
 
     def object(self, kind, number, at):
-        row, = self.look(kind, number, at)
+        row, = self.look_up(kind, number, at)
         if kind == "PARTY":
             members = [{"party": member[1], "share": f"{member[2]}/{member[3]}"} for member in row[6]]
             return {"kind": row[2], "members": members, "name": row[1], "number": number, "roles": [held[1] for held in row[5]]}
@@ -131,43 +131,43 @@ class Register:
         return mutation_object(row) if kind == "MUTATION" else entry_object(row)
 
     def sheet(self, party, role, unit, at):
-        found, = self.ask(LOOK["UNIT"], unit, at)
-        parcels, entries = self.ask(LOOK["PARCELS_OF_UNIT"], unit, at), self.ask(LOOK["ENTRIES_OF_UNIT"], unit, at)
+        found, = self.query(LOOKUPS["UNIT"], unit, at)
+        parcels, entries = self.query(LOOKUPS["PARCELS_OF_UNIT"], unit, at), self.query(LOOKUPS["ENTRIES_OF_UNIT"], unit, at)
         if not self.sees_all(role, "ENTRY"):
             listed = self.sight(party, role, "ENTRY", at)
             entries = [row for row in entries if row[0] in listed]
-        names = [self.ask(LOOK["PARTY"], row[2], at)[0][1] for row in entries]
+        names = [self.query(LOOKUPS["PARTY"], row[2], at)[0][1] for row in entries]
         areas = [doubled_area(row[3]) for row in parcels]
         moment = datetime.datetime.fromtimestamp(at / 1000, datetime.timezone.utc)
         lines = ["TITLE SHEET", f"Unit {unit} {found[1]}", f"At {moment:%Y-%m-%dT%H:%M:%S}.{at % 1000:03}Z",
                  "Shares checked" if found[2] else "Shares unchecked", f"Area {metres(sum(areas))}", f"Parcels {len(parcels)}",
                  *(f"{row[0]:>10}  {metres(area):>20}  {row[2]}" for row, area in zip(parcels, areas)), f"Entries {len(entries)}",
-                 *(f"{row[0]:>10}  {row[3]:<14}  {row[2]:>10} {name}: {says(row)}" for row, name in zip(entries, names)), "END", ""]
+                 *(f"{row[0]:>10}  {row[3]:<14}  {row[2]:>10} {name}: {terms(row)}" for row, name in zip(entries, names)), "END", ""]
         return "\n".join(lines)
 
     def read(self, party, role, path):
-        """The value or the text that is shown under a path."""
+        """Returns the value, or the text of a title sheet, for a path."""
         word, *rest = path[1:].split("/")
         if word not in KINDS:
-            raise Lost
-        self.stand(party, role)
+            raise UnknownPath
+        self.check_caller(party, role)
         at = max(time.time_ns() // 1000000, self.last)
         kind = KINDS[word]
         if not rest:
             return {"numbers": self.sight(party, role, kind, at)}
         number = int(rest[0])
-        self.judge(party, role, kind, number, at)
+        self.check_visible(party, role, kind, number, at)
         return self.sheet(party, role, number, at) if len(rest) == 2 else {"object": self.object(kind, number, at)}
 
     def write(self, party, role, act, body):
-        self.stand(party, role)
+        self.check_caller(party, role)
         stamp = max(time.time_ns() // 1000000, self.last + 1)
         with self.base:
-            count, told = getattr(self, act)(party, body, self.next, stamp)
+            count, number = getattr(self, act)(party, body, self.next, stamp)
             self.base.execute("INSERT INTO moments (stamp, next) VALUES (?, ?)", (stamp, self.next + count))
         made = list(range(self.next, self.next + count))
         self.last, self.next = stamp, self.next + count
-        return {"made": made, "number": told, "stamp": stamp}
+        return {"made": made, "number": number, "stamp": stamp}
 
     def put(self, table, *cells):
         self.base.execute(f"INSERT INTO {table} VALUES ({', '.join('?' * len(cells))})", cells)
@@ -179,8 +179,8 @@ class Register:
 
     def register(self, _, body, new, stamp):
         rights, parcels = body["rights"], body["parcels"]
-        if not all(self.ask(LOOK["PARTY"], right["party"], stamp) for right in rights):
-            raise ValueError("a holder does not stand")
+        if not all(self.query(LOOKUPS["PARTY"], right["party"], stamp) for right in rights):
+            raise ValueError("a holder does not exist")
         self.put("source", new, "administrative", body["document"], stamp, OPEN)
         self.put("unit", new + 1, body["name"], int(body["checked"]), stamp, OPEN)
         for place, parcel in enumerate(parcels, new + 2):
@@ -202,17 +202,17 @@ class Register:
 
     def approve(self, _, body, new, stamp):
         """Approves the transfer of a whole right to a party that has none of its type in the unit."""
-        (number, lodger, reference, source, lodged, act, content, state, *_), = self.ask(LOOK["MUTATION"], body["mutation"], stamp)
-        asked = json.loads(content)
-        right, = self.ask(LOOK["ENTRY"], asked["right"], stamp)
-        entries = self.ask(LOOK["ENTRIES_OF_UNIT"], asked["unit"], stamp)
-        if state != "lodged" or share(right) != asked["share"] or any(row[2] == asked["receiver"] for row in entries):
-            raise ValueError("another approval than is known here")
-        if not self.ask(LOOK["PARTY"], asked["receiver"], stamp):
-            raise ValueError("the receiver does not stand")
+        (number, lodger, reference, source, lodged, act, content, state, *_), = self.query(LOOKUPS["MUTATION"], body["mutation"], stamp)
+        transfer = json.loads(content)
+        right, = self.query(LOOKUPS["ENTRY"], transfer["right"], stamp)
+        entries = self.query(LOOKUPS["ENTRIES_OF_UNIT"], transfer["unit"], stamp)
+        if state != "lodged" or share(right) != transfer["share"] or any(row[2] == transfer["receiver"] for row in entries):
+            raise ValueError("this server does not implement such an approval")
+        if not self.query(LOOKUPS["PARTY"], transfer["receiver"], stamp):
+            raise ValueError("the receiver does not exist")
         close = "UPDATE {} SET until = ? WHERE number = ? AND until = ?"
         self.base.execute(close.format("rrr"), (stamp, right[0], OPEN))
-        self.put("rrr", new, right[1], asked["receiver"], *right[3:10], source, stamp, OPEN)
+        self.put("rrr", new, right[1], transfer["receiver"], *right[3:10], source, stamp, OPEN)
         self.base.execute(close.format("mutation"), (stamp, number, OPEN))
         self.put("mutation", number, lodger, reference, source, lodged, act, content, "approved", stamp, OPEN)
         return 1, number
@@ -224,13 +224,13 @@ class Handler(http.server.BaseHTTPRequestHandler):
 
     def answer(self, work):
         try:
-            told, status = work(int(self.headers["Register-Party"]), self.headers["Register-Role"]), 200
+            value, status = work(int(self.headers["Register-Party"]), self.headers["Register-Role"]), 200
         except Denied as rule:
-            told, status = {"denied": rule.args[0]}, 403
-        except Lost:
-            told, status = {"fault": 136}, 400
-        is_text = isinstance(told, str)
-        body = (told if is_text else json.dumps(told, separators=(",", ":"), sort_keys=True)).encode()
+            value, status = {"denied": rule.args[0]}, 403
+        except UnknownPath:
+            value, status = {"fault": 136}, 400
+        is_text = isinstance(value, str)
+        body = (value if is_text else json.dumps(value, separators=(",", ":"), sort_keys=True)).encode()
         self.send_response_only(status)
         self.send_header("Content-Type", "text/plain; charset=utf-8" if is_text else "application/json")
         self.send_header("Content-Length", str(len(body)))

@@ -1,31 +1,31 @@
 #!/usr/bin/env python3
-"""The time of each request over registers of several sizes: the service over a file, beside C SQLite, PostgreSQL and Python.
+"""The time of each request on registers of several sizes: `land serve` on a file, compared with C SQLite, PostgreSQL and Python.
 
     bench/joins.py [ENTRIES..]           (1000 10000; 100000 takes minutes more)
     LAND=PROGRAM bench/joins.py ..       another program than crates/land/out/land
 
-For each number of entries a register is written (registers.py), taken by `land check`, and asked by an owner of one unit, a bank with one
-mortgage and a notary. What stands beside each other:
+For each number of entries a register is written (registers.py) and validated by `land check`. The callers are an owner of one unit, a bank
+with one mortgage, conveyancers and a notary. The columns:
 
-    land        `land serve`: HTTP over one kept connection on loopback, one request after another, each awaited
-    each new    the same, each request on a connection of its own: it is made, the request sent, the reply awaited, and it is closed
-    at once     the same, 32 requests sent before their replies are read, which the client acknowledges at once
-    C SQLite    the very texts that the program runs for the request, in its order and with its parameters (texts.py), by a peer in C
-                (peer.c): statements prepared once, the file its own, all columns of all rows read, and timed inside. No HTTP, no JSON, no
-                policy: nothing is decided, sorted or written. `land` is told as a multiple of it, and so is `land` less the time of a path
-                that names nothing, which is that of HTTP alone
-    PostgreSQL  one statement (of a sheet four) under policies of row-level security, by pgbench: prepared, over a socket of Unix, the
-                caller set once for the connection; no HTTP, no JSON, and nobody asks whether the caller still holds its role
-    Python      http.server with sqlite3 (desk.py), as `land`, and each new likewise: it makes the list of what is seen where `land` looks up
-                one object, by the texts of the program
+    land        `land serve`: HTTP on a keep-alive connection over loopback, one request at a time
+    new         the same with a new connection per request, which is opened and closed within the time
+    pipelined   the same with 32 pipelined requests; the client acknowledges each segment immediately (TCP_QUICKACK)
+    C SQLite    the SQL statements of the request, in the order and with the parameters of the program (texts.py), run by the baseline in C
+                (baseline.c): statements prepared once, the file opened exclusively, all columns of all rows read, timed inside the process.
+                No HTTP, JSON or policy: it decides, sorts and writes nothing. Two ratios: `land` to C SQLite, and `land` without HTTP, that
+                is, without the time of an unknown path
+    PostgreSQL  one statement (four for a sheet) with row-level security, by pgbench: prepared, on a Unix socket, with the caller set once
+                per connection. No HTTP, no JSON, and no check that the caller still has its role
+    Python      http.server with sqlite3 (desk.py), like `land`, also with new connections. It lists everything visible where `land` looks
+                up one object, with the SQL statements of the program
 
-The replies of `land` and of Python are compared before they are timed. Each figure is the least of the medians of five short runs, taken in
-turns; what takes more than 10 milliseconds is not asked at once.
+The replies of `land` and of Python are compared before the timing. Each figure is the minimum of the medians of five short runs, which
+alternate between the sides. A request that takes more than 10 milliseconds is not pipelined.
 
-Then the acts, in milliseconds each, one by one in turns: the median of the medians of five runs, and the mean time on the processor, over one
-kept connection and over one connection a request. The peer in C runs the reads and writes of the act in one transaction, and plans nothing:
-what is written is given to it. All three wait for the disk at each commit, which strace counts where it is installed, and all files are taken
-by `land check` afterwards. PostgreSQL, or the peer, is left out where it is not installed or cannot be built.
+Then the acts, in milliseconds, one at a time, with the sides taking turns: the median of the medians of five runs, and the mean CPU time,
+on a keep-alive connection and with a new connection per request. The baseline runs the reads and writes of the act in one transaction,
+plans nothing, and gets the values to write. All three wait for the disk at each commit, which strace counts if it is installed, and `land
+check` validates all files afterwards. PostgreSQL or the baseline is skipped if it is not installed or cannot be built.
 """
 import contextlib
 import glob
@@ -46,18 +46,18 @@ import registers
 import texts
 from registers import BANK, BUSY, CALM, NOTARY, OFFICE, PROGRAM, SMALL_BANK, TOP
 
-RUNS, SECONDS, AT_ONCE, ACTS = 5, 0.04, 32, 20
+RUNS, SECONDS, PIPELINED, ACTS = 5, 0.04, 32, 20
 
 
 def head(method, path, party, role, body=None):
-    """The bytes of a request."""
+    """Returns the bytes of a request."""
     text = "" if body is None else json.dumps(body)
     length = f"Content-Length: {len(text)}\r\n" if text else ""
     return f"{method} {path} HTTP/1.1\r\nRegister-Party: {party}\r\nRegister-Role: {role}\r\n{length}\r\n{text}".encode()
 
 
 class Client:
-    """One connection, on which replies are read by their Content-Length."""
+    """A connection that reads replies by their Content-Length."""
 
     def __init__(self, port):
         self.socket = socket.create_connection(("127.0.0.1", port))
@@ -66,33 +66,33 @@ class Client:
         self.acknowledges = False
 
     def reply(self):
-        told = self.rest
-        while (end := told.find(b"\r\n\r\n")) < 0:
-            told += self.more()
-        place = told.index(b"Content-Length: ") + 16
-        whole = end + 4 + int(told[place:told.index(b"\r", place)])
-        if len(told) < whole:
-            parts, size = [told], len(told)
+        data = self.rest
+        while (end := data.find(b"\r\n\r\n")) < 0:
+            data += self.more()
+        place = data.index(b"Content-Length: ") + 16
+        whole = end + 4 + int(data[place:data.index(b"\r", place)])
+        if len(data) < whole:
+            parts, size = [data], len(data)
             while size < whole:
                 parts.append(self.more())
                 size += len(parts[-1])
-            told = b"".join(parts)
-        self.rest = told[whole:]
-        return int(told[9:12]), told[end + 4:whole]
+            data = b"".join(parts)
+        self.rest = data[whole:]
+        return int(data[9:12]), data[end + 4:whole]
 
     def more(self):
         if self.acknowledges:
             self.socket.setsockopt(socket.IPPROTO_TCP, socket.TCP_QUICKACK, 1)
         some = self.socket.recv(1 << 18)
         if not some:
-            raise SystemExit("a service has ended its connection")
+            raise SystemExit("a server has closed its connection")
         return some
 
-    def ask(self, request):
+    def send(self, request):
         self.socket.sendall(request)
         return self.reply()
 
-    def ask_at_once(self, requests, count):
+    def send_pipelined(self, requests, count):
         self.acknowledges = True
         self.socket.sendall(requests)
         for _ in range(count):
@@ -110,14 +110,14 @@ def free_port():
 
 
 class Service:
-    """A service that was started, once it answers."""
+    """A server process. The constructor waits until it listens."""
 
     running = []
 
-    def __init__(self, words, **ways):
+    def __init__(self, call, **options):
         self.port = free_port()
-        # A group of its own, so that what is run by strace or gdb ends with it.
-        self.process = subprocess.Popen([word.format(port=self.port) for word in words], preexec_fn=os.setpgrp, **ways)
+        # A process group of its own, so that a program under strace or gdb is killed with it.
+        self.process = subprocess.Popen([word.format(port=self.port) for word in call], preexec_fn=os.setpgrp, **options)
         self.running.append(self)
         while True:
             try:
@@ -125,11 +125,11 @@ class Service:
                 return
             except ConnectionRefusedError:
                 if self.process.poll() is not None:
-                    raise SystemExit(f"a service ends with {self.process.returncode}")
+                    raise SystemExit(f"a server exits with {self.process.returncode}")
                 time.sleep(0.02)
 
-    def processor(self):
-        """The seconds that it has had of a processor."""
+    def cpu_seconds(self):
+        """Returns the CPU time of the process so far."""
         with open(f"/proc/{self.process.pid}/schedstat", encoding="ascii") as it:
             return int(it.read().split()[0]) / 1e9
 
@@ -157,7 +157,7 @@ def check(file):
 
 
 def median(work):
-    """The seconds that a piece of work takes: the median of a run."""
+    """Calls a function repeatedly. Returns the median of the seconds of a call."""
     times, end = [], time.perf_counter() + SECONDS
     while len(times) < 3 or time.perf_counter() < end:
         begin = time.perf_counter()
@@ -167,21 +167,21 @@ def median(work):
 
 
 POLICIES = """
-CREATE VIEW my_groups AS SELECT grp FROM member WHERE party = (SELECT ME) AND STANDS;
+CREATE VIEW my_groups AS SELECT grp FROM member WHERE party = (SELECT ME) AND CURRENT;
 CREATE VIEW held AS
-  SELECT unit, class FROM rrr WHERE party = (SELECT ME) AND class IN ('ownership', 'lease', 'usufruct') AND STANDS
+  SELECT unit, class FROM rrr WHERE party = (SELECT ME) AND class IN ('ownership', 'lease', 'usufruct') AND CURRENT
   UNION ALL
-  SELECT unit, class FROM my_groups JOIN rrr ON rrr.party = my_groups.grp WHERE class IN ('ownership', 'lease', 'usufruct') AND STANDS;
-CREATE VIEW credited AS SELECT unit FROM rrr WHERE party = (SELECT ME) AND class = 'mortgage' AND STANDS;
+  SELECT unit, class FROM my_groups JOIN rrr ON rrr.party = my_groups.grp WHERE class IN ('ownership', 'lease', 'usufruct') AND CURRENT;
+CREATE VIEW credited AS SELECT unit FROM rrr WHERE party = (SELECT ME) AND class = 'mortgage' AND CURRENT;
 CREATE VIEW citizen_parties AS
   SELECT ME AS number UNION ALL SELECT grp FROM my_groups UNION ALL
-  SELECT rrr.party FROM held JOIN rrr ON rrr.unit = held.unit WHERE (rrr.class <> 'mortgage' OR held.class = 'ownership') AND STANDS;
+  SELECT rrr.party FROM held JOIN rrr ON rrr.unit = held.unit WHERE (rrr.class <> 'mortgage' OR held.class = 'ownership') AND CURRENT;
 CREATE VIEW bank_parties AS
   SELECT ME AS number UNION ALL
-  SELECT rrr.party FROM credited JOIN rrr ON rrr.unit = credited.unit WHERE (rrr.class <> 'mortgage' OR rrr.party = (SELECT ME)) AND STANDS;
-CREATE VIEW citizen_mutations AS SELECT names.mutation FROM held JOIN names ON names.unit = held.unit WHERE STANDS;
-CREATE VIEW awaited AS SELECT unit FROM names WHERE STANDS AND mutation = ANY (ARRAY(
-  SELECT number FROM mutation WHERE lodger = (SELECT ME) AND state = 'lodged' AND STANDS));
+  SELECT rrr.party FROM credited JOIN rrr ON rrr.unit = credited.unit WHERE (rrr.class <> 'mortgage' OR rrr.party = (SELECT ME)) AND CURRENT;
+CREATE VIEW citizen_mutations AS SELECT names.mutation FROM held JOIN names ON names.unit = held.unit WHERE CURRENT;
+CREATE VIEW awaited AS SELECT unit FROM names WHERE CURRENT AND mutation = ANY (ARRAY(
+  SELECT number FROM mutation WHERE lodger = (SELECT ME) AND state = 'lodged' AND CURRENT));
 CREATE ROLE citizen; CREATE ROLE bank; CREATE ROLE notary; CREATE ROLE conveyancer;
 GRANT SELECT ON ALL TABLES IN SCHEMA public TO citizen, bank, notary, conveyancer;
 ALTER TABLE party ENABLE ROW LEVEL SECURITY;
@@ -189,28 +189,29 @@ ALTER TABLE unit ENABLE ROW LEVEL SECURITY;
 ALTER TABLE parcel ENABLE ROW LEVEL SECURITY;
 ALTER TABLE rrr ENABLE ROW LEVEL SECURITY;
 ALTER TABLE mutation ENABLE ROW LEVEL SECURITY;
-CREATE POLICY everybody ON parcel FOR SELECT USING (STANDS);
-CREATE POLICY notaries ON party FOR SELECT TO notary USING (STANDS);
-CREATE POLICY notaries ON unit FOR SELECT TO notary USING (STANDS);
-CREATE POLICY notaries ON rrr FOR SELECT TO notary USING (STANDS);
-CREATE POLICY citizens ON party FOR SELECT TO citizen USING (STANDS AND number = ANY (ARRAY(SELECT number FROM citizen_parties)));
-CREATE POLICY citizens ON unit FOR SELECT TO citizen USING (STANDS AND number = ANY (ARRAY(SELECT unit FROM held)));
-CREATE POLICY citizens ON rrr FOR SELECT TO citizen USING (STANDS AND unit = ANY (ARRAY(SELECT unit FROM held))
+CREATE POLICY everybody ON parcel FOR SELECT USING (CURRENT);
+CREATE POLICY notaries ON party FOR SELECT TO notary USING (CURRENT);
+CREATE POLICY notaries ON unit FOR SELECT TO notary USING (CURRENT);
+CREATE POLICY notaries ON rrr FOR SELECT TO notary USING (CURRENT);
+CREATE POLICY citizens ON party FOR SELECT TO citizen USING (CURRENT AND number = ANY (ARRAY(SELECT number FROM citizen_parties)));
+CREATE POLICY citizens ON unit FOR SELECT TO citizen USING (CURRENT AND number = ANY (ARRAY(SELECT unit FROM held)));
+CREATE POLICY citizens ON rrr FOR SELECT TO citizen USING (CURRENT AND unit = ANY (ARRAY(SELECT unit FROM held))
   AND (class <> 'mortgage' OR unit = ANY (ARRAY(SELECT unit FROM held WHERE class = 'ownership'))));
-CREATE POLICY citizens ON mutation FOR SELECT TO citizen USING (STANDS AND number = ANY (ARRAY(SELECT mutation FROM citizen_mutations)));
-CREATE POLICY conveyancers ON unit FOR SELECT TO conveyancer USING (STANDS AND number = ANY (ARRAY(SELECT unit FROM awaited)));
-CREATE POLICY conveyancers ON mutation FOR SELECT TO conveyancer USING (STANDS AND lodger = (SELECT ME));
-CREATE POLICY banks ON party FOR SELECT TO bank USING (STANDS AND number = ANY (ARRAY(SELECT number FROM bank_parties)));
-CREATE POLICY banks ON unit FOR SELECT TO bank USING (STANDS AND number = ANY (ARRAY(SELECT unit FROM credited)));
-CREATE POLICY banks ON rrr FOR SELECT TO bank USING (STANDS AND unit = ANY (ARRAY(SELECT unit FROM credited))
+CREATE POLICY citizens ON mutation FOR SELECT TO citizen USING (CURRENT AND number = ANY (ARRAY(SELECT mutation FROM citizen_mutations)));
+CREATE POLICY conveyancers ON unit FOR SELECT TO conveyancer USING (CURRENT AND number = ANY (ARRAY(SELECT unit FROM awaited)));
+CREATE POLICY conveyancers ON mutation FOR SELECT TO conveyancer USING (CURRENT AND lodger = (SELECT ME));
+CREATE POLICY banks ON party FOR SELECT TO bank USING (CURRENT AND number = ANY (ARRAY(SELECT number FROM bank_parties)));
+CREATE POLICY banks ON unit FOR SELECT TO bank USING (CURRENT AND number = ANY (ARRAY(SELECT unit FROM credited)));
+CREATE POLICY banks ON rrr FOR SELECT TO bank USING (CURRENT AND unit = ANY (ARRAY(SELECT unit FROM credited))
   AND (class <> 'mortgage' OR party = (SELECT ME)));
 """
 MOMENT = "(SELECT current_setting('land.at')::bigint)"
-POLICIES = re.sub(r"\bME\b", "current_setting('land.party')::bigint", POLICIES.replace("STANDS", f"since <= {MOMENT} AND {MOMENT} < until"))
+POLICIES = POLICIES.replace("CURRENT", f"since <= {MOMENT} AND {MOMENT} < until")
+POLICIES = re.sub(r"\bME\b", "current_setting('land.party')::bigint", POLICIES)
 
 
 class Postgres:
-    """A server of its own in a folder, with a register's rows, which are loaded again for each register."""
+    """A PostgreSQL server in a temporary folder, with the rows of one register at a time."""
 
     def __init__(self, folder):
         self.folder = os.path.join(folder, "postgres")
@@ -227,16 +228,16 @@ class Postgres:
             it.write(f"listen_addresses = ''\nunix_socket_directories = '{self.folder}'\nautovacuum = off\n")
         self.run("pg_ctl", "-D", self.data, "-l", os.path.join(self.folder, "log"), "-w", "start")
 
-    def run(self, program, *words, caller="", given=None):
+    def run(self, program, *arguments, caller="", stdin=None):
         settings = {"PATH": os.environ["PATH"], "PGHOST": self.folder, "PGUSER": "office", "PGDATABASE": "postgres", "PGOPTIONS": caller, "LC_ALL": "C"}
-        ran = subprocess.run([os.path.join(self.bin, program), *words], input=given, capture_output=True, text=True, env=settings,
+        ran = subprocess.run([os.path.join(self.bin, program), *arguments], input=stdin, capture_output=True, text=True, env=settings,
                              user=self.user, cwd=self.folder)
         if ran.returncode != 0:
             raise SystemExit(f"{program}: {ran.stdout}{ran.stderr}")
         return ran.stdout
 
     def load(self, file):
-        """The schema with the same keys and indexes, all rows, the policies."""
+        """Loads the schema with the same keys and indexes, all rows, and the policies."""
         schema = registers.schema().replace(") STRICT", ")").replace("INTEGER", "BIGINT")
         lines = ["DROP SCHEMA public CASCADE; CREATE SCHEMA public; GRANT USAGE ON SCHEMA public TO PUBLIC;",
                  "DROP ROLE IF EXISTS citizen; DROP ROLE IF EXISTS bank; DROP ROLE IF EXISTS notary;", "DROP ROLE IF EXISTS conveyancer;", schema]
@@ -246,7 +247,7 @@ class Postgres:
             lines += ["\t".join("\\N" if cell is None else str(cell) for cell in row) for row in base.execute(f"SELECT * FROM {table}")]
             lines.append("\\.")
         base.close()
-        self.run("psql", "-q", "-v", "ON_ERROR_STOP=1", given="\n".join([*lines, POLICIES, "VACUUM ANALYZE;", ""]))
+        self.run("psql", "-q", "-v", "ON_ERROR_STOP=1", stdin="\n".join([*lines, POLICIES, "VACUUM ANALYZE;", ""]))
 
     def caller(self, party, role):
         return f"-c role={role} -c land.party={party} -c land.at={time.time_ns() // 1000000}"
@@ -259,13 +260,13 @@ class Postgres:
         with open(script, "w", encoding="ascii") as it:
             it.write("".join(f"{statement};\n" for statement in statements))
         os.chmod(script, 0o644)
-        told = self.run("pgbench", "-n", "-M", "prepared", "-f", script, "-t", str(count), "-l", "--log-prefix", os.path.join(self.folder, "times"),
-                 caller=self.caller(party, role))
+        output = self.run("pgbench", "-n", "-M", "prepared", "-f", script, "-t", str(count), "-l", "--log-prefix",
+                          os.path.join(self.folder, "times"), caller=self.caller(party, role))
         log, = glob.glob(os.path.join(self.folder, "times.*"))
         with open(log, encoding="ascii") as it:
             times = [spent for spent in (int(line.split()[2]) for line in it) if spent > 0]
         os.remove(log)
-        return statistics.median(times) / 1e6 if times else float(re.search(r"latency average = ([0-9.]+) ms", told)[1]) / 1000
+        return statistics.median(times) / 1e6 if times else float(re.search(r"latency average = ([0-9.]+) ms", output)[1]) / 1000
 
     def stop(self):
         self.run("pg_ctl", "-D", self.data, "-m", "immediate", "stop")
@@ -275,7 +276,7 @@ TABLES = {"parties": "party", "units": "unit", "parcels": "parcel", "rrrs": "rrr
 
 
 def statements(path):
-    """What PostgreSQL is asked for a path."""
+    """Returns the PostgreSQL statements for a path."""
     word, *rest = path[1:].split("/")
     table = TABLES[word]
     if not rest:
@@ -288,65 +289,65 @@ def statements(path):
             f"SELECT number, name FROM party WHERE number = ANY (ARRAY(SELECT party FROM rrr WHERE unit = {rest[0]}))"]
 
 
-def asked(known):
-    """Who asks, in which role, what that is called, and the path."""
+def requests_of(known):
+    """Returns the requests: the caller, its role, the name of the request, and the path."""
     owner, unit, other = known["owner"], known["unit"], known["entries"][0]
     citizen, bank, notary, conveyancer = (owner, "citizen"), (SMALL_BANK, "bank"), (NOTARY, "notary"), (BUSY, "conveyancer")
     mutation, partner = known["mutations"][0]
     return [
-        (*citizen, "a path that names nothing", "/nothing"),
-        (*citizen, "its units", "/units"),
-        (*citizen, "the entries in its sight", "/rrrs"),
-        (*citizen, "the parties in its sight", "/parties"),
-        (*citizen, "an entry in its sight", f"/rrrs/{known['entry']}"),
-        (*citizen, "an entry that is denied", f"/rrrs/{other}"),
-        (*citizen, "a parcel", f"/parcels/{known['parcel']}"),
-        (*citizen, "its title sheet", f"/units/{unit}/sheet"),
-        (*citizen, "a title sheet that is denied", f"/units/{known['units'][0]}/sheet"),
-        (*bank, "the units in its sight", "/units"),
-        (*bank, "the entries in its sight", "/rrrs"),
-        (*bank, "its mortgage", f"/rrrs/{known['mortgage']}"),
-        (*bank, "an entry that is denied", f"/rrrs/{other}"),
-        (*bank, "the title sheet", f"/units/{unit}/sheet"),
-        (BANK, "bank", "an entry, where it has a mortgage on all other units", f"/rrrs/{other}"),
-        (BANK, "bank", "an owner, where it has a mortgage on all other units", f"/parties/{partner}"),
-        (partner, "citizen", "a mutation of its unit", f"/mutations/{mutation}"),
-        (*citizen, "a mutation that is denied", f"/mutations/{mutation}"),
-        (*conveyancer, "a mutation, where it lodged all that there are", f"/mutations/{mutation}"),
-        (CALM[0], "conveyancer", "a mutation that another lodged", f"/mutations/{mutation}"),
-        (*conveyancer, "a unit that is denied, where all that it lodged is decided", f"/units/{known['units'][0]}"),
-        (*notary, "an entry", f"/rrrs/{other}"),
-        (*notary, "an entry that is not there", "/rrrs/999999999"),
-        (*notary, "a title sheet", f"/units/{unit}/sheet"),
-        (*notary, "all units", "/units"),
-        (*citizen, "all parcels", "/parcels"),
+        (*citizen, "unknown path (HTTP only)", "/nothing"),
+        (*citizen, "list own units", "/units"),
+        (*citizen, "list visible entries", "/rrrs"),
+        (*citizen, "list visible parties", "/parties"),
+        (*citizen, "view a visible entry", f"/rrrs/{known['entry']}"),
+        (*citizen, "view a denied entry", f"/rrrs/{other}"),
+        (*citizen, "view a parcel", f"/parcels/{known['parcel']}"),
+        (*citizen, "own title sheet", f"/units/{unit}/sheet"),
+        (*citizen, "denied title sheet", f"/units/{known['units'][0]}/sheet"),
+        (*bank, "list visible units", "/units"),
+        (*bank, "list visible entries", "/rrrs"),
+        (*bank, "view own mortgage", f"/rrrs/{known['mortgage']}"),
+        (*bank, "view a denied entry", f"/rrrs/{other}"),
+        (*bank, "title sheet", f"/units/{unit}/sheet"),
+        (BANK, "bank", "view an entry, mortgages on all other units", f"/rrrs/{other}"),
+        (BANK, "bank", "view an owner, mortgages on all other units", f"/parties/{partner}"),
+        (partner, "citizen", "mutation of own unit", f"/mutations/{mutation}"),
+        (*citizen, "denied mutation", f"/mutations/{mutation}"),
+        (*conveyancer, "mutation, if it filed all", f"/mutations/{mutation}"),
+        (CALM[0], "conveyancer", "mutation filed by another", f"/mutations/{mutation}"),
+        (*conveyancer, "view a unit, all its filings decided", f"/units/{known['units'][0]}"),
+        (*notary, "view an entry", f"/rrrs/{other}"),
+        (*notary, "view a missing entry", "/rrrs/999999999"),
+        (*notary, "title sheet", f"/units/{unit}/sheet"),
+        (*notary, "list all units", "/units"),
+        (*citizen, "list all parcels", "/parcels"),
     ]
 
 
 def masked(reply):
-    """A reply without the moment of a sheet."""
+    """Returns a reply without the time of a sheet."""
     return reply[0], re.sub(rb"(?m)^At .*", b"At T", reply[1])
 
 
-def same_answers(ask, desk, postgres, requests):
-    """That both services answer the same, and PostgreSQL as many rows; the status of each request."""
-    told = []
+def check_replies(client, desk, postgres, requests):
+    """Checks that both servers send the same replies, and PostgreSQL the same number of rows. Returns the status of each request."""
+    found = []
     for party, role, name, path in requests:
         request = head("GET", path, party, role)
-        mine, theirs = masked(ask.ask(request)), masked(desk.ask(request))
+        mine, theirs = masked(client.send(request)), masked(desk.send(request))
         if mine != theirs:
             raise SystemExit(f"{role}, {name}: {mine}, and Python: {theirs}")
-        told.append(mine[0])
+        found.append(mine[0])
         if postgres and mine[0] != 400:
             rows = len(postgres.rows(statements(path)[0], party, role))
             wanted = 0 if mine[0] == 403 else len(json.loads(mine[1])["numbers"]) if path.count("/") == 1 else 1
             if rows != wanted:
                 raise SystemExit(f"{role}, {name}: {rows} rows of PostgreSQL, not {wanted}")
-    return told
+    return found
 
 
 def values(known, party, path):
-    """What the peer is given for a read: the caller, the number in the path, the unit that the mutation names."""
+    """Returns the values of a read for the baseline: the caller, the number in the path, the unit that the mutation refers to."""
     number = re.search(r"\d+", path)
     return party, int(number[0]) if number else 0, known["units"][0]
 
@@ -355,63 +356,63 @@ def micros(seconds):
     return "-" if seconds is None else f"{seconds * 1e6:,.0f}"
 
 
-def ask_alone(port, request):
-    """A request on a connection of its own."""
+def send_new(port, request):
+    """Sends a request on a new connection."""
     client = Client(port)
-    client.ask(request)
+    client.send(request)
     client.close()
 
 
-HEADS = ("caller", "request", "told", "`land`: HTTP, policy, JSON", "each new", "at once", "C SQLite: the texts alone, no HTTP, JSON, policy",
-         "texts", "to C SQLite: `land`, and without HTTP", "PostgreSQL: no HTTP, JSON, look at the role",
-         "Python: HTTP, JSON, lists for look-ups", "each new")
+HEADS = ("caller", "request", "status", "`land`: HTTP, policy, JSON", "new", "pipelined", "C SQLite: no HTTP, JSON, policy", "SQL statements",
+         "to C SQLite: `land`, and without HTTP", "PostgreSQL: no HTTP, JSON, check of the role", "Python: HTTP, JSON, lists for lookups", "new")
 
 
-def heads(words):
-    """The head of a table."""
-    return f"| {' | '.join(words)} |\n{'|---' * len(words)}|"
+def header(names):
+    """Returns the header of a table."""
+    return f"| {' | '.join(names)} |\n{'|---' * len(names)}|"
 
 
 def reads(file, known, postgres, program):
-    """The table of reads; of each request its name, and the seconds of the service over a kept connection and over one a request."""
-    requests = asked(known)
+    """Prints the table of reads. Returns for each request its caller, its name, and the seconds of `land` on a keep-alive connection and
+    with a new connection per request."""
+    requests = requests_of(known)
     mine, theirs = land(file), python(shutil.copy(file, file + ".python"))
-    peer = texts.Peer([program, shutil.copy(file, file + ".peer"), "delete"]) if program else None
-    ask, desk = Client(mine.port), Client(theirs.port)
-    told = same_answers(ask, desk, postgres, requests)
-    ask.close()
+    baseline = texts.Baseline([program, shutil.copy(file, file + ".baseline"), "delete"]) if program else None
+    client, desk = Client(mine.port), Client(theirs.port)
+    found = check_replies(client, desk, postgres, requests)
+    client.close()
     desk.close()
-    print(heads(HEADS))
-    served, alone = [], None
-    for (party, role, name, path), status in zip(requests, told):
+    print(header(HEADS))
+    served, http_only = [], None
+    for (party, role, name, path), status in zip(requests, found):
         request, figures = head("GET", path, party, role), []
         counts, ran = 20, 0
         for _ in range(RUNS):
-            # Each service answers one connection at a time.
-            ask, desk = Client(mine.port), Client(theirs.port)
-            one = median(lambda: ask.ask(request))
-            row = median(lambda: ask.ask_at_once(request * AT_ONCE, AT_ONCE)) / AT_ONCE if one < 0.01 else None
+            # Each server answers one connection at a time.
+            client, desk = Client(mine.port), Client(theirs.port)
+            one = median(lambda: client.send(request))
+            row = median(lambda: client.send_pipelined(request * PIPELINED, PIPELINED)) / PIPELINED if one < 0.01 else None
             lite = rows = None
-            if peer and status != 400:
-                lite, ran = peer.read(f"{role}: {name}", SECONDS, *values(known, party, path))
-            other = median(lambda: desk.ask(request))
+            if baseline and status != 400:
+                lite, ran = baseline.read(f"{role}: {name}", SECONDS, *values(known, party, path))
+            other = median(lambda: desk.send(request))
             if postgres and status != 400:
                 rows = postgres.seconds(statements(path), party, role, counts)
                 counts = max(20, min(5000, int(2 * SECONDS / rows)))
-            ask.close()
+            client.close()
             desk.close()
-            new, other_new = (median(lambda: ask_alone(service.port, request)) for service in (mine, theirs))
+            new, other_new = (median(lambda: send_new(service.port, request)) for service in (mine, theirs))
             figures.append((one, new, row, lite, rows, other, other_new))
         one, new, row, lite, rows, other, other_new = (
             min((some for some in figure if some is not None), default=None) for figure in zip(*figures))
         served.append((role, name, one, new))
         if status == 400:
-            alone = one
-        ratio = f"{one / lite:.1f}, {(one - alone) / lite:.1f}" if lite else "-"
+            http_only = one
+        ratio = f"{one / lite:.1f}, {(one - http_only) / lite:.1f}" if lite else "-"
         cells = (micros(one), micros(new), micros(row), micros(lite), ran or "-", ratio, micros(rows), micros(other), micros(other_new))
         print(f"| {role} | {name} | {status} | {' | '.join(map(str, cells))} |", flush=True)
-    if peer:
-        peer.stop()
+    if baseline:
+        baseline.stop()
     mine.stop()
     theirs.stop()
     return served
@@ -429,29 +430,29 @@ def registrations(known, count, tag):
 
 
 def transfer(lodger, reference, unit, right):
-    """A lodging: the transfer of a right to the notary."""
+    """Returns a lodging: the transfer of a right to the notary."""
     return "transfer", lodger, "conveyancer", {
         "reference": reference, "document": "Deed", "unit": unit, "right": right, "receiver": NOTARY, "share": "1/2"}
 
 
 def lodgings(known, count, tag):
-    """Transfers by 20 lodgers in turns, each of a right that no other is of."""
+    """Returns transfers by 20 lodgers in turn, each of another right."""
     return [transfer(CALM[n % len(CALM)], f"{tag} {n}", *known["rights"].pop()) for n in range(count)]
 
 
 def busy_lodgings(known, count, tag):
-    """Transfers by the one lodger with all earlier ones, which nobody decides."""
+    """Returns transfers by the lodger of all earlier ones, which are never decided."""
     rights = known["rights"]
     return [transfer(BUSY, f"{tag} {n}", *rights[n % len(rights)]) for n in range(count)]
 
 
 def approvals(lodged):
-    """Approvals of what some lodgings asked for."""
+    """Returns the approvals of lodgings."""
     return [("approve", OFFICE, "stateAdministrator", body) for _, _, _, body in lodged]
 
 
 def given(word, party, body, mutation):
-    """What the peer is given for an act; of an approval the body is that of the lodging."""
+    """Returns the values of an act for the baseline. For an approval, the body is that of the lodging."""
     if word == "enrol":
         return party, body["name"]
     if word == "register":
@@ -463,49 +464,50 @@ def given(word, party, body, mutation):
 
 
 class Served:
-    """A service that does acts, over one kept connection or one a request: their seconds, and the numbers of what was lodged last."""
+    """A server that performs acts, on a keep-alive connection or with a new one per request; their seconds, and the numbers of the last
+    lodgings."""
 
-    def __init__(self, service, is_kept):
-        self.service, self.client = service, Client(service.port) if is_kept else None
+    def __init__(self, service, is_keep_alive):
+        self.service, self.client = service, Client(service.port) if is_keep_alive else None
 
-    def begin(self):
-        self.times, self.lodged, self.before = [], [], self.service.processor()
+    def start(self):
+        self.times, self.lodged, self.before = [], [], self.service.cpu_seconds()
 
     def act(self, word, party, role, body, lodged):
         request = head("POST", f"/acts/{word}", party, role, {"mutation": lodged} if lodged else body)
         begin = time.perf_counter()
         client = self.client or Client(self.service.port)
-        status, told = client.ask(request)
+        status, reply = client.send(request)
         if not self.client:
             client.close()
         self.times.append(time.perf_counter() - begin)
         if status != 200:
-            raise SystemExit(f"{request}: {status}: {told}")
-        self.lodged.append(json.loads(told)["number"])
+            raise SystemExit(f"{request}: {status}: {reply}")
+        self.lodged.append(json.loads(reply)["number"])
 
     def figures(self):
-        """The median of the seconds, and the mean of those on the processor."""
-        return statistics.median(self.times), (self.service.processor() - self.before) / len(self.times)
+        """Returns the median of the seconds, and the mean CPU time."""
+        return statistics.median(self.times), (self.service.cpu_seconds() - self.before) / len(self.times)
 
     def stop(self):
         if self.client:
             self.client.close()
 
 
-class Alone:
-    """The peer, which does acts without connections."""
+class InProcess:
+    """The baseline, which performs acts without a connection."""
 
-    def __init__(self, peer):
-        self.peer = peer
+    def __init__(self, baseline):
+        self.baseline = baseline
 
-    def begin(self):
+    def start(self):
         self.times, self.lodged, self.busy = [], [], 0
 
     def act(self, word, party, _, body, lodged):
-        spent, busy, first = self.peer.act(word, *given(word, party, body, lodged))
+        spent, busy, first = self.baseline.act(word, *given(word, party, body, lodged))
         self.times.append(spent)
         self.busy += busy
-        # The document of what is lodged comes first.
+        # The first new number of a lodging is that of its document.
         self.lodged.append(first + 1)
 
     def figures(self):
@@ -516,30 +518,31 @@ class Alone:
 
 
 def played(sides, requests):
-    """The figures of each side, which do the acts in turns. Approvals are of what each side has lodged just before."""
+    """Performs acts, with the sides taking turns. Returns the figures of each side. Approvals are of the preceding lodgings of that
+    side."""
     is_approval = requests[0][0] == "approve"
     lodged = [side.lodged if is_approval else [None] * len(requests) for side in sides]
     for side in sides:
-        side.begin()
+        side.start()
     for request, *numbers in zip(requests, *lodged):
         for side, number in zip(sides, numbers):
             side.act(*request, number)
     return [side.figures() for side in sides]
 
 
-def settled(file):
-    """A file that C SQLite wrote, without its log."""
+def without_log(file):
+    """Copies the log of a file that C SQLite wrote into the file. Returns the path."""
     base = sqlite3.connect(file)
     base.execute("PRAGMA journal_mode = delete")
     base.close()
     return file
 
 
-KINDS = ("an enrolment", "a registration", "a lodging, of 20 lodgers", "an approval", "a lodging, of one with all earlier ones")
+KINDS = ("enrolment", "registration", "filing, by 20 lodgers in turn", "approval", "filing, by the lodger of all earlier ones")
 
 
 def run_of_acts(sides, known, tag):
-    """The figures of one run, of each kind of act and each side."""
+    """Returns the figures of one run, by kind of act and side."""
     lodged = lodgings(known, ACTS, f"L {tag}")
     return [played(sides, requests) for requests in (
         enrolments(known, ACTS, f"Act {tag}"), registrations(known, ACTS, f"Act {tag}"), lodged, approvals(lodged),
@@ -547,15 +550,16 @@ def run_of_acts(sides, known, tag):
 
 
 def acts(file, known, program):
-    """The table of acts, which changes the files; of each act its name, its way, and the figures of the service."""
+    """Prints the table of acts, which change the files. Returns for each act its name, the kind of connection, and the figures of
+    `land`."""
     services = [land(file), python(file + ".python")]
-    peer = texts.Peer([program, file + ".peer", "wal"]) if program else None
-    names = ["`land`: HTTP, policy, JSON", *(["C SQLite: the texts alone"] if peer else []), "Python: HTTP, JSON, few checks"]
-    print("\n" + heads(["act", "connection", *(word for name in names for word in (name, "of it on the processor"))]))
+    baseline = texts.Baseline([program, file + ".baseline", "wal"]) if program else None
+    names = ["`land`: HTTP, policy, JSON", *(["C SQLite: no HTTP, JSON, policy"] if baseline else []), "Python: HTTP, JSON, few checks"]
+    print("\n" + header(["act", "connection", *(word for name in names for word in (name, "CPU time"))]))
     figures = []
-    for is_kept, way in ((True, "kept"), (False, "one a request")):
-        mine, theirs = (Served(service, is_kept) for service in services)
-        sides = [mine, *([Alone(peer)] if peer else []), theirs]
+    for is_keep_alive, way in ((True, "keep-alive"), (False, "new")):
+        mine, theirs = (Served(service, is_keep_alive) for service in services)
+        sides = [mine, *([InProcess(baseline)] if baseline else []), theirs]
         runs = [run_of_acts(sides, known, f"{way} {run}") for run in range(RUNS)]
         for side in sides:
             side.stop()
@@ -565,19 +569,19 @@ def acts(file, known, program):
             figures.append((name, way, *row[:2]))
     for service in services:
         service.stop()
-    if peer:
-        peer.stop()
+    if baseline:
+        baseline.stop()
     check(file)
-    for other in ([file + ".peer"] if peer else []) + [file + ".python"]:
-        check(settled(other))
+    for other in ([file + ".baseline"] if baseline else []) + [file + ".python"]:
+        check(without_log(other))
     return figures
 
 
-# ---- what waits for the disk
+# ---- calls that wait for the disk
 
 
 def counted(log):
-    """How often fsync and fdatasync were called, by what strace wrote."""
+    """Returns the number of calls of fsync and fdatasync in the output of strace."""
     with open(log, encoding="ascii") as it:
         rows = [line.split() for line in it]
     found = {row[-1]: row[3] for row in rows if row}
@@ -589,7 +593,7 @@ def traced(log):
 
 
 def enrol_all(side, count):
-    side.begin()
+    side.start()
     for request in enrolments(None, count, "Traced"):
         side.act(*request, None)
     side.stop()
@@ -598,41 +602,42 @@ def enrol_all(side, count):
 def waits_of_land(file, count):
     service = Service([*traced(file + ".log"), PROGRAM, "serve", "--file", file, "--port", "{port}", "--connections", "2"])
     enrol_all(Served(service, True), count)
-    # Two connections were served, and it ends.
+    # The server exits after two connections.
     service.process.wait()
     service.running.remove(service)
     return counted(file + ".log")
 
 
-def waits_of_peer(file, count, program):
-    peer = texts.Peer([*traced(file + ".log"), program, file, "wal"])
-    enrol_all(Alone(peer), count)
-    peer.stop()
+def waits_of_baseline(file, count, program):
+    baseline = texts.Baseline([*traced(file + ".log"), program, file, "wal"])
+    enrol_all(InProcess(baseline), count)
+    baseline.stop()
     return counted(file + ".log")
 
 
 def waits(file, program):
-    """The table of how often `land` and the peer wait for the disk: where a file is opened and closed alone, and with enrolments."""
+    """Prints the number of calls by which `land` and the baseline wait for the disk, for a file that is opened, receives enrolments, and is
+    closed."""
     if not shutil.which("strace"):
-        print("\nWaits for the disk are not counted: there is no strace")
+        print("\nWaits for the disk are not counted: strace is not installed")
         return
-    print("\n## Waits for the disk, of the opening of a file, of enrolments and of the end, by `strace`\n")
-    print(heads(["enrolments", "`land`: fsync, fdatasync", "C SQLite: fsync, fdatasync"]))
+    print("\n## Waits for the disk when a file is opened, receives enrolments and is closed, by `strace`\n")
+    print(header(["enrolments", "`land`: fsync, fdatasync", "C SQLite: fsync, fdatasync"]))
     for count in (0, ACTS, 2 * ACTS):
         mine = waits_of_land(shutil.copy(file, f"{file}.{count}"), count)
-        theirs = waits_of_peer(shutil.copy(file, f"{file}.{count}.peer"), count, program)
+        theirs = waits_of_baseline(shutil.copy(file, f"{file}.{count}.baseline"), count, program)
         print(f"| {count} | {mine} | {theirs} |", flush=True)
 
 
 def main():
     signal.signal(signal.SIGTERM, lambda *_: sys.exit(1))
     sizes = [int(word) for word in sys.argv[1:]] or [1000, 10000]
-    grown, acted = [], []
+    read, acted = [], []
     with tempfile.TemporaryDirectory() as folder:
-        lacks = texts.missing()
-        program = None if lacks else texts.build(folder)
-        if lacks:
-            print(f"C SQLite is left out: {lacks}")
+        missing = texts.missing()
+        program = None if missing else texts.build(folder)
+        if missing:
+            print(f"C SQLite is skipped: {missing}")
         has_postgres = bool(glob.glob("/usr/lib/postgresql/*/bin/postgres"))
         postgres = Postgres(folder) if has_postgres else None
         try:
@@ -641,21 +646,21 @@ def main():
                 known = registers.of_entries(file, entries)
                 if program and entries == sizes[0]:
                     waits(file, program)
-                print(f"\n## {entries:,} entries, {len(known['units']):,} units; taken by `land check` in {check(file):.2f} s; a read, in µs\n", flush=True)
+                print(f"\n## {entries:,} entries, {len(known['units']):,} units; `land check` takes {check(file):.2f} s; reads in µs\n", flush=True)
                 if postgres:
                     postgres.load(file)
-                grown.append(reads(file, known, postgres, program))
+                read.append(reads(file, known, postgres, program))
                 acted.append(acts(file, known, program))
         finally:
             for service in [*Service.running]:
                 service.stop()
             if postgres:
                 postgres.stop()
-    print("\n## `land` by the number of entries\n\n" + heads(["request", *(f"{size:,}" for size in sizes)]))
-    for row in zip(*grown):
-        print(f"| {row[0][0]}: {row[0][1]}, µs (each new) | {' | '.join(f'{micros(kept)} ({micros(new)})' for _, _, kept, new in row)} |")
+    print("\n## `land` by the number of entries\n\n" + header(["request", *(f"{size:,}" for size in sizes)]))
+    for row in zip(*read):
+        print(f"| {row[0][0]}: {row[0][1]}, µs (new) | {' | '.join(f'{micros(one)} ({micros(new)})' for _, _, one, new in row)} |")
     for row in zip(*acted):
-        print(f"| {row[0][0]}, {row[0][1]}, ms (on the processor) | {' | '.join(f'{all_in * 1e3:.2f} ({alone * 1e3:.2f})' for _, _, all_in, alone in row)} |")
+        print(f"| {row[0][0]}, {row[0][1]}, ms (CPU) | {' | '.join(f'{spent * 1e3:.2f} ({cpu * 1e3:.2f})' for _, _, spent, cpu in row)} |")
 
 
 if __name__ == "__main__":

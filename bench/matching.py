@@ -1,18 +1,17 @@
 #!/usr/bin/env python3
-"""The time of `chain_matches`, beside GEOS by its C interface, on the same lists of rings.
+"""The time of `chain_matches`, compared with GEOS (through its C interface) on the same lists of rings.
 
     bench/matching.py                    (proves and builds its program, bench/matching.txt, in a copy of this repository)
     MATCHING=PROGRAM bench/matching.py   a program that was built before
 
-A strip is cut into parcels, from left to right, by lines that run up in as many points as make the rings of parcels of so many points each;
-they are held against the one ring around all of them, or, where there are two rings, against the same parcel begun at another point. So
-2, 16 and 17 rings are 1, 15 and 16 parcels and one ring. In `random` those lines jitter at random. The others are far from any register,
-and their rings are no tilings (the answer is no): in `one line` half of the rings have all points but one on one line, and each of the others has one long
-edge over all of them and its other points on a parabola; `combs` are of long teeth that run across all rings at once, upright, level or
-slanted, and begin at random places.
+A strip is divided from left to right by vertical chains into parcels with the given number of points each. They are matched with the one
+ring around all of them, or, for two rings, with the same parcel starting at another point. So 2, 16 and 17 rings are 1, 15 and 16 parcels
+and one ring. In `random` the chains have random jitter. The other cases are unrealistic, and their rings do not match (the answer is no):
+in `one line` half of the rings have all points but one on one line, and each of the others has one long edge over all of them and its other
+points on a parabola; `combs` have long teeth across all rings, upright, level or slanted, and random positions.
 
-GEOS: the geometries are made before the clock runs; then the union of each list (GEOSUnaryUnion_r, which shapely calls `unary_union`) and
-GEOSEquals_r of both unions. The least of nine runs is printed, in milliseconds. GEOS is left out where its library is not installed.
+GEOS: the geometries are built before the timing; then the union of each list (GEOSUnaryUnion_r, `unary_union` in shapely) and GEOSEquals_r
+of both unions. Each figure is the minimum of nine runs, in milliseconds. GEOS is skipped if its library is not installed.
 """
 import ctypes
 import ctypes.util
@@ -30,7 +29,7 @@ RUNS = 9
 
 
 def strip(parcels, points, jitter):
-    """The parcels of a strip, of so many points each, and the ring around them."""
+    """Returns the parcels of a strip, with a number of points each, and the ring around them."""
     half = points // 2
     lines = []
     for place in range(parcels + 1):
@@ -42,26 +41,26 @@ def strip(parcels, points, jitter):
     return rings, lines[-1] + lines[0][::-1]
 
 
-def begun(ring):
+def rotated(ring):
     return ring[len(ring) // 3 :] + ring[: len(ring) // 3]
 
 
 def tiling(rings, points, jitter):
     parcels, around = strip(rings - 1, points, jitter)
     if rings == 2:
-        return parcels, [begun(parcels[0])]
-    mixed = [begun(ring) for ring in parcels]
+        return parcels, [rotated(parcels[0])]
+    mixed = [rotated(ring) for ring in parcels]
     random.shuffle(mixed)
     return mixed, [around]
 
 
 def on_line(points, place):
-    """All points but one on one line, at places of their own."""
+    """Returns a ring with all points but one on one line, at different places for each ring."""
     return [[place * 7 + step * 1000, 0] for step in range(points - 1)] + [[0, -1_000_000 - place]]
 
 
 def over_line(points, place):
-    """One edge over all of those, and the other points on a parabola."""
+    """Returns a ring with one edge over all of those, and the other points on a parabola."""
     width = 1_000_000
     across = [[width - round(2 * width * (step + 1) / (points - 1)), 0] for step in range(points - 2)]
     return [[-width, 0], [width, 0]] + [[x, 1000 + place + (width * width - x * x) // 1000] for x, _ in across]
@@ -73,7 +72,7 @@ def lines(rings, points):
 
 
 def comb(points, slant):
-    """A comb with long teeth, each tooth of two edges, at a random place."""
+    """Returns a comb with long teeth of two edges each, at a random place."""
     teeth = (points - 2) // 2
     left, low = random.randint(0, 1000), random.randint(0, 1000)
     ring = []
@@ -109,7 +108,7 @@ def cases():
 
 
 def build(folder):
-    """The program, proved and built in a copy of the repository."""
+    """Proves and builds the program in a copy of the repository. Returns its path."""
     copy = folder / "copy"
     (copy / "crates").mkdir(parents=True)
     shutil.copytree(TOP / "crates" / "land_shape", copy / "crates" / "land_shape", symlinks=True)
@@ -125,7 +124,7 @@ def build(folder):
 
 
 class Geos:
-    """The library, where it is installed."""
+    """The GEOS library, if it is installed."""
 
     def __init__(self):
         name = ctypes.util.find_library("geos_c")
@@ -166,7 +165,7 @@ class Geos:
 
 
 def geos_cell(geos, ours, theirs, answer):
-    """The time of GEOS, and its answer where it is another one."""
+    """Returns the time of GEOS, and its answer if that differs."""
     if not geos.library:
         return "not installed"
     found, milliseconds = geos.timed(ours, theirs)
@@ -178,17 +177,16 @@ def main():
     text = "".join("\n".join([*map(wkt, ours), "with", *map(wkt, theirs), "end", ""]) for _, (ours, theirs) in named)
     with tempfile.TemporaryDirectory() as folder:
         program = os.environ.get("MATCHING") or build(Path(folder))
-        said = subprocess.run([program], input=text, capture_output=True, text=True, check=True).stdout.splitlines()
-    if len(said) != len(named):
-        sys.exit("\n".join(line[:200] for line in said if not line.startswith(("true", "false"))))
+        output = subprocess.run([program], input=text, capture_output=True, text=True, check=True).stdout.splitlines()
+    if len(output) != len(named):
+        sys.exit("\n".join(line[:200] for line in output if not line.startswith(("true", "false"))))
     geos = Geos()
     if geos.library:
         print(geos.library.GEOSversion().decode())
     print("| lists | match | `chain_matches` | GEOS |\n|---|---|---|---|")
-    for (name, (ours, theirs)), line in zip(named, said):
+    for (name, (ours, theirs)), line in zip(named, output):
         answer, nanoseconds = line.split()
-        beside = geos_cell(geos, ours, theirs, answer)
-        print(f"| {name} | {'yes' if answer == 'true' else 'no'} | {int(nanoseconds) / 1e6:.3f} | {beside} |")
+        print(f"| {name} | {'yes' if answer == 'true' else 'no'} | {int(nanoseconds) / 1e6:.3f} | {geos_cell(geos, ours, theirs, answer)} |")
 
 
 if __name__ == "__main__":

@@ -1,14 +1,13 @@
 #!/usr/bin/env python3
-"""Holds the order of texts (texts.py) against the program: what it runs for each request of joins.py and mandates.py is what the peer runs.
+"""Checks that the program and the baseline (texts.py, baseline.c) run the same SQL statements for each request of joins.py and mandates.py.
 
-    bench/order.py                       (over a register of 1,000 entries; it needs gdb, cc and sqlite3.h)
+    bench/order.py                       (with a register of 1,000 entries; it needs gdb, cc and sqlite3.h)
     LAND=PROGRAM bench/order.py          another program than crates/land/out/land
 
-`land serve` runs under gdb, which stops at each text that the program hands to its sqlite (`Connection::bind`), and writes it down with its
-parameters. The peer runs over a copy of the file, and tells the same of itself. Both are asked for all reads of joins.py, for those of
-mandates.py by agents of no, one and ten principals, and for two acts of each kind, and have to run the same texts, in the same order, with
-the same parameters; moments of now are compared as such. What differs is told, and ends this with status 1. A program without symbols shows
-no text.
+`land serve` runs under gdb, which records each SQL statement that the program passes to its sqlite (`Connection::bind`), with its
+parameters. The baseline runs on a copy of the file, and prints the same. Both get all reads of joins.py, those of mandates.py by agents
+with no, one and ten principals, and two acts of each kind. They must run the same statements, in the same order, with the same parameters;
+the current time is masked. If something differs, it is printed, and the exit status is 1. The program needs symbols.
 """
 import json
 import os
@@ -18,16 +17,16 @@ import subprocess
 import sys
 import tempfile
 
-WIDTH = 24  # of a parameter in memory: a byte that says which it is, then a number, or where a text is and its length
-SHOWN = "LAND_TEXTS"
+WIDTH = 24  # the bytes of a parameter in memory: a byte for its kind, then a number, or the address and the length of a text
+LOG = "LAND_STATEMENTS"
 
 
 def watch(gdb):
-    """Within gdb: runs the program, and writes each text to the file, with its parameters."""
+    """Within gdb: runs the program, and writes each SQL statement with its parameters to the log."""
     gdb.execute("set pagination off")
     gdb.execute("starti")
     listed = gdb.execute("info functions sqlite::connection::Connection::bind", to_string=True)
-    with open(os.environ[SHOWN], "w", encoding="utf-8") as it:
+    with open(os.environ[LOG], "w", encoding="utf-8") as it:
 
         def register(name):
             return int(gdb.parse_and_eval(f"(unsigned long)${name}"))
@@ -53,52 +52,53 @@ def watch(gdb):
 
 
 def masked(row):
-    """A text with its parameters, moments of now as such."""
+    """Replaces the current time in a statement and its parameters."""
     return [word if not re.fullmatch(r"1[7-9]\d{11}|[23]\d{12}", word) else "now" for word in row]
 
 
 class Watched:
-    """The service under gdb, and the texts that it has run since they were asked for last."""
+    """The server under gdb. `statements` returns those that it has run since the last call."""
 
     def __init__(self, folder, file):
         import joins
 
-        shown = os.path.join(folder, "texts")
-        os.environ[SHOWN] = shown
+        log = os.path.join(folder, "statements")
+        os.environ[LOG] = log
         self.service = joins.Service(["gdb", "-q", "-batch", "-x", os.path.abspath(__file__), "--args", joins.PROGRAM, "serve", "--file", file,
                                       "--port", "{port}", "--connections", "2"], stdout=subprocess.DEVNULL, stderr=subprocess.DEVNULL)
-        self.log = open(shown, encoding="utf-8")
-        if not self.texts():
-            raise SystemExit(f"gdb sees no text of {joins.PROGRAM}: it has no symbols, or the function has another name")
+        self.log = open(log, encoding="utf-8")
+        if not self.statements():
+            raise SystemExit(f"gdb finds no statement of {joins.PROGRAM}: it has no symbols, or the function has another name")
         self.client = joins.Client(self.service.port)
 
-    def texts(self):
+    def statements(self):
         return [masked(line.rstrip("\n").split("\t")) for line in self.log]
 
-    def ask(self, request):
-        told = self.client.ask(request)
-        return told, self.texts()
+    def send(self, request):
+        reply = self.client.send(request)
+        return reply, self.statements()
 
 
 def compare(name, mine, theirs, faults):
     if mine == theirs and mine:
-        print(f"{name}: {len(mine)} texts")
+        print(f"{name}: {len(mine)} statements")
         return
     faults.append(name)
-    print(f"{name}: they differ\n  land: " + "\n        ".join(map(" | ".join, mine)) + "\n  peer: " + "\n        ".join(map(" | ".join, theirs)))
+    lists = [f"\n  {side}:\n    " + "\n    ".join(map(" | ".join, rows)) for side, rows in (("land", mine), ("baseline", theirs))]
+    print(f"{name}: they differ{''.join(lists)}")
 
 
-def hold_reads(watched, shown, known, requests, faults, of=""):
+def compare_reads(watched, steps, known, requests, faults, of=""):
     import joins
 
     for party, role, name, path in requests:
         if path == "/nothing":
             continue
-        _, mine = watched.ask(joins.head("GET", path, party, role))
-        compare(f"{role}{of}: {name}", mine, shown(f"{role}: {name}", *joins.values(known, party, path)), faults)
+        _, mine = watched.send(joins.head("GET", path, party, role))
+        compare(f"{role}{of}: {name}", mine, steps(f"{role}: {name}", *joins.values(known, party, path)), faults)
 
 
-def hold_acts(watched, shown, known, faults):
+def compare_acts(watched, steps, known, faults):
     import joins
 
     lodged = joins.lodgings(known, 2, "L")
@@ -106,12 +106,12 @@ def hold_acts(watched, shown, known, faults):
     for word, party, role, body in [*joins.enrolments(known, 2, "E"), *joins.registrations(known, 2, "R"), *lodged, *joins.approvals(lodged),
                                     *joins.busy_lodgings(known, 2, "B")]:
         number = numbers.pop(0) if word == "approve" else None
-        (status, told), mine = watched.ask(joins.head("POST", f"/acts/{word}", party, role, {"mutation": number} if number else body))
+        (status, reply), mine = watched.send(joins.head("POST", f"/acts/{word}", party, role, {"mutation": number} if number else body))
         if status != 200:
-            raise SystemExit(f"{word}: {status}: {told}")
-        compare(word, mine, shown(word, *joins.given(word, party, body, number)), faults)
+            raise SystemExit(f"{word}: {status}: {reply}")
+        compare(word, mine, steps(word, *joins.given(word, party, body, number)), faults)
         if word == "transfer":
-            numbers.append(json.loads(told)["number"])
+            numbers.append(json.loads(reply)["number"])
 
 
 def main():
@@ -120,30 +120,30 @@ def main():
     import registers
     import texts
 
-    lacks = texts.missing() or (None if shutil.which("gdb") else "there is no gdb")
-    if lacks:
-        raise SystemExit(lacks)
+    missing = texts.missing() or (None if shutil.which("gdb") else "gdb is not installed")
+    if missing:
+        raise SystemExit(missing)
     faults = []
     with tempfile.TemporaryDirectory() as folder:
         file = os.path.join(folder, "register.land")
         known = registers.of_entries(file, 1000)
         agents = registers.add_mandates(file, known, (0, 1, 10), 2)
-        peer = texts.Peer([texts.build(folder), shutil.copy(file, file + ".peer"), "wal"])
+        baseline = texts.Baseline([texts.build(folder), shutil.copy(file, file + ".baseline"), "wal"])
 
-        def shown(plan, *cells):
-            return [masked([texts.TEXTS[name], *words]) for name, *words in peer.shown(plan, *cells)]
+        def steps(plan, *cells):
+            return [masked([texts.STATEMENTS[name], *words]) for name, *words in baseline.steps(plan, *cells)]
 
         try:
             watched = Watched(folder, file)
-            hold_reads(watched, shown, known, joins.asked(known), faults)
+            compare_reads(watched, steps, known, joins.requests_of(known), faults)
             for agent in agents:
-                hold_reads(watched, shown, agent, mandates.asked(agent), faults, f" of {len(agent['principals'])} principals")
-            hold_acts(watched, shown, known, faults)
+                compare_reads(watched, steps, agent, mandates.requests_of(agent), faults, f" with {len(agent['principals'])} principals")
+            compare_acts(watched, steps, known, faults)
         finally:
             for service in [*joins.Service.running]:
                 service.stop()
-        peer.stop()
-    print(f"order: {len(faults)} differ" if faults else "order: the program and the peer run the same texts")
+        baseline.stop()
+    print(f"order: {len(faults)} differ" if faults else "order: the program and the baseline run the same statements")
     sys.exit(bool(faults))
 
 

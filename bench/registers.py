@@ -1,4 +1,4 @@
-"""Registers for measuring, written as files of sqlite by the schema of docs/TABLES.md, and the texts that the crates run over them."""
+"""Registers for the benchmarks, written as SQLite files with the schema of docs/TABLES.md, and the SQL statements of the crates."""
 import math
 import os
 import re
@@ -18,14 +18,14 @@ def schema():
     return re.search(r"```sql\n(.*?)```", page, re.S).group(1)
 
 
-def texts(file):
-    """The texts that stand in a source as constants, by their names."""
+def sql_of(file):
+    """Returns the SQL statements in a source file, by the names of their constants."""
     found = re.findall(r'const (\w+): &str =\s*"((?:[^"\\]|\\.)*)"', (TOP / "crates" / file).read_text(), re.S)
     return {name: re.sub(r"\\\n\s*", "", text) for name, text in found}
 
 
-def opened(path):
-    """A new file with the tables and the first row of each register."""
+def create(path):
+    """Creates a file with the tables and the first rows of any register."""
     base = sqlite3.connect(path)
     base.executescript(schema())
     base.execute("INSERT INTO edition VALUES (1, 2)")
@@ -47,15 +47,16 @@ def square(place):
 
 
 def of_entries(path, entries):
-    """A register of so many entries, four for each unit, at the stamps 1000 and 2000; who asks, and what for.
+    """Writes a register with a number of entries, four per unit, at the stamps 1000 and 2000. Returns the callers and objects of the
+    requests.
 
-    A unit has a parcel, a restriction of the town, a mortgage of a bank and two owners that own nothing else; the owners of each
-    tenth unit hold it as a group, and one of them leases it. One unit is mortgaged to a small bank. For each tenth unit a transfer was
-    lodged by one conveyancer, at 1000, and refused at 2000.
+    A unit has a parcel, a restriction of the town, a mortgage of a bank and two owners that own nothing else; the owners of each tenth unit
+    own it as a group, and one of them leases it. One unit is mortgaged to a small bank. For each tenth unit a conveyancer lodged a transfer
+    at 1000, which was refused at 2000.
     """
     units = entries // 4
     middle = units // 2 // 10 * 10 + 5
-    base = opened(path)
+    base = create(path)
     people = [(NOTARY, "Notary", "notary"), (BANK, "Bank", "bank"), (SMALL_BANK, "Small Bank", "bank"),
               (BUSY, "Busy", "conveyancer"), (TOWN, "Town", "citizen"), *((n, f"Calm {n}", "conveyancer") for n in CALM)]
     parties = [(number, name, "nonNaturalPerson", 1000, OPEN) for number, name, _ in people]
@@ -103,7 +104,8 @@ def of_entries(path, entries):
 
 
 def add_units(base, owners, count):
-    """At the stamp 3000 so many units more for each of some owners, in turns: each with a parcel and one entry, all by one document."""
+    """Adds a number of units per owner at the stamp 3000, the owners taking turns: each unit has a parcel and one entry, all by one
+    document."""
     deed, = base.execute("SELECT max(next) FROM moments").fetchone()
     estates, parcels, rrrs, number = [], [], [], deed + 1
     for place in range(count * len(owners)):
@@ -119,11 +121,12 @@ def add_units(base, owners, count):
 
 
 def add_mandates(path, known, counts, more):
-    """Mandates in a register of `of_entries`, at the stamp 3000; of each agent what is known of the owner, its partner and its principals.
+    """Adds mandates to a register of `of_entries`, at the stamp 3000. Returns for each agent the objects of its requests, its partner and
+    its principals.
 
-    An agent owns a half of one unit, and its partner the other half; the first agent is the owner that is known. It has so many principals,
-    each of which owns a half of another unit and nothing else. One agent more has as many as the last, and each of these gets so many units
-    more.
+    An agent owns half of one unit, and its partner the other half; the first agent is the owner in `known`. `counts` has the number of
+    principals of each agent; each principal owns half of another unit and nothing else. One more agent has the last number of principals,
+    and each of these gets `more` further units.
     """
     base = sqlite3.connect(path)
     party = dict(base.execute("SELECT number, party FROM rrr"))
@@ -143,9 +146,9 @@ def add_mandates(path, known, counts, more):
 
 
 def of_changes(path, changes, parcels=1):
-    """A register of so many changes: in turns one enrols a party, and one registers a unit with so many parcels, a document and that party's
-    right."""
-    base = opened(path)
+    """Writes a register with a number of changes: alternately the enrolment of a party, and the registration of a unit with a number of
+    parcels, a document and that party's right."""
+    base = create(path)
     rows = {table: [] for table in ("party", "role", "moments", "source", "unit", "parcel", "rrr")}
     number = 2
     for cycle in range(math.ceil(changes / 2)):
@@ -170,9 +173,9 @@ def of_changes(path, changes, parcels=1):
 
 
 def of_transfers(path, changes, units=1000, owners=4):
-    """A register of units with so many owners of equal shares, and so many changes: in turns a transfer of a whole right is lodged, and
-    approved. The receiver is the one that has been no owner of the unit for longest."""
-    base = opened(path)
+    """Writes a register of units, each with a number of owners with equal shares, and a number of changes: alternately the lodging and the
+    approval of a transfer of a whole right. The receiver is the party whose last ownership of the unit ended first."""
+    base = create(path)
     people = range(2, 2 + units + owners)
     number = people[-1] + 1
     deed, number = number, number + 1
@@ -218,8 +221,8 @@ def of_transfers(path, changes, units=1000, owners=4):
 
 
 def of_members(path, changes, size=64):
-    """A register of one group of so many members with equal shares, of which one gives way to another at each change."""
-    base = opened(path)
+    """Writes a register of one group with a number of members with equal shares. Each change replaces one member."""
+    base = create(path)
     people = range(2, 2 + 2 * size)
     group = people[-1] + 1
     put(base, "party", [(party, f"Party {party}", "naturalPerson", 1000, OPEN) for party in people])

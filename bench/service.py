@@ -1,13 +1,13 @@
 #!/usr/bin/env python3
-"""Requests a second of the service over a file, beside Python's http.server with sqlite3 over the same tables.
+"""Requests per second of `land serve` on a file, compared with Python's http.server and sqlite3 on the same tables.
 
-    ./land talk --clock 0 < /dev/null    # builds the program where it is not built
-    bench/service.py [OBJECTS [SECONDS]]
+    ./land --prove                       # builds crates/land/out/land
+    bench/service.py [OBJECTS [SECONDS]]      (1000 5; at least 500 objects)
     LAND=PROGRAM bench/service.py ..     another program than crates/land/out/land
 
-Makes a register of so many parties (1,000), and asks both services the same for so many seconds each (5), in turns: one
-party, the list of all parties, and an enrolment, each over one kept connection and over one connection a request. Python's
-service looks up role and party by an index, and commits an enrolment to the same tables; it knows this policy alone.
+Creates a register with a number of parties, and sends both servers the same requests for a number of seconds each, in turn: a view of a
+party, the list of all parties, and an enrolment, each on a keep-alive connection and with a new connection per request. Python's server
+looks up role and party by an index, and commits an enrolment to the same tables; it implements the policy of these requests only.
 """
 import http.client
 import http.server
@@ -28,7 +28,7 @@ OPEN = 4102444800000
 
 
 class Desk(http.server.BaseHTTPRequestHandler):
-    """The service in Python, for the office."""
+    """The server in Python, for the state administrator."""
 
     protocol_version = "HTTP/1.1"
     wbufsize = -1
@@ -99,48 +99,48 @@ def free_port():
         return it.getsockname()[1]
 
 
-def started(words, port):
-    """A service that was started, once it listens."""
-    service = subprocess.Popen(words)
+def start(call, port):
+    """Starts a server and waits until it listens. Returns the process."""
+    service = subprocess.Popen(call)
     for _ in range(400):
         try:
             socket.create_connection(("127.0.0.1", port)).close()
             return service
         except ConnectionRefusedError:
             if service.poll() is not None:
-                raise SystemExit(f"a service ends with {service.returncode}")
+                raise SystemExit(f"a server exits with {service.returncode}")
             time.sleep(0.02)
-    raise SystemExit("nothing listens on the port")
+    raise SystemExit("the server does not listen on the port")
 
 
-def ask(connection, method, path, body):
+def send(connection, method, path, body):
     connection.request(method, path, body, OFFICE)
     reply = connection.getresponse()
-    told = reply.read()
+    answer = reply.read()
     if reply.status != 200:
-        raise SystemExit(f"{method} {path}: {reply.status}: {told}")
-    return told
+        raise SystemExit(f"{method} {path}: {reply.status}: {answer}")
+    return answer
 
 
-ASKED = {
-    "one party": ("GET", "/parties/500", None),
-    "the list of parties": ("GET", "/parties", None),
-    "an enrolment": ("POST", "/acts/enrol", '{"kind":"naturalPerson","name":"Anna"}'),
+REQUESTS = {
+    "view a party": ("GET", "/parties/500", None),
+    "list all parties": ("GET", "/parties", None),
+    "enrolment": ("POST", "/acts/enrol", '{"kind":"naturalPerson","name":"Anna"}'),
 }
 
 
-def rate(port, request, seconds, is_kept):
-    """Requests a second."""
+def rate(port, request, seconds, is_keep_alive):
+    """Returns the number of requests per second."""
     count, begin = 0, time.perf_counter()
-    kept = http.client.HTTPConnection("127.0.0.1", port)
+    keep_alive = http.client.HTTPConnection("127.0.0.1", port)
     while time.perf_counter() - begin < seconds:
-        connection = kept if is_kept else http.client.HTTPConnection("127.0.0.1", port)
-        ask(connection, *request)
-        if not is_kept:
+        connection = keep_alive if is_keep_alive else http.client.HTTPConnection("127.0.0.1", port)
+        send(connection, *request)
+        if not is_keep_alive:
             connection.close()
         count += 1
     spent = time.perf_counter() - begin
-    kept.close()
+    keep_alive.close()
     return count / spent
 
 
@@ -151,15 +151,15 @@ def land(file, port):
 def fill(file, objects):
     subprocess.run([PROGRAM, "new", "--file", file], check=True)
     port = free_port()
-    words = land(file, port)
-    words[-1] = "2"
-    service = started(words, port)
+    call = land(file, port)
+    call[-1] = "2"
+    service = start(call, port)
     connection = http.client.HTTPConnection("127.0.0.1", port)
     for number in range(2, objects + 1):
-        ask(connection, "POST", "/acts/enrol", json.dumps({"kind": "naturalPerson", "name": f"Party {number}"}))
+        send(connection, "POST", "/acts/enrol", json.dumps({"kind": "naturalPerson", "name": f"Party {number}"}))
     connection.close()
     if service.wait() != 0:
-        raise SystemExit(f"the service ends with {service.returncode}")
+        raise SystemExit(f"the server exits with {service.returncode}")
 
 
 def main():
@@ -171,24 +171,26 @@ def main():
     with tempfile.TemporaryDirectory() as folder:
         first = os.path.join(folder, "first.land")
         fill(first, objects)
-        print(f"{objects} parties, requests a second")
+        print(f"{objects} parties, requests per second")
         print(f"{'':22}{'':12}{'land':>10}{'Python':>10}")
-        for name, request in ASKED.items():
-            for is_kept in (True, False):
+        for name, request in REQUESTS.items():
+            for is_keep_alive in (True, False):
                 rates = []
                 for is_land in (True, False):
                     file = os.path.join(folder, "copy.land")
                     shutil.copy(first, file)
                     port = free_port()
-                    words = land(file, port) if is_land else [sys.executable, __file__, "serve", file, str(port)]
-                    service = started(words, port)
-                    rates.append(rate(port, request, seconds, is_kept))
-                    service.kill()
-                    service.wait()
+                    call = land(file, port) if is_land else [sys.executable, __file__, "serve", file, str(port)]
+                    service = start(call, port)
+                    try:
+                        rates.append(rate(port, request, seconds, is_keep_alive))
+                    finally:
+                        service.kill()
+                        service.wait()
                     for end in ("", "-wal", "-shm"):
                         if os.path.exists(file + end):
                             os.remove(file + end)
-                way = "kept" if is_kept else "each new"
+                way = "keep-alive" if is_keep_alive else "new"
                 print(f"{name:22}{way:12}{rates[0]:10.0f}{rates[1]:10.0f}", flush=True)
 
 

@@ -1,13 +1,13 @@
 #!/usr/bin/env python3
-"""The time of `land talk` over a stream of reads, beside a handler of Python's http.server that answers the same reads, in turns.
+"""The time of `land talk` for a stream of reads, compared with a handler of Python's http.server that answers the same reads, in turn.
 
     bench/stream.py [TURNS [PARTY [PREFIX]]]     (3 1)
     LAND=PROGRAM bench/stream.py ..              another program than crates/land/out/land
 
-64 enrolments and 8 registrations of 60 parcels and 60 rights make 1,041 objects; then so many reads of parties, units and entries in turn
-are asked by the office. The stream comes from a file, the replies go to one, and the time of the setting up alone is taken off. Python
-answers the reads from a dictionary, over BytesIO and without sockets. Where another PARTY asks, or each path has a PREFIX, the reads are
-denied, or name nothing, and the replies go nowhere: what is left is reading and deciding. Python is left out then.
+64 enrolments and 8 registrations of 60 parcels and 60 rights create 1,041 objects; then the state administrator reads parties, units and
+entries in turn. The stream comes from a file, the replies go to a file, and the time of the set-up is subtracted. Python answers the reads
+from a dictionary, with BytesIO instead of sockets. With another PARTY the reads are denied, and with a PREFIX their paths are unknown; then
+the replies are discarded, which measures only parsing and the decision, and Python is skipped.
 """
 import io
 import json
@@ -41,7 +41,7 @@ def square(n):
     return "POLYGON ((%d 0,%d 0,%d 10000,%d 10000,%d 0))" % (west, west + 10000, west + 10000, west, west)
 
 
-def setting_up():
+def set_up():
     """64 parties (2 to 65), then 8 units with 60 parcels and 60 rights each: 64 + 8 * (2 + 60 + 60) + 1 = 1,041 objects."""
     for n in range(64):
         yield post("enrol", {"kind": "naturalPerson", "name": "Party %d" % n})
@@ -64,9 +64,9 @@ def reads(count):
 
 
 def served(count):
-    """Seconds of the whole run, and the replies, or none where they go nowhere."""
+    """Returns the seconds of the whole run, and the replies, unless they are discarded."""
     with tempfile.TemporaryFile() as source, open(os.devnull, "wb") if not IS_PLAIN else tempfile.TemporaryFile() as sink:
-        source.write("".join([*setting_up(), *reads(count)]).encode())
+        source.write("".join([*set_up(), *reads(count)]).encode())
         source.seek(0)
         before = time.perf_counter()
         status = subprocess.run([PROGRAM, "talk", "--clock", "1000"], stdin=source, stdout=sink).returncode
@@ -79,8 +79,8 @@ def served(count):
 
 
 def objects(replies):
-    """The objects that the replies show, under the paths asked for."""
-    shown, at = {}, 0
+    """Returns the objects in the replies, by path."""
+    found, at = {}, 0
     paths = [None] * 72 + [request.split(" ", 2)[1] for request in reads(3 * len(RRRS))]
     for path in paths:
         end = replies.index(b"\r\n\r\n", at) + 4
@@ -88,16 +88,16 @@ def objects(replies):
         assert head.startswith(b"HTTP/1.1 200 "), replies[at:end + 40]
         length = int(head.split(b"Content-Length: ")[1].split(b"\r\n")[0])
         if path:
-            shown[path] = json.loads(replies[end:end + length])["object"]
+            found[path] = json.loads(replies[end:end + length])["object"]
         at = end + length
-    return shown
+    return found
 
 
 class Handler(BaseHTTPRequestHandler):
     protocol_version = "HTTP/1.1"
 
-    def __init__(self, stream, shown):
-        self.rfile, self.wfile, self.shown = io.BytesIO(stream), io.BytesIO(), shown
+    def __init__(self, stream, by_path):
+        self.rfile, self.wfile, self.by_path = io.BytesIO(stream), io.BytesIO(), by_path
         self.client_address, self.requestline = ("", 0), ""
         self.handle()
 
@@ -107,7 +107,7 @@ class Handler(BaseHTTPRequestHandler):
     def do_GET(self):
         path, _, query = self.path.partition("?")
         assert self.headers["Register-Party"] == "1" and self.headers["Register-Role"] == "stateAdministrator"
-        body = json.dumps({"object": self.shown[path]}, separators=(",", ":")).encode()
+        body = json.dumps({"object": self.by_path[path]}, separators=(",", ":")).encode()
         self.send_response(200)
         self.send_header("Content-Type", "application/json")
         self.send_header("Content-Length", str(len(body)))
@@ -116,21 +116,21 @@ class Handler(BaseHTTPRequestHandler):
 
 
 def main():
-    shown = objects(served(3 * len(RRRS))[1]) if IS_PLAIN else {}
+    by_path = objects(served(3 * len(RRRS))[1]) if IS_PLAIN else {}
     for _ in range(TURNS):
         none, _ = served(0)
-        print("set up alone %.3f s" % none)
+        print("only the set-up %.3f s" % none)
         for count in (10000, 100000):
             taken, _ = served(count)
-            print("land %d reads %.3f s, less the setting up %.2f us each, %.0f a second"
+            print("land %d reads %.3f s, without the set-up %.2f us each, %.0f per second"
                   % (count, taken, (taken - none) / count * 1e6, count / (taken - none)), flush=True)
         if IS_PLAIN:
             stream = "".join(reads(20000)).encode()
             before = time.perf_counter()
-            handler = Handler(stream, shown)
+            handler = Handler(stream, by_path)
             taken = time.perf_counter() - before
             assert handler.wfile.getvalue().count(b"HTTP/1.1 200") == 20000
-            print("python %.2f us each, %.0f a second" % (taken / 20000 * 1e6, 20000 / taken), flush=True)
+            print("python %.2f us each, %.0f per second" % (taken / 20000 * 1e6, 20000 / taken), flush=True)
 
 
 main()

@@ -1,13 +1,14 @@
 #!/usr/bin/env python3
-"""Whether reads grow with the register: services over registers of three sizes, asked in turns, so that other work meets all alike.
+"""Do reads take longer in a larger register? Servers of registers of three sizes take turns, so that other load affects all of them.
 
     bench/turns.py                       (takes two minutes or more: the largest register is opened)
 
-The reads of an owner of one unit, of banks and of conveyancers (joins.py), 600 each; then the texts of each by C SQLite (texts.py), of three
-runs the median. In microseconds, the median and the tenth of a hundred. The smallest register is always asked first in a turn, after the
-others' texts, which costs it.
+The reads of an owner of one unit, of banks and of conveyancers (joins.py), 600 each; then the SQL statements of each by C SQLite
+(texts.py), each time the median of three runs. Prints the median and the tenth percentile, in microseconds. In each turn the smallest
+register is read first, after the statements on the other files, which makes it slower.
 """
 import os
+import re
 import shutil
 import tempfile
 import time
@@ -20,31 +21,31 @@ SIZES, TURNS = (1000, 10000, 100000), 600
 
 
 class Size:
-    """A register of one size, its service, and the peer over a copy of it."""
+    """A register of one size, its server, and the baseline on a copy of it."""
 
     def __init__(self, folder, program, entries):
         file = os.path.join(folder, f"{entries}.land")
         self.known = registers.of_entries(file, entries)
-        self.peer = texts.Peer([program, shutil.copy(file, file + ".peer"), "delete"])
+        self.baseline = texts.Baseline([program, shutil.copy(file, file + ".baseline"), "delete"])
         self.client = joins.Client(joins.land(file).port)
 
     def choose(self, place):
-        """Takes one of the requests, and begins its times."""
-        party, role, name, path = joins.asked(self.known)[place]
+        """Selects one of the requests, and clears the times."""
+        party, role, name, path = joins.requests_of(self.known)[place]
         self.request, self.plan = joins.head("GET", path, party, role), f"{role}: {name}"
-        self.values, self.asked, self.ran = joins.values(self.known, party, path), [], []
+        self.values, self.land_times, self.sqlite_times = joins.values(self.known, party, path), [], []
 
-    def ask(self):
+    def send(self):
         begin = time.perf_counter()
-        self.client.ask(self.request)
-        self.asked.append(time.perf_counter() - begin)
+        self.client.send(self.request)
+        self.land_times.append(time.perf_counter() - begin)
 
     def run(self):
-        self.ran.append(self.peer.read(self.plan, 0, *self.values)[0])
+        self.sqlite_times.append(self.baseline.read(self.plan, 0, *self.values)[0])
 
 
 def part(times, place):
-    """The time below which such a part of some times lies, in microseconds."""
+    """Returns a quantile of some times, in microseconds."""
     return f"{sorted(times)[int(len(times) * place)] * 1e6:.0f}"
 
 
@@ -53,23 +54,24 @@ def parts(all_times):
 
 
 def main():
-    lacks = texts.missing()
-    if lacks:
-        raise SystemExit(lacks)
+    missing = texts.missing()
+    if missing:
+        raise SystemExit(missing)
     with tempfile.TemporaryDirectory() as folder:
         try:
             sizes = [Size(folder, texts.build(folder), entries) for entries in SIZES]
-            for place, (_, role, name, path) in enumerate(joins.asked(sizes[0].known)):
-                if role == "notary" or "all " in name or path == "/nothing":
+            for place, (_, role, name, path) in enumerate(joins.requests_of(sizes[0].known)):
+                if role == "notary" or re.search(r"\ball\b", name) or path == "/nothing":
                     continue
                 for size in sizes:
                     size.choose(place)
                 for _ in range(TURNS):
                     for size in sizes:
-                        size.ask()
+                        size.send()
                     for size in sizes:
                         size.run()
-                print(f"{role}: {name} | land {parts([size.asked for size in sizes])} | sqlite {parts([size.ran for size in sizes])}", flush=True)
+                print(f"{role}: {name} | land {parts([size.land_times for size in sizes])}"
+                      f" | sqlite {parts([size.sqlite_times for size in sizes])}", flush=True)
         finally:
             for service in [*joins.Service.running]:
                 service.stop()

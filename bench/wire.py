@@ -1,14 +1,14 @@
 #!/usr/bin/env python3
-"""The time of reading requests and of writing the texts of replies, beside Python's json on the same bodies, in turns.
+"""The time of reading requests and of writing the bodies of replies, compared with Python's json on the same bodies, in turn.
 
     bench/wire.py [TURNS]            (5)
     WIRE=PROGRAM bench/wire.py ..    a program that was built before
 
-The program of wire.txt is proved and built first, over the libraries that earlier checks left in crates/*/out: that takes minutes. It takes
-lines of a count, a method, a target and a body, and prints the nanoseconds of reading each, the best of seven times so many in turn, with its
-parts, and those of writing the texts of two replies. They are leaked, since the proof that lets a whole reply go takes minutes. Python reads
-the same bodies, and writes the same texts. The parts are measured one by one, each in a loop over one request, so they do not add up to the
-whole; and of a path that stays the same in such a loop the compiler may do the routing once.
+First wire.txt is proved and built, with the libraries that earlier checks built in crates/*/out: that takes minutes. The program reads
+lines with a count, a method, a target and a body. It prints the nanoseconds of reading each request and of its parts, the best of seven
+loops with that count, and those of writing the bodies of two replies. These are leaked, since the proof that frees a whole reply takes
+minutes. Python reads the same bodies, and writes the same texts. The parts are measured separately, each in a loop over one request, so
+they do not add up to the whole; and the compiler may move the routing of a constant path out of such a loop.
 """
 import json
 import math
@@ -61,7 +61,7 @@ def best_of(count, work):
 
 
 def points_of(text):
-    """The points of an outline's text, read plainly."""
+    """Returns the points of an outline, without checks."""
     inside = text[text.index("((") + 2:text.index("))")]
     return [tuple(map(int, point.split())) for point in inside.split(",")]
 
@@ -86,12 +86,12 @@ LINES = [(10000, "POST", "/acts/enrol", ENROL), (10000, "GET", "/parties/2", "")
 def measure(program):
     print("bodies", [len(line[3]) for line in LINES])
     for _ in range(TURNS):
-        told = subprocess.run([program], input="".join("%d %s %s %s\n" % line for line in LINES), text=True,
-                              capture_output=True, check=True).stdout
-        print(told, end="")
+        output = subprocess.run([program], input="".join("%d %s %s %s\n" % line for line in LINES), text=True,
+                                capture_output=True, check=True).stdout
+        print(output, end="")
         for reply in (DONE, RIGHT):
-            assert dumped(reply) in told
-            print("python dumps %.0f, by one encoder %.0f"
+            assert dumped(reply) in output
+            print("python dumps %.0f, with a reused encoder %.0f"
                   % (best_of(10000, lambda: dumped(reply)), best_of(10000, lambda: ENCODER.encode(reply))))
         print("python enrol loads %.0f" % best_of(10000, lambda: json.loads(ENROL)))
         print("python split %.0f" % best_of(10000, lambda: split("/parties/2")))
@@ -101,9 +101,9 @@ def measure(program):
 
 
 def main():
-    with tempfile.TemporaryDirectory() as room:
+    with tempfile.TemporaryDirectory() as scratch:
         libraries = sorted({*named_by("land_wire"), "land_fraction", "land_wire"})
-        measure(os.environ.get("WIRE") or build(Path(room), "wire.txt", libraries))
+        measure(os.environ.get("WIRE") or build(Path(scratch), "wire.txt", libraries))
 
 
 main()

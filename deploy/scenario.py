@@ -1,7 +1,7 @@
 #!/usr/bin/python3
-"""Fills a register with the scenario of examples/serve.sh, and with a small town where one is wanted.
+"""Fills a register with the scenario of examples/serve.sh and, optionally, a small town.
 
-    scenario.py SOCKET [PLOTS]      through the queue's socket, which believes whoever may write to it
+    scenario.py SOCKET [PLOTS]      SOCKET: the queue's socket, which trusts its callers; PLOTS: the number of plots (default 0)
 """
 import json
 import sys
@@ -9,13 +9,13 @@ import sys
 OFFICE = (1, "stateAdministrator")
 
 
-def square(x, y, wide, high):
-    """The outline of a rectangle, in millimetres."""
+def rectangle(x, y, wide, high):
+    """Returns the outline of a rectangle. Lengths are in millimetres."""
     return f"POLYGON (({x} {y}, {x + wide} {y}, {x + wide} {y + high}, {x} {y + high}, {x} {y}))"
 
 
-def asker(link):
-    """A function that has an act done over a connection, and gives what is told."""
+def act_sender(link):
+    """Returns a function that executes an act over a connection and returns the reply."""
     def act(caller, name, body):
         fields = {"Register-Party": str(caller[0]), "Register-Role": caller[1]}
         link.request("POST", "/acts/" + name, json.dumps(body), fields)
@@ -28,11 +28,11 @@ def asker(link):
 
 
 def scenario(act):
-    """Anna, Ben, a bank, a notary and a surveyor; a garden that is mortgaged, sold and divided."""
+    """Enrols Anna, Ben, a bank, a notary and a surveyor. A garden is mortgaged, sold and subdivided."""
     def office(act_name, /, **body):
         return act(OFFICE, act_name, body)
 
-    def lodged(party, role, act_name, /, **body):
+    def lodge_and_approve(party, role, act_name, /, **body):
         office("approve", mutation=act((party, role), act_name, body)["number"])
     office("enrol", kind="naturalPerson", name="Anna")
     office("enrol", kind="naturalPerson", name="Ben")
@@ -44,22 +44,22 @@ def scenario(act):
     office("grant", party=6, role="certifiedSurveyor")
     office("group", name="Anna and Ben", members=[{"party": 2, "share": "1/3"}, {"party": 3, "share": "2/3"}])
     shares = (2, "ownership", "1/4"), (7, "ownership", "3/4"), (6, "lease", "1/1")
-    office("register", name="Garden", checked=True, document="Deed 1", parcels=[{"label": "12", "outline": square(0, 0, 10000, 10000)}],
+    office("register", name="Garden", checked=True, document="Deed 1", parcels=[{"label": "12", "outline": rectangle(0, 0, 10000, 10000)}],
            rights=[{"party": party, "type": kind, "share": share} for party, kind, share in shares])
-    lodged(4, "bank", "mortgage", reference="M1", document="Loan 1", unit=9, creditor=4, amount=2500000, currency="EUR")
-    lodged(5, "notary", "transfer", reference="T1", document="Deed 2", unit=9, right=11, receiver=7, share="1/4")
-    lodged(5, "notary", "transfer", reference="T2", document="Deed 3", unit=9, right=12, receiver=3, share="1/1")
-    lodged(6, "certifiedSurveyor", "subdivision", reference="S1", document="Plan 1", unit=9, parcel=10,
-           first={"label": "12a", "outline": square(0, 0, 5000, 10000)},
-           rest=[{"label": "12b", "outline": square(5000, 0, 5000, 10000), "unit": "Orchard"}])
+    lodge_and_approve(4, "bank", "mortgage", reference="M1", document="Loan 1", unit=9, creditor=4, amount=2500000, currency="EUR")
+    lodge_and_approve(5, "notary", "transfer", reference="T1", document="Deed 2", unit=9, right=11, receiver=7, share="1/4")
+    lodge_and_approve(5, "notary", "transfer", reference="T2", document="Deed 3", unit=9, right=12, receiver=3, share="1/1")
+    lodge_and_approve(6, "certifiedSurveyor", "subdivision", reference="S1", document="Plan 1", unit=9, parcel=10,
+           first={"label": "12a", "outline": rectangle(0, 0, 5000, 10000)},
+           rest=[{"label": "12b", "outline": rectangle(5000, 0, 5000, 10000), "unit": "Orchard"}])
 
 
 def town(act, plots):
-    """Plots in rows of ten, Anna's and Ben's in turn, every fifth with a mortgage."""
+    """Registers plots in rows of ten. Anna and Ben own them alternately; every fifth has a mortgage."""
     for n in range(plots):
         made = act(OFFICE, "register", {
             "name": f"Plot {n}", "checked": True, "document": f"Plan {n}",
-            "parcels": [{"label": f"P{n}", "outline": square(20000 * (n % 10), 20000 * (1 + n // 10), 15000, 15000)}],
+            "parcels": [{"label": f"P{n}", "outline": rectangle(20000 * (n % 10), 20000 * (1 + n // 10), 15000, 15000)}],
             "rights": [{"party": 2 + n % 2, "type": "ownership", "share": "1/1"}]})
         if n % 5 == 0:
             body = {"reference": f"L{n}", "document": f"Loan {n}", "unit": made["number"], "creditor": 4, "amount": 100000 + n,
@@ -68,13 +68,13 @@ def town(act, plots):
 
 
 def fill(link, plots=0):
-    """The scenario and the plots, over a connection to the queue."""
-    act = asker(link)
+    """Runs the scenario and registers the plots, over a connection to the queue."""
+    act = act_sender(link)
     scenario(act)
     town(act, plots)
     link.close()
 
 
 if __name__ == "__main__":
-    from rig import LocalLink
-    fill(LocalLink(sys.argv[1]), int(sys.argv[2]) if len(sys.argv) > 2 else 0)
+    from stack import UnixConnection
+    fill(UnixConnection(sys.argv[1]), int(sys.argv[2]) if len(sys.argv) > 2 else 0)

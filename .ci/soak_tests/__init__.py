@@ -1,1 +1,1 @@
-"""What .ci/soak does: hostile use of the service."""
+"""The parts of .ci/soak: soak, fuzz and crash tests of the server."""

@@ -1,4 +1,4 @@
-"""Several programs over one file: one of them has it, and the others are refused, by whatever name they call it."""
+"""Several programs on one file: one of them opens it, and the others are rejected, under each path of the file."""
 import os
 import random
 import subprocess
@@ -6,122 +6,123 @@ import time
 from collections import Counter
 
 from soak_tests import server
-from soak_tests.ledger import Ledger, judge
-from soak_tests.model import Client, Office
+from soak_tests.ledger import Ledger, compare
+from soak_tests.model import Client, Scenario
 from soak_tests.server import Wrong
 
-REFUSED = "land: cannot open\n"
+REJECTED = "land: cannot open\n"
 ACTS = 3
 
 
 def calls(file):
-    """A call of each command over a file."""
+    """Returns a call of each command on a file."""
     return (("serve", "--file", file, "--port", str(server.free_port()), "--connections", "1"), ("check", "--file", file),
             ("new", "--file", file),
             ("extract", "--file", file, "--clock", "0", "--party", "1", "--role", "stateAdministrator", "--kind", "party"))
 
 
-def names_of(file, folder):
-    """The file by several names: its own, one with a way round, and a link to it."""
+def paths_of(file, folder):
+    """Returns several paths of the file: its own, one with a `.` in it, and a symbolic link."""
     link = os.path.join(folder, "link.land")
     os.symlink(file, link)
     return file, os.path.join(folder, ".", os.path.basename(file)), link
 
 
-def is_refused(words):
-    """Holds that a call is refused, whose file another program has."""
+def check_rejected(call):
+    """Checks that a call is rejected while another program has the file open."""
     try:
-        ran = subprocess.run([*server.program(), *words], capture_output=True, text=True, timeout=60)
+        ran = subprocess.run([*server.program(), *call], capture_output=True, text=True, timeout=60)
     except subprocess.TimeoutExpired:
-        raise Wrong(f"while another has the file, {words[0]} does not end") from None
-    if (ran.returncode, ran.stdout, ran.stderr) != (1, "", REFUSED):
-        raise Wrong(f"while another has the file, {words}: status {ran.returncode}: {ran.stdout}{ran.stderr}")
+        raise Wrong(f"while another program has the file open, {call[0]} does not exit") from None
+    if (ran.returncode, ran.stdout, ran.stderr) != (1, "", REJECTED):
+        raise Wrong(f"while another program has the file open, {call}: status {ran.returncode}: {ran.stdout}{ran.stderr}")
 
 
-def beside(folder, count, dice):
-    """While a service is asked for acts, all else is refused its file, and every act is done."""
+def while_served(folder, count, dice):
+    """Sends acts to a server while other programs call its file: these are rejected, and every act succeeds."""
     file, ledger, done = os.path.join(folder, "one.land"), Ledger(), Counter()
     server.make(file)
     service, port = server.serve(file, 1)
-    refused = 0
+    rejected = 0
     try:
-        client, office, names = Client(port, ledger, done), Office(ledger, dice), names_of(file, folder)
+        client, scenario, paths = Client(port, ledger, done), Scenario(ledger, dice), paths_of(file, folder)
         for number in range(count):
-            for words in calls(names[number % len(names)]):
-                is_refused(words)
-                refused += 1
-                client.send(office.draw())
+            for call in calls(paths[number % len(paths)]):
+                check_rejected(call)
+                rejected += 1
+                client.send(scenario.draw())
         client.line.close()
-        server.ends(service, 0)
+        server.check_exit(service, 0)
     finally:
         service.kill()
-    judge(file, ledger)
+    compare(file, ledger)
     server.check(file)
-    return refused, sum(done.values())
+    return rejected, sum(done.values())
 
 
-def is_hard_link_refused(folder):
-    """A file of two names is refused by either, since its log would be another."""
+def check_hard_link(folder):
+    """Checks that a file with two names is rejected under either: under the other name it would have another log."""
     file, other = os.path.join(folder, "two.land"), os.path.join(folder, "hard.land")
     server.make(file)
     os.link(file, other)
     for name in (file, other):
-        for words in calls(name):
-            is_refused(words)
+        for call in calls(name):
+            check_rejected(call)
     os.unlink(other)
     server.check(file)
 
 
 def first_of(services):
-    """The service that listens of two that began at once; the other has to be refused."""
+    """Returns the server that listens, of two that were started together. The other must be rejected."""
     for _ in range(6000):
         for one, other in (services, services[::-1]):
             if one.poll() is not None:
-                server.ends(one, 1, REFUSED)
+                server.check_exit(one, 1, REJECTED)
                 return other
         time.sleep(0.005)
-    raise Wrong("of two services over one file that began at once none is refused")
+    raise Wrong("two servers were started together on one file, and neither is rejected")
 
 
-def at_once(folder, count, dice):
-    """Two services that begin at once over one file: one serves, is then killed, and the next two begin over what it left."""
+def started_together(folder, count, dice):
+    """Starts two servers together on one file. One serves and is killed; then the next two are started on the same file."""
     file, ledger, done = os.path.join(folder, "race.land"), Ledger(), Counter()
     server.make(file)
     for number in range(count):
         ports = [server.free_port(), server.free_port()]
-        services = [server.begin(file, port, 100) for port in ports]
+        services = [server.start(file, port, 100) for port in ports]
         try:
             service = first_of(services)
-            client, office = Client(ports[services.index(service)], ledger, done), Office(ledger, dice)
-            ask_until_listens(client, service)
+            client, scenario = Client(ports[services.index(service)], ledger, done), Scenario(ledger, dice)
+            connect(client, service)
             for _ in range(ACTS):
-                client.send(office.draw())
+                client.send(scenario.draw())
         finally:
             for it in services:
                 it.kill()
                 it.wait()
-        ledger = judge(file, ledger)
+        ledger = compare(file, ledger)
     server.check(file)
     return sum(done.values())
 
 
-def ask_until_listens(client, service):
+def connect(client, service):
     for _ in range(6000):
         try:
             client.line.connect()
             return
         except ConnectionRefusedError:
             if service.poll() is not None:
-                raise Wrong(f"both services end: {service.stderr.read()}") from None
+                raise Wrong(f"both servers exit: {service.stderr.read()}") from None
             time.sleep(0.005)
 
 
 def run(count, seed):
+    # The text that seeds the random numbers never changes, so that a recorded run can be repeated.
     dice, began = random.Random(f"twice {seed}"), time.monotonic()
     with server.folder() as folder:
-        refused, acts = beside(folder, count, dice)
-        is_hard_link_refused(folder)
-        more = at_once(folder, count, dice)
-    print(f"twice: in {time.monotonic() - began:.0f} s, seed {seed}: {refused} calls beside a service that did {acts} acts were refused; "
-          f"{count} times two services began at once, one was refused, and the other did {ACTS} acts and was killed: {more} acts, and all "
-          "are there", flush=True)
+        rejected, acts = while_served(folder, count, dice)
+        check_hard_link(folder)
+        more = started_together(folder, count, dice)
+    print(f"concurrent: in {time.monotonic() - began:.0f} s, seed {seed}: {rejected} calls were rejected during {acts} acts of a server; "
+          f"{count} times two servers were started together, one was rejected, and the other was killed after {ACTS} acts: all of these "
+          f"{more} acts are in the file", flush=True)

@@ -1,4 +1,4 @@
-"""A store that is full at each of many places of a scenario: the log that cannot grow, or the file itself."""
+"""A full disk at many points of a scenario: the log cannot grow, or the file cannot."""
 import os
 import random
 import sqlite3
@@ -7,24 +7,24 @@ import time
 from collections import Counter
 
 from soak_tests import server
-from soak_tests.ledger import COLUMNS, Ledger, judge
-from soak_tests.model import Client, Office, in_words
+from soak_tests.ledger import COLUMNS, Ledger, compare
+from soak_tests.model import Client, Scenario, summary
 from soak_tests.server import Wrong
 
-# Acts of the scenario over a small file, and over a large one, whose log is copied into the file twice before they end; and how many acts
-# come after a full store, once there is room again.
+# The number of acts of the scenario on a small file, and on a large one, where the log is copied into the file twice. The number of acts
+# after a full disk has space again.
 ACTS, MORE = {False: 120, True: 300}, 8
-# Parties of a large file, which has more bytes than its log ever has; of how many places one is of such a file, and one of a small disk.
+# The parties of a large file, which is always larger than its log. One of five points is in such a file, and one of five on a small disk.
 LARGE, FILES, DISKS = 6000, 5, 5
 FULL = "land: fault 502\n"
 
 
 def fill(file):
-    """Enters many parties with long names in a new file, by sqlite3 and in one change, and gives the ledger of it."""
+    """Inserts many parties with long names into a new file, by sqlite3 and in one change. Returns the ledger of the file."""
     ledger = Ledger()
     ledger.stamp = 1
     for number in range(2, LARGE + 2):
-        ledger.begin("party", number=number, name="𝔸" * 200, kind="naturalPerson")
+        ledger.open("party", number=number, name="𝔸" * 200, kind="naturalPerson")
     ledger.moments.append((1, LARGE + 2))
     base = sqlite3.connect(file)
     for table, *row in sorted(ledger.rows() - Ledger().rows(), key=repr):
@@ -36,7 +36,7 @@ def fill(file):
 
 
 def made(folder, name, is_large):
-    """A new file, and its ledger."""
+    """Creates a file. Returns its path and its ledger."""
     file = os.path.join(folder, f"{name}.land")
     server.make(file)
     ledger = fill(file) if is_large else Ledger()
@@ -44,46 +44,46 @@ def made(folder, name, is_large):
     return file, ledger
 
 
-def play(client, office, acts, look=lambda: None):
-    """Sends acts until one is told that the store has failed, and gives that one, or nothing."""
+def play(client, scenario, acts, after_each=lambda: None):
+    """Sends acts until one gets 503. Returns that one, or None."""
     for _ in range(acts):
-        act = office.draw()
+        act = scenario.draw()
         if client.send(act) == 503:
             return act
-        look()
+        after_each()
     return None
 
 
 def sizes(folder, is_large, seed):
-    """The bytes of a file as it begins and as the scenario leaves it, and the most that its log has."""
+    """Returns the size of a file before and after the scenario, and the largest size of its log."""
     file, ledger = made(folder, f"dry{is_large}", is_large)
     first, most = os.path.getsize(file), []
     service, port = server.serve(file, 1)
     try:
         client = Client(port, ledger, Counter())
-        play(client, office_of(ledger, seed), ACTS[is_large], lambda: most.append(os.path.getsize(file + "-wal")))
+        play(client, scenario_of(ledger, seed), ACTS[is_large], lambda: most.append(os.path.getsize(file + "-wal")))
         client.line.close()
-        server.ends(service, 0)
+        server.check_exit(service, 0)
     finally:
         service.kill()
-    judge(file, ledger)
+    compare(file, ledger)
     return first, os.path.getsize(file), max(most)
 
 
-def office_of(ledger, seed):
-    return Office(ledger, random.Random(f"disk {seed}"))
+def scenario_of(ledger, seed):
+    return Scenario(ledger, random.Random(f"disk {seed}"))
 
 
-class Place:
-    """A scenario over a file whose store is full from some byte on."""
+class Point:
+    """A scenario on a file that cannot grow beyond a limit."""
 
     def __init__(self, folder, number, is_large, limit, seed):
         self.file, self.ledger = made(folder, f"full{number}", is_large)
-        self.office, self.done, self.failed = office_of(self.ledger, seed), Counter(), None
+        self.scenario, self.done, self.failed = scenario_of(self.ledger, seed), Counter(), None
         self.limit, self.acts = limit, ACTS[is_large]
 
     def until_full(self):
-        """Plays the scenario over the full store; says where it failed."""
+        """Plays the scenario until the disk is full. Returns when that happened."""
         try:
             service, port = server.serve(self.file, 1, self.limit)
         except Wrong as error:
@@ -92,54 +92,51 @@ class Place:
             raise
         try:
             client = Client(port, self.ledger, self.done)
-            self.failed = play(client, self.office, self.acts)
+            self.failed = play(client, self.scenario, self.acts)
             if self.failed and not client.has_end:
-                raise Wrong(f"503 to {self.failed} does not say that the connection ends")
+                raise Wrong(f"503 to {self.failed} without Connection: close")
             client.line.close()
-            return self.end_of(service)
+            return self.check_exit(service)
         finally:
             service.kill()
 
-    def end_of(self, service):
-        if self.failed:
-            server.ends(service, 1, FULL)
-            return "an act"
-        server.ends(service, 1, FULL)
-        return "closing"
+    def check_exit(self, service):
+        server.check_exit(service, 1, FULL)
+        return "an act" if self.failed else "closing"
 
-    def make_room(self):
-        """The limit was that of the service, and has gone with it."""
+    def free_space(self):
+        """Does nothing: the limit was that of the server process."""
 
-    def leave(self):
-        """Nothing is to be given back."""
+    def remove(self):
+        """Does nothing."""
 
-    def holds(self, pending):
-        """Holds the file against the ledger, which has the pending act from then on where the file has it."""
+    def check(self, pending):
+        """Compares the file with the ledger. Returns whether the pending act is in the file; the ledger then has it too."""
         before = self.ledger
-        self.ledger = judge(self.file, before, pending)
+        self.ledger = compare(self.file, before, pending)
         last, following = self.ledger.moments[-1]
         if server.check(self.file) != f"sound: last {last}, next {following}":
-            raise Wrong("check says another stamp than the last one")
+            raise Wrong("check prints another stamp than the last one")
         return self.ledger is not before
 
-    def goes_on(self):
-        """A new service over the file, once there is room; the act that failed is done there, if it is not yet."""
+    def continue_scenario(self):
+        """Starts a server on the file when there is space again. It performs the failed act, if that is not in the file, and more acts."""
         service, port = server.serve(self.file, 1)
         try:
             client = Client(port, self.ledger, self.done)
             if self.failed and client.send(self.failed) != 200:
-                raise Wrong(f"once there is room, {self.failed} is not done")
-            if play(client, Office(self.ledger, self.office.dice), MORE):
-                raise Wrong("once there is room, the store still fails")
+                raise Wrong(f"with space on the disk, {self.failed} fails again")
+            if play(client, Scenario(self.ledger, self.scenario.dice), MORE):
+                raise Wrong("with space on the disk, the store still fails")
             client.line.close()
-            server.ends(service, 0)
+            server.check_exit(service, 0)
         finally:
             service.kill()
-        self.holds(None)
+        self.check(None)
 
 
-class SmallDisk(Place):
-    """The same on a file system of its own, which is full from some byte on. Only root can have one."""
+class SmallDisk(Point):
+    """The same on a small file system. Only root can mount one."""
 
     def __init__(self, folder, number, limit, seed):
         self.mounted = os.path.join(folder, f"disk{number}")
@@ -148,68 +145,68 @@ class SmallDisk(Place):
         super().__init__(self.mounted, number, False, None, seed)
         mount("-o", f"remount,size={limit}", self.mounted)
 
-    def make_room(self):
+    def free_space(self):
         mount("-o", "remount,size=64m", self.mounted)
 
-    def leave(self):
+    def remove(self):
         subprocess.run(["umount", self.mounted], check=True)
 
 
-def mount(*words):
-    subprocess.run(["mount", *words], check=True, capture_output=True)
+def mount(*arguments):
+    subprocess.run(["mount", *arguments], check=True, capture_output=True)
 
 
 def can_mount(folder):
-    """Whether a file system can be had here."""
-    place = os.path.join(folder, "tried")
-    os.mkdir(place)
+    """Returns whether this process may mount a file system."""
+    point = os.path.join(folder, "mount")
+    os.mkdir(point)
     try:
-        mount("-t", "tmpfs", "-o", "size=64m", "tmpfs", place)
+        mount("-t", "tmpfs", "-o", "size=64m", "tmpfs", point)
     except (subprocess.CalledProcessError, FileNotFoundError):
         return False
-    return subprocess.run(["umount", place]).returncode == 0
+    return subprocess.run(["umount", point]).returncode == 0
 
 
 def limits(count, first, last):
     return [first + (last - first) * number // count for number in range(count)]
 
 
-def places(folder, count, seed, small, large):
-    """What is full, and how each place is made: the log, a large file, and where it can be had a small file system."""
+def points(folder, count, seed, small, large):
+    """Returns for each point the part that is full (the log, a large file, or a small file system), its constructor and its limit."""
     disks = count // DISKS if can_mount(folder) else 0
     files = count // FILES
-    made_by = [("the log", lambda number, it: Place(folder, number, False, it, seed), limits(count - files - disks, 1, small[2])),
-               ("the file", lambda number, it: Place(folder, number, True, it, seed), limits(files, large[0], large[1])),
+    made_by = [("the log", lambda number, it: Point(folder, number, False, it, seed), limits(count - files - disks, 1, small[2])),
+               ("the file", lambda number, it: Point(folder, number, True, it, seed), limits(files, large[0], large[1])),
                ("the disk", lambda number, it: SmallDisk(folder, number, it, seed), limits(disks, small[0] + (1 << 16), small[0] + small[2]))]
-    return [(what, make, limit) for what, make, many in made_by for limit in many]
+    return [(part, make, limit) for part, make, many in made_by for limit in many]
 
 
-def tried(place):
-    """Fills a store, holds the file and goes on with it; says where it failed, and whether the act that failed is there."""
-    seen = place.until_full()
-    place.make_room()
-    is_there = place.holds(place.failed)
-    if is_there:
-        place.failed = None
-    place.goes_on()
-    return seen, is_there
+def try_point(point):
+    """Fills a disk, checks the file and continues with it. Returns when the disk was full, and whether the failed act is in the file."""
+    when = point.until_full()
+    point.free_space()
+    is_complete = point.check(point.failed)
+    if is_complete:
+        point.failed = None
+    point.continue_scenario()
+    return when, is_complete
 
 
 def run(count, seed):
-    where, done, whole, began = Counter(), Counter(), 0, time.monotonic()
+    where, done, complete, began = Counter(), Counter(), 0, time.monotonic()
     with server.folder() as folder:
         small, large = sizes(folder, False, seed), sizes(folder, True, seed)
-        for number, (what, make, limit) in enumerate(places(folder, count, seed, small, large)):
-            place = make(number, limit)
+        for number, (part, make, limit) in enumerate(points(folder, count, seed, small, large)):
+            point = make(number, limit)
             try:
-                seen, is_there = tried(place)
+                when, is_complete = try_point(point)
             except Wrong as error:
-                raise Wrong(f"place {number}, {what} of {limit} bytes: {error}") from None
+                raise Wrong(f"point {number}, {part} of {limit} bytes: {error}") from None
             finally:
-                place.leave()
-            where[f"{what}, at {seen}"] += 1
-            whole += is_there
-            done += place.done
-    print(f"disk: full at {count} places in {time.monotonic() - began:.0f} s, seed {seed}: logs from 1 to {small[2]} bytes, files from "
-          f"{large[0]} to {large[1]}, disks from {small[0] + (1 << 16)} to {small[0] + small[2]}; {in_words(where)}; {whole} acts that "
-          f"failed are there, whole; {in_words(done)}", flush=True)
+                point.remove()
+            where[f"{part}, at {when}"] += 1
+            complete += is_complete
+            done += point.done
+    print(f"disk: full at {count} points in {time.monotonic() - began:.0f} s, seed {seed}: logs from 1 to {small[2]} bytes, files from "
+          f"{large[0]} to {large[1]}, disks from {small[0] + (1 << 16)} to {small[0] + small[2]}; {summary(where)}; {complete} failed acts "
+          f"are in the file, complete; {summary(done)}", flush=True)

@@ -1,9 +1,10 @@
-"""Programs that are made wrong, for the trials: the real one is called, and one thing is changed.
+"""Faulty programs for the self-test: calls the real program, and changes one behaviour.
 
-    fake.py MODE PROGRAM WORD..
+    fake.py MODE PROGRAM ARGUMENT..
 
-A service that is served through it forgets (its file is written at each tenth reply alone), sticks (waits for three seconds), is mute,
-dies, leaks (keeps 20 kB for each reply), or errs (tells another fault). A program that opens says of each file that it is sound.
+Modes of a server: `loses-acts` writes its file only at each tenth response; after some responses, `hangs` waits for three seconds, `silent`
+sends nothing, `crashes` exits, and `wrong-fault` sends another fault number; `leaks` allocates 20 kB per response and never frees them. The
+mode `always-sound` prints for each file that it is sound.
 """
 import ctypes
 import os
@@ -16,30 +17,30 @@ import subprocess
 import sys
 import time
 
-FROM = 40
+FROM = 40  # responses before the fault
 
 
 class Relay:
-    """Hands what comes on connections on to the real service, and its replies back."""
+    """A proxy before the real server."""
 
-    def __init__(self, mode, program, words):
-        self.mode, self.replies, self.hoard = mode, 0, []
-        self.file, self.port = words[words.index("--file") + 1], int(words[words.index("--port") + 1])
-        self.other, self.connections = f"{self.file}.other", int(words[words.index("--connections") + 1])
+    def __init__(self, mode, program, arguments):
+        self.mode, self.replies, self.leaked = mode, 0, []
+        self.file, self.port = arguments[arguments.index("--file") + 1], int(arguments[arguments.index("--port") + 1])
+        self.other, self.connections = f"{self.file}.other", int(arguments[arguments.index("--connections") + 1])
         self.limits = resource.getrlimit(resource.RLIMIT_FSIZE)
-        if mode == "forgets":
+        if mode == "loses-acts":
             resource.setrlimit(resource.RLIMIT_FSIZE, (self.limits[1], self.limits[1]))
             self.copy(self.file, self.other)
         with socket.socket() as it:
             it.bind(("127.0.0.1", 0))
             self.behind = it.getsockname()[1]
-        file = self.other if mode == "forgets" else self.file
-        words = [program, "serve", "--file", file, "--port", str(self.behind), "--connections", str(self.connections + 1)]
-        self.real = subprocess.Popen(words, preexec_fn=self.hold)
+        file = self.other if mode == "loses-acts" else self.file
+        call = [program, "serve", "--file", file, "--port", str(self.behind), "--connections", str(self.connections + 1)]
+        self.real = subprocess.Popen(call, preexec_fn=self.prepare)
         self.connect().close()
 
-    def hold(self):
-        """The real service ends with this one, and has the limits that were set for it."""
+    def prepare(self):
+        """Ties the real server to this process, and gives it the original limits."""
         ctypes.CDLL(None).prctl(1, signal.SIGKILL)
         signal.signal(signal.SIGXFSZ, signal.SIG_IGN)
         resource.setrlimit(resource.RLIMIT_FSIZE, self.limits)
@@ -66,7 +67,7 @@ class Relay:
             near.close()
             far.close()
         status = self.real.wait()
-        if self.mode == "forgets" and status == 0:
+        if self.mode == "loses-acts" and status == 0:
             self.copy(self.other, self.file)
         return status
 
@@ -95,31 +96,31 @@ class Relay:
                     watched = [far]
 
     def reply(self, data):
-        """What comes in place of a reply."""
+        """Returns the bytes to send in place of a response."""
         self.replies += 1
-        if self.mode == "forgets" and self.replies % 10 == 0:
+        if self.mode == "loses-acts" and self.replies % 10 == 0:
             self.copy(self.other, self.file)
         if self.mode == "leaks":
-            self.hoard.append(os.urandom(20000))
+            self.leaked.append(os.urandom(20000))
         if self.replies < FROM:
             return data
-        if self.mode == "dies":
+        if self.mode == "crashes":
             os._exit(3)
-        if self.mode == "sticks":
+        if self.mode == "hangs":
             time.sleep(3)
-        if self.mode == "is mute":
+        if self.mode == "silent":
             return b""
-        return data.replace(b'"fault":13', b'"fault":11') if self.mode == "errs" else data
+        return data.replace(b'"fault":13', b'"fault":11') if self.mode == "wrong-fault" else data
 
 
 def main():
-    mode, program, *words = sys.argv[1:]
-    if mode == "opens" and words[0] == "check":
+    mode, program, *arguments = sys.argv[1:]
+    if mode == "always-sound" and arguments[0] == "check":
         print("sound: last 0, next 2")
-    elif mode == "opens" or words[0] != "serve":
-        os.execv(program, [program, *words])
+    elif mode == "always-sound" or arguments[0] != "serve":
+        os.execv(program, [program, *arguments])
     else:
-        sys.exit(Relay(mode, program, words).serve())
+        sys.exit(Relay(mode, program, arguments).serve())
 
 
 main()

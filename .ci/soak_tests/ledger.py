@@ -1,6 +1,6 @@
-"""What a register's tables have to hold, worked out from the acts that were acknowledged, row by row and beside the program.
+"""The expected rows of a register, computed from the acknowledged acts, independently of the program.
 
-It knows docs/ACTS.md and docs/TABLES.md and no more: what an act begins and ends, and not when it is refused.
+It implements docs/ACTS.md and docs/TABLES.md only: the versions that an act opens and closes, and not when an act is refused.
 """
 import copy
 import json
@@ -27,16 +27,16 @@ SPATIAL = ("subdivision", "merger")
 
 
 class NoEffect(Exception):
-    """An act of which nothing can come."""
+    """An act that cannot have succeeded."""
 
 
 def text_of(act):
-    """The text that a mutation keeps of what it asks for."""
+    """Returns the content of a lodged mutation, as the table stores it."""
     return json.dumps({name: act.body[name] for name in CONTENTS[act.word]}, sort_keys=True, separators=(",", ":"), ensure_ascii=False)
 
 
 class Act:
-    """What a party asks for in a role."""
+    """An act with its caller and role."""
 
     def __init__(self, word, body, party=1, role="stateAdministrator"):
         self.word, self.body, self.party, self.role = word, body, party, role
@@ -46,48 +46,48 @@ class Act:
 
 
 class Ledger:
-    """The rows that stand in each table, and those that have ended, as a dictionary of columns each."""
+    """The current rows of each table, as dictionaries of columns, and the closed rows, as tuples."""
 
     def __init__(self):
-        self.standing = {table: [] for table in COLUMNS}
-        self.ended, self.moments = [], [(0, 2)]
+        self.current = {table: [] for table in COLUMNS}
+        self.closed, self.moments = [], [(0, 2)]
         self.stamp = 0
-        self.begin("party", number=1, name="Land Office", kind="nonNaturalPerson")
-        self.begin("role", party=1, role="stateAdministrator")
+        self.open("party", number=1, name="Land Office", kind="nonNaturalPerson")
+        self.open("role", party=1, role="stateAdministrator")
 
     # ---- rows
 
-    def begin(self, table, **row):
-        self.standing[table].append({**dict.fromkeys(COLUMNS[table]), **row, "since": self.stamp})
+    def open(self, table, **row):
+        self.current[table].append({**dict.fromkeys(COLUMNS[table]), **row, "since": self.stamp})
 
     def find(self, table, **wanted):
-        return [row for row in self.standing[table] if all(row[name] == value for name, value in wanted.items())]
+        return [row for row in self.current[table] if all(row[name] == value for name, value in wanted.items())]
 
     def one(self, table, **wanted):
         found = self.find(table, **wanted)
         if len(found) != 1:
-            raise NoEffect(f"{len(found)} rows of {table} are {wanted}")
+            raise NoEffect(f"{len(found)} rows of {table} have {wanted}")
         return found[0]
 
     def close(self, table, rows):
         for row in rows:
-            self.standing[table].remove(row)
-            self.ended.append((table, *(row[name] for name in COLUMNS[table]), row["since"], self.stamp))
+            self.current[table].remove(row)
+            self.closed.append((table, *(row[name] for name in COLUMNS[table]), row["since"], self.stamp))
 
     def change(self, table, row, **values):
         self.close(table, [row])
-        self.begin(table, **{name: row[name] for name in COLUMNS[table]})
-        self.standing[table][-1].update(values)
+        self.open(table, **{name: row[name] for name in COLUMNS[table]})
+        self.current[table][-1].update(values)
 
     def rows(self):
-        """All rows, as tuples that begin with the name of their table."""
-        stand = {(table, *(row[name] for name in COLUMNS[table]), row["since"], OPEN) for table in COLUMNS for row in self.standing[table]}
-        return stand | set(self.ended) | {("moments", *it) for it in self.moments} | {("edition", 1, 2)}
+        """Returns all rows, as tuples that start with the name of their table."""
+        current = {(table, *(row[name] for name in COLUMNS[table]), row["since"], OPEN) for table in COLUMNS for row in self.current[table]}
+        return current | set(self.closed) | {("moments", *it) for it in self.moments} | {("edition", 1, 2)}
 
     # ---- acts
 
-    def told(self, act, stamp):
-        """Writes an act that was done at a stamp, and gives what its caller is told."""
+    def apply(self, act, stamp):
+        """Applies an act that succeeded at a stamp. Returns the expected reply."""
         if stamp <= self.moments[-1][0]:
             raise NoEffect(f"its stamp {stamp} is not after {self.moments[-1][0]}")
         self.stamp, self.first = stamp, self.moments[-1][1]
@@ -97,8 +97,8 @@ class Ledger:
         self.moments.append((stamp, self.next))
         return {"made": list(range(self.first, self.next)), "number": number, "stamp": stamp}
 
-    def first_told(self, act):
-        """What was told of the same lodging before, if it was made."""
+    def first_reply(self, act):
+        """Returns the reply to an earlier, identical lodging, or None."""
         if act.word not in CONTENTS:
             return None
         for row in self.find("mutation", lodger=act.party, reference=act.body["reference"], act=act.word, content=text_of(act)):
@@ -107,9 +107,9 @@ class Ledger:
         return None
 
     def after(self, act, stamp):
-        """The ledger with one act more."""
+        """Returns a copy of the ledger with one more act."""
         other = copy.deepcopy(self)
-        other.told(act, stamp)
+        other.apply(act, stamp)
         return other
 
     def take(self):
@@ -118,23 +118,23 @@ class Ledger:
 
     def source(self, title, kind="administrative"):
         number = self.take()
-        self.begin("source", number=number, kind=kind, title=title)
+        self.open("source", number=number, kind=kind, title=title)
         return number
 
     def enrol(self, act):
         number = self.take()
-        self.begin("party", number=number, name=act.body["name"], kind=act.body["kind"])
-        self.begin("role", party=number, role="citizen")
+        self.open("party", number=number, name=act.body["name"], kind=act.body["kind"])
+        self.open("role", party=number, role="citizen")
         return number
 
     def members(self, group, members):
         for it in members:
             share = Fraction(it["share"])
-            self.begin("member", grp=group, party=it["party"], num=share.numerator, den=share.denominator)
+            self.open("member", grp=group, party=it["party"], num=share.numerator, den=share.denominator)
 
     def group(self, act):
         number = self.take()
-        self.begin("party", number=number, name=act.body["name"], kind="group")
+        self.open("party", number=number, name=act.body["name"], kind="group")
         self.members(number, act.body["members"])
         return number
 
@@ -145,7 +145,7 @@ class Ledger:
         return group
 
     def grant(self, act):
-        self.begin("role", party=act.body["party"], role=act.body["role"])
+        self.open("role", party=act.body["party"], role=act.body["role"])
         return act.body["party"]
 
     def revoke(self, act):
@@ -153,7 +153,7 @@ class Ledger:
         return act.body["party"]
 
     def mandate(self, act):
-        self.begin("mandate", principal=act.party, agent=act.body["agent"])
+        self.open("mandate", principal=act.party, agent=act.body["agent"])
         return act.body["agent"]
 
     def withdraw(self, act):
@@ -162,7 +162,7 @@ class Ledger:
 
     def register(self, act):
         source, unit = self.source(act.body["document"]), self.take()
-        self.begin("unit", number=unit, name=act.body["name"], checked=int(act.body["checked"]))
+        self.open("unit", number=unit, name=act.body["name"], checked=int(act.body["checked"]))
         for it in act.body["parcels"]:
             self.parcel(unit, it, source)
         for it in act.body["rights"]:
@@ -170,15 +170,15 @@ class Ledger:
         return unit
 
     def parcel(self, unit, part, source):
-        self.begin("parcel", number=self.take(), unit=unit, label=part["label"], outline=part["outline"], source=source)
+        self.open("parcel", number=self.take(), unit=unit, label=part["label"], outline=part["outline"], source=source)
 
     def right(self, unit, party, type, share, source):
-        self.begin("rrr", number=self.take(), unit=unit, party=party, **{"class": type}, num=share.numerator, den=share.denominator,
+        self.open("rrr", number=self.take(), unit=unit, party=party, **{"class": type}, num=share.numerator, den=share.denominator,
                    source=source)
 
     def burden(self, act):
         body, source, number = act.body, self.source(act.body["document"]), self.take()
-        self.begin("rrr", number=number, unit=body["unit"], party=body["party"], **{"class": body["class"]}, words=body["words"],
+        self.open("rrr", number=number, unit=body["unit"], party=body["party"], **{"class": body["class"]}, words=body["words"],
                    source=source)
         return number
 
@@ -189,10 +189,10 @@ class Ledger:
     def lodge(self, act):
         source = self.source(act.body["document"], "spatial" if act.word in SPATIAL else "administrative")
         number = self.take()
-        self.begin("mutation", number=number, lodger=act.party, reference=act.body["reference"], source=source, lodged=self.stamp,
+        self.open("mutation", number=number, lodger=act.party, reference=act.body["reference"], source=source, lodged=self.stamp,
                    act=act.word, content=text_of(act), state="lodged")
         for unit in (act.body["unit"], *act.body.get("others", ())):
-            self.begin("names", mutation=number, unit=unit)
+            self.open("names", mutation=number, unit=unit)
         return number
 
     def approve(self, act):
@@ -205,7 +205,7 @@ class Ledger:
         self.change("mutation", self.one("mutation", number=act.body["mutation"], state="lodged"), state="refused")
         return act.body["mutation"]
 
-    # ---- what an approval does
+    # ---- the effect of an approval, by the kind of mutation
 
     def transfer(self, content, source):
         right, share = self.one("rrr", number=content["right"], unit=content["unit"]), Fraction(content["share"])
@@ -232,10 +232,10 @@ class Ledger:
                 self.parcel(unit["number"], part, source)
                 continue
             number = self.take()
-            self.begin("unit", number=number, name=part["unit"], checked=unit["checked"])
+            self.open("unit", number=number, name=part["unit"], checked=unit["checked"])
             self.parcel(number, part, source)
             for row in entries:
-                self.begin("rrr", **{**{name: row[name] for name in COLUMNS["rrr"]}, "number": self.take(), "unit": number})
+                self.open("rrr", **{**{name: row[name] for name in COLUMNS["rrr"]}, "number": self.take(), "unit": number})
 
     def merger(self, content, source):
         self.close("parcel", [self.one("parcel", number=it) for it in content["parcels"]])
@@ -246,7 +246,7 @@ class Ledger:
 
     def mortgage(self, content, source):
         place = 1 + max((it["place"] for it in self.find("rrr", unit=content["unit"], **{"class": "mortgage"})), default=0)
-        self.begin("rrr", number=self.take(), unit=content["unit"], party=content["creditor"], **{"class": "mortgage"},
+        self.open("rrr", number=self.take(), unit=content["unit"], party=content["creditor"], **{"class": "mortgage"},
                    amount=content["amount"], currency=content["currency"], place=place, source=source)
 
     def discharge(self, content, _):
@@ -254,7 +254,7 @@ class Ledger:
 
 
 def rows_in(file):
-    """All rows of a file with its log, read by sqlite3 of Python in a copy of both."""
+    """Returns all rows of a file and its log, read by Python's sqlite3 from a copy of both."""
     with server.folder() as folder:
         other = os.path.join(folder, "copy.land")
         for end in ("", "-wal"):
@@ -266,17 +266,17 @@ def rows_in(file):
         finally:
             base.close()
     if len(rows) != len(set(rows)):
-        raise Wrong("a row stands twice in the file")
+        raise Wrong("the file has a duplicate row")
     return set(rows)
 
 
-def differ(rows, wanted):
-    lost, more = sorted(wanted - rows, key=repr), sorted(rows - wanted, key=repr)
-    return f"{len(lost)} rows are lost, as {lost[:2]}; {len(more)} are more, as {more[:2]}"
+def difference(rows, wanted):
+    lost, added = sorted(wanted - rows, key=repr), sorted(rows - wanted, key=repr)
+    return f"{len(lost)} rows are lost, such as {lost[:2]}; {len(added)} are unexpected, such as {added[:2]}"
 
 
-def judge(file, ledger, pending=None):
-    """The ledger that a file holds: the one of what was acknowledged, or the one with the pending act too, and whole."""
+def compare(file, ledger, pending=None):
+    """Compares a file with a ledger. Returns the ledger, or, if the file has the complete pending act too, the ledger with that act."""
     rows = rows_in(file)
     if rows == ledger.rows():
         return ledger
@@ -286,8 +286,8 @@ def judge(file, ledger, pending=None):
         try:
             other = ledger.after(pending, more[0])
         except NoEffect as error:
-            raise Wrong(f"a change that cannot be: {pending}: {error}") from None
+            raise Wrong(f"an impossible change: {pending}: {error}") from None
         if rows == other.rows():
             return other
-        raise Wrong(f"with {pending} pending, {differ(rows, other.rows())}")
-    raise Wrong(f"{len(more)} changes that nobody was told; {differ(rows, ledger.rows())}")
+        raise Wrong(f"with {pending} pending, {difference(rows, other.rows())}")
+    raise Wrong(f"{len(more)} changes that were not acknowledged; {difference(rows, ledger.rows())}")

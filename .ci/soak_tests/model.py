@@ -1,4 +1,4 @@
-"""Acts drawn by chance from what stands in a ledger, and a client that sends them."""
+"""Random acts on the current rows of a ledger, and a client that sends them."""
 import http.client
 import json
 import re
@@ -18,13 +18,13 @@ def strip(west, east):
 
 
 def sides(parcel):
-    """How far west and east a parcel reaches."""
+    """Returns the west and the east side of a parcel."""
     found = re.match(r"POLYGON \(\((\d+) 0, (\d+) 0,", parcel["outline"])
     return int(found[1]), int(found[2])
 
 
-class Office:
-    """Draws acts over a ledger. Most of them are done, and some are refused."""
+class Scenario:
+    """Draws random acts for a ledger. Most of them succeed, and some are refused."""
 
     def __init__(self, ledger, dice):
         self.ledger, self.dice = ledger, dice
@@ -33,7 +33,7 @@ class Office:
         return [row["number"] for row in self.ledger.find(table, **wanted)]
 
     def single(self):
-        return [row["number"] for row in self.ledger.standing["party"] if row["kind"] != "group" and row["number"] != 1]
+        return [row["number"] for row in self.ledger.current["party"] if row["kind"] != "group" and row["number"] != 1]
 
     def name(self):
         return f"{self.dice.choice(('Anna', 'Ben', 'Chloé', 'Дмитрий', '𝔼ve'))} {self.ledger.moments[-1][1]}"
@@ -45,7 +45,7 @@ class Office:
         return Act("grant", {"party": self.dice.choice(self.single()), "role": self.dice.choice(ROLES)})
 
     def revoke(self):
-        held = [row for row in self.ledger.standing["role"] if row["role"] in ROLES]
+        held = [row for row in self.ledger.current["role"] if row["role"] in ROLES]
         row = self.dice.choice(held)
         return Act("revoke", {"party": row["party"], "role": row["role"]})
 
@@ -54,7 +54,7 @@ class Office:
         return Act("mandate", {"agent": agent}, principal, "citizen")
 
     def withdraw(self):
-        found = self.ledger.standing["mandate"]
+        found = self.ledger.current["mandate"]
         if not found:
             return self.mandate()
         row = self.dice.choice(found)
@@ -92,7 +92,7 @@ class Office:
         return Act("burden", body)
 
     def lift(self):
-        found = [row["number"] for row in self.ledger.standing["rrr"] if row["words"] is not None]
+        found = [row["number"] for row in self.ledger.current["rrr"] if row["words"] is not None]
         return Act("lift", {"rrr": self.dice.choice(found)}) if found else self.burden()
 
     def lodge(self):
@@ -106,7 +106,7 @@ class Office:
         return Act(word, {"reference": f"R{self.ledger.moments[-1][1]}", "document": "Paper", **content}, lodger, LODGERS[word])
 
     def transfer(self):
-        right = self.dice.choice([row for row in self.ledger.standing["rrr"] if row["num"] is not None])
+        right = self.dice.choice([row for row in self.ledger.current["rrr"] if row["num"] is not None])
         share = f"{right['num']}/{right['den']}" if self.dice.random() < 0.5 else f"{right['num']}/{2 * right['den']}"
         if right["num"] % 2 == 0 and share.endswith(f"/{2 * right['den']}"):
             share = f"{right['num'] // 2}/{right['den']}"
@@ -121,7 +121,7 @@ class Office:
         return row and {"unit": row["unit"], "mortgage": row["number"]}
 
     def subdivision(self):
-        parcel = self.dice.choice(self.ledger.standing["parcel"])
+        parcel = self.dice.choice(self.ledger.current["parcel"])
         west, east = sides(parcel)
         middle = self.dice.randrange(west + 1, east)
         part = {"label": f"{parcel['number']}e", "outline": strip(middle, east)}
@@ -131,9 +131,9 @@ class Office:
         return {"unit": parcel["unit"], "parcel": parcel["number"], "first": first, "rest": [part]}
 
     def merger(self):
-        parcels = self.ledger.standing["parcel"]
-        beside = {sides(it)[0]: it for it in parcels}
-        pairs = [(it, beside[sides(it)[1]]) for it in parcels if sides(it)[1] in beside]
+        parcels = self.ledger.current["parcel"]
+        by_west = {sides(it)[0]: it for it in parcels}
+        pairs = [(it, by_west[sides(it)[1]]) for it in parcels if sides(it)[1] in by_west]
         if not pairs:
             return None
         west, east = self.dice.choice(pairs)
@@ -153,7 +153,7 @@ class Office:
         for role in ROLES:
             if not self.ledger.find("role", role=role):
                 return Act("grant", {"party": self.dice.choice(self.single()), "role": role})
-        if not self.ledger.standing["unit"]:
+        if not self.ledger.current["unit"]:
             return self.register()
         return self.dice.choice((self.enrol, self.grant, self.revoke, self.mandate, self.withdraw, self.group, self.regroup,
                                  self.register, self.burden, self.lift, self.lodge, self.lodge, self.lodge, self.decide, self.decide,
@@ -161,14 +161,14 @@ class Office:
 
 
 class Client:
-    """A connection on which acts are sent; what is acknowledged goes into the ledger."""
+    """A connection that sends acts, and applies each acknowledged act to the ledger."""
 
     def __init__(self, port, ledger, done):
         self.line, self.ledger, self.done = http.client.HTTPConnection("127.0.0.1", port, timeout=60), ledger, done
         self.has_end = False
 
-    def ask(self, act):
-        """The status of an act's reply, and the reply."""
+    def request(self, act):
+        """Sends an act. Returns the status of the reply and its body."""
         text = json.dumps(act.body, ensure_ascii=False).encode()
         self.line.request("POST", f"/acts/{act.word}", text, {"Register-Party": str(act.party), "Register-Role": act.role})
         reply = self.line.getresponse()
@@ -176,12 +176,12 @@ class Client:
         return reply.status, json.loads(reply.read())
 
     def send(self, act):
-        """Sends an act; gives its status."""
-        status, told = self.ask(act)
+        """Sends an act, and checks its reply. Returns its status."""
+        status, reply = self.request(act)
         if status == 200:
-            self.acknowledge(act, told)
+            self.acknowledge(act, reply)
         elif status not in (403, 409, 503):
-            raise Wrong(f"{status} {told} to {act}")
+            raise Wrong(f"{status} {reply} to {act}")
         self.done[self.kind(act) if status == 200 else f"{status}"] += 1
         return status
 
@@ -191,15 +191,15 @@ class Client:
         mutation, = self.ledger.find("mutation", number=act.body["mutation"])
         return f"approved {mutation['act']}"
 
-    def acknowledge(self, act, told):
-        wanted = self.ledger.first_told(act)
+    def acknowledge(self, act, reply):
+        wanted = self.ledger.first_reply(act)
         try:
-            wanted = wanted or self.ledger.told(act, told["stamp"])
+            wanted = wanted or self.ledger.apply(act, reply["stamp"])
         except NoEffect as error:
-            raise Wrong(f"{told} to {act}: {error}") from None
-        if told != wanted:
-            raise Wrong(f"{told}, not {wanted}, to {act}")
+            raise Wrong(f"{reply} to {act}: {error}") from None
+        if reply != wanted:
+            raise Wrong(f"{reply}, not {wanted}, to {act}")
 
 
-def in_words(done: Counter):
+def summary(done: Counter):
     return ", ".join(f"{key} {done[key]}" for key in sorted(done))

@@ -1,4 +1,4 @@
-"""The checks fail on wrong bodies: on files with one row less, more or changed, and on programs that are made wrong."""
+"""Self-test: the checks of the other parts fail on corrupted files and on faulty programs (fake.py)."""
 import contextlib
 import copy
 import io
@@ -11,67 +11,67 @@ import time
 from collections import Counter
 
 from soak_tests import disk, kills, server, reads, fuzz, concurrent
-from soak_tests.ledger import COLUMNS, Ledger, judge
-from soak_tests.model import Client, Office
+from soak_tests.ledger import COLUMNS, Ledger, compare
+from soak_tests.model import Client, Scenario
 from soak_tests.server import Wrong
 
 FAKE = os.path.join(os.path.dirname(os.path.realpath(__file__)), "fake.py")
 ACTS = 150
-# A program that is made wrong, the part that has to fail with it, how much of it is run, and words of what it has to tell.
-PROGRAMS = (("forgets", kills.run, 10, ("are lost",)), ("forgets", disk.run, 5, ("are lost",)),
-            ("sticks", fuzz.run, 2000, ("within 1.0 s",)),
-            ("is mute", fuzz.run, 2000, ("within 1.0 s", "no reply")), ("errs", fuzz.run, 2000, ("400 fault 11",)),
-            ("dies", fuzz.run, 2000, ("breaks off", "no reply", "ends with 3")), ("leaks", fuzz.run, 3000, ("memory grows",)),
-            ("leaks", reads.run, 1500, ("memory grow",)), ("opens", concurrent.run, 2, ("status 0: sound",)))
+# A mode of fake.py, the part that must fail with it, its count, and texts of which its message must contain one.
+PROGRAMS = (("loses-acts", kills.run, 10, ("are lost",)), ("loses-acts", disk.run, 5, ("are lost",)),
+            ("hangs", fuzz.run, 2000, ("within 1.0 s",)),
+            ("silent", fuzz.run, 2000, ("within 1.0 s", "no reply")), ("wrong-fault", fuzz.run, 2000, ("400 fault 11",)),
+            ("crashes", fuzz.run, 2000, ("is dropped", "no reply", "exits with 3")), ("leaks", fuzz.run, 3000, ("memory grows",)),
+            ("leaks", reads.run, 1500, ("memory grows",)), ("always-sound", concurrent.run, 2, ("status 0: sound",)))
 
 
-def is_judged_wrong(file, ledger, pending, what):
+def check_fails(file, ledger, pending, corruption):
     try:
-        judge(file, ledger, pending)
+        compare(file, ledger, pending)
     except Wrong:
         return
-    raise Wrong(f"the comparison lets through {what}")
+    raise Wrong(f"the comparison accepts {corruption}")
 
 
 class Town:
-    """A file with the ledger of its acts, and the ledger and the act before the last that was done."""
+    """A file with the ledger of its acts, its last act, and the ledger before that act."""
 
     def __init__(self, folder, dice):
-        self.file, self.bad = os.path.join(folder, "trial.land"), os.path.join(folder, "bad.land")
+        self.file, self.bad = os.path.join(folder, "original.land"), os.path.join(folder, "bad.land")
         self.ledger, self.before, self.last = Ledger(), None, None
         server.make(self.file)
         service, port = server.serve(self.file, 1)
         try:
-            self.fill(Client(port, self.ledger, Counter()), Office(self.ledger, dice))
-            server.ends(service, 0)
+            self.fill(Client(port, self.ledger, Counter()), Scenario(self.ledger, dice))
+            server.check_exit(service, 0)
         finally:
             service.kill()
-        judge(self.file, self.ledger)
-        if judge(self.file, self.before, self.last) is self.before:
-            raise Wrong("a pending act that stands is not seen")
+        compare(self.file, self.ledger)
+        if compare(self.file, self.before, self.last) is self.before:
+            raise Wrong("the comparison does not find a pending act that is in the file")
 
-    def fill(self, client, office):
+    def fill(self, client, scenario):
         for _ in range(ACTS):
-            client.send(office.draw())
-        # The last one makes many rows of one stamp.
-        self.before, self.last = copy.deepcopy(self.ledger), office.register()
+            client.send(scenario.draw())
+        # The last act inserts many rows with one stamp.
+        self.before, self.last = copy.deepcopy(self.ledger), scenario.register()
         if client.send(self.last) != 200:
-            raise Wrong(f"{self.last} is not done")
+            raise Wrong(f"{self.last} fails")
         client.line.close()
 
-    def damaged(self, text, values, ledger, pending, what):
-        """Damages a copy of the file by sqlite3; the comparison has to fail."""
+    def check_corrupted(self, statement, values, ledger, pending, corruption):
+        """Corrupts a copy of the file by sqlite3; the comparison must fail."""
         shutil.copyfile(self.file, self.bad)
         base = sqlite3.connect(self.bad)
-        count = base.execute(text, values).rowcount
+        count = base.execute(statement, values).rowcount
         base.commit()
         base.close()
         for end in ("-wal", "-shm"):
             if os.path.exists(self.bad + end):
                 os.unlink(self.bad + end)
         if count != 1:
-            raise Wrong(f"{what}: {count} rows were damaged")
-        is_judged_wrong(self.bad, ledger, pending, what)
+            raise Wrong(f"{corruption}: {count} rows were changed")
+        check_fails(self.bad, ledger, pending, corruption)
 
 
 def rows_by_id(file, table):
@@ -82,48 +82,50 @@ def rows_by_id(file, table):
         base.close()
 
 
-def damages(town, dice):
-    """Files with an acknowledged row less, with another end of one, and without one row of the last change, which is pending then."""
+def check_corruptions(town, dice):
+    """Tries files without an acknowledged row, with another end of a row, and, with the last act pending, without one of its rows. Returns
+    their number."""
     count = 0
     for table in (*COLUMNS, "moments"):
         for row in dice.sample(rows_by_id(town.file, table), 3):
-            town.damaged(f"DELETE FROM {table} WHERE rowid = ?", row[:1], town.ledger, None, f"{table} without {row}")
+            town.check_corrupted(f"DELETE FROM {table} WHERE rowid = ?", row[:1], town.ledger, None, f"{table} without {row}")
             last = "next" if table == "moments" else "until"
             other = f"UPDATE {table} SET {last} = {last} + 1 WHERE rowid = ?"
-            town.damaged(other, row[:1], town.ledger, None, f"{table} with another end of {row}")
+            town.check_corrupted(other, row[:1], town.ledger, None, f"{table} with another end of {row}")
             count += 2
     stamp = town.ledger.moments[-1][0]
     for table in COLUMNS:
         for row in rows_by_id(town.file, table):
             if row[-2] == stamp:
-                half = f"half a change, without {row} of {table}"
-                town.damaged(f"DELETE FROM {table} WHERE rowid = ?", row[:1], town.before, town.last, half)
+                partial = f"half a change, without {row} of {table}"
+                town.check_corrupted(f"DELETE FROM {table} WHERE rowid = ?", row[:1], town.before, town.last, partial)
                 count += 1
     return count
 
 
-def is_seen(mode, part, count, words, seed):
-    """Runs a part with a program that is made wrong; it has to fail, and to tell why."""
+def check_detected(mode, part, count, messages, seed):
+    """Runs a part with a faulty program; it must fail with one of the messages."""
     real = server.program()
-    server.called[:] = [sys.executable, FAKE, mode, *real]
+    server.command[:] = [sys.executable, FAKE, mode, *real]
     try:
         with contextlib.redirect_stdout(io.StringIO()):
             part(count, seed)
     except Wrong as error:
-        if not any(it in str(error) for it in words):
-            raise Wrong(f"a program that {mode}: another thing is told: {error}") from None
+        if not any(it in str(error) for it in messages):
+            raise Wrong(f"faulty program {mode}: unexpected message: {error}") from None
         return
     finally:
-        server.called[:] = real
-    raise Wrong(f"a program that {mode} is let through by {part.__module__}")
+        server.command[:] = real
+    raise Wrong(f"faulty program {mode} passes {part.__module__}")
 
 
 def run(_count, seed):
+    # The text that seeds the random numbers never changes, so that a recorded run can be repeated.
     dice, began = random.Random(f"trials {seed}"), time.monotonic()
     with server.folder() as folder:
-        count = damages(Town(folder, dice), dice)
-    for mode, part, much, words in PROGRAMS:
-        is_seen(mode, part, much, words, seed)
-    seen = ", ".join(f"{mode} ({part.__module__.removeprefix('soak_tests.')})" for mode, part, _, _ in PROGRAMS)
-    print(f"trials: in {time.monotonic() - began:.0f} s, seed {seed}: {count} damaged files fail the comparison; programs that are made "
-          f"wrong fail: {seen}", flush=True)
+        count = check_corruptions(Town(folder, dice), dice)
+    for mode, part, amount, messages in PROGRAMS:
+        check_detected(mode, part, amount, messages, seed)
+    detected = ", ".join(f"{mode} ({part.__module__.removeprefix('soak_tests.')})" for mode, part, _, _ in PROGRAMS)
+    print(f"selftest: in {time.monotonic() - began:.0f} s, seed {seed}: {count} corrupted files fail the comparison; faulty programs fail: "
+          f"{detected}", flush=True)

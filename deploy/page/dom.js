@@ -1,17 +1,17 @@
-// Elements are made here and nowhere else. What comes from the register becomes text nodes, so no name is ever read as HTML.
+// Creates all elements of the page. Texts from the register become text nodes, never HTML.
 
 const SVG = "http://www.w3.org/2000/svg";
-const DRAWN = new Set(["svg", "path", "text", "title", "g"]);
+const SVG_ELEMENTS = new Set(["svg", "path", "text", "title", "g"]);
 
-// An element with attributes of the page's own words, and children that are elements or texts. A key that begins with "on" is an event.
+// Creates an element. Attribute values are the page's own; children are nodes or texts. A key that starts with "on" adds an event listener.
 export function h(name, attributes, ...children) {
-  const node = DRAWN.has(name) ? document.createElementNS(SVG, name) : document.createElement(name);
+  const node = SVG_ELEMENTS.has(name) ? document.createElementNS(SVG, name) : document.createElement(name);
   fill(node, attributes, children);
   return node;
 }
 
-// A link inside a drawing, which is another element than a link of HTML.
-export function drawnLink(attributes, ...children) {
+// Creates a link inside an SVG drawing, which is a different element from an HTML link.
+export function svgLink(attributes, ...children) {
   const node = document.createElementNS(SVG, "a");
   fill(node, attributes, children);
   return node;
@@ -28,23 +28,23 @@ function fill(node, attributes, children) {
   }
 }
 
-// Characters that are not seen, that turn the order of others, or that end a line somewhere. In a name they would make it look like
-// another name, or like a line of a title sheet. Line feeds are those of the sheet itself, since no name has one.
-const ODD = /(?!\n)[\p{Cc}\p{Cf}\p{Zl}\p{Zp}\p{Default_Ignorable_Code_Point}\u2800]/gu;
+// Characters that are invisible, change the direction of text, or separate lines. In a name they could imitate another name or a line of a
+// title sheet. Line feeds are allowed: they come from the title sheet itself, since names cannot contain them.
+const INVISIBLE = /(?!\n)[\p{Cc}\p{Cf}\p{Zl}\p{Zp}\p{Default_Ignorable_Code_Point}\u2800]/gu;
 
-const mark = (odd) => "[U+" + odd.codePointAt(0).toString(16).toUpperCase().padStart(4, "0") + "]";
+const codePoint = (character) => "[U+" + character.codePointAt(0).toString(16).toUpperCase().padStart(4, "0") + "]";
 
-// A text of the register with its odd characters written out, for what holds no elements: titles, names for screen readers, choices.
-export const plain = (text) => text.replace(ODD, mark);
+// A text of the register with invisible characters escaped, for places without elements: titles, ARIA labels, options.
+export const safeString = (text) => text.replace(INVISIBLE, codePoint);
 
-// The same as elements, in which what was written out is seen to be so.
-export function shown(text) {
+// The same as an element, in which the escapes are highlighted.
+export function safeText(text) {
   const parts = [];
-  let place = 0;
-  for (const found of text.matchAll(ODD)) {
-    parts.push(text.slice(place, found.index), h("span", { class: "odd" }, mark(found[0])));
-    place = found.index + found[0].length;
+  let position = 0;
+  for (const found of text.matchAll(INVISIBLE)) {
+    parts.push(text.slice(position, found.index), h("span", { class: "escaped" }, codePoint(found[0])));
+    position = found.index + found[0].length;
   }
-  parts.push(text.slice(place));
+  parts.push(text.slice(position));
   return h("bdi", {}, ...parts);
 }

@@ -1,20 +1,20 @@
-// Moments: milliseconds since 1970, told and read in UTC.
+// Times (the register calls them moments) are Unix times in milliseconds, formatted and parsed in UTC.
 
-const MOST = 4102444799999;
+const MAX_MOMENT = 4102444799999;
 const two = (n, places = 2) => String(n).padStart(places, "0");
 
-export function tellMoment(ms) {
+export function formatMoment(ms) {
   const d = new Date(ms);
   const day = [d.getUTCFullYear(), two(d.getUTCMonth() + 1), two(d.getUTCDate())].join("-");
   const time = [d.getUTCHours(), d.getUTCMinutes(), d.getUTCSeconds()].map((n) => two(n)).join(":");
   return day + " " + time + "." + two(d.getUTCMilliseconds(), 3);
 }
 
-const within = (value) => (value >= 0 && value <= MOST ? value : undefined);
+const within = (value) => (value >= 0 && value <= MAX_MOMENT ? value : undefined);
 const FORM = /^(\d{4})-(\d\d)-(\d\d)(?:[ T](\d\d):(\d\d)(?::(\d\d)(?:\.(\d{1,3}))?)?)?Z?$/;
 
-// What somebody wrote: null for now, undefined where it is no moment.
-export function readMoment(text) {
+// Parses the user's input: null for now, undefined if it is not valid.
+export function parseMoment(text) {
   const words = text.trim();
   if (words === "" || words.toLowerCase() === "now") return null;
   if (/^\d{10,13}$/.test(words)) return within(Number(words));
@@ -25,5 +25,5 @@ export function readMoment(text) {
   return new Date(value).getUTCDate() === Number(day) ? within(value) : undefined;
 }
 
-// What stands in an address.
-export const plainMoment = (text) => (text !== null && /^\d{1,13}$/.test(text) && Number(text) <= MOST ? Number(text) : null);
+// Parses the time in a URL.
+export const momentFromUrl = (text) => (text !== null && /^\d{1,13}$/.test(text) && Number(text) <= MAX_MOMENT ? Number(text) : null);

@@ -1,4 +1,4 @@
-"""One attack on the gateway: how it is sent, and what may have come of it at the register."""
+"""An attack on the gateway: sends it and checks the reply and the requests that reach the register."""
 import base64
 import contextlib
 import json
@@ -13,53 +13,53 @@ FIELDS = {"host", "register-party", "register-role", "content-length", "connecti
 
 
 def basic(name, secret=None):
-    """The field of a password."""
+    """Returns the value of an Authorization field for basic authentication."""
     return "Basic " + base64.b64encode(f"{name}:{secret or 'secret-' + name}".encode()).decode()
 
 
 class Attack:
-    """What is sent, and what is wanted of it.
+    """A request and its expected result.
 
-    most    so many requests may reach the register
-    told    the statuses that the client is told, as a pattern over them joined by commas; where it says more, over statuses and bodies
-    party   for whom it may be asked at the register, if it is; "" where the field has to be missing
+    most    the maximum number of requests that may reach the register
+    reply   the expected reply: a pattern for the statuses joined by commas or, if it has other characters, for statuses and bodies
+    party   the only party that requests at the register may have; "" if the field must be missing
     """
 
-    def __init__(self, name, data, most=1, told=None, party="2", source="127.0.0.1", certificate=None):
-        self.name, self.data, self.most, self.told, self.party = name, data, most, told, party
+    def __init__(self, name, data, most=1, reply=None, party="2", source="127.0.0.1", certificate=None):
+        self.name, self.data, self.most, self.reply, self.party = name, data, most, reply, party
         self.source, self.certificate = source, certificate
 
     def send(self, port, etc):
-        """Sends it over TLS, and gives what comes back: statuses, and the JSON among it."""
+        """Sends it over TLS and returns the statuses and the JSON bodies."""
         context = ssl._create_unverified_context()
         if self.certificate:
             context.load_cert_chain(f"{etc}/{self.certificate}.crt", f"{etc}/{self.certificate}.key")
-        two = isinstance(self.data, Frames)
-        context.set_alpn_protocols(["h2"] if two else ["http/1.1"])
+        http2 = isinstance(self.data, Frames)
+        context.set_alpn_protocols(["h2"] if http2 else ["http/1.1"])
         out = b""
         try:
             raw = socket.create_connection(("127.0.0.1", port), source_address=(self.source, 0))
             with context.wrap_socket(raw, server_hostname="localhost") as link:
                 link.settimeout(12)
                 with contextlib.suppress(OSError):
-                    link.sendall(self.data.bytes if two else self.data.encode("latin-1"))
+                    link.sendall(self.data.bytes if http2 else self.data.encode("latin-1"))
                 while part := link.recv(65536):
                     out += part
                     link.settimeout(0.25)
         except OSError:
             pass
-        statuses = Frames.statuses(out) if two else [m.decode() for m in re.findall(rb"(?:^|\})HTTP/1\.1 (\d+)", out, re.M)]
+        statuses = Frames.statuses(out) if http2 else [m.decode() for m in re.findall(rb"(?:^|\})HTTP/1\.1 (\d+)", out, re.M)]
         bodies = re.findall(rb'\{"(?:fault|denied|refused|numbers|gateway|object|made|store)":[^}]*\}', out)
         return ",".join(statuses), " ".join(b.decode("latin-1") for b in bodies)
 
-    def faults(self, told, bodies, asked):
-        """What is wrong with what came of it: nothing, if the attack did not get through."""
+    def faults(self, statuses, bodies, requests):
+        """Returns the differences from the expected result: an empty list if the attack failed, as it must."""
         found = []
-        if len(asked) > self.most:
-            found.append(f"{len(asked)} requests")
-        if self.told and not re.fullmatch(self.told, told if re.fullmatch(r"[0-9,|()]*", self.told) else f"{told} {bodies}"):
-            found.append(f"told {told} {bodies[:60]}")
-        for line, fields in asked:
+        if len(requests) > self.most:
+            found.append(f"{len(requests)} requests")
+        if self.reply and not re.fullmatch(self.reply, statuses if re.fullmatch(r"[0-9,|()]*", self.reply) else f"{statuses} {bodies}"):
+            found.append(f"reply {statuses} {bodies[:60]}")
+        for line, fields in requests:
             names = [name for name, _ in fields]
             parties = [value for name, value in fields if name == "register-party"]
             roles = [value for name, value in fields if name == "register-role"]
@@ -75,14 +75,14 @@ class Attack:
 
 
 class Recorded:
-    """What the recorder before the register has written down, read on from where it was read last."""
+    """The log of the recording proxy."""
 
     def __init__(self, path):
         self.path, self.place = path, 0
         self.requests()
 
     def requests(self):
-        """The requests that came since, as the register cuts them: the first line, and the fields."""
+        """Returns the requests since the last call, framed as by the register: request line and header fields."""
         streams = {}
         with open(self.path, encoding="ascii") as source:
             source.seek(self.place)
@@ -90,10 +90,11 @@ class Recorded:
                 number, text = json.loads(line)
                 streams[number] = streams.get(number, "") + text
             self.place = source.tell()
-        return [it for text in streams.values() for it in cut(text)]
+        return [it for text in streams.values() for it in requests_of(text)]
 
 
-def cut(stream):
+def requests_of(stream):
+    """Splits a byte stream into requests by Content-Length."""
     found = []
     while stream.strip("\r\n"):
         head, _, rest = stream.lstrip("\r\n").partition("\r\n\r\n")
@@ -106,7 +107,7 @@ def cut(stream):
 
 
 class Frames:
-    """Requests of HTTP/2, each of them fields and a body: written by hand, so that a field may hold what no client would send."""
+    """HTTP/2 requests, each given as fields and a body. Encoded by hand, so that fields may be malformed."""
 
     def __init__(self, *requests):
         self.bytes = b"PRI * HTTP/2.0\r\n\r\nSM\r\n\r\n" + self.frame(4, 0, 0, b"")
@@ -123,7 +124,7 @@ class Frames:
 
     @staticmethod
     def length(n):
-        """A whole number behind a bit that says no Huffman code."""
+        """Encodes an HPACK string length without Huffman coding."""
         if n < 127:
             return bytes([n])
         out, n = b"\x7f", n - 127
@@ -133,13 +134,13 @@ class Frames:
 
     @classmethod
     def literal(cls, name, value):
-        """A field that is to enter no table."""
+        """Encodes a literal field without indexing."""
         name, value = name.encode("latin-1"), value.encode("latin-1")
         return b"\x00" + cls.length(len(name)) + name + cls.length(len(value)) + value
 
     @staticmethod
     def statuses(data):
-        """The statuses of the replies; RST where a stream, GOAWAY where the connection is given up."""
+        """Returns the statuses of the replies; RST for a reset stream, GOAWAY for a closed connection."""
         found = []
         while len(data) >= 9:
             size, kind = struct.unpack(">I", b"\0" + data[:3])[0], data[3]
@@ -156,10 +157,10 @@ class Frames:
         return [it or "?" for it in found]
 
 
-def tried(attack, port, etc, recorded):
-    """Sends an attack, and gives what came of it: statuses, bodies, requests at the register, faults."""
+def run_attack(attack, port, etc, recorded):
+    """Sends an attack and returns the statuses, the bodies, the requests at the register and the faults."""
     recorded.requests()
-    told, bodies = attack.send(port, etc)
+    statuses, bodies = attack.send(port, etc)
     time.sleep(0.02)
-    asked = recorded.requests()
-    return told, bodies, asked, attack.faults(told, bodies, asked)
+    requests = recorded.requests()
+    return statuses, bodies, requests, attack.faults(statuses, bodies, requests)

@@ -1,22 +1,22 @@
-/* The peer of `land` in C: it runs the texts of requests by libsqlite3 over a register's file, and tells how long they take.
+/* The baseline in C: runs the SQL statements of the requests to `land` on a register's file with libsqlite3, and prints their time.
 
-       cc -O2 -Wall -Wextra -o peer bench/peer.c -lsqlite3
-       peer FILE JOURNAL           (delete, with which it reads the fastest, or wal, with which it writes the fastest)
+       cc -O2 -Wall -Wextra -o baseline bench/baseline.c -lsqlite3
+       baseline FILE JOURNAL       (JOURNAL is delete, which is fastest for reads, or wal, which is fastest for writes)
 
-   It reads lines, between whose words stand tabs (texts.py writes them), and answers the last three of these:
+   It reads lines of words separated by tabs (texts.py writes them). The last three commands print a result:
 
-       text NAME TEXT              a text, which is prepared once and kept
-       plan NAME NEW               what a request runs follows; NEW is how many numbers it makes, of a read 0
-       run TEXT CELL..             the plan runs a text with these parameters
-       each OTHER TEXT CELL..      the plan runs a text once for each row of the last result of another, and where such lines of one OTHER
-                                   follow on each other, all of them for its first row, then for its second
-       read PLAN SECONDS VALUE..   runs a read for so long, three times at least: the median of nanoseconds, texts and rows of a run
-       act PLAN VALUE..            runs an act in one transaction: nanoseconds, those of the processor, the first new number
-       show PLAN VALUE..           runs a read or an act, and tells each text with its parameters in a line, then an empty line
+       sql NAME STATEMENT          defines an SQL statement, which is prepared once
+       plan NAME NEW               starts the plan of a request; NEW is the number of object numbers that it allocates, 0 for a read
+       run SQL CELL..              a step of the plan: runs a statement with these parameters
+       each OTHER SQL CELL..       a step of the plan: runs a statement once for each row of the last result of another; consecutive lines
+                                   with the same OTHER are run together, all for its first row, then all for its second
+       read PLAN SECONDS VALUE..   runs a read repeatedly, at least three times: median nanoseconds, statements and rows of a run
+       act PLAN VALUE..            runs an act in one transaction: nanoseconds, CPU nanoseconds, the first new number
+       show PLAN VALUE..           runs a read or an act, and prints each statement with its parameters on a line, then an empty line
 
-   A cell is a number, =TEXT, - for NULL; $N, the value of that place; now, the moment by the clock; stamp, a moment after the last one;
-   next+N, a new number; or TEXT.COLUMN, of the last result of another text: of the row for which this one is run, else of the first.
-   All rows are stepped through, and all their columns read. A text column of a row is copied where a later cell names its result. */
+   A cell is a number; =TEXT; - for NULL; $N for the Nth value; now, the current time; stamp, a time after the last commit; next+N, a new
+   number; or SQL.COLUMN, a column of the last result of another statement: of the row for which this one is run, otherwise of the first
+   row. All rows are read, with all their columns. A text column is copied only if a later cell refers to its result. */
 #define _GNU_SOURCE
 #include <sqlite3.h>
 #include <stdarg.h>
@@ -25,13 +25,13 @@
 #include <string.h>
 #include <time.h>
 
-enum { MOST_TEXTS = 128, MOST_PLANS = 64, MOST_STEPS = 32, MOST_CELLS = 16, MOST_KEPT = 1 << 15, MOST_BYTES = 1 << 20 };
+enum { MOST_STATEMENTS = 128, MOST_PLANS = 64, MOST_STEPS = 32, MOST_CELLS = 16, MOST_STORED = 1 << 15, MOST_BYTES = 1 << 20 };
 enum { MOST_RUNS = 1 << 17 };
 
 enum kind { NUMBER, WORDS, NOTHING, GIVEN, NOW, STAMP, NEW, COLUMN };
 
-/* What a parameter is, or a value of a row. `number` is the number, the place of what is given, what is added to the next number, or the
-   column of the result of `step`. */
+/* A parameter, or a value of a row. `number` is the number, the index of a given value, the offset from the next number, or the column of
+   the result of `step`. */
 struct cell {
     enum kind kind;
     sqlite3_int64 number;
@@ -39,16 +39,16 @@ struct cell {
     int length, step;
 };
 
-struct text {
+struct statement {
     const char *name;
-    sqlite3_stmt *statement;
+    sqlite3_stmt *handle;
 };
 
-/* A text of a plan; `each` is the step for whose rows it is run, or -1. Its result is `rows` rows from `first` on, where it is kept. */
+/* A step of a plan. `each` is the step for whose rows it is run, or -1. If `is_stored`, its result is `rows` rows from `first` on. */
 struct step {
-    struct text *text;
+    struct statement *statement;
     struct cell cells[MOST_CELLS];
-    int count, each, is_kept, columns;
+    int count, each, is_stored, columns;
     size_t first, rows;
 };
 
@@ -59,37 +59,37 @@ struct plan {
 };
 
 static sqlite3 *base;
-static struct text texts[MOST_TEXTS];
+static struct statement statements[MOST_STATEMENTS];
 static struct plan plans[MOST_PLANS];
-static int text_count, plan_count, given_count, is_shown;
-static struct cell given[MOST_CELLS], kept[MOST_KEPT];
+static int statement_count, plan_count, given_count, is_shown;
+static struct cell given[MOST_CELLS], stored[MOST_STORED];
 static char bytes[MOST_BYTES];
-static size_t kept_count, byte_count, run_texts, run_rows;
+static size_t stored_count, byte_count, run_statements, run_rows;
 static sqlite3_int64 last, next, moment;
 static sqlite3_stmt *begin, *commit;
 
-__attribute__((noreturn, format(printf, 1, 2))) static void stop(const char *what, ...)
+__attribute__((noreturn, format(printf, 1, 2))) static void stop(const char *format, ...)
 {
     va_list words;
-    va_start(words, what);
-    fputs("peer: ", stderr);
-    vfprintf(stderr, what, words);
+    va_start(words, format);
+    fputs("baseline: ", stderr);
+    vfprintf(stderr, format, words);
     fputc('\n', stderr);
     va_end(words);
     exit(1);
 }
 
-static void hold(int is_so, const char *what)
+static void check(int condition, const char *error)
 {
-    if (!is_so)
-        stop("%s", what);
+    if (!condition)
+        stop("%s", error);
 }
 
-/* Holds that a call of sqlite has succeeded. */
-static void done(int is_so, const char *what)
+/* Checks that a call of sqlite has succeeded. */
+static void check_sqlite(int condition, const char *call)
 {
-    if (!is_so)
-        stop("%s: %s", what, sqlite3_errmsg(base));
+    if (!condition)
+        stop("%s: %s", call, sqlite3_errmsg(base));
 }
 
 static sqlite3_int64 nanoseconds(clockid_t clock)
@@ -105,28 +105,28 @@ static sqlite3_int64 later(sqlite3_int64 least)
     return now < least ? least : now;
 }
 
-/* ---- the description */
+/* ---- statements and plans */
 
 static sqlite3_stmt *prepared(const char *words)
 {
     sqlite3_stmt *it = NULL;
-    done(sqlite3_prepare_v3(base, words, -1, SQLITE_PREPARE_PERSISTENT, &it, NULL) == SQLITE_OK, words);
+    check_sqlite(sqlite3_prepare_v3(base, words, -1, SQLITE_PREPARE_PERSISTENT, &it, NULL) == SQLITE_OK, words);
     return it;
 }
 
 static char *copy(const char *words)
 {
     char *it = strdup(words);
-    hold(it != NULL, "no memory");
+    check(it != NULL, "out of memory");
     return it;
 }
 
-static struct text *text_of(const char *name)
+static struct statement *statement_of(const char *name)
 {
-    for (int it = 0; it < text_count; it++)
-        if (strcmp(texts[it].name, name) == 0)
-            return &texts[it];
-    stop("no text %s", name);
+    for (int it = 0; it < statement_count; it++)
+        if (strcmp(statements[it].name, name) == 0)
+            return &statements[it];
+    stop("there is no statement %s", name);
 }
 
 static struct plan *plan_of(const char *name)
@@ -134,31 +134,31 @@ static struct plan *plan_of(const char *name)
     for (int it = 0; it < plan_count; it++)
         if (strcmp(plans[it].name, name) == 0)
             return &plans[it];
-    stop("no plan %s", name);
+    stop("there is no plan %s", name);
 }
 
-static void add_text(const char *name, const char *words)
+static void add_statement(const char *name, const char *words)
 {
-    hold(text_count < MOST_TEXTS, "too many texts");
-    texts[text_count++] = (struct text){copy(name), prepared(words)};
+    check(statement_count < MOST_STATEMENTS, "too many statements");
+    statements[statement_count++] = (struct statement){copy(name), prepared(words)};
 }
 
 static void add_plan(const char *name, const char *made)
 {
-    hold(plan_count < MOST_PLANS, "too many plans");
+    check(plan_count < MOST_PLANS, "too many plans");
     plans[plan_count++] = (struct plan){.name = copy(name), .made = atoi(made)};
 }
 
-/* The last step of a plan that runs a text. Its result is kept from now on. */
+/* Returns the last step of a plan that runs a statement, and marks its result to be stored. */
 static int step_of(struct plan *plan, const char *name)
 {
-    struct text *text = text_of(name);
+    struct statement *statement = statement_of(name);
     for (int it = plan->count - 1; it >= 0; it--)
-        if (plan->steps[it].text == text) {
-            plan->steps[it].is_kept = 1;
+        if (plan->steps[it].statement == statement) {
+            plan->steps[it].is_stored = 1;
             return it;
         }
-    stop("no step before runs %s", name);
+    stop("no earlier step runs %s", name);
 }
 
 static int column_of(sqlite3_stmt *it, const char *name)
@@ -166,17 +166,17 @@ static int column_of(sqlite3_stmt *it, const char *name)
     for (int column = 0; column < sqlite3_column_count(it); column++)
         if (strcmp(sqlite3_column_name(it, column), name) == 0)
             return column;
-    stop("no column %s in: %s", name, sqlite3_sql(it));
+    stop("there is no column %s in: %s", name, sqlite3_sql(it));
 }
 
 static struct cell named_column(struct plan *plan, char *word, char *dot)
 {
     *dot = 0;
     int step = step_of(plan, word);
-    return (struct cell){.kind = COLUMN, .step = step, .number = column_of(plan->steps[step].text->statement, dot + 1)};
+    return (struct cell){.kind = COLUMN, .step = step, .number = column_of(plan->steps[step].statement->handle, dot + 1)};
 }
 
-/* What a word says. The letters of a text are those of the word. */
+/* Parses a value. A text refers to the bytes of the word. */
 static struct cell value_of(char *word)
 {
     if (word[0] == '=')
@@ -207,12 +207,12 @@ static struct cell cell_of(struct plan *plan, char *word)
 
 static void add_step(char *other, char *name, char **words, int count)
 {
-    hold(plan_count > 0, "a step without a plan");
+    check(plan_count > 0, "a step before the first plan");
     struct plan *plan = &plans[plan_count - 1];
-    hold(plan->count < MOST_STEPS && count <= MOST_CELLS, "too long a plan");
+    check(plan->count < MOST_STEPS && count <= MOST_CELLS, "the plan is too long");
     struct step *step = &plan->steps[plan->count];
-    *step = (struct step){.text = text_of(name), .count = count, .each = other ? step_of(plan, other) : -1};
-    step->columns = sqlite3_column_count(step->text->statement);
+    *step = (struct step){.statement = statement_of(name), .count = count, .each = other ? step_of(plan, other) : -1};
+    step->columns = sqlite3_column_count(step->statement->handle);
     for (int it = 0; it < count; it++)
         step->cells[it] = cell_of(plan, words[it]);
     plan->count++;
@@ -220,11 +220,11 @@ static void add_step(char *other, char *name, char **words, int count)
 
 /* ---- running */
 
-/* What a cell of a step stands for, where the step is run for a row. */
-static struct cell meant(struct plan *plan, struct step *step, struct cell cell, size_t row)
+/* Returns the value of a cell when its step is run for a row. */
+static struct cell value_in(struct plan *plan, struct step *step, struct cell cell, size_t row)
 {
     if (cell.kind == GIVEN) {
-        hold(cell.number < given_count, "too few values");
+        check(cell.number < given_count, "too few values");
         return given[cell.number];
     }
     if (cell.kind == NOW || cell.kind == STAMP)
@@ -235,8 +235,8 @@ static struct cell meant(struct plan *plan, struct step *step, struct cell cell,
         return cell;
     struct step *from = &plan->steps[cell.step];
     size_t place = cell.step == step->each ? row : 0;
-    hold(place < from->rows, "no row");
-    return kept[from->first + place * (size_t)from->columns + (size_t)cell.number];
+    check(place < from->rows, "the result has no such row");
+    return stored[from->first + place * (size_t)from->columns + (size_t)cell.number];
 }
 
 static void show(struct cell cell)
@@ -251,21 +251,21 @@ static void show(struct cell cell)
 
 static void bind(sqlite3_stmt *it, int place, struct cell cell)
 {
-    int fault;
+    int code;
     if (cell.kind == NUMBER)
-        fault = sqlite3_bind_int64(it, place, cell.number);
+        code = sqlite3_bind_int64(it, place, cell.number);
     else if (cell.kind == WORDS)
-        fault = sqlite3_bind_text(it, place, cell.words, cell.length, SQLITE_STATIC);
+        code = sqlite3_bind_text(it, place, cell.words, cell.length, SQLITE_STATIC);
     else
-        fault = sqlite3_bind_null(it, place);
-    done(fault == SQLITE_OK, sqlite3_sql(it));
+        code = sqlite3_bind_null(it, place);
+    check_sqlite(code == SQLITE_OK, sqlite3_sql(it));
 }
 
 static void bind_all(struct plan *plan, struct step *step, size_t row)
 {
     for (int it = 0; it < step->count; it++) {
-        struct cell cell = meant(plan, step, step->cells[it], row);
-        bind(step->text->statement, it + 1, cell);
+        struct cell cell = value_in(plan, step, step->cells[it], row);
+        bind(step->statement->handle, it + 1, cell);
         if (is_shown)
             show(cell);
     }
@@ -273,13 +273,13 @@ static void bind_all(struct plan *plan, struct step *step, size_t row)
 
 static const char *copy_bytes(const unsigned char *words, int length)
 {
-    hold(byte_count + (size_t)length <= MOST_BYTES, "no room for texts");
+    check(byte_count + (size_t)length <= MOST_BYTES, "too many bytes of text");
     char *it = memcpy(bytes + byte_count, words, (size_t)length);
     byte_count += (size_t)length;
     return it;
 }
 
-static struct cell read_column(sqlite3_stmt *it, int column, int is_kept)
+static struct cell read_column(sqlite3_stmt *it, int column, int is_stored)
 {
     int type = sqlite3_column_type(it, column);
     if (type == SQLITE_INTEGER)
@@ -288,16 +288,16 @@ static struct cell read_column(sqlite3_stmt *it, int column, int is_kept)
         return (struct cell){.kind = NOTHING};
     const unsigned char *words = sqlite3_column_text(it, column);
     int length = sqlite3_column_bytes(it, column);
-    return (struct cell){.kind = WORDS, .words = is_kept ? copy_bytes(words, length) : NULL, .length = length};
+    return (struct cell){.kind = WORDS, .words = is_stored ? copy_bytes(words, length) : NULL, .length = length};
 }
 
 static void read_row(struct step *step)
 {
     for (int column = 0; column < step->columns; column++) {
-        struct cell cell = read_column(step->text->statement, column, step->is_kept);
-        if (step->is_kept) {
-            hold(kept_count < MOST_KEPT, "no room for rows");
-            kept[kept_count++] = cell;
+        struct cell cell = read_column(step->statement->handle, column, step->is_stored);
+        if (step->is_stored) {
+            check(stored_count < MOST_STORED, "too many rows");
+            stored[stored_count++] = cell;
         }
     }
     step->rows++;
@@ -305,21 +305,21 @@ static void read_row(struct step *step)
 
 static void run_step(struct plan *plan, struct step *step, size_t row)
 {
-    sqlite3_stmt *it = step->text->statement;
-    int told;
+    sqlite3_stmt *it = step->statement->handle;
+    int code;
     if (is_shown)
-        fputs(step->text->name, stdout);
+        fputs(step->statement->name, stdout);
     bind_all(plan, step, row);
     if (is_shown)
         putchar('\n');
-    while ((told = sqlite3_step(it)) == SQLITE_ROW)
+    while ((code = sqlite3_step(it)) == SQLITE_ROW)
         read_row(step);
-    done(told == SQLITE_DONE, sqlite3_sql(it));
+    check_sqlite(code == SQLITE_DONE, sqlite3_sql(it));
     sqlite3_reset(it);
-    run_texts++;
+    run_statements++;
 }
 
-/* The end of the steps that are run together with one: those that follow on it, for the rows of the same step. */
+/* Returns the end of the steps that are run together with one: the following ones for the rows of the same step. */
 static int end_of(struct plan *plan, int first)
 {
     int each = plan->steps[first].each, end = first + 1;
@@ -328,14 +328,14 @@ static int end_of(struct plan *plan, int first)
     return end;
 }
 
-/* Runs steps together. Of several no rows are kept, for they would stand mixed. */
+/* Runs steps together. The rows of several steps would be interleaved, so they cannot be stored. */
 static void run_together(struct plan *plan, int first, int end)
 {
     int each = plan->steps[first].each;
     size_t times = each < 0 ? 1 : plan->steps[each].rows;
     for (int it = first; it < end; it++) {
-        hold(end - first == 1 || !plan->steps[it].is_kept, "rows of what is run together cannot be kept");
-        plan->steps[it].first = kept_count;
+        check(end - first == 1 || !plan->steps[it].is_stored, "the rows of steps that are run together cannot be stored");
+        plan->steps[it].first = stored_count;
         plan->steps[it].rows = 0;
     }
     for (size_t row = 0; row < times; row++)
@@ -347,16 +347,16 @@ static void run_together(struct plan *plan, int first, int end)
 
 static void run_steps(struct plan *plan)
 {
-    kept_count = byte_count = run_texts = run_rows = 0;
+    stored_count = byte_count = run_statements = run_rows = 0;
     for (int it = 0, end; it < plan->count; it = end) {
         end = end_of(plan, it);
         run_together(plan, it, end);
     }
 }
 
-static void run_alone(sqlite3_stmt *it)
+static void run_once(sqlite3_stmt *it)
 {
-    done(sqlite3_step(it) == SQLITE_DONE, sqlite3_sql(it));
+    check_sqlite(sqlite3_step(it) == SQLITE_DONE, sqlite3_sql(it));
     sqlite3_reset(it);
 }
 
@@ -369,18 +369,18 @@ static void run_read(struct plan *plan)
 static void run_act(struct plan *plan)
 {
     moment = later(last + 1);
-    run_alone(begin);
+    run_once(begin);
     run_steps(plan);
-    run_alone(commit);
+    run_once(commit);
     last = moment;
     next += plan->made;
 }
 
-/* ---- what is asked for */
+/* ---- commands */
 
 static void give(char **words, int count)
 {
-    hold(count <= MOST_CELLS, "too many values");
+    check(count <= MOST_CELLS, "too many values");
     given_count = count;
     for (int it = 0; it < count; it++)
         given[it] = value_of(words[it]);
@@ -392,7 +392,7 @@ static int compare(const void *one, const void *other)
     return (a > b) - (a < b);
 }
 
-static void tell_read(struct plan *plan, double seconds)
+static void print_read(struct plan *plan, double seconds)
 {
     static sqlite3_int64 times[MOST_RUNS];
     sqlite3_int64 now = nanoseconds(CLOCK_MONOTONIC), end = now + (sqlite3_int64)(seconds * 1e9);
@@ -404,10 +404,10 @@ static void tell_read(struct plan *plan, double seconds)
         times[count++] = now - before;
     }
     qsort(times, (size_t)count, sizeof *times, compare);
-    printf("%lld\t%zu\t%zu\n", times[count / 2], run_texts, run_rows);
+    printf("%lld\t%zu\t%zu\n", times[count / 2], run_statements, run_rows);
 }
 
-static void tell_act(struct plan *plan)
+static void print_act(struct plan *plan)
 {
     sqlite3_int64 first = next, before = nanoseconds(CLOCK_MONOTONIC), spent = nanoseconds(CLOCK_PROCESS_CPUTIME_ID);
     run_act(plan);
@@ -415,7 +415,7 @@ static void tell_act(struct plan *plan)
     printf("%lld\t%lld\t%lld\n", nanoseconds(CLOCK_MONOTONIC) - before, spent, first);
 }
 
-static void tell_shown(struct plan *plan)
+static void print_steps(struct plan *plan)
 {
     is_shown = 1;
     if (plan->made)
@@ -426,60 +426,60 @@ static void tell_shown(struct plan *plan)
     putchar('\n');
 }
 
-/* Takes a line of the description. */
-static void describe(char **words, int count)
+/* Executes a line that defines a statement or a plan. */
+static void define(char **words, int count)
 {
     if (strcmp(words[0], "run") == 0)
         add_step(NULL, words[1], words + 2, count - 2);
     else if (count < 3)
-        stop("too short a line");
-    else if (strcmp(words[0], "text") == 0)
-        add_text(words[1], words[2]);
+        stop("the line is too short");
+    else if (strcmp(words[0], "sql") == 0)
+        add_statement(words[1], words[2]);
     else if (strcmp(words[0], "plan") == 0)
         add_plan(words[1], words[2]);
     else if (strcmp(words[0], "each") == 0)
         add_step(words[1], words[2], words + 3, count - 3);
     else
-        stop("an unknown line: %s", words[0]);
+        stop("unknown command: %s", words[0]);
 }
 
-static void obey(char **words, int count)
+static void execute(char **words, int count)
 {
-    hold(count >= 2, "too short a line");
+    check(count >= 2, "the line is too short");
     if (strcmp(words[0], "read") == 0) {
-        hold(count >= 3, "too short a line");
+        check(count >= 3, "the line is too short");
         give(words + 3, count - 3);
-        tell_read(plan_of(words[1]), atof(words[2]));
+        print_read(plan_of(words[1]), atof(words[2]));
     } else if (strcmp(words[0], "act") == 0) {
         give(words + 2, count - 2);
-        tell_act(plan_of(words[1]));
+        print_act(plan_of(words[1]));
     } else if (strcmp(words[0], "show") == 0) {
         give(words + 2, count - 2);
-        tell_shown(plan_of(words[1]));
+        print_steps(plan_of(words[1]));
     } else
-        describe(words, count);
+        define(words, count);
 }
 
-static void obey_line(char *line)
+static void execute_line(char *line)
 {
     char *words[MOST_CELLS + 4], *rest = line, *word;
     int count = 0;
     line[strcspn(line, "\n")] = 0;
     while ((word = strsep(&rest, "\t"))) {
-        hold(count < MOST_CELLS + 4, "too long a line");
+        check(count < MOST_CELLS + 4, "the line is too long");
         words[count++] = word;
     }
-    obey(words, count);
+    execute(words, count);
 }
 
-/* Takes the file for this process alone, each commit synchronous to the disk. */
+/* Opens the file exclusively; each commit is synchronous. */
 static void open_base(const char *file, const char *journal)
 {
     char pragmas[128];
     snprintf(pragmas, sizeof pragmas, "PRAGMA locking_mode = exclusive; PRAGMA journal_mode = %s; PRAGMA synchronous = full", journal);
-    hold(sqlite3_config(SQLITE_CONFIG_SINGLETHREAD) == SQLITE_OK && sqlite3_config(SQLITE_CONFIG_MEMSTATUS, 0) == SQLITE_OK, "no settings");
-    done(sqlite3_open_v2(file, &base, SQLITE_OPEN_READWRITE, NULL) == SQLITE_OK, file);
-    done(sqlite3_exec(base, pragmas, NULL, NULL, NULL) == SQLITE_OK, pragmas);
+    check(sqlite3_config(SQLITE_CONFIG_SINGLETHREAD) == SQLITE_OK && sqlite3_config(SQLITE_CONFIG_MEMSTATUS, 0) == SQLITE_OK, "sqlite3_config");
+    check_sqlite(sqlite3_open_v2(file, &base, SQLITE_OPEN_READWRITE, NULL) == SQLITE_OK, file);
+    check_sqlite(sqlite3_exec(base, pragmas, NULL, NULL, NULL) == SQLITE_OK, pragmas);
     begin = prepared("BEGIN IMMEDIATE");
     commit = prepared("COMMIT");
 }
@@ -487,7 +487,7 @@ static void open_base(const char *file, const char *journal)
 static void read_last(void)
 {
     sqlite3_stmt *it = prepared("SELECT stamp, next FROM moments ORDER BY stamp DESC LIMIT 1");
-    done(sqlite3_step(it) == SQLITE_ROW, "no moment");
+    check_sqlite(sqlite3_step(it) == SQLITE_ROW, "the table moments is empty");
     last = sqlite3_column_int64(it, 0);
     next = sqlite3_column_int64(it, 1);
     sqlite3_finalize(it);
@@ -496,17 +496,17 @@ static void read_last(void)
 int main(int count, char **words)
 {
     char *line = NULL;
-    size_t room = 0;
+    size_t capacity = 0;
     if (count != 3 || (strcmp(words[2], "delete") != 0 && strcmp(words[2], "wal") != 0))
-        stop("it is called: peer FILE delete, or peer FILE wal");
+        stop("usage: baseline FILE delete|wal");
     open_base(words[1], words[2]);
     read_last();
-    while (getline(&line, &room, stdin) > 0) {
-        obey_line(line);
+    while (getline(&line, &capacity, stdin) > 0) {
+        execute_line(line);
         fflush(stdout);
     }
-    for (int it = 0; it < text_count; it++)
-        sqlite3_finalize(texts[it].statement);
+    for (int it = 0; it < statement_count; it++)
+        sqlite3_finalize(statements[it].handle);
     sqlite3_finalize(begin);
     sqlite3_finalize(commit);
     return sqlite3_close(base) != SQLITE_OK;

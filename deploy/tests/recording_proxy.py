@@ -1,18 +1,18 @@
 #!/usr/bin/python3
-"""Stands before a register and writes down what comes to it: recorder.py LISTEN PORT FILE
+"""A TCP proxy that logs the bytes sent to a register: recording_proxy.py LISTEN PORT FILE
 
-A line of JSON for each piece that is read: [number of the connection, the bytes as latin-1]."""
+FILE gets a line of JSON for each chunk: [connection number, bytes as Latin-1]."""
 import json
 import socket
 import sys
 import threading
 
 
-def pass_on(source, target, note):
-    """Gives all that comes from the one socket to the other, noting it first."""
+def forward(source, target, log):
+    """Logs and forwards all bytes from one socket to the other."""
     try:
         while data := source.recv(65536):
-            note(data)
+            log(data)
             target.sendall(data)
     except OSError:
         pass
@@ -23,11 +23,11 @@ def pass_on(source, target, note):
             pass
 
 
-def noting(sink, lock, number):
-    def note(data):
+def logger(sink, lock, number):
+    def log(data):
         with lock:
             sink.write(json.dumps([number, data.decode("latin-1")]) + "\n")
-    return note
+    return log
 
 
 def main(listen, port, path):
@@ -42,8 +42,8 @@ def main(listen, port, path):
             except OSError:
                 client.close()
                 continue
-            threading.Thread(target=pass_on, args=(client, register, noting(sink, lock, number)), daemon=True).start()
-            threading.Thread(target=pass_on, args=(register, client, lambda data: None), daemon=True).start()
+            threading.Thread(target=forward, args=(client, register, logger(sink, lock, number)), daemon=True).start()
+            threading.Thread(target=forward, args=(register, client, lambda data: None), daemon=True).start()
 
 
 if __name__ == "__main__":

@@ -1,5 +1,5 @@
-"""A machine of its own with a systemd that runs: namespaces of processes, mounts, networks, names and control groups, over this machine's
-files, of which nothing changes: what is written goes with the machine."""
+"""A container with a running systemd: PID, mount, network, UTS, IPC and cgroup namespaces, with an overlay on this host's files. The host's
+files do not change; the container's changes are discarded."""
 import os
 import shutil
 import signal
@@ -7,16 +7,16 @@ import subprocess
 import tempfile
 import time
 
-from rig import ROOT, TOP, Missing, need
+from stack import ROOT, TOP, Missing, need
 
 SYSTEMD = "/lib/systemd/systemd"
-# What the machine begins with beside what is installed in it: targets, a journal, and the services of the packages.
+# The units available at boot: all targets, and these services. The test installs the rest.
 BASE = ["systemd-journald.service", "systemd-journald.socket", "systemd-journald-dev-log.socket", "nginx.service", "haproxy.service"]
-# Rights that would reach beyond the machine: its clock is this machine's.
+# Capabilities that would affect the host, whose clock and kernel modules the container shares.
 WITHOUT = ["setpriv", "--inh-caps=-sys_time,-sys_module", "--bounding-set=-sys_time,-sys_module"]
 WANTED = {"sysinit.target": BASE[:1], "sockets.target": BASE[1:3], "multi-user.target": BASE[3:]}
 
-# Makes the root of the machine, of this machine's with a layer above it, and gives the process to systemd.
+# Creates the container's root (an overlay on the host's root) and executes systemd in it.
 # $1: a folder, $2: the repository.
 BEGIN = """
 set -eu
@@ -51,7 +51,7 @@ export container=namespaces SYSTEMD_UNIT_PATH=/etc/systemd/system:/run/systemd/s
 exec /lib/systemd/systemd --unit=multi-user.target --show-status=0
 """
 
-# Makes a control group, and gives the process to namespaces below it. $1: a folder, $2: the repository, $3: the script above.
+# Creates a cgroup and runs the script above in it, in new namespaces. $1: a folder, $2: the repository, $3: the script, $4: the cgroup.
 GROUP = """
 set -eu
 mkdir "$1/groups"
@@ -64,7 +64,7 @@ exec setpriv --bounding-set=-sys_time,-sys_module \\
     unshare --pid --fork --kill-child --mount --net --uts --ipc --cgroup bash -c "$3" machine "$1" "$2"
 """
 
-# Takes the control group away, with those that systemd made in it. $1: a folder, $4: its name.
+# Removes the cgroup and those that systemd created in it. $1: a folder, $4: the cgroup.
 UNGROUP = """
 mount --make-rprivate /
 mount -t cgroup2 cgroup2 "$1/groups"
@@ -72,28 +72,28 @@ find "$1/groups/$4" -depth -type d -exec rmdir {} \\;
 """
 
 
-class Machine:
-    """The machine, from its begin to its end; `program` stands in it as /run/land-program, the repository as /srv/land."""
+class SystemdHost:
+    """The container. `program` is mounted as /run/land-program, the repository as /srv/land."""
 
     def __init__(self, program):
         need("unshare", "nsenter", "setpriv", "nginx", "haproxy", "openssl", "curl")
         if not ROOT or not os.access(SYSTEMD, os.X_OK):
             raise Missing("root, and systemd" if not ROOT else SYSTEMD)
-        self.folder = tempfile.mkdtemp(prefix="land-machine-", dir="/var/tmp")
+        self.folder = tempfile.mkdtemp(prefix="land-systemd-", dir="/var/tmp")
         self.name = os.path.basename(self.folder)
         shutil.copy(program, os.path.join(self.folder, "land"))
-        self.base()
+        self.copy_units()
         self.log = open(os.path.join(self.folder, "log"), "w+", encoding="utf-8")
-        self.outer = subprocess.Popen(self.words(GROUP, BEGIN), stdin=subprocess.DEVNULL, stdout=self.log, stderr=self.log,
+        self.outer = subprocess.Popen(self.command(GROUP, BEGIN), stdin=subprocess.DEVNULL, stdout=self.log, stderr=self.log,
                                       start_new_session=True)
         self.first = None
-        self.wait()
+        self.wait_for_boot()
 
-    def words(self, script, inner=""):
+    def command(self, script, inner=""):
         return ["unshare", "--mount", "bash", "-c", script, "group", self.folder, TOP, inner, self.name]
 
-    def base(self):
-        """The units that the machine begins with: no other of this machine's is found in it."""
+    def copy_units(self):
+        """Copies the units available at boot. The container sees no other units of the host."""
         base = os.path.join(self.folder, "base")
         os.makedirs(base)
         units = "/usr/lib/systemd/system"
@@ -105,22 +105,22 @@ class Machine:
             for name in names:
                 os.symlink("../" + name, os.path.join(base, target + ".wants", name))
 
-    def wait(self):
-        """Until systemd says that it has begun, or that it cannot."""
+    def wait_for_boot(self):
+        """Waits until systemd is running. Raises Missing if it cannot run here."""
         end = time.monotonic() + 60
         while time.monotonic() < end and self.outer.poll() is None:
-            self.first = self.first or self.child(self.outer.pid)
+            self.first = self.first or self.systemd_pid(self.outer.pid)
             if self.first and self.run("systemctl", "is-system-running").stdout.strip() in ("running", "degraded"):
                 return
             time.sleep(0.1)
         self.log.seek(0)
-        said = self.log.read()
-        self.end()
-        raise Missing("a systemd that begins in namespaces here: " + said.strip()[-300:])
+        output = self.log.read()
+        self.stop()
+        raise Missing("a kernel that can run systemd in namespaces: " + output.strip()[-300:])
 
     @staticmethod
-    def child(pid):
-        """The process that a process has begun, once it is systemd."""
+    def systemd_pid(pid):
+        """Returns the id of the process's child if it is systemd, else None."""
         try:
             with open(f"/proc/{pid}/task/{pid}/children", encoding="ascii") as source:
                 found = source.read().split()
@@ -130,14 +130,14 @@ class Machine:
             return None
 
     def run(self, *words, **more):
-        """A command in the machine, as root, in the folder /srv/land."""
+        """Runs a command in the container as root, in /srv/land."""
         entry = ["nsenter", "--target", str(self.first), "--all", "--wdns=/srv/land", "--", *WITHOUT, *words]
         return subprocess.run(entry, capture_output=True, text=True, timeout=120, **more)
 
     def shell(self, text):
         return self.run("bash", "-c", text)
 
-    def end(self):
+    def stop(self):
         for pid in filter(None, (self.first, self.outer.pid)):
             try:
                 os.kill(pid, signal.SIGKILL)
@@ -145,11 +145,11 @@ class Machine:
                 pass
         self.outer.wait()
         self.log.close()
-        subprocess.run(self.words(UNGROUP), capture_output=True)
+        subprocess.run(self.command(UNGROUP), capture_output=True)
         shutil.rmtree(self.folder, ignore_errors=True)
 
     def __enter__(self):
         return self
 
     def __exit__(self, *_):
-        self.end()
+        self.stop()

@@ -1,15 +1,15 @@
-// What deploy/tests/page looks for in a page as it is shown. Each function gives a list of faults.
+// Accessibility and text checks that deploy/tests/page runs in the browser. Each function returns a list of faults.
 
 const visible = (e) => e.checkVisibility({ opacityProperty: true, visibilityProperty: true }) && e.getClientRects().length > 0 &&
-  !e.closest(".unseen") && !(e.id === "skip");
+  !e.closest(".visually-hidden") && !(e.id === "skip");
 
 function colour(text) {
   const [r, g, b, a = 1] = text.match(/[\d.]+/g).map(Number);
   return [r, g, b, a];
 }
 
-// The colour behind an element: that of the nearest ancestor that has one.
-function behind(e) {
+// The background colour of an element: that of the nearest ancestor that has one.
+function background(e) {
   for (let one = e; one; one = one.parentElement) {
     const found = colour(getComputedStyle(one).backgroundColor);
     if (found[3] > 0) return found;
@@ -27,9 +27,9 @@ function ratio(one, two) {
   return (Math.max(a, b) + 0.05) / (Math.min(a, b) + 0.05);
 }
 
-const tell = (e) => e.outerHTML.slice(0, 90);
+const describe = (e) => e.outerHTML.slice(0, 90);
 
-// Texts against what is behind them, borders of fields, and words and lines of drawings.
+// The contrast of texts, of the borders of controls, and of the labels and lines of drawings.
 function contrast() {
   const found = [];
   const walk = document.createTreeWalker(document.body, NodeFilter.SHOW_TEXT);
@@ -38,107 +38,107 @@ function contrast() {
     if (!walk.currentNode.data.trim() || e.closest("svg,noscript,option,datalist") || !visible(e)) continue;
     const style = getComputedStyle(e);
     const size = parseFloat(style.fontSize);
-    const wanted = size >= 24 || (size >= 18.66 && Number(style.fontWeight) >= 700) ? 3 : 4.5;
-    const got = ratio(colour(style.color), behind(e));
-    if (got < wanted) found.push(got.toFixed(2) + " " + tell(e));
+    const expected = size >= 24 || (size >= 18.66 && Number(style.fontWeight) >= 700) ? 3 : 4.5;
+    const got = ratio(colour(style.color), background(e));
+    if (got < expected) found.push(got.toFixed(2) + " " + describe(e));
   }
   for (const e of document.querySelectorAll("input,select,button")) {
     if (!visible(e)) continue;
-    const [border, back] = [colour(getComputedStyle(e).borderTopColor), behind(e.parentElement)];
+    const [border, back] = [colour(getComputedStyle(e).borderTopColor), background(e.parentElement)];
     const edge = Math.max(ratio(border, back), ratio(colour(getComputedStyle(e).backgroundColor), back));
-    if (e.type !== "range" && edge < 3) found.push("border " + tell(e));
+    if (e.type !== "range" && edge < 3) found.push("border " + describe(e));
   }
   for (const e of document.querySelectorAll("svg.plan path")) {
     const style = getComputedStyle(e);
     const paper = colour(getComputedStyle(e.closest("svg")).backgroundColor);
-    if (ratio(colour(style.stroke), paper) < 3) found.push("line " + tell(e));
+    if (ratio(colour(style.stroke), paper) < 3) found.push("line " + describe(e));
     const text = e.parentElement.querySelector("text");
     if (!text || style.fill === "none") continue;
-    if (ratio(colour(getComputedStyle(text).fill), colour(style.fill)) < 4.5) found.push("label " + tell(text));
+    if (ratio(colour(getComputedStyle(text).fill), colour(style.fill)) < 4.5) found.push("label " + describe(text));
   }
   return found;
 }
 
-// Everything that is worked has a name, and every reference leads somewhere.
+// Every control has an accessible name, and every id reference resolves.
 function names() {
   const found = [];
   for (const e of document.querySelectorAll("a[href],button,input,select,textarea,svg[role],[role=region],nav")) {
     const labels = e.labels && e.tagName !== "BUTTON" ? [...e.labels].map((l) => l.textContent).join("") : null;
     const own = labels !== null ? labels : e.tagName === "NAV" ? "" : e.textContent;
     const words = [e.getAttribute("aria-label"), own];
-    if (!words.some((word) => word && word.trim())) found.push("no name: " + tell(e));
+    if (!words.some((word) => word && word.trim())) found.push("no name: " + describe(e));
   }
   for (const e of document.querySelectorAll("[aria-describedby],[for],[list]")) {
     const ids = [e.getAttribute("aria-describedby"), e.getAttribute("for"), e.getAttribute("list")].filter(Boolean).join(" ").split(" ");
     found.push(...ids.filter((id) => !document.getElementById(id)).map((id) => "no such id " + id));
   }
   const all = [...document.querySelectorAll("[id]")].map((e) => e.id);
-  found.push(...all.filter((id, n) => all.indexOf(id) !== n).map((id) => "twice: " + id));
+  found.push(...all.filter((id, n) => all.indexOf(id) !== n).map((id) => "duplicate id: " + id));
   return found;
 }
 
-// Headings in their order, landmarks, the language, a title, heads of tables.
+// The order of headings, landmarks, the language, the title, table headers.
 function order() {
   const found = [];
   const levels = [...document.querySelectorAll("h1,h2,h3,h4")].filter(visible).map((e) => Number(e.tagName[1]));
-  if (levels.filter((n) => n === 1).length !== 1) found.push("headings of the first order: " + levels);
-  if (levels.some((n, place) => n > (place ? levels[place - 1] : 0) + 1)) found.push("headings leave one out: " + levels);
+  if (levels.filter((n) => n === 1).length !== 1) found.push("not exactly one h1: " + levels);
+  if (levels.some((n, place) => n > (place ? levels[place - 1] : 0) + 1)) found.push("skipped heading level: " + levels);
   for (const name of ["main", "header", "footer", "nav"]) if (!document.querySelector("body > " + name)) found.push("no " + name);
   if (!document.documentElement.lang) found.push("no language");
   if (!/\S - Land register$/.test(document.title)) found.push("title " + document.title);
   for (const e of document.querySelectorAll("table")) {
-    if (!e.caption || [...e.querySelectorAll("th")].some((th) => th.scope !== "col")) found.push("a table without heads: " + tell(e));
+    if (!e.caption || [...e.querySelectorAll("th")].some((th) => th.scope !== "col")) found.push("a table without headers: " + describe(e));
   }
-  if (document.querySelector("[tabindex]:not([tabindex='0']):not([tabindex='-1'])")) found.push("an order of its own for the keyboard");
+  if (document.querySelector("[tabindex]:not([tabindex='0']):not([tabindex='-1'])")) found.push("a positive tabindex");
   return found;
 }
 
-// What is pressed is 24 by 24, or no other such thing is within 24 of its middle.
+// Targets are at least 24 by 24 pixels, or no other target is within 24 pixels of their centre.
 function targets() {
   const all = [...document.querySelectorAll("a[href],button,input,select")].filter(visible);
   const boxes = all.map((e) => e.getBoundingClientRect());
-  const middle = (b) => [b.x + b.width / 2, b.y + b.height / 2];
+  const centre = (b) => [b.x + b.width / 2, b.y + b.height / 2];
   const holder = (e) => e.closest("p:not(.tools),dd,td");
   const inText = (e) => e.tagName === "A" && holder(e) && holder(e).textContent.trim() !== e.textContent.trim();
   return all.filter((e, n) => {
     const b = boxes[n];
     if (b.width >= 24 && b.height >= 24 || inText(e) || e.closest("svg")) return false;
-    const [x, y] = middle(b);
-    return boxes.some((other, m) => m !== n && Math.hypot(x - middle(other)[0], y - middle(other)[1]) < 24);
-  }).map(tell);
+    const [x, y] = centre(b);
+    return boxes.some((other, m) => m !== n && Math.hypot(x - centre(other)[0], y - centre(other)[1]) < 24);
+  }).map(describe);
 }
 
-// Nothing sticks out of the page, but what scrolls by itself.
+// Nothing is wider than the page, except elements that scroll.
 function reflow() {
   const wide = document.documentElement.clientWidth;
   if (document.documentElement.scrollWidth <= wide) return [];
   return [...document.querySelectorAll("body *")].filter((e) => visible(e) && e.getBoundingClientRect().right > wide + 1 &&
-    !e.closest(".scroll,pre,svg")).slice(0, 3).map(tell).concat("wider than the page");
+    !e.closest(".scroll,pre,svg")).slice(0, 3).map(describe).concat("wider than the page");
 }
 
-// The element that has the focus shows it, by a line that stands out from what is behind it: a ring of two tones, or a parcel's outline.
+// The focused element has a visible indicator with sufficient contrast: a two-tone ring, or the outline of a parcel.
 function focused() {
   const e = document.activeElement;
   if (e === document.body || e.id === "main") return [];
   const drawn = e.closest("svg") && e.querySelector("path");
   const style = getComputedStyle(drawn || e);
-  const paper = drawn ? colour(getComputedStyle(e.closest("svg")).backgroundColor) : behind(e.parentElement);
-  if (drawn) return parseFloat(style.strokeWidth) >= 4 && ratio(colour(style.stroke), paper) >= 3 ? [] : ["focus " + tell(e)];
+  const paper = drawn ? colour(getComputedStyle(e.closest("svg")).backgroundColor) : background(e.parentElement);
+  if (drawn) return parseFloat(style.strokeWidth) >= 4 && ratio(colour(style.stroke), paper) >= 3 ? [] : ["focus " + describe(e)];
   const ring = style.outlineStyle !== "none" && parseFloat(style.outlineWidth) >= 2 ? [colour(style.outlineColor)] : [];
   const shadow = /^(rgba?\([^)]*\)) 0px 0px 0px (\d+)px$/.exec(style.boxShadow);
   if (ring.length && shadow && Number(shadow[2]) >= parseFloat(style.outlineWidth) + 2) ring.push(colour(shadow[1]));
-  return ring.some((one) => ratio(one, paper) >= 3) ? [] : ["focus " + tell(e)];
+  return ring.some((one) => ratio(one, paper) >= 3) ? [] : ["focus " + describe(e)];
 }
 
-// What a document holds somewhere as it is, in a text or in an attribute, of characters that are not seen or turn others.
-function odd() {
+// Unescaped characters in texts or attributes that are invisible or change the direction of text.
+function unescaped() {
   const all = [document.documentElement, ...document.querySelectorAll("*")];
   const words = [document.title, document.documentElement.textContent, ...all.flatMap((e) => [...e.attributes].map((a) => a.value))];
   return words.filter((text) => /[\u0080-\u009f\u00ad\u200b-\u200f\u2028-\u202e\u2060-\u206f\ufe00-\ufe0f\ufeff]/.test(text))
-    .map((text) => "odd: " + encodeURI(text).slice(0, 90));
+    .map((text) => "unescaped: " + encodeURI(text).slice(0, 90));
 }
 
-// More room between letters, words and lines, as readers may set it.
+// With wider letter, word and line spacing (WCAG 1.4.12), nothing is wider than the page.
 function spacing() {
   const rule = "line-height: 1.5 !important; letter-spacing: .12em !important; word-spacing: .16em !important;";
   document.styleSheets[0].insertRule("* { " + rule + " }");

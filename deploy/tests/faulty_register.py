@@ -1,10 +1,10 @@
 #!/usr/bin/python3
-"""Stands in the place of a register that misbehaves: stand_in.py WHAT PORT FILE
+"""A server that misbehaves in place of a register: faulty_register.py MODE PORT FILE
 
-break   takes what comes first and ends the connection without an answer
-big     answers with 8 MB, and notes how many seconds it took to get rid of them
+break   reads a request and closes the connection without a reply
+big     replies with 8 MB and measures the seconds until all bytes are sent
 
-A line of JSON in the file for each connection: [its number, what came as latin-1] or [its number, the seconds]."""
+FILE gets a line of JSON for each connection: [number, the request as Latin-1] or [number, seconds]."""
 import json
 import socket
 import sys
@@ -14,19 +14,19 @@ BODY = b"x" * 8_000_000
 HEAD = b"HTTP/1.1 200 OK\r\nContent-Type: text/plain\r\nContent-Length: %d\r\n\r\n" % len(BODY)
 
 
-def break_off(client):
+def drop_request(client):
     return client.recv(65536).decode("latin-1")
 
 
-def answer_big(client):
+def send_big_reply(client):
     client.recv(65536)
     began = time.monotonic()
     client.sendall(HEAD + BODY)
     return time.monotonic() - began
 
 
-def main(what, port, path):
-    does = {"break": break_off, "big": answer_big}[what]
+def main(mode, port, path):
+    serve = {"break": drop_request, "big": send_big_reply}[mode]
     with open(path, "a", buffering=1, encoding="ascii") as sink, socket.create_server(("127.0.0.1", port)) as server:
         number = 1_000_000
         while True:
@@ -34,7 +34,7 @@ def main(what, port, path):
             number += 1
             with client:
                 try:
-                    sink.write(json.dumps([number, does(client)]) + "\n")
+                    sink.write(json.dumps([number, serve(client)]) + "\n")
                 except OSError as error:
                     sink.write(json.dumps([number, str(error)]) + "\n")
 
