@@ -1,5 +1,5 @@
 -- Commands over files, by what their last call gives.
-use Rattle.std.proofs.Common.{◌≡◌, inl, inr, subst, sym, ℕ, ℤ, List, Option, Result, Ok, Err, IsErrAnd}
+use Rattle.std.proofs.Common.{◌≡◌, inl, inr, subst, sym, ℕ, List, Option, Result, Ok, Err, IsErrAnd}
 use Rattle.std.proofs.KnownBytes.{Appends-nil}
 use Rattle.std.specs.Prelude.{IfErr, OnOk}
 use Rattle.land_commands.specs.Filed.{IsFileService, IsMade, IsMaking, IsServedFrom, IsServedOver, Service}
@@ -21,9 +21,15 @@ made_and_closed g holds closed o (Err fault) made shut closing = inr (inr (o, ma
 pub served_and_closed : {S C T : Type 0} (g : Ghosts S) (holds : State → Type 0) (closed : Held S → Type 0) (s : Service C) (done : T)
     (r : Result T ProgramFault) → ((a b : T) → a ≡ b) → (it : IsServedFrom {T = T} g holds s (Ok done)) → OnOk r (closed it.to.conn) → IfErr r IsFaultOfClosing
     → IsFileService g holds closed s r
-served_and_closed {S} {C} {T} g holds closed s done (Ok it) alike served shut closing =
-    (record { from = served.from; to = served.to; taken = served.taken;
-      served = subst (λ (x : T). IsServedOver g s.reads s.wanted s.coming s.after served.from s.clock served.to s.clock_after (Ok x)) (alike done it) served.served }, shut)
+served_and_closed {S} {C} {T} g holds closed s done (Ok it) alike served shut closing = (
+  record {
+    from = served.from;
+    to = served.to;
+    taken = served.taken;
+    served = subst (λ (x : T). IsServedOver g s.reads s.wanted s.coming s.after served.from s.clock served.to s.clock_after (Ok x)) (alike done it) served.served;
+  },
+  shut,
+)
 served_and_closed g holds closed s done (Err fault) alike served shut closing = inr (inr (inr (done, served, closing)))
 
 -- a register that was migrated, of which nothing could be said

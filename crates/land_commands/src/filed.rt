@@ -78,8 +78,14 @@ pub fn serve_file<H: Host, C: Clock>(
     connections: u32,
     clock: &mut C,
 ) -> Result<(), ProgramFault>
-    ensures { IsFileService H.Store.Store (H.holds file.now) H.is_closed (record { reads = C.reads; wanted = connections;
-        coming = H.coming host.old port; after = H.coming host.new port; clock = clock.old; clock_after = clock.new }) result }
+    ensures { IsFileService H.Store.Store (H.holds file.now) H.is_closed (record {
+      reads = C.reads;
+      wanted = connections;
+      coming = H.coming host.old port;
+      after = H.coming host.new port;
+      clock = clock.old;
+      clock_after = clock.new;
+    }) result }
 {
     let tables = found(host, file)?;
     let Ok(mut listener) = host.listen(port) else {

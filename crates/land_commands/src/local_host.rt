@@ -148,9 +148,7 @@ impl<'a> Host for LocalHost<'a> {
         }
     }
 
-    fn close(
-        left: &mut Option<Connection<FileStore<FileFrom<Wary>>>>,
-    ) -> Result<(), ProgramFault>
+    fn close(left: &mut Option<Connection<FileStore<FileFrom<Wary>>>>) -> Result<(), ProgramFault>
         ensures closed { OnOk result (IfSome left.old (λ c. IsClosedFile c)) }
         ensures fault { IfErr result IsFaultOfClosing }
     {

@@ -6,10 +6,10 @@ use land_core::kind::Kind;
 use land_core::role::Role;
 use land_keep::keeper::Keeper;
 use land_keep::plain_keeper::PlainKeeper;
+use land_keep::store_fault::StoreFault;
 use land_select::sql_keeper::SqlKeeper;
 use land_sheet::extracts::extract::extract_to;
 use land_sheet::extracts::fault::ExtractFault;
-use land_keep::store_fault::StoreFault;
 use land_test_scenario::playing::{open_sink, play};
 use land_test_scenario::stop::{Stop, expect};
 use land_test_scenario::talk::{OFFICE, Talk};
@@ -71,25 +71,18 @@ impl Requests {
     /// Registers a unit of a party with `parcels` parcels.
     fn register(&mut self, party: u64, parcels: u64) -> Result<u64, AllocError> {
         self.text.clear();
-        self.text
-            .push_str("{\"name\":\"G\",\"checked\":true,\"document\":\"D\",\"parcels\":[")?;
+        self.text.push_str("{\"name\":\"G\",\"checked\":true,\"document\":\"D\",\"parcels\":[")?;
         for parcel in 0..parcels {
             if parcel > 0 {
                 self.text.push_str(",")?;
             }
-            self.text
-                .push_str("{\"label\":\"P\",\"outline\":\"POLYGON ((0 0, 1 0, 1 1, 0 0))\"}")?;
+            self.text.push_str("{\"label\":\"P\",\"outline\":\"POLYGON ((0 0, 1 0, 1 1, 0 0))\"}")?;
         }
         write!(
             self.text,
             "],\"rights\":[{{\"party\":{party},\"type\":\"ownership\",\"share\":\"1/1\"}}]}}"
         )?;
-        self.act(
-            "POST /acts/register",
-            OFFICE,
-            parcels.saturating_add(3),
-            1,
-        )
+        self.act("POST /acts/register", OFFICE, parcels.saturating_add(3), 1)
     }
 
     /// A party gives a mandate to an agent.
@@ -231,10 +224,12 @@ fn expect_extract<K: Keeper>(
             "a long extract",
             0,
         ),
-        Err(ExtractFault::Store {
-            fault: StoreFault::NoMemory,
-            ..
-        }) => Err(Stop::Memory),
+        Err(
+            ExtractFault::Store {
+                fault: StoreFault::NoMemory,
+                ..
+            },
+        ) => Err(Stop::Memory),
         Err(_) => Err(Stop::Unlike("a long extract", 1)),
     }
 }

@@ -202,11 +202,13 @@ fn is_long_piece_sent(alloc: Global, length: usize) -> Result<bool, Stop> {
     let is_sent = send(&mut sink, &bytes) == Ok(());
     let written = put(&mut sink, 5, &bytes);
     let total = (length as u64).saturating_add(5);
-    Ok(is_sent
-        && written == Ok(total)
-        && sink.taken.len() == length.saturating_mul(2)
-        && sink.taken.starts_with(&bytes)
-        && sink.taken.ends_with(&bytes))
+    Ok(
+        is_sent
+            && written == Ok(total)
+            && sink.taken.len() == length.saturating_mul(2)
+            && sink.taken.starts_with(&bytes)
+            && sink.taken.ends_with(&bytes),
+    )
 }
 
 /// A long piece is written whole.

@@ -98,10 +98,7 @@ const SAM: Viewer<'static> = Viewer {
 };
 
 /// The register after the scenario, with the mandate if the viewer has one.
-fn played_for(
-    alloc: Global,
-    viewer: &Viewer<'_>,
-) -> Result<SqlKeeper<Recorder<MemStore>>, Stop> {
+fn played_for(alloc: Global, viewer: &Viewer<'_>) -> Result<SqlKeeper<Recorder<MemStore>>, Stop> {
     let mut keeper = played(alloc)?;
     if viewer.principals.is_empty() {
         return Ok(keeper);
@@ -158,9 +155,7 @@ fn run_texts(conn: &mut Recorded, viewer: &Viewer<'_>, kind: Kind) -> Result<(),
 
 /// Returns what is read of the store if the SQL statements of these lists are run.
 fn read_by_texts(alloc: Global, viewer: &Viewer<'_>) -> Result<Reads, Stop> {
-    let mut conn = played_for(alloc, viewer)?
-        .into_tables()
-        .into_connection();
+    let mut conn = played_for(alloc, viewer)?.into_tables().into_connection();
     for kind in KINDS {
         run_texts(&mut conn, viewer, *kind)?;
     }

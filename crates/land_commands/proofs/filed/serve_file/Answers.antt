@@ -1,7 +1,7 @@
-use Rattle.std.proofs.Common.{◌≡◌, ◌∙◌, ap, inl, inr, refl, subst, subst₂, sym, ℕ, List, Option, Result}
+use Rattle.std.proofs.Common.{◌∙◌, ap, inl, inr, refl, subst, subst₂, sym, ℕ, List, Option, Result}
 use Rattle.std.specs.Prelude.{OnOk}
 use Rattle.land_commands.proofs.Filings.{served_and_closed}
-use Rattle.land_commands.specs.Filed.{IsServedFrom, IsServedOver}
+use Rattle.land_commands.specs.Filed.{IsServedOver}
 use Rattle.land_desk.specs.declared.service.serving.ServiceFault.{ServiceFault}
 use Rattle.land_commands.proofs.filed.serve_file.Goals as goal
 
