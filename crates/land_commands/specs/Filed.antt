@@ -43,10 +43,10 @@ pub record IsUnmade {S : Type 0} (g : Ghosts S) (holds : State → Type 0) (faul
   pub kept : IsKept (state g was) (state g left)
   pub told : fault ≡ fault_of_making why
 
--- a register is made; or no file was opened, no register was made in it, or it was made and could not be closed
-abbrev pub IsMaking : {S T : Type 0} → Ghosts S → (holds : State → Type 0) → Result T ProgramFault → Type 0
-IsMaking {S} g holds (Ok done) = (o : Office S) × IsMade g holds o
-IsMaking {S} g holds (Err fault) =
+-- a register is made and its file is closed; or no file was opened, no register was made in it, or it was made and could not be closed
+abbrev pub IsMaking : {S T : Type 0} → Ghosts S → (holds : State → Type 0) → (closed : Held S → Type 0) → Result T ProgramFault → Type 0
+IsMaking {S} g holds closed (Ok done) = (o : Office S) × IsMade g holds o × closed o.conn
+IsMaking {S} g holds closed (Err fault) =
     IsFaultOfOpening fault ⊎ IsUnmade g holds fault ⊎ ((o : Office S) × IsMade g holds o × IsFaultOfClosing fault)
 
 -- ---- a register is found
@@ -96,31 +96,36 @@ IsChecking {S} g holds old new (Err fault) =
 
 -- ---- a register is served
 
--- so many connections are served over tables, from one state of theirs to another, while their store is honest
-pub record IsServedOver {S C T : Type 0} (g : Ghosts S) (reads : C → ℤ → C → Type 0) (wanted : ℕ) (from : Office S) (clock : C) (to : Office S)
-    (clock_after : C) (r : Result T ServiceFault) : Type 0 where
-  pub coming : Option (List (Option (List ℕ)))
-  pub after : Option (List (Option (List ℕ)))
+-- `wanted` connections of those that come are served over tables, from one state of theirs to another, while their store is honest
+pub record IsServedOver {S C T : Type 0} (g : Ghosts S) (reads : C → ℤ → C → Type 0) (wanted : ℕ) (coming after : Option (List (Option (List ℕ))))
+    (from : Office S) (clock : C) (to : Office S) (clock_after : C) (r : Result T ServiceFault) : Type 0 where
   pub told : TellsClosed r to.is_closed
   pub was : IsHonest g to → IsHonest g from
   pub served : IsHonest g to → IsService reads wanted (record { closed = from.is_closed; timeline = held g from; clock = clock })
       (IsAt (IsHonest g to) to.is_closed (held g to) clock_after) coming after r
 
+-- what is served, and from when to when: the connections that come to the port before and after, and the clock before and after
+pub record Service (C : Type 0) : Type 1 where
+  pub reads : C → ℤ → C → Type 0
+  pub wanted : ℕ
+  pub coming : Option (List (Option (List ℕ)))
+  pub after : Option (List (Option (List ℕ)))
+  pub clock : C
+  pub clock_after : C
+
 -- a register is found in a file and served
-pub record IsServedFrom {S C T : Type 0} (g : Ghosts S) (holds : State → Type 0) (reads : C → ℤ → C → Type 0) (wanted : ℕ) (clock clock_after : C)
-    (r : Result T ServiceFault) : Type 0 where
+pub record IsServedFrom {S C T : Type 0} (g : Ghosts S) (holds : State → Type 0) (s : Service C) (r : Result T ServiceFault) : Type 0 where
   pub from : Office S
   pub to : Office S
   pub taken : IsTaken g holds from
-  pub served : IsServedOver g reads wanted from clock to clock_after r
+  pub served : IsServedOver g s.reads s.wanted s.coming s.after from s.clock to s.clock_after r
 
 -- as many connections are served as are wanted, and the file is closed; or none is served: no register is found, or the port cannot be had; or the
 -- service ends early; or the file cannot be closed
-abbrev pub IsFileService : {S C T : Type 0} → Ghosts S → (holds : State → Type 0) → (C → ℤ → C → Type 0) → (wanted : ℕ) → (clock clock_after : C)
-    → Result T ProgramFault → Type 0
-IsFileService {S} {C} {T} g holds reads wanted clock clock_after (Ok done) = IsServedFrom {T = T} g holds reads wanted clock clock_after (Ok done)
-IsFileService {S} {C} {T} g holds reads wanted clock clock_after (Err fault) =
+abbrev pub IsFileService : {S C T : Type 0} → Ghosts S → (holds : State → Type 0) → (closed : Held S → Type 0) → Service C → Result T ProgramFault → Type 0
+IsFileService {S} {C} {T} g holds closed s (Ok done) = (it : IsServedFrom {T = T} g holds s (Ok done)) × closed it.to.conn
+IsFileService {S} {C} {T} g holds closed s (Err fault) =
     IsNotFound g holds fault
     ⊎ (((o : Office S) × IsTaken g holds o × (fault ≡ program.Listen))
-    ⊎ (((why : ServiceFault) × IsServedFrom {T = T} g holds reads wanted clock clock_after (Err why) × (fault ≡ fault_of_service why))
-    ⊎ ((done : T) × IsServedFrom {T = T} g holds reads wanted clock clock_after (Ok done) × IsFaultOfClosing fault)))
+    ⊎ (((why : ServiceFault) × IsServedFrom {T = T} g holds s (Err why) × (fault ≡ fault_of_service why))
+    ⊎ ((done : T) × IsServedFrom {T = T} g holds s (Ok done) × IsFaultOfClosing fault)))

@@ -1,4 +1,5 @@
 -- Definitions of the program.
+pub mod Closing
 pub mod Extracting
 pub mod Filed
 pub mod Migrating

@@ -44,11 +44,11 @@ IsRaising g holds (Err fault) = IsFaultOfFinding fault ⊎ IsNotRaised g holds f
 abbrev pub migrated_text : (last : ℤ) → (next : ℕ) → List ℕ
 migrated_text last next = codes "migrated: last " ++ (signed_decimal last ++ (codes ", next " ++ (decimal next ++ codes "\n")))
 
--- The register is migrated, and that is said; or it is not, and nothing is said; or it is, and there was no memory for the line, the file
--- could not be closed, or the line could not be written.
-abbrev pub IsMigrating : {S T : Type 0} → Ghosts S → (holds : State → Type 0) → (old new : Option (List ℕ)) → Result T ProgramFault → Type 0
-IsMigrating {S} g holds old new (Ok done) = (o : Office S) × IsRaised g holds o × Appends old new (migrated_text o.last o.next)
-IsMigrating {S} g holds old new (Err fault) =
+-- The register is migrated, its file is closed, and that is said; or it is not migrated, and nothing is said; or it is, and there was no
+-- memory for the line, the file could not be closed, or the line could not be written after the file was closed.
+abbrev pub IsMigrating : {S T : Type 0} → Ghosts S → (holds : State → Type 0) → (closed : Held S → Type 0) → (old new : Option (List ℕ)) → Result T ProgramFault → Type 0
+IsMigrating {S} g holds closed old new (Ok done) = (o : Office S) × IsRaised g holds o × closed o.conn × Appends old new (migrated_text o.last o.next)
+IsMigrating {S} g holds closed old new (Err fault) =
     ((IsFaultOfFinding fault ⊎ IsNotRaised g holds fault) × Appends old new [])
     ⊎ ((o : Office S) × IsRaised g holds o
-    × ((IsFaultOfClosing fault × Appends old new []) ⊎ ((fault ≡ program.Stream) × IsCut (migrated_text o.last o.next) old new)))
+    × ((IsFaultOfClosing fault × Appends old new []) ⊎ ((fault ≡ program.Stream) × closed o.conn × IsCut (migrated_text o.last o.next) old new)))

@@ -21,6 +21,7 @@ use Rattle.land_desk.specs.declared.serve.DeskFault.{DeskFault}
 use Rattle.land_desk.specs.declared.serve.Served.{Served}
 use Rattle.land_keep.specs.Machine as machine
 use Rattle.land_keep.specs.Timeline.{new_timeline}
+use Rattle.sqlite.specs.Held.{Held}
 use Rattle.sqlite.specs.State.{State}
 use Rattle.sqlite.specs.Store.{Ghosts}
 
@@ -60,24 +61,33 @@ IsTold (Ok done) old new status = (status ≡ 0) × Appends old new []
 IsTold (Err (refusal.Denied rule)) old new status = IsDenied rule old new status
 IsTold (Err (refusal.Fault fault)) old new status = (status ≡ status_of fault) × IsSaid (line_of fault) old new
 
--- what is done over files whose stores may be found to hold this, by a clock
-module _ {S C : Type 0} (g : Ghosts S) (holds : List ℕ → State → Type 0) (reads : C → ℤ → C → Type 0) where
+-- what is known of a host: what its files may be found to hold, when one of them is closed, and which connections come to its ports
+-- before a command and after it
+pub record Files (S : Type 0) : Type 1 where
+  pub holds : List ℕ → State → Type 0
+  pub is_closed : Held S → Type 0
+  pub coming : ℕ → Option (List (Option (List ℕ)))
+  pub after : ℕ → Option (List (Option (List ℕ)))
+
+-- what is done on a host, by a clock
+module _ {S C : Type 0} (g : Ghosts S) (h : Files S) (reads : C → ℤ → C → Type 0) where
   -- a command, by what it writes on the output and on that of errors, and its status
   abbrev pub IsRun : Order → (input : Option (List ℕ)) → (clock clock_after : C) → (old new : Option (List ℕ)) → (old_errors new_errors : Option (List ℕ))
       → (status : ℕ) → Type 0
   IsRun (to_talk reading) input clock clock_after old new old_errors new_errors status =
       (served : Result Served DeskFault) × IfSome input (λ bytes. IsTalk bytes reading old new served) × IsEnding served old_errors new_errors status
   IsRun (to_make file) input clock clock_after old new old_errors new_errors status =
-      (done : Result (Unit {0}) ProgramFault) × IsMaking g (holds file) done × Appends old new [] × IsSettled done old_errors new_errors status
+      (done : Result (Unit {0}) ProgramFault) × IsMaking g (h.holds file) h.is_closed done × Appends old new [] × IsSettled done old_errors new_errors status
   IsRun (to_serve file port connections) input clock clock_after old new old_errors new_errors status =
-      (done : Result (Unit {0}) ProgramFault) × IsFileService g (holds file) reads connections clock clock_after done × Appends old new []
+      (done : Result (Unit {0}) ProgramFault) × IsFileService g (h.holds file) h.is_closed
+      (record { reads = reads; wanted = connections; coming = h.coming port; after = h.after port; clock = clock; clock_after = clock_after }) done × Appends old new []
       × IsSettled done old_errors new_errors status
   IsRun (to_check file) input clock clock_after old new old_errors new_errors status =
-      (done : Result (Unit {0}) ProgramFault) × IsChecking g (holds file) old new done × IsSettled done old_errors new_errors status
+      (done : Result (Unit {0}) ProgramFault) × IsChecking g (h.holds file) old new done × IsSettled done old_errors new_errors status
   IsRun (to_migrate file) input clock clock_after old new old_errors new_errors status =
-      (done : Result (Unit {0}) ProgramFault) × IsMigrating g (holds file) old new done × IsSettled done old_errors new_errors status
+      (done : Result (Unit {0}) ProgramFault) × IsMigrating g (h.holds file) h.is_closed old new done × IsSettled done old_errors new_errors status
   IsRun (to_extract file reading party role kind at) input clock clock_after old new old_errors new_errors status =
-      (done : Result (Unit {0}) Refusal) × IsExtracting g (holds file) (wanted_of reading party role kind at) old new done
+      (done : Result (Unit {0}) Refusal) × IsExtracting g (h.holds file) (wanted_of reading party role kind at) old new done
       × IsTold done old_errors new_errors status
 
   -- what is done for what the words are read as: refused words write nothing but what `clap` says of them, and their status is 2

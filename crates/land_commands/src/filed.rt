@@ -1,5 +1,5 @@
 //! Commands over files.
-ghost use Rattle.std.specs.Prelude.{◌≡◌, string_bytes, IfErr, IfOk};
+ghost use Rattle.std.specs.Prelude.{◌≡◌, string_bytes, IfErr, IfOk, OnOk};
 ghost use Rattle.land_commands.specs.Filed.{IsChecking, IsFileService, IsFinding, IsMaking, IsServedOver, sound_text};
 ghost use Rattle.land_commands.specs.ProgramFaults.{IsFaultOfClosing};
 
@@ -17,7 +17,7 @@ use std::io::Write;
 
 /// Makes a new register in a file, which is made where it is not there. A file that has tables is left as it is.
 pub fn make<H: Host>(host: &mut H, file: &str) -> Result<(), ProgramFault>
-    ensures { IsMaking H.Store.Store (H.holds file.now) result }
+    ensures { IsMaking H.Store.Store (H.holds file.now) H.is_closed result }
 {
     let conn = host.open_new(file)?;
     match Tables::create(conn) {
@@ -26,9 +26,10 @@ pub fn make<H: Host>(host: &mut H, file: &str) -> Result<(), ProgramFault>
     }
 }
 
-/// Closes a file, in which all that was committed stands then.
+/// Closes a file, which then holds everything that was committed, without its log.
 pub(crate) fn close<H: Host>(conn: Connection<H::Store>) -> Result<(), ProgramFault>
-    ensures { IfErr result IsFaultOfClosing }
+    ensures closed { OnOk result (H.is_closed conn) }
+    ensures fault { IfErr result IsFaultOfClosing }
 {
     let mut left = Some(conn);
     H::close(&mut left)
@@ -36,7 +37,8 @@ pub(crate) fn close<H: Host>(conn: Connection<H::Store>) -> Result<(), ProgramFa
 
 /// The register in a file, which is left as it is.
 pub(crate) fn found<H: Host>(host: &mut H, file: &str) -> Result<Tables<H::Store>, ProgramFault>
-    ensures { IsFinding H.Store.Store (H.holds file.now) result }
+    ensures finding { IsFinding H.Store.Store (H.holds file.now) result }
+    ensures port { H.coming host.new ≡ H.coming host.old }
 {
     let conn = host.open_found(file)?;
     match Tables::adopt(host.alloc(), conn) {
@@ -68,7 +70,7 @@ fn sound_line(alloc: Global, last: i64, next: u64) -> Result<String, AllocError>
     format!(in alloc; "sound: last {last}, next {next}\n")
 }
 
-/// Serves so many connections on a port, one after another, over the register in a file.
+/// Serves the first `connections` connections to a port, one at a time, over the register in a file.
 pub fn serve_file<H: Host, C: Clock>(
     host: &mut H,
     file: &str,
@@ -76,20 +78,28 @@ pub fn serve_file<H: Host, C: Clock>(
     connections: u32,
     clock: &mut C,
 ) -> Result<(), ProgramFault>
-    ensures { IsFileService H.Store.Store (H.holds file.now) C.reads connections clock.old clock.new result }
+    ensures { IsFileService H.Store.Store (H.holds file.now) H.is_closed (record {
+      reads = C.reads;
+      wanted = connections;
+      coming = H.coming host.old port;
+      after = H.coming host.new port;
+      clock = clock.old;
+      clock_after = clock.new;
+    }) result }
 {
     let tables = found(host, file)?;
     let Ok(mut listener) = host.listen(port) else {
         return Err(ProgramFault::Listen);
     };
     let (served, tables) = serve_tables(host.alloc(), tables, &mut listener, connections, clock);
+    host.stop_listening(port, listener);
     match served {
         Ok(()) => close::<H>(tables.into_connection()),
         Err(fault) => Err(ProgramFault::from(fault)),
     }
 }
 
-/// Serves so many connections over tables, and hands the tables back.
+/// Serves the first `connections` connections of a listener over tables, and hands the tables back.
 fn serve_tables<S: Alter, L: Connections, C: Clock>(
     alloc: Global,
     tables: Tables<S>,
@@ -97,7 +107,8 @@ fn serve_tables<S: Alter, L: Connections, C: Clock>(
     connections: u32,
     clock: &mut C,
 ) -> (Result<(), ServiceFault>, Tables<S>)
-    ensures { IsServedOver S.Store C.reads connections tables clock.old result.1 clock.new result.0 }
+    ensures { IsServedOver S.Store C.reads connections (L.coming listener.old) (L.coming listener.new)
+        tables clock.old result.1 clock.new result.0 }
 {
     let mut keeper = SqlKeeper::new(tables);
     let served = serve_connections(alloc, listener, connections, &mut keeper, clock);

@@ -1,5 +1,6 @@
 //! The machine that the program runs on.
-ghost use Rattle.std.specs.Prelude.{◌≡◌, IfErr, IfOk};
+ghost use Rattle.std.specs.Prelude.{◌≡◌, None, IfErr, IfOk, IfSome, OnOk};
+ghost use Rattle.land_commands.specs.Closing.{IsClosedFile};
 ghost use Rattle.land_commands.specs.ProgramFaults.{IsFaultOfClosing, IsFaultOfOpening};
 ghost use Rattle.sqlite.specs.Files.{file_state};
 ghost use Rattle.sqlite.specs.Start.{FindsIn};
@@ -10,7 +11,7 @@ use crate::host::Host;
 use crate::program_fault::ProgramFault;
 use land_desk::service::callers::Callers;
 use land_desk::service::stopwatch::Stopwatch;
-use sqlite::{Connection, Error, ErrorCode, FileFrom, FileStore, Start, Unknown};
+use sqlite::{Connection, Error, ErrorCode, FileFrom, FileStore, Start, Wary};
 use std::alloc::Global;
 use std::fs::File;
 use std::io::Read;
@@ -21,7 +22,8 @@ use std::{fs, io};
 /// What the first bytes of every store are.
 const MAGIC: &[u8] = b"SQLite format 3\0";
 
-/// The machine that the program runs on. Of what its files held before they are opened nothing is said (`Unknown`).
+/// The host that the program runs on. Its files are opened as `Wary`: nothing is known of what they held before, and a torn write may leave
+/// any bytes, so that each commit syncs twice.
 #[derive(Drop)]
 pub struct LocalHost<'a> {
     rt: HostRuntime,
@@ -89,23 +91,37 @@ fn open_store<S: Start>(
     }
 }
 
-/// Closes a store's file, which has then all that its log had.
+/// Closes a store's files. The database file then holds everything that its log had.
 fn close_store<S: Start>(conn: Connection<FileStore<FileFrom<S>>>) -> Result<(), ProgramFault>
-    ensures { IfErr result IsFaultOfClosing }
+    ensures closed { OnOk result (IsClosedFile conn) }
+    ensures fault { IfErr result IsFaultOfClosing }
 {
-    match conn.close() {
-        Ok(()) => Ok(()),
-        Err(Error::SqliteFailure(ErrorCode::OutOfMemory)) => Err(ProgramFault::NoMemory),
-        Err(_) => Err(ProgramFault::Closed),
+    match conn.close_files() {
+        Ok(_files) => Ok(()),
+        Err(failure) => Err(closing_fault(failure)),
+    }
+}
+
+/// Returns the fault of a store that could not be closed: 501 if it ran out of memory, else 502. The store is dropped.
+fn closing_fault<S: Drop>(failure: (Error, S)) -> ProgramFault
+    ensures { IsFaultOfClosing result }
+{
+    match failure {
+        (Error::SqliteFailure(ErrorCode::OutOfMemory), _store) => ProgramFault::NoMemory,
+        (_error, _store) => ProgramFault::Closed,
     }
 }
 
 impl<'a> Host for LocalHost<'a> {
-    type Store = FileStore<FileFrom<Unknown>>;
+    type Store = FileStore<FileFrom<Wary>>;
 
     type Listener = Callers<'a, HostRuntime>;
 
-    ghost holds = { λ _ s. FindsIn (image_at ⟦<Unknown as Start>⟧) s };
+    ghost holds = { λ _ s. FindsIn (image_at ⟦<Wary as Start>⟧) s };
+
+    ghost is_closed = { λ c. IsClosedFile c };
+
+    ghost coming = { λ _ _. None };
 
     fn alloc(&self) -> Global {
         self.rt.alloc()
@@ -114,28 +130,27 @@ impl<'a> Host for LocalHost<'a> {
     fn open_new(
         &mut self,
         file: &str,
-    ) -> Result<Connection<FileStore<FileFrom<Unknown>>>, ProgramFault> {
+    ) -> Result<Connection<FileStore<FileFrom<Wary>>>, ProgramFault> {
         match standing_of(&self.rt, file) {
             Standing::Other => Err(ProgramFault::Open),
-            _ => open_store(&self.rt, file, Unknown),
+            _ => open_store(&self.rt, file, Wary),
         }
     }
 
     fn open_found(
         &mut self,
         file: &str,
-    ) -> Result<Connection<FileStore<FileFrom<Unknown>>>, ProgramFault> {
+    ) -> Result<Connection<FileStore<FileFrom<Wary>>>, ProgramFault> {
         match standing_of(&self.rt, file) {
             Standing::Nothing | Standing::Other => Err(ProgramFault::Open),
             Standing::Empty => Err(ProgramFault::NotOurs),
-            Standing::Store => open_store(&self.rt, file, Unknown),
+            Standing::Store => open_store(&self.rt, file, Wary),
         }
     }
 
-    fn close(
-        left: &mut Option<Connection<FileStore<FileFrom<Unknown>>>>,
-    ) -> Result<(), ProgramFault>
-        ensures { IfErr result IsFaultOfClosing }
+    fn close(left: &mut Option<Connection<FileStore<FileFrom<Wary>>>>) -> Result<(), ProgramFault>
+        ensures closed { OnOk result (IfSome left.old (λ c. IsClosedFile c)) }
+        ensures fault { IfErr result IsFaultOfClosing }
     {
         match left.take() {
             Some(conn) => close_store(conn),
@@ -146,5 +161,9 @@ impl<'a> Host for LocalHost<'a> {
     fn listen(&mut self, port: u16) -> io::Result<Callers<'a, HostRuntime>> {
         let listener = TcpListener::bind(&self.rt, (Ipv4Addr::LOCALHOST, port))?;
         Ok(Callers::new(listener, self.watch))
+    }
+
+    fn stop_listening(&mut self, _port: u16, listener: Callers<'a, HostRuntime>) {
+        drop(listener);
     }
 }

@@ -28,7 +28,7 @@ pub fn migrate<H: Host, O: Write>(
     file: &str,
     output: &mut O,
 ) -> Result<(), ProgramFault>
-    ensures { IsMigrating H.Store.Store (H.holds file.now) (O.contents output.old) (O.contents output.new) result }
+    ensures { IsMigrating H.Store.Store (H.holds file.now) H.is_closed (O.contents output.old) (O.contents output.new) result }
 {
     let tables = raised(host, file)?;
     let line = migrated_line(host.alloc(), tables.last(), tables.next())?;

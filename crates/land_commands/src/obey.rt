@@ -20,7 +20,8 @@ pub fn obey<H: Host, I: Read, O: Write, E: Write, C: Clock>(
     errors: &mut E,
     clock: &mut C,
 ) -> u8
-    ensures { IsObeyed H.Store.Store H.holds C.reads (map string_bytes words.now) (I.remaining input.old) clock.old clock.new
+    ensures { IsObeyed H.Store.Store
+        (record { holds = H.holds; is_closed = H.is_closed; coming = H.coming host.old; after = H.coming host.new }) C.reads (map string_bytes words.now) (I.remaining input.old) clock.old clock.new
         (O.contents output.old) (O.contents output.new) (E.contents errors.old) (E.contents errors.new) result }
 {
     match read_words(host.alloc(), words) {

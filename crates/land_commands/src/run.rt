@@ -35,7 +35,8 @@ pub fn run_command<H: Host, I: Read, O: Write, E: Write, C: Clock>(
     errors: &mut E,
     clock: &mut C,
 ) -> u8
-    ensures { IsRun H.Store.Store H.holds C.reads (order_of command.entry) (I.remaining input.old) clock.old clock.new
+    ensures { IsRun H.Store.Store
+        (record { holds = H.holds; is_closed = H.is_closed; coming = H.coming host.old; after = H.coming host.new }) C.reads (order_of command.entry) (I.remaining input.old) clock.old clock.new
         (O.contents output.old) (O.contents output.new) (E.contents errors.old) (E.contents errors.new) result }
 {
     match command {

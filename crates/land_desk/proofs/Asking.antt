@@ -1,5 +1,5 @@
 -- How much is asked of the reader of a stream.
-use Rattle.std.proofs.Common.{◌≡◌, ◌≤◌, ◌<◌, ◌+◌, ◌∙◌, ap, append_assoc, arith, inl, inr, refl, subst, sym, ℕ, Bool, true, false, List, [], ◌∷◌, ◌++◌, drop, length, length-append, length-drop, map, take, take-append-drop, Result, Ok, Err, Option, Some, None, IfOk, IfSome}
+use Rattle.std.proofs.Common.{◌≡◌, ◌≤◌, ◌<◌, ◌+◌, ◌∙◌, ◌⊎◌, ap, append_assoc, arith, inl, inr, refl, subst, sym, ℕ, Bool, true, false, List, [], ◌∷◌, ◌++◌, drop, length, length-append, length-drop, map, take, take-append-drop, Result, Ok, Err, Option, Some, None, IfErr, IfOk, IfSome}
 use Rattle.std.specs.Prelude.{◌||◌}
 use Rattle.std.specs.Io.KnownBytes.{Keeps, prepend_known}
 use Rattle.std.proofs.lemmas.Bool.{false≢true}
@@ -11,11 +11,13 @@ use Rattle.land_desk.specs.Serving.{Exchange, Goes, SoFar, closes}
 use Rattle.land_desk.specs.Serving.Asking.{AsksFor, AsksForOne, Begins, IfBoth, IsAskedFor, TakesAtMost}
 use Rattle.land_desk.specs.Turns.{IsAsked, IsSpent, IsWritten}
 use Rattle.land_desk.specs.declared.serve.DeskFault.{DeskFault}
+use Rattle.land_desk.specs.declared.serve.DeskFault.TheVariants as desk
 use Rattle.land_desk.specs.declared.serve.Served.{Served}
 use Rattle.land_desk.specs.declared.turn.Turn.{Turn}
 use Rattle.land_desk.specs.declared.turn.Turn.TheVariants as turn
 use Rattle.land_keep.specs.Machine.{State}
 use Rattle.land_keep.specs.declared.reply.Reply.{Reply}
+use Rattle.land_wire.proofs.ItemLemmas.{request_takes}
 use Rattle.land_wire.specs.Framing.Items.{Item, request, faulty, IsFrontIn, IsFrontOf, IsReadFor, is_last}
 use Rattle.land_wire.specs.declared.framing.frame_fault.FrameFault.{FrameFault}
 use Rattle.land_wire.specs.declared.framing.item.Front.{Front}
@@ -225,3 +227,47 @@ pub broken_off : (start left : Option (List ℕ)) (buffer : List ℕ) (could can
 broken_off None left buffer could can e so = tt
 broken_off (Some bytes) None buffer could can e so = absurd so
 broken_off (Some bytes) (Some rest) buffer could can e so = tt
+
+-- ---- a turn after which the connection stays open leaves less to read
+
+-- a request that was answered is gone from the buffer
+pub request_gone : (buffer new : List ℕ) (headers : List HeaderSpan) (fr : Front) (spans : RequestSpans) (n could can : ℕ) → fr ≡ front.Request spans n
+    → IsFrontIn buffer headers fr → new ≡ drop (spans.len + n) buffer → length buffer + can ≤ could → length new + can < could
+request_gone buffer new headers fr spans n could can is shown dropped bound =
+    let here = subst (λ (x : Front). IsFrontIn buffer headers x) is shown in
+    omega (arith, bound, ap length dropped, length-drop (spans.len + n) buffer, request_takes buffer headers spans n here, here.2)
+
+pub if_more : (P : Type 0) (result : Result Turn DeskFault) → P → IfOk result (λ t. t ≡ turn.More → P)
+if_more P (Ok t) p = λ is. p
+if_more P (Err e) p = tt
+
+last_is_not_more : (P : Type 0) → turn.Last ≡ turn.More → P
+last_is_not_more P e = cc
+
+-- no connection stays open after its last reply
+pub none_more : (P : Type 0) (result : Result Turn DeskFault) (text : List ℕ) (last : Bool) (u v : Option (List ℕ)) → last ≡ true → IsWritten text last u v result
+    → IfOk result (λ t. t ≡ turn.More → P)
+none_more P (Ok t) text true u v ends wrote = λ is. last_is_not_more P (sym wrote.0 ∙ is)
+none_more P (Ok t) text false u v ends wrote = absurd (false≢true ends)
+none_more P (Err e) text last u v ends wrote = tt
+
+-- a reply that could not be written is not a failed read
+pub none_unread : (P : Type 0) (result : Result Turn DeskFault) (text : List ℕ) (last : Bool) (u v : Option (List ℕ)) → IsWritten text last u v result
+    → IfErr result (λ e. e ≡ desk.Read → P)
+none_unread P (Ok t) text last u v wrote = tt
+none_unread P (Err desk.Write) text last u v wrote = λ is. cc
+none_unread P (Err desk.Read) text last u v wrote = absurd wrote
+none_unread P (Err desk.NoMemory) text last u v wrote = absurd wrote
+
+-- the reader was called, or may be called no more
+pub called : (P : Type 0) (first before after : ℕ) → before ≤ first → ((after ≡ 0) ⊎ ((after < before) × P)) → (after ≡ 0) ⊎ (after < first)
+called P first before after bound how = elim how as (λ _. (after ≡ 0) ⊎ (after < first)) [
+  | inl spent ↦ inl spent
+  | inr read ↦ inr (omega (arith, bound, read.0))
+]
+
+pub called_before : (first before after : ℕ) → before ≤ first → ((after ≡ 0) ⊎ (after < before)) → (after ≡ 0) ⊎ (after < first)
+called_before first before after bound how = elim how as (λ _. (after ≡ 0) ⊎ (after < first)) [
+  | inl spent ↦ inl spent
+  | inr read ↦ inr (omega (arith, bound, read))
+]

@@ -1,5 +1,5 @@
 -- What was prepared and finished, or failed, brings a keeper from one state of the machine to another.
-use Rattle.std.proofs.Common.{◌≡◌, Bool, true, false, refl, sym, ap, ◌∙◌, subst, inl, inr, Option, Some, None, Result, Err}
+use Rattle.std.proofs.Common.{◌≡◌, Bool, false, refl, sym, ap, ◌∙◌, subst, inl, inr, Option, Some, None, Result, Err}
 use Rattle.std.specs.Prelude.{ℤ, ◌⊎◌, MatchOption}
 use Rattle.std.proofs.lemmas.Bool.{false≢true}
 use Rattle.land_core.specs.declared.ask.Request.{Request}

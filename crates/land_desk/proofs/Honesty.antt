@@ -2,7 +2,7 @@
 use Rattle.std.proofs.Common.{◌≡◌, ℕ, ℤ, ◌+◌, List, [], ◌∷◌, inl, inr, Result, Ok, Err, Option, Some, None, IfSome}
 use Rattle.std.specs.Io.KnownBytes.{prepend_known}
 use Rattle.land_core.specs.declared.ask.Request.{Request}
-use Rattle.land_desk.proofs.ServingLemmas.{begins, goes_on, nothing_done, serves_out}
+use Rattle.land_desk.proofs.ServingLemmas.{begins, goes_on, nothing_done}
 use Rattle.land_desk.specs.Serving.{Answers, Brings, Exchange, Goes, Hears, HearsIf, IsServed, IsServing, One, Serves, ServesTo, SoFar, Told}
 use Rattle.land_desk.specs.Serving.Asking.{IfBoth}
 use Rattle.land_desk.specs.Turns.{IsTurn}
@@ -112,13 +112,6 @@ module _ {C : Type 0} (hears : State C → Request → Reply → State C → Typ
       → IfBoth known (prepend_known buffer known) (λ bytes rest. (now : State C) × SoFar hears bytes rest from now w w 0 × stands now)
   starts None buffer w at none = tt
   starts (Some bytes) buffer w at none = (from, begins hears (Some bytes) buffer from w none, at)
-
-  pub comes_to_end_of_asking : (start before w u : Option (List ℕ)) (n : ℕ)
-      → IfBoth start before (λ bytes rest. (now : State C) × SoFar hears bytes rest from now w u n × stands now)
-      → IfSome start (λ bytes. ServesTo hears bytes from stands w u (Err desk.Read))
-  comes_to_end_of_asking None before w u n so = tt
-  comes_to_end_of_asking (Some bytes) None w u n so = absurd so
-  comes_to_end_of_asking (Some bytes) (Some rest) w u n so = (so.0, serves_out hears (Some bytes) (Some rest) from so.0 w u n so.1, so.2)
 
 -- over an honest store what is served is served by a run of the machine
 pub serves_honestly : {C : Type 0} (reads : C → ℤ → C → Type 0) (honest : Type 0) → honest

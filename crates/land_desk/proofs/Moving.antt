@@ -1,5 +1,5 @@
 -- What the machine hears of a stream, whether its bytes are known or not.
-use Rattle.std.proofs.Common.{◌≡◌, ℕ, List, [], ◌∷◌, ◌++◌, inl, inr, refl, subst, sym, Result, Ok, Err}
+use Rattle.std.proofs.Common.{ℕ, List, [], ◌∷◌, ◌++◌, inl, inr, refl, subst, sym, Result, Ok, Err}
 use Rattle.land_core.specs.declared.ask.Request.{Request}
 use Rattle.land_desk.specs.Serving.{Answers, Brings, Exchange, HearsAll, MayHear, Moves, MovesTo, One, Told}
 use Rattle.land_keep.specs.Machine.{State}

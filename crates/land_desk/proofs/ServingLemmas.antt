@@ -137,13 +137,6 @@ module _ {C : Type 0} (hears : State C → Request → Reply → State C → Typ
   serves_fault (Some bytes) (Some rest) after from now to w u v n desk.NoMemory so one =
       (rest, n, same_after bytes rest from now to w u v n so one.0 one.1)
 
-  pub serves_out : (start before : Option (List ℕ)) (from now : State C) (w u : Option (List ℕ)) (n : ℕ)
-      → IfBoth start before (λ bytes rest. SoFar hears bytes rest from now w u n)
-      → IfSome start (λ bytes. Serves hears bytes from now w u (Err desk.Read))
-  serves_out None before from now w u n so = tt
-  serves_out (Some bytes) None from now w u n so = absurd so
-  serves_out (Some bytes) (Some rest) from now w u n so = (rest, n, so)
-
   -- ---- what is answered is a front of the stream's items
 
   either : (b : Bool) → (b ≡ true) ⊎ (b ≡ false)

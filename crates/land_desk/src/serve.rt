@@ -1,5 +1,5 @@
 //! Serving a stream: its items one after another, from their bytes to the bytes of their replies.
-ghost use Rattle.std.specs.Prelude.{◌≡◌, ◌≤◌, ◌*◌, length, IfOk, IfSome};
+ghost use Rattle.std.specs.Prelude.{◌≡◌, ◌≤◌, ◌<◌, ◌*◌, ◌⊎◌, length, IfErr, IfOk, IfSome};
 ghost use Rattle.land_desk.specs.Serving.{HearsIf, MovesTo, ServesTo};
 ghost use Rattle.land_desk.specs.Serving.Asking.{AsksFor, IfBoth, TakesAtMost};
 ghost use Rattle.land_desk.specs.Turns.{IsSpent};
@@ -27,7 +27,7 @@ pub struct Served {
 /// Why serving broke off.
 #[derive(Clone, Copy, Debug, PartialEq, Eq)]
 pub enum DeskFault {
-    /// A read failed, or the reader was asked too often.
+    /// A read failed, or the reader was called 10,000,000 times.
     Read,
     /// A write failed, or took no byte. A change whose reply could not be written stands.
     Write,
@@ -35,8 +35,8 @@ pub enum DeskFault {
     NoMemory,
 }
 
-/// Serves a stream: its items one after another, until it ends or a reply was given after which the connection ends. The
-/// reader is asked 10_000_000 times at most, for 1024 bytes each time, and no more once the last item is there.
+/// Serves the items of a stream in order, until the stream ends or a reply closes the connection. Of a reader whose bytes are known at most
+/// 10,240,000,000 bytes are taken, 1024 at a time, and none after the last item.
 pub fn serve<R: Read, W: Write, K: Keeper, C: Clock>(
     alloc: Global,
     reader: &mut R,
@@ -74,7 +74,7 @@ pub fn serve<R: Read, W: Write, K: Keeper, C: Clock>(
     )
 }
 
-/// Serves a stream whose reader may be asked a stated number of times.
+/// Serves a stream whose reader may be called `left` times more, at most 10,000,000 times.
 fn serve_items<R: Read, W: Write, K: Keeper, C: Clock>(
     alloc: Global,
     router: &Router<Goal>,
@@ -86,6 +86,7 @@ fn serve_items<R: Read, W: Write, K: Keeper, C: Clock>(
 ) -> Result<Served, DeskFault>
     requires routed { FindsRoutes router.now }
     requires room { 2731 ≤ length headers.old }
+    requires budget { reader.old.left ≤ 10000000 }
     ensures served { IfSome (R.remaining reader.old.reader.now) (λ bytes. ServesTo (HearsIf (K.honest keeper.new) C.reads) bytes
         (record { closed = K.closed keeper.old; timeline = K.timeline keeper.old; clock = clock.old })
         (IsAt (K.honest keeper.new) (K.closed keeper.new) (K.timeline keeper.new) clock.new)
@@ -99,9 +100,11 @@ fn serve_items<R: Read, W: Write, K: Keeper, C: Clock>(
     ensures bound { IfBoth (R.remaining reader.old.reader.now) (R.remaining reader.new.reader.now)
         (IsSpent (1024 * reader.old.left) (1024 * reader.new.left)) }
     ensures same_reference { reader.new.reader.ghost_name ≡ reader.old.reader.ghost_name }
+    ensures failed { IfErr result (λ fault. fault ≡ DeskFault.Read → (reader.new.left ≡ 0) ⊎ (reader.new.left < reader.old.left)) }
 {
     let mut buffer = Vec::new(alloc);
-    for replies in 0..u64::MAX {
+    let mut replies = 0;
+    loop {
         match take_turn(
             alloc,
             router,
@@ -119,8 +122,7 @@ fn serve_items<R: Read, W: Write, K: Keeper, C: Clock>(
                     replies: replies + 1,
                 });
             }
-            Ok(Turn::More) => {}
+            Ok(Turn::More) => replies += 1,
         }
     }
-    Err(DeskFault::Read)
 }

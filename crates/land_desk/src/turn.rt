@@ -1,5 +1,5 @@
 //! One turn of serving a stream: the item at its front, from its bytes to the bytes of its reply.
-ghost use Rattle.std.specs.Prelude.{◌≡◌, ◌≤◌, ◌+◌, ◌*◌, ◌++◌, ℕ, List, length, take, drop, IfSome, IfOk, true};
+ghost use Rattle.std.specs.Prelude.{◌≡◌, ◌≤◌, ◌<◌, ◌+◌, ◌*◌, ◌++◌, ◌⊎◌, ℕ, List, length, take, drop, IfErr, IfSome, IfOk, true};
 ghost use Rattle.std.specs.Io.KnownBytes.{prepend_known};
 ghost use Rattle.httparse.specs.Grammar.{RequestHead};
 ghost use Rattle.httparse.specs.Spans.{IsRequestAt, span_bytes};
@@ -80,6 +80,10 @@ pub(crate) fn take_turn<R: Read, W: Write, K: Keeper, C: Clock>(
         (prepend_known buffer.new.items (R.remaining reader.new.reader.now))
         (IsSpent (length buffer.old.items + 1024 * reader.old.left) (length buffer.new.items + 1024 * reader.new.left)) }
     ensures same_reference { reader.new.reader.ghost_name ≡ reader.old.reader.ghost_name }
+    ensures fewer { reader.new.left ≤ reader.old.left }
+    ensures progress { IfOk result (λ turn. turn ≡ Turn.More
+        → length buffer.new.items + 1024 * reader.new.left < length buffer.old.items + 1024 * reader.old.left) }
+    ensures failed { IfErr result (λ fault. fault ≡ DeskFault.Read → (reader.new.left ≡ 0) ⊎ (reader.new.left < reader.old.left)) }
 {
     match read_item(reader, buffer, headers) {
         Err(StreamFault::Read) => Err(DeskFault::Read),

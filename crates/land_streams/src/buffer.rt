@@ -20,6 +20,7 @@ pub fn read_more<R: Read>(
     buffer: &mut Vec<u8>,
 ) -> Result<usize, StreamFault>
     ensures spends { IfOk result (λ n. reader.old.left ≡ reader.new.left + 1) }
+    ensures fewer { reader.new.left ≤ reader.old.left }
     ensures bound { length buffer.new.items + 1024 * reader.new.left ≤ length buffer.old.items + 1024 * reader.old.left }
     ensures grows { IfOk result (λ n. (piece : List ℕ) × (length piece ≡ n)
         × (buffer.new.items ≡ buffer.old.items ++ piece)
@@ -29,10 +30,10 @@ pub fn read_more<R: Read>(
     ensures end { IfOk result (λ n. n ≡ 0 → IsAtEnd (R.remaining reader.new.reader.now)) }
     ensures same_reference { reader.new.reader.ghost_name ≡ reader.old.reader.ghost_name }
 
-    // Want of memory is told where there was no room for a piece, and a reader's failure after it was made.
+    // `NoMemory` is returned only if there was no room for a piece; `Read` only if the reader was called, or its budget was spent.
     ensures memory { IfErr result (λ e. e ≡ StreamFault.NoMemory → vec_capacity buffer.new < vec_len buffer.new + 1024) }
-    ensures failed { IfErr result (λ e. e ≡ StreamFault.Read
-        → (reader.new.left ≡ 0) ⊎ (vec_len buffer.new + 1024 ≤ vec_capacity buffer.new)) }
+    ensures failed { IfErr result (λ e. e ≡ StreamFault.Read → ((reader.old.left ≡ 0) × (reader.new.left ≡ 0))
+        ⊎ ((reader.old.left ≡ reader.new.left + 1) × (vec_len buffer.new + 1024 ≤ vec_capacity buffer.new))) }
 {
     if buffer.reserve(PIECE).is_err() {
         return Err(StreamFault::NoMemory);
@@ -55,6 +56,7 @@ pub fn read_to<R: Read>(
     end: usize,
 ) -> Result<bool, StreamFault>
     ensures bound { length buffer.new.items + 1024 * reader.new.left ≤ length buffer.old.items + 1024 * reader.old.left }
+    ensures fewer { reader.new.left ≤ reader.old.left }
     ensures stream { Keeps (prepend_known buffer.old.items (R.remaining reader.old.reader.now))
         (prepend_known buffer.new.items (R.remaining reader.new.reader.now)) }
     ensures front { IfOk result (λ w. (more : List ℕ) × (buffer.new.items ≡ buffer.old.items ++ more)) }
@@ -65,10 +67,10 @@ pub fn read_to<R: Read>(
     ensures cut { IfOk result (λ w. w ≡ false → IfSome (prepend_known buffer.new.items (R.remaining reader.new.reader.now))
         (λ stream. length stream < end)) }
 
-    // Want of memory is told where there was no room for a piece, and a reader's failure after it was made.
+    // `NoMemory` is returned only if there was no room for a piece; `Read` only if the reader was called, or its budget was spent.
     ensures memory { IfErr result (λ e. e ≡ StreamFault.NoMemory → vec_capacity buffer.new < vec_len buffer.new + 1024) }
-    ensures failed { IfErr result (λ e. e ≡ StreamFault.Read
-        → (reader.new.left ≡ 0) ⊎ (vec_len buffer.new + 1024 ≤ vec_capacity buffer.new)) }
+    ensures failed { IfErr result (λ e. e ≡ StreamFault.Read → (reader.new.left ≡ 0)
+        ⊎ ((reader.new.left < reader.old.left) × (vec_len buffer.new + 1024 ≤ vec_capacity buffer.new))) }
 {
     loop {
         if buffer.len() >= end {

@@ -1,15 +1,16 @@
 //! Pieces of a text to a writer.
-ghost use Rattle.std.specs.Prelude.{IfErr, IfOk};
+ghost use Rattle.std.specs.Prelude.{◌<◌, ◌+◌, length, IfErr, IfOk};
 ghost use Rattle.land_streams.specs.Writing.{IsFront, IsWhole};
 
 use crate::send::send;
 use std::io::Write;
 
-/// Writes a piece behind so many bytes, and says how many are written then. The error says so too: the first bytes of the piece were
-/// written before the writer failed or took 0 bytes, and nothing of a piece with which 64 bits would not count the bytes.
+/// Writes a piece after `written` bytes, and returns the number of bytes written then. The error is that number too: the writer failed or
+/// took 0 bytes before the end of the piece. Nothing of a piece is written if 64 bits could not count the bytes.
 pub fn put<W: Write>(writer: &mut W, written: u64, piece: &[u8]) -> Result<u64, u64>
     ensures ok { IfOk result (λ n. IsWhole piece.now written n (W.contents writer.old) (W.contents writer.new)) }
     ensures err { IfErr result (λ n. IsFront piece.now written n (W.contents writer.old) (W.contents writer.new)) }
+    ensures short { IfErr result (λ n. n < written + length piece.now) }
 {
     let length = piece.len() as u64;
     if u64::MAX - written < length {

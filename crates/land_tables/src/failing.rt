@@ -10,9 +10,10 @@ use land_tables_rows::listing::fault::ReadFault;
 use land_tables_schema::rows::openness::is_open;
 use sqlite::{Alter, Connection};
 
-/// The fault of a look that failed: 501 where memory was wanting and the store is still open, else 502.
+/// Returns the fault of a failed read: `NoMemory` (501) only if it ran out of memory, and then only if the store is still open; else `Store` (502).
 pub fn failed<S: Alter>(conn: &mut Connection<S>, fault: ReadFault) -> StoreFault
     ensures open { result ≢ store.Closed }
+    ensures memory { result ≡ store.NoMemory → fault ≡ ReadFault.NoMemory }
     ensures same { HasCleanDisk (state S.Store conn.new) → result ≢ store.Store → IsUnchanged (state S.Store conn.old) (state S.Store conn.new) }
     ensures left { HasCleanDisk (state S.Store conn.new) → IsTrue (state S.Store conn.new).is_open → IsLeft (state S.Store conn.old) (state S.Store conn.new) }
     ensures survives { Survives (state S.Store conn.old) (state S.Store conn.new) (λ _. ⊥) }

@@ -3,7 +3,7 @@ use crate::conclusion::conclude;
 use land_desk::service::connections::Connections;
 use land_desk::service::serving::{ServiceFault, serve_connections};
 use land_keep::plain_keeper::PlainKeeper;
-use land_test_scenario::calls::{CALLS, Call, Calls, expect_all_told, sinks};
+use land_test_scenario::calls::{CALLS, Call, Calls, expect_all_told, serve_calls, sinks};
 use land_test_scenario::doubles::Readings;
 use land_test_scenario::stop::{Stop, expect};
 use std::alloc::Global;
@@ -33,7 +33,9 @@ fn expect_served(
         calls,
         sinks: sinks.iter_mut(),
     };
-    let served = served(alloc, &mut all, connections)?;
+    let mut keeper = PlainKeeper::new(alloc)?;
+    let mut clock = Readings { left: &[] };
+    let served = serve_calls(alloc, &mut all, connections, &mut keeper, &mut clock);
     expect(served == ending, "the ending", 0)?;
     expect_all_told(calls, &sinks)
 }

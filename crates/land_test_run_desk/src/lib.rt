@@ -17,4 +17,6 @@ mod connections;
 #[cfg(test)]
 mod desk_rows;
 #[cfg(test)]
+mod sizes;
+#[cfg(test)]
 mod wire;

@@ -31,6 +31,8 @@ mod rows;
 #[cfg(test)]
 mod sights;
 #[cfg(test)]
+mod sizes;
+#[cfg(test)]
 mod tables;
 #[cfg(test)]
 mod texts_read_less;

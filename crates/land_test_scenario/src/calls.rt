@@ -1,9 +1,14 @@
 //! Connections that a test makes, and what is to be told on each.
-use crate::doubles::{Pieces, Sink};
+ghost use Rattle.std.specs.Prelude.{◌≡◌, List, Some, length, map, take};
+ghost use Rattle.land_desk.specs.Service.{AreWanted, Connection};
+
+use crate::doubles::{Pieces, Readings, Sink};
 use crate::playing::open_sink;
 use crate::stop::{Stop, expect};
 use crate::talk::common;
 use land_desk::service::connections::Connections;
+use land_desk::service::serving::{ServiceFault, serve_connections};
+use land_keep::plain_keeper::PlainKeeper;
 use std::alloc::{AllocError, Global};
 use std::io;
 use std::slice::IterMut;
@@ -84,6 +89,8 @@ impl<'a> Connections for Calls<'a> {
 
     type Writer = &'a mut Sink;
 
+    ghost coming = { λ it. Some (map (λ call. Some call.brings.now) it.calls.now) };
+
     fn next_connection(&mut self) -> io::Result<(Pieces<'static>, &'a mut Sink)> {
         let Some((call, calls)) = self.calls.split_first() else {
             return Err(io::Error::from(io::ErrorKind::ConnectionAborted));
@@ -103,6 +110,21 @@ impl<'a> Connections for Calls<'a> {
     fn end(_reader: &mut Pieces<'static>, writer: &mut &'a mut Sink) {
         writer.is_ended = true;
     }
+}
+
+/// Serves `connections` connections whose bytes are known over a new register. As many are served as requested, unless the service ends
+/// early; their bytes are those of the first ones, in order.
+pub fn serve_calls(
+    alloc: Global,
+    calls: &mut Calls<'_>,
+    connections: u32,
+    keeper: &mut PlainKeeper,
+    clock: &mut Readings,
+) -> Result<(), ServiceFault>
+    ensures { (xs : List Connection) × AreWanted (length xs) connections result
+        × (map (λ x. x.bytes) xs ≡ take (length xs) (map (λ call. Some call.brings.now) calls.old.calls.now)) }
+{
+    serve_connections(alloc, calls, connections, keeper, clock)
 }
 
 /// Writers for these connections.

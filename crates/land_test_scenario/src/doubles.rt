@@ -1,9 +1,11 @@
 //! A reader, a writer and a clock that a test sets.
+ghost use Rattle.std.specs.Prelude.{Some};
+
 use land_keep::clock::Clock;
 use std::io;
 use std::io::{Read, Write};
 
-/// A reader that gives at most `piece` bytes at a time, and fails once it has been asked `reads` times.
+/// A reader of known bytes. It returns at most `piece` bytes at a time, one at least, and fails after `reads` calls.
 #[derive(Drop)]
 pub struct Pieces<'a> {
     pub left: &'a [u8],
@@ -12,12 +14,14 @@ pub struct Pieces<'a> {
 }
 
 impl Read for Pieces<'_> {
+    ghost remaining = { λ it. Some it.left.now };
+
     fn read(&mut self, buf: &mut [u8]) -> io::Result<usize> {
         if self.reads == 0 {
             return Err(io::Error::from(io::ErrorKind::TimedOut));
         }
         self.reads -= 1;
-        let count = self.piece.min(buf.len()).min(self.left.len());
+        let count = self.piece.max(1).min(buf.len()).min(self.left.len());
         let (piece, left) = self.left.split_at(count);
         buf[..count].copy_from_slice(piece);
         self.left = left;

@@ -1,6 +1,6 @@
 //! Connections that a command serves one after another.
-ghost use Rattle.std.specs.Prelude.{IfErr};
-ghost use Rattle.land_commands.specs.ProgramFaults.{IsFaultOfClosing};
+ghost use Rattle.std.specs.Prelude.{None, unwrap_or};
+ghost use Rattle.std.specs.Option.{option_map};
 
 use land_commands::host::Host;
 use land_commands::program_fault::ProgramFault;
@@ -31,6 +31,10 @@ impl<L: Connections + Drop> Host for TownHost<L> {
 
     ghost holds = { λ _ _. Unit {0} };
 
+    ghost is_closed = { λ _. Unit {0} };
+
+    ghost coming = { λ host _. unwrap_or (option_map L.Connections.coming host.visits) None };
+
     fn alloc(&self) -> Global {
         self.alloc
     }
@@ -47,9 +51,7 @@ impl<L: Connections + Drop> Host for TownHost<L> {
         }
     }
 
-    fn close(_left: &mut Option<Connection<MemStore>>) -> Result<(), ProgramFault>
-        ensures { IfErr result IsFaultOfClosing }
-    {
+    fn close(_left: &mut Option<Connection<MemStore>>) -> Result<(), ProgramFault> {
         Ok(())
     }
 
@@ -58,6 +60,10 @@ impl<L: Connections + Drop> Host for TownHost<L> {
             Some(visits) => Ok(visits),
             None => Err(io::Error::from(io::ErrorKind::AddrInUse)),
         }
+    }
+
+    fn stop_listening(&mut self, _port: u16, listener: L) {
+        self.visits = Some(listener);
     }
 }
 

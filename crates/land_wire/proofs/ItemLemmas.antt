@@ -44,6 +44,10 @@ head_bytes h ok = simp length-append (omega (arith, ok.method.0))
 pub head_some : (bytes : List ℕ) (h : RequestHead) (rest : List ℕ) → HasHead bytes h rest → 0 < length bytes
 head_some bytes h rest has = omega (arith, head_bytes h has.reads.0, simp length-append at (ap length has.reads.1))
 
+-- a request takes at least one byte of the buffer
+pub request_takes : (bytes : List ℕ) (headers : List HeaderSpan) (spans : RequestSpans) (n : ℕ) → IsRequestIn bytes headers spans n → 0 < spans.len
+request_takes bytes headers spans n is = omega (arith, head_bytes is.1.0 is.1.1.reads.0, is.1.1.len)
+
 pub request_of : (bytes more : List ℕ) (headers : List HeaderSpan) (spans : RequestSpans) (n : ℕ)
     → (is : IsRequestIn bytes headers spans n)
     → IsItem (bytes ++ more) (request is.1.0 (take n (drop spans.len bytes))) (drop (spans.len + n) bytes ++ more)

@@ -62,7 +62,7 @@ word_of (to_migrate file) = codes "migrate"
 word_of (to_extract file clock party role kind at) = codes "extract"
 
 -- a command's options are what `clap` found, each number in its range: moments go from 0 to the end of the year 2099,
--- ports from 1 to 65535, parties from 1 to the last number of 63 bits, and a million connections are served at most
+-- ports from 1 to 65535, parties from 1 to 1,000,000,000, and a million connections are served at most
 abbrev pub HasOptions : List Row → Order → Type 0
 HasOptions rows (to_talk clock) = HasNumber rows (codes "clock") (pos 0) (pos 4102444799999) clock
 HasOptions rows (to_make file) = first_of (codes "file") rows ≡ Some file

@@ -1,5 +1,5 @@
 //! How many numbers of a list are read together.
-ghost use Rattle.std.specs.Prelude.{◌<◌, ◌≤◌, length};
+ghost use Rattle.std.specs.Prelude.{◌<◌, ◌≤◌, ◌+◌, ◌*◌, ◌-◌, length, slice_index};
 
 /// How many objects are read together, and so held in memory, at most.
 const MOST: usize = 256;
@@ -8,11 +8,14 @@ const MOST: usize = 256;
 /// with large gaps, as a party may see it, is not paid for with reading all that lies between.
 const ONE_IN: u64 = 16;
 
-/// Where the part that begins at a place of an ascending list of numbers ends.
+/// Returns the end of the part that starts at the index `begin` of an ascending list of numbers. The part has at most 256 numbers, on
+/// average at least one in 16 of its range; it is as long as these limits and the list allow.
 pub(crate) fn part_end(numbers: &[u64], begin: usize) -> usize
     requires { begin < length numbers.now }
     ensures further { begin < result }
     ensures inside { result ≤ length numbers.now }
+    ensures few { result ≤ begin + 256 }
+    ensures dense { slice_index numbers.now (result - 1) ≤ slice_index numbers.now begin + 16 * (result - begin) }
 {
     let first = numbers[begin];
     let most = numbers.len().min(begin.saturating_add(MOST));

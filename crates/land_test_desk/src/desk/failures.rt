@@ -1,8 +1,10 @@
 //! Readers and writers that fail at each byte of a small stream.
+use crate::desk::long_requests::joined;
 use crate::desk::office::{Office, common, is_want_of_memory, open_sink};
 use land_desk::serve::{DeskFault, Served};
 use land_keep::keeper::Keeper;
 use land_keep::plain_keeper::PlainKeeper;
+use land_streams::put::put;
 use land_streams::send::send;
 use land_test_scenario::doubles::{Pieces, Sink};
 use land_test_scenario::stop::{Stop, expect};
@@ -181,6 +183,38 @@ pub fn bytes_are_sent(alloc: Global) -> Result<(), Stop> {
         for fails in [false, true] {
             expect(is_sent(alloc, row, fails)?, "sending", place)?;
         }
+    }
+    Ok(())
+}
+
+/// Lengths past 64 KiB and past a mebibyte.
+const LONG_LENGTHS: &[usize] = &[65_537, 1_048_577];
+
+fn is_long_piece_sent(alloc: Global, length: usize) -> Result<bool, Stop> {
+    let bytes = joined(alloc, b"", b"x", length, b"")?;
+    let mut sink = Sink {
+        taken: Vec::with_capacity(alloc, length.saturating_mul(2))?,
+        piece: 4096,
+        writes: usize::MAX,
+        fails: false,
+        is_ended: false,
+    };
+    let is_sent = send(&mut sink, &bytes) == Ok(());
+    let written = put(&mut sink, 5, &bytes);
+    let total = (length as u64).saturating_add(5);
+    Ok(
+        is_sent
+            && written == Ok(total)
+            && sink.taken.len() == length.saturating_mul(2)
+            && sink.taken.starts_with(&bytes)
+            && sink.taken.ends_with(&bytes),
+    )
+}
+
+/// A long piece is written whole.
+pub fn long_pieces_are_sent(alloc: Global) -> Result<(), Stop> {
+    for length in LONG_LENGTHS {
+        expect(is_long_piece_sent(alloc, *length)?, "length", *length)?;
     }
     Ok(())
 }

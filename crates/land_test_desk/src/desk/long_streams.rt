@@ -1,4 +1,4 @@
-//! A stream of a thousand requests in one input, and one whose bytes come one by one.
+//! Streams of a thousand and of twenty thousand requests in one input, and one whose bytes come one by one.
 use crate::desk::office::{Office, is_answered};
 use land_keep::plain_keeper::PlainKeeper;
 use land_test_scenario::scenario::STEPS;
@@ -7,8 +7,11 @@ use land_test_scenario::talk::{Talk, Told};
 use std::alloc::{AllocError, Global};
 use std::fmt::Write;
 
-/// The parties that are enrolled, and the requests that come with each: the enrolment, a list, and 98 that name no route.
+/// The number of parties that are enrolled, each with a hundred requests: the enrolment, a list, and 98 that name no route.
 const PARTIES: u64 = 10;
+
+/// The same for the longest stream.
+const MANY_PARTIES: u64 = 200;
 
 const ENROLMENT: &[u8] =
     b"POST /acts/enrol HTTP/1.1\r\nRegister-Party: 1\r\nRegister-Role: stateAdministrator\r\nContent-Length: 38\r\n\r\n{\"kind\":\"naturalPerson\",\"name\":\"Anna\"}";
@@ -52,18 +55,26 @@ fn ask_a_hundred(talk: &mut Talk, text: &mut String, party: u64) -> Result<(), A
     Ok(())
 }
 
-fn are_a_thousand_answered(alloc: Global) -> Result<bool, Stop> {
+/// Whether the requests of these parties get their replies.
+fn are_hundreds_answered(alloc: Global, parties: u64) -> Result<bool, Stop> {
     let mut talk = Talk::new(alloc)?;
     let mut text = String::with_capacity(alloc, 256)?;
-    for place in 0..PARTIES {
-        ask_a_hundred(&mut talk, &mut text, place + 2)?;
+    for place in 0..parties {
+        ask_a_hundred(&mut talk, &mut text, place.saturating_add(2))?;
     }
-    is_answered(alloc, &talk.input, 65536, 1000, talk.output.as_bytes())
+    let replies = parties.saturating_mul(100);
+    is_answered(alloc, &talk.input, 65536, replies, talk.output.as_bytes())
 }
 
 /// A thousand requests in one input are answered.
 pub fn a_thousand_requests_are_answered(alloc: Global) -> Result<(), Stop> {
-    expect(are_a_thousand_answered(alloc)?, "a thousand", 0)
+    expect(are_hundreds_answered(alloc, PARTIES)?, "a thousand", 0)
+}
+
+/// Twenty thousand requests in one input are answered.
+pub fn twenty_thousand_requests_are_answered(alloc: Global) -> Result<(), Stop> {
+    let answered = are_hundreds_answered(alloc, MANY_PARTIES)?;
+    expect(answered, "twenty thousand", 0)
 }
 
 /// The name and the place of the first of ten steps that is answered otherwise where bytes come one by one.

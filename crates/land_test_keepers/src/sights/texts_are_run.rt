@@ -9,8 +9,10 @@ use land_keep::keeper::Keeper;
 use land_select::sight_text::sight_text;
 use land_select::sql_keeper::SqlKeeper;
 use land_tables::tables::Tables;
-use land_test_scenario::playing::play_steps;
+use land_test_scenario::playing::{play, play_steps};
 use land_test_scenario::stop::{Stop, expect};
+use land_test_scenario::talk::Told::Shown;
+use land_test_scenario::talk::{BEN, Row, Talk};
 use sqlite::types::ValueRef;
 use sqlite::{Connection, MemStore};
 use std::alloc::Global;
@@ -69,49 +71,113 @@ pub(crate) fn played(alloc: Global) -> Result<SqlKeeper<Recorder<MemStore>>, Sto
     Ok(keeper)
 }
 
-/// What is read of the store where the keeper tells the lists of a caller.
-fn read_by_keeper(alloc: Global, caller: Caller) -> Result<Reads, Stop> {
+/// Ben gives Sam a mandate after the scenario.
+const GIVEN: Row = Row(
+    "POST /acts/mandate",
+    BEN,
+    br#"{"agent":6}"#,
+    Shown(r#"{"made":[],"number":6,"stamp":1018}"#),
+);
+
+/// A caller, the principals whose mandates it holds, and the time of its lists.
+#[derive(Clone, Copy)]
+struct Viewer<'a> {
+    caller: Caller,
+    principals: &'a [u64],
+    at: i64,
+}
+
+/// Sam as citizen, who has Ben's mandate.
+const SAM: Viewer<'static> = Viewer {
+    caller: Caller {
+        party: 6,
+        role: Role::Citizen,
+    },
+    principals: &[3],
+    at: LAST + 1,
+};
+
+/// The register after the scenario, with the mandate if the viewer has one.
+fn played_for(alloc: Global, viewer: &Viewer<'_>) -> Result<SqlKeeper<Recorder<MemStore>>, Stop> {
     let mut keeper = played(alloc)?;
+    if viewer.principals.is_empty() {
+        return Ok(keeper);
+    }
+    let mut talk = Talk::new(alloc)?;
+    talk.ask("a mandate", 0, &GIVEN)?;
+    play(alloc, &mut keeper, &[], &talk)?;
+    Ok(keeper)
+}
+
+/// Returns what the keeper reads of the store for the lists of a viewer.
+fn read_by_keeper(alloc: Global, viewer: &Viewer<'_>) -> Result<Reads, Stop> {
+    let mut keeper = played_for(alloc, viewer)?;
     for kind in KINDS {
-        keeper.sight(alloc, caller, *kind, LAST)?;
+        keeper.sight(alloc, viewer.caller, *kind, viewer.at)?;
     }
     let conn = keeper.into_tables().into_connection();
     Ok(conn.into_store().reads())
 }
 
-/// The text that gives those whose mandate a citizen holds, whose parameters are as those of the texts of a list.
+/// The SQL statement that returns the mandates that a citizen holds. Its parameters are those of the statements of a list.
 pub(crate) const MANDATES: &str =
     "SELECT principal, agent, since, until FROM mandate WHERE agent = ?1 AND since <= ?2 AND ?2 < until";
 
-/// Runs the texts of a list, whose first parameter is the caller and whose second is the moment; of a citizen's list, but of parcels, which
-/// everybody sees, that of its mandates before, of which there are none here.
-fn run_texts(conn: &mut Recorded, caller: Caller, kind: Kind) -> Result<(), Stop> {
-    let party = i64::try_from(caller.party).unwrap_or(0);
-    let params = [ValueRef::Int(party), ValueRef::Int(LAST)];
-    if caller.role == Role::Citizen && kind != Kind::Parcel {
-        conn.query_all(MANDATES, &params)?;
-    }
-    for text in sight_text(caller.role, kind) {
+/// Runs the SQL statements of a list for one party. Their first parameter is the party, their second the time.
+fn run_texts_for(
+    conn: &mut Recorded,
+    role: Role,
+    kind: Kind,
+    party: u64,
+    at: i64,
+) -> Result<(), Stop> {
+    let number = i64::try_from(party).unwrap_or(0);
+    let params = [ValueRef::Int(number), ValueRef::Int(at)];
+    for text in sight_text(role, kind) {
         conn.query_all(text, &params)?;
     }
     Ok(())
 }
 
-/// What is read of the store where the texts of these lists are run.
-fn read_by_texts(alloc: Global, caller: Caller) -> Result<Reads, Stop> {
-    let mut conn = played(alloc)?.into_tables().into_connection();
+/// Runs the SQL statements of a list: for a citizen's list, unless it is of parcels, which everyone sees, first the one of its mandates, and
+/// then those of the list for each principal and for the caller.
+fn run_texts(conn: &mut Recorded, viewer: &Viewer<'_>, kind: Kind) -> Result<(), Stop> {
+    let Caller { party, role } = viewer.caller;
+    if role == Role::Citizen && kind != Kind::Parcel {
+        let number = i64::try_from(party).unwrap_or(0);
+        conn.query_all(MANDATES, &[ValueRef::Int(number), ValueRef::Int(viewer.at)])?;
+        for principal in viewer.principals {
+            run_texts_for(conn, role, kind, *principal, viewer.at)?;
+        }
+    }
+    run_texts_for(conn, role, kind, party, viewer.at)
+}
+
+/// Returns what is read of the store if the SQL statements of these lists are run.
+fn read_by_texts(alloc: Global, viewer: &Viewer<'_>) -> Result<Reads, Stop> {
+    let mut conn = played_for(alloc, viewer)?.into_tables().into_connection();
     for kind in KINDS {
-        run_texts(&mut conn, caller, *kind)?;
+        run_texts(&mut conn, viewer, *kind)?;
     }
     Ok(conn.into_store().reads())
 }
 
-/// Over joins a list is told by its texts, a citizen's, but of parcels, by that of its mandates too, and by nothing else.
+/// The lists of a viewer read what their SQL statements read, in the same order.
+fn expect_same_reads(alloc: Global, viewer: &Viewer<'_>, place: usize) -> Result<(), Stop> {
+    let by_keeper = read_by_keeper(alloc, viewer)?;
+    let by_texts = read_by_texts(alloc, viewer)?;
+    expect(by_keeper == by_texts, "the lists of a caller", place)
+}
+
+/// A list runs its SQL statements, a citizen's first that of its mandates, and nothing else.
 pub fn lists_are_told_by_their_texts(alloc: Global) -> Result<(), Stop> {
     for (place, caller) in CALLERS.iter().enumerate() {
-        let by_keeper = read_by_keeper(alloc, *caller)?;
-        let by_texts = read_by_texts(alloc, *caller)?;
-        expect(by_keeper == by_texts, "the lists of a caller", place)?;
+        let viewer = Viewer {
+            caller: *caller,
+            principals: &[],
+            at: LAST,
+        };
+        expect_same_reads(alloc, &viewer, place)?;
     }
-    Ok(())
+    expect_same_reads(alloc, &SAM, CALLERS.len())
 }

@@ -50,6 +50,7 @@ pub fn read_head<R: Read>(
     requires { 2731 ≤ length headers.old }
     ensures room { length headers.new ≡ length headers.old }
     ensures bound { length buffer.new.items + 1024 * reader.new.left ≤ length buffer.old.items + 1024 * reader.old.left }
+    ensures fewer { reader.new.left ≤ reader.old.left }
     ensures stream { Keeps (prepend_known buffer.old.items (R.remaining reader.old.reader.now))
         (prepend_known buffer.new.items (R.remaining reader.new.reader.now)) }
     ensures end { IfOk result (λ f. f ≡ Found.Fault FrameFault.Cut → IsAtEnd (R.remaining reader.new.reader.now)) }
@@ -61,10 +62,10 @@ pub fn read_head<R: Read>(
     ensures fault { IfOk result (λ f. IfSome (prepend_known buffer.new.items (R.remaining reader.new.reader.now))
         (λ stream. IsFoundFault stream f)) }
 
-    // Want of memory is told where there was no room for a piece, and a reader's failure after it was made.
+    // `NoMemory` is returned only if there was no room for a piece; `Read` only if the reader was called, or its budget was spent.
     ensures memory { IfErr result (λ e. e ≡ StreamFault.NoMemory → vec_capacity buffer.new < vec_len buffer.new + 1024) }
-    ensures failed { IfErr result (λ e. e ≡ StreamFault.Read
-        → (reader.new.left ≡ 0) ⊎ (vec_len buffer.new + 1024 ≤ vec_capacity buffer.new)) }
+    ensures failed { IfErr result (λ e. e ≡ StreamFault.Read → (reader.new.left ≡ 0)
+        ⊎ ((reader.new.left < reader.old.left) × (vec_len buffer.new + 1024 ≤ vec_capacity buffer.new))) }
 {
     loop {
         let end = buffer.len().min(HEAD_LIMIT);

@@ -14,7 +14,7 @@ returns-in-Ok g c =
       record {
         from = from;
         to = to;
-        taken = c.in_ok-tables.ensures;
+        taken = c.in_ok-tables.ensures.finding;
         extracted = subst (λ (r : Result ℕ ExtractFault). IsExtractedOver g.H.Store.Store from c.args.wanted to old new r) c.in-Ok.is c.extract_tables-done.ensures;
       },
     )
@@ -31,7 +31,7 @@ returns g c =
       record {
         from = from;
         to = to;
-        taken = c.in_ok-tables.ensures;
+        taken = c.in_ok-tables.ensures.finding;
         extracted = subst (λ (r : Result ℕ ExtractFault). IsExtractedOver g.H.Store.Store from c.args.wanted to old new r) c.in-Err.is c.extract_tables-done.ensures;
       },
       c.from.ensures,

@@ -9,7 +9,7 @@ returns-in-Ok g c =
     let o = c.in_ok-tables.tables in
     let when : to_z w64 (of_z w64 c.last.result) ≡ c.last.result = search rules in
     let said : c.as_bytes.result.now ≡ sound_text o.last o.next = c.as_bytes.ensures.value ∙ c.in_ok-line.ensures ∙ ap₂ sound_text (when ∙ c.last.ensures.value) c.next.ensures.value in
-    (o, c.in_ok-tables.ensures, subst (λ text. Appends (g.O.Write.contents c.args.output.now) (g.O.Write.contents c.send.new.writer) text) said c.in-Ok.ensures.ok)
+    (o, c.in_ok-tables.ensures.finding, subst (λ text. Appends (g.O.Write.contents c.args.output.now) (g.O.Write.contents c.send.new.writer) text) said c.in-Ok.ensures.ok)
 
 -- a front of the line is written
 pub returns : goal.returns
@@ -18,4 +18,4 @@ returns g c =
     let when : to_z w64 (of_z w64 c.last.result) ≡ c.last.result = search rules in
     let said : c.as_bytes.result.now ≡ sound_text o.last o.next = c.as_bytes.ensures.value ∙ c.in_ok-line.ensures ∙ ap₂ sound_text (when ∙ c.last.ensures.value) c.next.ensures.value in
     let sent = c.in-Err.ensures.err in
-    inr (o, c.in_ok-tables.ensures, inr (refl, subst (λ text. IsCut text (g.O.Write.contents c.args.output.now) (g.O.Write.contents c.send.new.writer)) said (c.in-Err.field-0, sent.0, sent.1)))
+    inr (o, c.in_ok-tables.ensures.finding, inr (refl, subst (λ text. IsCut text (g.O.Write.contents c.args.output.now) (g.O.Write.contents c.send.new.writer)) said (c.in-Err.field-0, sent.0, sent.1)))

@@ -2,8 +2,8 @@ use Rattle.std.proofs.Common.{inr}
 use Rattle.land_commands.proofs.filed.found.Goals as goal
 
 -- the store was opened, and is refused
-pub returns : goal.returns
-returns g c =
+pub returns-clause-finding : goal.returns-clause-finding
+returns-clause-finding g c =
     inr (record {
       was = c.in_ok-conn.conn;
       left = c.in-Err.field-0-0;

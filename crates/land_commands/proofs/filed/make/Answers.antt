@@ -1,16 +1,17 @@
-use Rattle.std.proofs.Common.{inl, inr}
+use Rattle.std.proofs.Common.{inl, inr, subst}
+use Rattle.std.specs.Prelude.{OnOk}
 use Rattle.land_commands.proofs.Filings.{made_and_closed}
 use Rattle.land_commands.proofs.filed.make.Goals as goal
 
 -- the register was made, and its file is closed or is not
 pub returns-in-Ok : goal.returns-in-Ok
 returns-in-Ok g c =
-    made_and_closed g.H.Store.Store (g.H.Host.holds c.args.file.now) c.in-Ok.tables c.close.result (record {
+    made_and_closed g.H.Store.Store (g.H.Host.holds c.args.file.now) g.H.Host.is_closed c.in-Ok.tables c.close.result (record {
       was = c.in_ok-conn.conn;
       shows = c.in_ok-conn.ensures.shows;
       created = c.in-Ok.ensures.created;
       survives = c.in-Ok.ensures.crash_after;
-    }) c.close.ensures
+    }) (subst (λ conn. OnOk c.close.result (g.H.Host.is_closed conn)) c.into_connection.ensures c.close.ensures.closed) c.close.ensures.fault
 
 -- the store was opened, and no register was made in it
 pub returns : goal.returns

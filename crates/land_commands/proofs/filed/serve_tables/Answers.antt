@@ -6,10 +6,8 @@ use Rattle.land_commands.proofs.filed.serve_tables.Goals as goal
 pub returns : goal.returns
 returns g c =
     let call = c.serve_connections-served in
-    subst₂ (λ from to. IsServedOver g.S.Store g.C.Clock.reads c.args.connections from c.args.clock.now to call.new.clock call.result)
+    subst₂ (λ from to. IsServedOver g.S.Store g.C.Clock.reads c.args.connections (g.L.Connections.coming c.args.listener.now) (g.L.Connections.coming call.new.listener) from c.args.clock.now to call.new.clock call.result)
     c.new-keeper.ensures (sym c.into_tables.ensures) (record {
-      coming = g.L.Connections.coming c.args.listener.now;
-      after = g.L.Connections.coming call.new.listener;
       told = call.ensures.told;
       was = call.ensures.was;
       served = call.ensures.served;

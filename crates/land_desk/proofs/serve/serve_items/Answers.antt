@@ -1,108 +1,109 @@
-use Rattle.std.proofs.Common.{◌+◌, ◌*◌, ◌∙◌, Ok, Err, arith, length, refl}
+use Rattle.std.proofs.Common.{◌+◌, ◌*◌, ◌∙◌, Ok, Err, ap, arith, length, refl}
 use Rattle.std.specs.Io.KnownBytes.{prepend_known}
-use Rattle.land_desk.proofs.Asking.{asked_to_end, asked_to_last, begins_short, broken_off, kept_short, spent_all, spent_on, unspent}
-use Rattle.land_desk.proofs.Honesty.{comes_to, comes_to_end_of_asking, heard_later, keeps_on, starts}
+use Rattle.land_desk.proofs.Asking.{asked_to_end, asked_to_last, begins_short, broken_off, called_before, kept_short, spent_all, spent_on, unspent}
+use Rattle.land_desk.proofs.Honesty.{comes_to, heard_later, keeps_on, starts}
 use Rattle.land_desk.proofs.Moving.{moves_on, unmoved}
 use Rattle.land_desk.proofs.ServingLemmas.{serves_end, serves_last, serves_fault}
 use Rattle.land_desk.specs.Serving.{HearsIf}
 use Rattle.land_desk.specs.Turns.{IsTurn}
-use Rattle.land_desk.specs.declared.serve.DeskFault.TheVariants as desk
 use Rattle.land_keep.specs.Keeping.{IsAt}
 use Rattle.land_keep.specs.Machine.{State}
 use Rattle.land_desk.proofs.serve.serve_items.Goals as goal
 
 pub returns-in-Ok-End-clause-served : goal.returns-in-Ok-End-clause-served
 returns-in-Ok-End-clause-served g c =
-    let hears = HearsIf (g.K.Keeper.honest c.loop-replies.keeper) g.C.Clock.reads in
+    let hears = HearsIf (g.K.Keeper.honest c.loop-fault.keeper) g.C.Clock.reads in
     let later = HearsIf (g.K.Keeper.honest c.take_turn.new.keeper) g.C.Clock.reads in
-    let weaken = heard_later g.C.Clock.reads (g.K.Keeper.honest c.loop-replies.keeper) (g.K.Keeper.honest c.take_turn.new.keeper) c.in-Ok-End.ensures.was in
+    let weaken = heard_later g.C.Clock.reads (g.K.Keeper.honest c.loop-fault.keeper) (g.K.Keeper.honest c.take_turn.new.keeper) c.in-Ok-End.ensures.was in
     let from : State g.row.C.Denot = record { closed = g.K.Keeper.closed c.args.keeper.now; timeline = g.K.Keeper.timeline c.args.keeper.now; clock = c.args.clock.now } in
     let start = g.R.Read.remaining c.args.reader.now.reader.now in
-    let before = prepend_known c.loop-replies.buffer.items (g.R.Read.remaining c.loop-replies.reader.reader.now) in
+    let before = prepend_known c.loop-fault.buffer.items (g.R.Read.remaining c.loop-fault.reader.reader.now) in
     let after = prepend_known c.take_turn.new.buffer.items (g.R.Read.remaining c.take_turn.new.reader.reader.now) in
     let w = g.W.Write.contents c.args.writer.now in
-    let u = g.W.Write.contents c.loop-replies.writer in
+    let u = g.W.Write.contents c.loop-fault.writer in
     let v = g.W.Write.contents c.take_turn.new.writer in
     comes_to hears later weaken
-    (λ s. IsAt (g.K.Keeper.honest c.loop-replies.keeper) (g.K.Keeper.closed c.loop-replies.keeper) (g.K.Keeper.timeline c.loop-replies.keeper) c.loop-replies.clock s)
+    (λ s. IsAt (g.K.Keeper.honest c.loop-fault.keeper) (g.K.Keeper.closed c.loop-fault.keeper) (g.K.Keeper.timeline c.loop-fault.keeper) c.loop-fault.clock s)
     (λ s. IsAt (g.K.Keeper.honest c.take_turn.new.keeper) (g.K.Keeper.closed c.take_turn.new.keeper) (g.K.Keeper.timeline c.take_turn.new.keeper) c.take_turn.new.clock s)
-    from start before w u v c.loop-replies.replies (Ok (record { replies = c.loop-replies.replies }))
+    from start before w u v c.loop-fault.replies (Ok (record { replies = c.loop-fault.replies }))
     (λ rest now to. IsTurn later rest now to after u v (Ok c.in-Ok-End.field-0))
-    (λ now to so turn. serves_end later start before after from now to w u v c.loop-replies.replies _ c.in-Ok-End.field-0-is so turn)
-    c.loop-replies.invariant.1 c.in-Ok-End.ensures.turn
+    (λ now to so turn. serves_end later start before after from now to w u v c.loop-fault.replies _ c.in-Ok-End.field-0-is so turn)
+    c.loop-fault.invariant.1 c.in-Ok-End.ensures.turn
 
 pub returns-in-Ok-Last-clause-served : goal.returns-in-Ok-Last-clause-served
 returns-in-Ok-Last-clause-served g c =
-    let hears = HearsIf (g.K.Keeper.honest c.loop-replies.keeper) g.C.Clock.reads in
+    let hears = HearsIf (g.K.Keeper.honest c.loop-fault.keeper) g.C.Clock.reads in
     let later = HearsIf (g.K.Keeper.honest c.take_turn.new.keeper) g.C.Clock.reads in
-    let weaken = heard_later g.C.Clock.reads (g.K.Keeper.honest c.loop-replies.keeper) (g.K.Keeper.honest c.take_turn.new.keeper) c.in-Ok-Last.ensures.was in
+    let weaken = heard_later g.C.Clock.reads (g.K.Keeper.honest c.loop-fault.keeper) (g.K.Keeper.honest c.take_turn.new.keeper) c.in-Ok-Last.ensures.was in
     let from : State g.row.C.Denot = record { closed = g.K.Keeper.closed c.args.keeper.now; timeline = g.K.Keeper.timeline c.args.keeper.now; clock = c.args.clock.now } in
     let start = g.R.Read.remaining c.args.reader.now.reader.now in
-    let before = prepend_known c.loop-replies.buffer.items (g.R.Read.remaining c.loop-replies.reader.reader.now) in
+    let before = prepend_known c.loop-fault.buffer.items (g.R.Read.remaining c.loop-fault.reader.reader.now) in
     let after = prepend_known c.take_turn.new.buffer.items (g.R.Read.remaining c.take_turn.new.reader.reader.now) in
     let w = g.W.Write.contents c.args.writer.now in
-    let u = g.W.Write.contents c.loop-replies.writer in
+    let u = g.W.Write.contents c.loop-fault.writer in
     let v = g.W.Write.contents c.take_turn.new.writer in
     comes_to hears later weaken
-    (λ s. IsAt (g.K.Keeper.honest c.loop-replies.keeper) (g.K.Keeper.closed c.loop-replies.keeper) (g.K.Keeper.timeline c.loop-replies.keeper) c.loop-replies.clock s)
+    (λ s. IsAt (g.K.Keeper.honest c.loop-fault.keeper) (g.K.Keeper.closed c.loop-fault.keeper) (g.K.Keeper.timeline c.loop-fault.keeper) c.loop-fault.clock s)
     (λ s. IsAt (g.K.Keeper.honest c.take_turn.new.keeper) (g.K.Keeper.closed c.take_turn.new.keeper) (g.K.Keeper.timeline c.take_turn.new.keeper) c.take_turn.new.clock s)
-    from start before w u v c.loop-replies.replies (Ok (record { replies = c.loop-replies.replies + 1 }))
+    from start before w u v c.loop-fault.replies (Ok (record { replies = c.loop-fault.replies + 1 }))
     (λ rest now to. IsTurn later rest now to after u v (Ok c.in-Ok-Last.field-0))
-    (λ now to so turn. serves_last later start before after from now to w u v c.loop-replies.replies _ c.in-Ok-Last.field-0-is so turn)
-    c.loop-replies.invariant.1 c.in-Ok-Last.ensures.turn
+    (λ now to so turn. serves_last later start before after from now to w u v c.loop-fault.replies _ c.in-Ok-Last.field-0-is so turn)
+    c.loop-fault.invariant.1 c.in-Ok-Last.ensures.turn
 
 pub returns-in-Err-clause-served : goal.returns-in-Err-clause-served
 returns-in-Err-clause-served g c =
-    let hears = HearsIf (g.K.Keeper.honest c.loop-replies.keeper) g.C.Clock.reads in
+    let hears = HearsIf (g.K.Keeper.honest c.loop-fault.keeper) g.C.Clock.reads in
     let later = HearsIf (g.K.Keeper.honest c.take_turn.new.keeper) g.C.Clock.reads in
-    let weaken = heard_later g.C.Clock.reads (g.K.Keeper.honest c.loop-replies.keeper) (g.K.Keeper.honest c.take_turn.new.keeper) c.in-Err.ensures.was in
+    let weaken = heard_later g.C.Clock.reads (g.K.Keeper.honest c.loop-fault.keeper) (g.K.Keeper.honest c.take_turn.new.keeper) c.in-Err.ensures.was in
     let from : State g.row.C.Denot = record { closed = g.K.Keeper.closed c.args.keeper.now; timeline = g.K.Keeper.timeline c.args.keeper.now; clock = c.args.clock.now } in
     let start = g.R.Read.remaining c.args.reader.now.reader.now in
-    let before = prepend_known c.loop-replies.buffer.items (g.R.Read.remaining c.loop-replies.reader.reader.now) in
+    let before = prepend_known c.loop-fault.buffer.items (g.R.Read.remaining c.loop-fault.reader.reader.now) in
     let after = prepend_known c.take_turn.new.buffer.items (g.R.Read.remaining c.take_turn.new.reader.reader.now) in
     let w = g.W.Write.contents c.args.writer.now in
-    let u = g.W.Write.contents c.loop-replies.writer in
+    let u = g.W.Write.contents c.loop-fault.writer in
     let v = g.W.Write.contents c.take_turn.new.writer in
     comes_to hears later weaken
-    (λ s. IsAt (g.K.Keeper.honest c.loop-replies.keeper) (g.K.Keeper.closed c.loop-replies.keeper) (g.K.Keeper.timeline c.loop-replies.keeper) c.loop-replies.clock s)
+    (λ s. IsAt (g.K.Keeper.honest c.loop-fault.keeper) (g.K.Keeper.closed c.loop-fault.keeper) (g.K.Keeper.timeline c.loop-fault.keeper) c.loop-fault.clock s)
     (λ s. IsAt (g.K.Keeper.honest c.take_turn.new.keeper) (g.K.Keeper.closed c.take_turn.new.keeper) (g.K.Keeper.timeline c.take_turn.new.keeper) c.take_turn.new.clock s)
-    from start before w u v c.loop-replies.replies (Err c.in-Err.fault)
+    from start before w u v c.loop-fault.replies (Err c.in-Err.fault)
     (λ rest now to. IsTurn later rest now to after u v (Err c.in-Err.fault))
-    (λ now to so turn. serves_fault later start before after from now to w u v c.loop-replies.replies c.in-Err.fault so turn)
-    c.loop-replies.invariant.1 c.in-Err.ensures.turn
+    (λ now to so turn. serves_fault later start before after from now to w u v c.loop-fault.replies c.in-Err.fault so turn)
+    c.loop-fault.invariant.1 c.in-Err.ensures.turn
 
-pub loop-replies-preserved : goal.loop-replies-preserved
-loop-replies-preserved g c =
-    let hears = HearsIf (g.K.Keeper.honest c.loop-replies.keeper) g.C.Clock.reads in
+pub loop-fault-preserved : goal.loop-fault-preserved
+loop-fault-preserved g c =
+    let hears = HearsIf (g.K.Keeper.honest c.loop-fault.keeper) g.C.Clock.reads in
     let later = HearsIf (g.K.Keeper.honest c.take_turn.new.keeper) g.C.Clock.reads in
-    let weaken = heard_later g.C.Clock.reads (g.K.Keeper.honest c.loop-replies.keeper) (g.K.Keeper.honest c.take_turn.new.keeper) c.in-Ok-More.ensures.was in
+    let weaken = heard_later g.C.Clock.reads (g.K.Keeper.honest c.loop-fault.keeper) (g.K.Keeper.honest c.take_turn.new.keeper) c.in-Ok-More.ensures.was in
     let from : State g.row.C.Denot = record { closed = g.K.Keeper.closed c.args.keeper.now; timeline = g.K.Keeper.timeline c.args.keeper.now; clock = c.args.clock.now } in
     let start = g.R.Read.remaining c.args.reader.now.reader.now in
-    let before = prepend_known c.loop-replies.buffer.items (g.R.Read.remaining c.loop-replies.reader.reader.now) in
+    let before = prepend_known c.loop-fault.buffer.items (g.R.Read.remaining c.loop-fault.reader.reader.now) in
     let after = prepend_known c.take_turn.new.buffer.items (g.R.Read.remaining c.take_turn.new.reader.reader.now) in
     let w = g.W.Write.contents c.args.writer.now in
-    let u = g.W.Write.contents c.loop-replies.writer in
+    let u = g.W.Write.contents c.loop-fault.writer in
     let v = g.W.Write.contents c.take_turn.new.writer in (
-      omega (arith, c.loop-replies.invariant.0, c.in-Ok-More.ensures.room),
+      omega (arith, c.loop-fault.invariant.0, c.in-Ok-More.ensures.room),
       keeps_on hears later weaken
-          (λ s. IsAt (g.K.Keeper.honest c.loop-replies.keeper) (g.K.Keeper.closed c.loop-replies.keeper) (g.K.Keeper.timeline c.loop-replies.keeper) c.loop-replies.clock s)
+          (λ s. IsAt (g.K.Keeper.honest c.loop-fault.keeper) (g.K.Keeper.closed c.loop-fault.keeper) (g.K.Keeper.timeline c.loop-fault.keeper) c.loop-fault.clock s)
           (λ s. IsAt (g.K.Keeper.honest c.take_turn.new.keeper) (g.K.Keeper.closed c.take_turn.new.keeper) (g.K.Keeper.timeline c.take_turn.new.keeper) c.take_turn.new.clock s)
-          from start before after w u v c.loop-replies.replies c.in-Ok-More.field-0 c.in-Ok-More.field-0-is
-          c.loop-replies.invariant.1 c.in-Ok-More.ensures.turn,
+          from start before after w u v c.loop-fault.replies c.in-Ok-More.field-0 c.in-Ok-More.field-0-is
+          c.loop-fault.invariant.1 c.in-Ok-More.ensures.turn,
       moves_on hears later weaken
-          (λ s. IsAt (g.K.Keeper.honest c.loop-replies.keeper) (g.K.Keeper.closed c.loop-replies.keeper) (g.K.Keeper.timeline c.loop-replies.keeper) c.loop-replies.clock s)
+          (λ s. IsAt (g.K.Keeper.honest c.loop-fault.keeper) (g.K.Keeper.closed c.loop-fault.keeper) (g.K.Keeper.timeline c.loop-fault.keeper) c.loop-fault.clock s)
           (λ s. IsAt (g.K.Keeper.honest c.take_turn.new.keeper) (g.K.Keeper.closed c.take_turn.new.keeper) (g.K.Keeper.timeline c.take_turn.new.keeper) c.take_turn.new.clock s)
-          from c.loop-replies.invariant.2 c.in-Ok-More.ensures.hears,
-      (λ trust. c.loop-replies.invariant.3 (c.in-Ok-More.ensures.was trust)),
-      kept_short start before (g.R.Read.remaining c.take_turn.new.reader.reader.now) c.loop-replies.buffer.items c.take_turn.new.buffer.items
-          c.in-Ok-More.field-0 c.in-Ok-More.field-0-is c.loop-replies.invariant.4 c.in-Ok-More.ensures.asked,
-      spent_on start before after (1024 * c.args.reader.now.left) (length c.loop-replies.buffer.items + 1024 * c.loop-replies.reader.left)
-          (length c.take_turn.new.buffer.items + 1024 * c.take_turn.new.reader.left) c.loop-replies.invariant.5 c.in-Ok-More.ensures.bound,
-      c.in-Ok-More.ensures.same_reference ∙ c.loop-replies.invariant.6,
+          from c.loop-fault.invariant.2 c.in-Ok-More.ensures.hears,
+      (λ trust. c.loop-fault.invariant.3 (c.in-Ok-More.ensures.was trust)),
+      kept_short start before (g.R.Read.remaining c.take_turn.new.reader.reader.now) c.loop-fault.buffer.items c.take_turn.new.buffer.items
+          c.in-Ok-More.field-0 c.in-Ok-More.field-0-is c.loop-fault.invariant.4 c.in-Ok-More.ensures.asked,
+      spent_on start before after (1024 * c.args.reader.now.left) (length c.loop-fault.buffer.items + 1024 * c.loop-fault.reader.left)
+          (length c.take_turn.new.buffer.items + 1024 * c.take_turn.new.reader.left) c.loop-fault.invariant.5 c.in-Ok-More.ensures.bound,
+      c.in-Ok-More.ensures.same_reference ∙ c.loop-fault.invariant.6,
+      omega (arith, c.loop-fault.invariant.7, c.in-Ok-More.ensures.progress c.in-Ok-More.field-0-is),
+      omega (arith, c.loop-fault.invariant.8, c.in-Ok-More.ensures.fewer),
     )
 
-pub loop-replies-init : goal.loop-replies-init
-loop-replies-init g c =
+pub loop-fault-init : goal.loop-fault-init
+loop-fault-init g c =
     let from : State g.row.C.Denot = record { closed = g.K.Keeper.closed c.args.keeper.now; timeline = g.K.Keeper.timeline c.args.keeper.now; clock = c.args.clock.now } in (
       c.requires.room,
       starts (HearsIf (g.K.Keeper.honest c.args.keeper.now) g.C.Clock.reads)
@@ -113,113 +114,101 @@ loop-replies-init g c =
       begins_short (g.R.Read.remaining c.args.reader.now.reader.now) c.new-buffer.result.items c.new-buffer.ensures.items,
       unspent (g.R.Read.remaining c.args.reader.now.reader.now) c.new-buffer.result.items (1024 * c.args.reader.now.left) c.new-buffer.ensures.items,
       refl,
+      omega (arith, ap length c.new-buffer.ensures.items),
+      omega arith,
     )
-
-pub returns-clause-served : goal.returns-clause-served
-returns-clause-served g c = comes_to_end_of_asking (HearsIf (g.K.Keeper.honest c.loop-replies.keeper) g.C.Clock.reads)
-    (λ s. IsAt (g.K.Keeper.honest c.loop-replies.keeper) (g.K.Keeper.closed c.loop-replies.keeper) (g.K.Keeper.timeline c.loop-replies.keeper) c.loop-replies.clock s)
-    (record { closed = g.K.Keeper.closed c.args.keeper.now; timeline = g.K.Keeper.timeline c.args.keeper.now; clock = c.args.clock.now })
-    (g.R.Read.remaining c.args.reader.now.reader.now)
-    (prepend_known c.loop-replies.buffer.items (g.R.Read.remaining c.loop-replies.reader.reader.now))
-    (g.W.Write.contents c.args.writer.now) (g.W.Write.contents c.loop-replies.writer) c.loop-replies.replies c.loop-replies.invariant.1
 
 pub returns-in-Ok-End-clause-moves : goal.returns-in-Ok-End-clause-moves
 returns-in-Ok-End-clause-moves g c =
-    let hears = HearsIf (g.K.Keeper.honest c.loop-replies.keeper) g.C.Clock.reads in
+    let hears = HearsIf (g.K.Keeper.honest c.loop-fault.keeper) g.C.Clock.reads in
     let later = HearsIf (g.K.Keeper.honest c.take_turn.new.keeper) g.C.Clock.reads in
-    let weaken = heard_later g.C.Clock.reads (g.K.Keeper.honest c.loop-replies.keeper) (g.K.Keeper.honest c.take_turn.new.keeper) c.in-Ok-End.ensures.was in
+    let weaken = heard_later g.C.Clock.reads (g.K.Keeper.honest c.loop-fault.keeper) (g.K.Keeper.honest c.take_turn.new.keeper) c.in-Ok-End.ensures.was in
     moves_on hears later weaken
-    (λ s. IsAt (g.K.Keeper.honest c.loop-replies.keeper) (g.K.Keeper.closed c.loop-replies.keeper) (g.K.Keeper.timeline c.loop-replies.keeper) c.loop-replies.clock s)
+    (λ s. IsAt (g.K.Keeper.honest c.loop-fault.keeper) (g.K.Keeper.closed c.loop-fault.keeper) (g.K.Keeper.timeline c.loop-fault.keeper) c.loop-fault.clock s)
     (λ s. IsAt (g.K.Keeper.honest c.take_turn.new.keeper) (g.K.Keeper.closed c.take_turn.new.keeper) (g.K.Keeper.timeline c.take_turn.new.keeper) c.take_turn.new.clock s)
     (record { closed = g.K.Keeper.closed c.args.keeper.now; timeline = g.K.Keeper.timeline c.args.keeper.now; clock = c.args.clock.now })
-    c.loop-replies.invariant.2 c.in-Ok-End.ensures.hears
+    c.loop-fault.invariant.2 c.in-Ok-End.ensures.hears
 
 pub returns-in-Ok-Last-clause-moves : goal.returns-in-Ok-Last-clause-moves
 returns-in-Ok-Last-clause-moves g c =
-    let hears = HearsIf (g.K.Keeper.honest c.loop-replies.keeper) g.C.Clock.reads in
+    let hears = HearsIf (g.K.Keeper.honest c.loop-fault.keeper) g.C.Clock.reads in
     let later = HearsIf (g.K.Keeper.honest c.take_turn.new.keeper) g.C.Clock.reads in
-    let weaken = heard_later g.C.Clock.reads (g.K.Keeper.honest c.loop-replies.keeper) (g.K.Keeper.honest c.take_turn.new.keeper) c.in-Ok-Last.ensures.was in
+    let weaken = heard_later g.C.Clock.reads (g.K.Keeper.honest c.loop-fault.keeper) (g.K.Keeper.honest c.take_turn.new.keeper) c.in-Ok-Last.ensures.was in
     moves_on hears later weaken
-    (λ s. IsAt (g.K.Keeper.honest c.loop-replies.keeper) (g.K.Keeper.closed c.loop-replies.keeper) (g.K.Keeper.timeline c.loop-replies.keeper) c.loop-replies.clock s)
+    (λ s. IsAt (g.K.Keeper.honest c.loop-fault.keeper) (g.K.Keeper.closed c.loop-fault.keeper) (g.K.Keeper.timeline c.loop-fault.keeper) c.loop-fault.clock s)
     (λ s. IsAt (g.K.Keeper.honest c.take_turn.new.keeper) (g.K.Keeper.closed c.take_turn.new.keeper) (g.K.Keeper.timeline c.take_turn.new.keeper) c.take_turn.new.clock s)
     (record { closed = g.K.Keeper.closed c.args.keeper.now; timeline = g.K.Keeper.timeline c.args.keeper.now; clock = c.args.clock.now })
-    c.loop-replies.invariant.2 c.in-Ok-Last.ensures.hears
+    c.loop-fault.invariant.2 c.in-Ok-Last.ensures.hears
 
 pub returns-in-Err-clause-moves : goal.returns-in-Err-clause-moves
 returns-in-Err-clause-moves g c =
-    let hears = HearsIf (g.K.Keeper.honest c.loop-replies.keeper) g.C.Clock.reads in
+    let hears = HearsIf (g.K.Keeper.honest c.loop-fault.keeper) g.C.Clock.reads in
     let later = HearsIf (g.K.Keeper.honest c.take_turn.new.keeper) g.C.Clock.reads in
-    let weaken = heard_later g.C.Clock.reads (g.K.Keeper.honest c.loop-replies.keeper) (g.K.Keeper.honest c.take_turn.new.keeper) c.in-Err.ensures.was in
+    let weaken = heard_later g.C.Clock.reads (g.K.Keeper.honest c.loop-fault.keeper) (g.K.Keeper.honest c.take_turn.new.keeper) c.in-Err.ensures.was in
     moves_on hears later weaken
-    (λ s. IsAt (g.K.Keeper.honest c.loop-replies.keeper) (g.K.Keeper.closed c.loop-replies.keeper) (g.K.Keeper.timeline c.loop-replies.keeper) c.loop-replies.clock s)
+    (λ s. IsAt (g.K.Keeper.honest c.loop-fault.keeper) (g.K.Keeper.closed c.loop-fault.keeper) (g.K.Keeper.timeline c.loop-fault.keeper) c.loop-fault.clock s)
     (λ s. IsAt (g.K.Keeper.honest c.take_turn.new.keeper) (g.K.Keeper.closed c.take_turn.new.keeper) (g.K.Keeper.timeline c.take_turn.new.keeper) c.take_turn.new.clock s)
     (record { closed = g.K.Keeper.closed c.args.keeper.now; timeline = g.K.Keeper.timeline c.args.keeper.now; clock = c.args.clock.now })
-    c.loop-replies.invariant.2 c.in-Err.ensures.hears
+    c.loop-fault.invariant.2 c.in-Err.ensures.hears
 
 pub returns-in-Ok-End-clause-asked : goal.returns-in-Ok-End-clause-asked
 returns-in-Ok-End-clause-asked g c =
-    asked_to_end (HearsIf (g.K.Keeper.honest c.loop-replies.keeper) g.C.Clock.reads)
+    asked_to_end (HearsIf (g.K.Keeper.honest c.loop-fault.keeper) g.C.Clock.reads)
     (record { closed = g.K.Keeper.closed c.args.keeper.now; timeline = g.K.Keeper.timeline c.args.keeper.now; clock = c.args.clock.now })
-    (λ s. IsAt (g.K.Keeper.honest c.loop-replies.keeper) (g.K.Keeper.closed c.loop-replies.keeper) (g.K.Keeper.timeline c.loop-replies.keeper) c.loop-replies.clock s)
+    (λ s. IsAt (g.K.Keeper.honest c.loop-fault.keeper) (g.K.Keeper.closed c.loop-fault.keeper) (g.K.Keeper.timeline c.loop-fault.keeper) c.loop-fault.clock s)
     (g.R.Read.remaining c.args.reader.now.reader.now)
-    (prepend_known c.loop-replies.buffer.items (g.R.Read.remaining c.loop-replies.reader.reader.now))
+    (prepend_known c.loop-fault.buffer.items (g.R.Read.remaining c.loop-fault.reader.reader.now))
     (g.R.Read.remaining c.take_turn.new.reader.reader.now)
-    (g.W.Write.contents c.args.writer.now) (g.W.Write.contents c.loop-replies.writer) c.loop-replies.buffer.items c.take_turn.new.buffer.items c.loop-replies.replies
-    c.in-Ok-End.field-0 c.in-Ok-End.field-0-is c.loop-replies.invariant.1 c.loop-replies.invariant.4 c.in-Ok-End.ensures.asked
+    (g.W.Write.contents c.args.writer.now) (g.W.Write.contents c.loop-fault.writer) c.loop-fault.buffer.items c.take_turn.new.buffer.items c.loop-fault.replies
+    c.in-Ok-End.field-0 c.in-Ok-End.field-0-is c.loop-fault.invariant.1 c.loop-fault.invariant.4 c.in-Ok-End.ensures.asked
 
 pub returns-in-Ok-Last-clause-asked : goal.returns-in-Ok-Last-clause-asked
 returns-in-Ok-Last-clause-asked g c =
-    asked_to_last (HearsIf (g.K.Keeper.honest c.loop-replies.keeper) g.C.Clock.reads)
+    asked_to_last (HearsIf (g.K.Keeper.honest c.loop-fault.keeper) g.C.Clock.reads)
     (record { closed = g.K.Keeper.closed c.args.keeper.now; timeline = g.K.Keeper.timeline c.args.keeper.now; clock = c.args.clock.now })
-    (λ s. IsAt (g.K.Keeper.honest c.loop-replies.keeper) (g.K.Keeper.closed c.loop-replies.keeper) (g.K.Keeper.timeline c.loop-replies.keeper) c.loop-replies.clock s)
+    (λ s. IsAt (g.K.Keeper.honest c.loop-fault.keeper) (g.K.Keeper.closed c.loop-fault.keeper) (g.K.Keeper.timeline c.loop-fault.keeper) c.loop-fault.clock s)
     (g.R.Read.remaining c.args.reader.now.reader.now)
-    (prepend_known c.loop-replies.buffer.items (g.R.Read.remaining c.loop-replies.reader.reader.now))
+    (prepend_known c.loop-fault.buffer.items (g.R.Read.remaining c.loop-fault.reader.reader.now))
     (g.R.Read.remaining c.take_turn.new.reader.reader.now)
-    (g.W.Write.contents c.args.writer.now) (g.W.Write.contents c.loop-replies.writer) c.loop-replies.buffer.items c.take_turn.new.buffer.items c.loop-replies.replies
-    c.in-Ok-Last.field-0 c.in-Ok-Last.field-0-is c.loop-replies.invariant.1 c.loop-replies.invariant.4 c.in-Ok-Last.ensures.asked
+    (g.W.Write.contents c.args.writer.now) (g.W.Write.contents c.loop-fault.writer) c.loop-fault.buffer.items c.take_turn.new.buffer.items c.loop-fault.replies
+    c.in-Ok-Last.field-0 c.in-Ok-Last.field-0-is c.loop-fault.invariant.1 c.loop-fault.invariant.4 c.in-Ok-Last.ensures.asked
 
 pub returns-in-Err-clause-asked : goal.returns-in-Err-clause-asked
 returns-in-Err-clause-asked g c =
     let start = g.R.Read.remaining c.args.reader.now.reader.now in
     let left = g.R.Read.remaining c.take_turn.new.reader.reader.now in
     broken_off start left c.take_turn.new.buffer.items (1024 * c.args.reader.now.left) (length c.take_turn.new.buffer.items + 1024 * c.take_turn.new.reader.left) c.in-Err.fault
-    (spent_on start (prepend_known c.loop-replies.buffer.items (g.R.Read.remaining c.loop-replies.reader.reader.now)) (prepend_known c.take_turn.new.buffer.items left)
-    (1024 * c.args.reader.now.left) (length c.loop-replies.buffer.items + 1024 * c.loop-replies.reader.left)
-    (length c.take_turn.new.buffer.items + 1024 * c.take_turn.new.reader.left) c.loop-replies.invariant.5 c.in-Err.ensures.bound)
+    (spent_on start (prepend_known c.loop-fault.buffer.items (g.R.Read.remaining c.loop-fault.reader.reader.now)) (prepend_known c.take_turn.new.buffer.items left)
+    (1024 * c.args.reader.now.left) (length c.loop-fault.buffer.items + 1024 * c.loop-fault.reader.left)
+    (length c.take_turn.new.buffer.items + 1024 * c.take_turn.new.reader.left) c.loop-fault.invariant.5 c.in-Err.ensures.bound)
 
 pub returns-in-Ok-End-clause-bound : goal.returns-in-Ok-End-clause-bound
 returns-in-Ok-End-clause-bound g c =
     let start = g.R.Read.remaining c.args.reader.now.reader.now in
     let left = g.R.Read.remaining c.take_turn.new.reader.reader.now in
     spent_all start left c.take_turn.new.buffer.items (1024 * c.args.reader.now.left) (1024 * c.take_turn.new.reader.left)
-    (spent_on start (prepend_known c.loop-replies.buffer.items (g.R.Read.remaining c.loop-replies.reader.reader.now)) (prepend_known c.take_turn.new.buffer.items left)
-    (1024 * c.args.reader.now.left) (length c.loop-replies.buffer.items + 1024 * c.loop-replies.reader.left)
-    (length c.take_turn.new.buffer.items + 1024 * c.take_turn.new.reader.left) c.loop-replies.invariant.5 c.in-Ok-End.ensures.bound)
+    (spent_on start (prepend_known c.loop-fault.buffer.items (g.R.Read.remaining c.loop-fault.reader.reader.now)) (prepend_known c.take_turn.new.buffer.items left)
+    (1024 * c.args.reader.now.left) (length c.loop-fault.buffer.items + 1024 * c.loop-fault.reader.left)
+    (length c.take_turn.new.buffer.items + 1024 * c.take_turn.new.reader.left) c.loop-fault.invariant.5 c.in-Ok-End.ensures.bound)
 
 pub returns-in-Ok-Last-clause-bound : goal.returns-in-Ok-Last-clause-bound
 returns-in-Ok-Last-clause-bound g c =
     let start = g.R.Read.remaining c.args.reader.now.reader.now in
     let left = g.R.Read.remaining c.take_turn.new.reader.reader.now in
     spent_all start left c.take_turn.new.buffer.items (1024 * c.args.reader.now.left) (1024 * c.take_turn.new.reader.left)
-    (spent_on start (prepend_known c.loop-replies.buffer.items (g.R.Read.remaining c.loop-replies.reader.reader.now)) (prepend_known c.take_turn.new.buffer.items left)
-    (1024 * c.args.reader.now.left) (length c.loop-replies.buffer.items + 1024 * c.loop-replies.reader.left)
-    (length c.take_turn.new.buffer.items + 1024 * c.take_turn.new.reader.left) c.loop-replies.invariant.5 c.in-Ok-Last.ensures.bound)
+    (spent_on start (prepend_known c.loop-fault.buffer.items (g.R.Read.remaining c.loop-fault.reader.reader.now)) (prepend_known c.take_turn.new.buffer.items left)
+    (1024 * c.args.reader.now.left) (length c.loop-fault.buffer.items + 1024 * c.loop-fault.reader.left)
+    (length c.take_turn.new.buffer.items + 1024 * c.take_turn.new.reader.left) c.loop-fault.invariant.5 c.in-Ok-Last.ensures.bound)
 
 pub returns-in-Err-clause-bound : goal.returns-in-Err-clause-bound
 returns-in-Err-clause-bound g c =
     let start = g.R.Read.remaining c.args.reader.now.reader.now in
     let left = g.R.Read.remaining c.take_turn.new.reader.reader.now in
     spent_all start left c.take_turn.new.buffer.items (1024 * c.args.reader.now.left) (1024 * c.take_turn.new.reader.left)
-    (spent_on start (prepend_known c.loop-replies.buffer.items (g.R.Read.remaining c.loop-replies.reader.reader.now)) (prepend_known c.take_turn.new.buffer.items left)
-    (1024 * c.args.reader.now.left) (length c.loop-replies.buffer.items + 1024 * c.loop-replies.reader.left)
-    (length c.take_turn.new.buffer.items + 1024 * c.take_turn.new.reader.left) c.loop-replies.invariant.5 c.in-Err.ensures.bound)
+    (spent_on start (prepend_known c.loop-fault.buffer.items (g.R.Read.remaining c.loop-fault.reader.reader.now)) (prepend_known c.take_turn.new.buffer.items left)
+    (1024 * c.args.reader.now.left) (length c.loop-fault.buffer.items + 1024 * c.loop-fault.reader.left)
+    (length c.take_turn.new.buffer.items + 1024 * c.take_turn.new.reader.left) c.loop-fault.invariant.5 c.in-Err.ensures.bound)
 
-pub returns-clause-bound : goal.returns-clause-bound
-returns-clause-bound g c =
-    spent_all (g.R.Read.remaining c.args.reader.now.reader.now) (g.R.Read.remaining c.loop-replies.reader.reader.now) c.loop-replies.buffer.items
-    (1024 * c.args.reader.now.left) (1024 * c.loop-replies.reader.left) c.loop-replies.invariant.5
-
-pub returns-clause-asked : goal.returns-clause-asked
-returns-clause-asked g c =
-    broken_off (g.R.Read.remaining c.args.reader.now.reader.now) (g.R.Read.remaining c.loop-replies.reader.reader.now) c.loop-replies.buffer.items
-    (1024 * c.args.reader.now.left) (length c.loop-replies.buffer.items + 1024 * c.loop-replies.reader.left) desk.Read c.loop-replies.invariant.5
+pub returns-in-Err-clause-failed : goal.returns-in-Err-clause-failed
+returns-in-Err-clause-failed g c is =
+    called_before c.args.reader.now.left c.loop-fault.reader.left c.take_turn.new.reader.left c.loop-fault.invariant.8 (c.in-Err.ensures.failed is)

@@ -9,8 +9,8 @@ use Rattle.land_desk.proofs.serve.serve_items.Given as goal
 
 -- there is room for the fields of a head; so far the items were answered up to a state at which the keeper stands; at most a
 -- piece is read ahead, and no more was read than the reader was asked for
-abbrev pub invariant-loop-replies : goal.invariant-loop-replies
-invariant-loop-replies g l =
+abbrev pub invariant-loop-fault : goal.invariant-loop-fault
+invariant-loop-fault g l =
     (2731 ≤ length l.headers)
     × IfBoth (g.R.Read.remaining l.initial.reader.reader.now) (prepend_known l.buffer.items (g.R.Read.remaining l.reader.reader.now)) (λ bytes rest.
     (now : State g.row.C.Denot) × SoFar (HearsIf (g.K.Keeper.honest l.keeper) g.C.Clock.reads) bytes rest
@@ -25,3 +25,9 @@ invariant-loop-replies g l =
     × IfBoth (g.R.Read.remaining l.initial.reader.reader.now) (prepend_known l.buffer.items (g.R.Read.remaining l.reader.reader.now))
     (IsSpent (1024 * l.initial.reader.left) (length l.buffer.items + 1024 * l.reader.left))
     × (l.reader.reader.ghost_name ≡ l.initial.reader.reader.ghost_name)
+    × (l.replies + (length l.buffer.items + 1024 * l.reader.left) ≤ 1024 * l.initial.reader.left)
+    × (l.reader.left ≤ l.initial.reader.left)
+
+-- each turn after which the connection stays open takes a byte of the buffer, and each read takes 1024 of the budget
+abbrev pub decreases-loop-fault : goal.decreases-loop-fault
+decreases-loop-fault g l = length l.buffer.items + 1024 * l.reader.left

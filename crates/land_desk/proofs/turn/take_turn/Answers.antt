@@ -1,6 +1,6 @@
-use Rattle.std.proofs.Common.{◌+◌, ◌*◌, [], inl, length, refl, Err, Ok, drop}
+use Rattle.std.proofs.Common.{◌+◌, ◌*◌, [], arith, inl, length, refl, Err, Ok, drop}
 use Rattle.std.specs.Io.KnownBytes.{prepend_known}
-use Rattle.land_desk.proofs.Asking.{end_asked, fault_asked, front_gone, none_gone, not_read, request_asked}
+use Rattle.land_desk.proofs.Asking.{called, end_asked, fault_asked, front_gone, if_more, none_gone, none_more, none_unread, not_read, request_asked, request_gone}
 use Rattle.land_desk.proofs.Moving.{one_heard}
 use Rattle.land_desk.proofs.TurnLemmas.{end_told, fault_told, request_told, stays_put, unread}
 use Rattle.land_desk.specs.Serving.{HearsIf}
@@ -134,3 +134,28 @@ returns-in-Ok-Request-clause-bound g c =
     c.read_item.new.buffer.items c.drop_front.new.buffer.items (c.in-Ok-Request.spans.len + c.in-Ok-Request.length)
     (length c.args.buffer.now.items + 1024 * c.args.reader.now.left) (1024 * c.read_item.new.reader.left)
     c.in-Ok-Request.ensures.stream c.in-Ok-Request.ensures.bound c.drop_front.ensures
+
+pub returns-in-Ok-Request-clause-progress : goal.returns-in-Ok-Request-clause-progress
+returns-in-Ok-Request-clause-progress g c =
+    if_more _ c.say-turn.result (request_gone c.read_item.new.buffer.items c.drop_front.new.buffer.items c.read_item.new.headers c.in-Ok-Request.field-0
+    c.in-Ok-Request.spans c.in-Ok-Request.length (length c.args.buffer.now.items + 1024 * c.args.reader.now.left) (1024 * c.read_item.new.reader.left)
+    c.in-Ok-Request.field-0-is c.in-Ok-Request.ensures.front c.drop_front.ensures c.in-Ok-Request.ensures.bound)
+
+pub returns-in-Ok-Fault-clause-progress : goal.returns-in-Ok-Fault-clause-progress
+returns-in-Ok-Fault-clause-progress g c =
+    none_more _ c.say.result (answer_bytes c.refuse.result.bytes) c.refuse.result.last (g.W.Write.contents c.args.writer.now) (g.W.Write.contents c.say.new.writer)
+    c.refuse.ensures.2.1 c.say.ensures
+
+pub returns-in-Ok-Request-clause-failed : goal.returns-in-Ok-Request-clause-failed
+returns-in-Ok-Request-clause-failed g c =
+    none_unread _ c.say-turn.result (answer_bytes c.answer_request-answer.result.bytes) c.answer_request-answer.result.last
+    (g.W.Write.contents c.args.writer.now) (g.W.Write.contents c.say-turn.new.writer) c.say-turn.ensures
+
+pub returns-in-Ok-Fault-clause-failed : goal.returns-in-Ok-Fault-clause-failed
+returns-in-Ok-Fault-clause-failed g c =
+    none_unread _ c.say.result (answer_bytes c.refuse.result.bytes) c.refuse.result.last (g.W.Write.contents c.args.writer.now) (g.W.Write.contents c.say.new.writer)
+    c.say.ensures
+
+pub returns-in-Err-Read-clause-failed : goal.returns-in-Err-Read-clause-failed
+returns-in-Err-Read-clause-failed g c is =
+    called _ c.args.reader.now.left c.args.reader.now.left c.read_item.new.reader.left (omega arith) (c.in-Err-Read.ensures.failed c.in-Err-Read.field-0-is)

@@ -10,6 +10,7 @@ invariant-loop-end g l =
     × (length l.buffer.items + 1024 * l.reader.left ≤ length l.fn.buffer.items + 1024 * l.fn.reader.left)
     × (length l.fn.buffer.items < l.end + 1024 → length l.buffer.items < l.end + 1024)
     × (l.reader.reader.ghost_name ≡ l.fn.reader.reader.ghost_name)
+    × (l.reader.left ≤ l.fn.reader.left)
 
 abbrev pub decreases-loop-end : goal.decreases-loop-end
 decreases-loop-end g l = l.reader.left

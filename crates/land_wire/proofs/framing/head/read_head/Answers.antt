@@ -52,6 +52,7 @@ loop-spans-init g c = (
   omega arith,
   (λ small. none_read c.args.buffer.now.items small),
   refl,
+  omega arith,
 )
 
 pub loop-spans-preserved : goal.loop-spans-preserved
@@ -71,4 +72,5 @@ loop-spans-preserved g c =
       (λ small. piece_read c.loop-spans.buffer.items c.read_more.new.buffer.items grown.0 c.min-end.result all short grown.2
           (omega (arith, c.in-Ok.ensures.bound, c.in-Ok.ensures.spends, ap length grown.2, length-append c.loop-spans.buffer.items grown.0)) open_now),
       c.in-Ok.ensures.same_reference ∙ c.loop-spans.invariant.4,
+      omega (arith, c.loop-spans.invariant.5, c.in-Ok.ensures.fewer),
     )

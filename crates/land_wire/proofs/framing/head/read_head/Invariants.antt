@@ -10,6 +10,7 @@ invariant-loop-spans g l = Keeps (prepend_known l.fn.buffer.items (g.R.Read.rema
     × (length l.buffer.items + 1024 * l.reader.left ≤ length l.fn.buffer.items + 1024 * l.fn.reader.left)
     × (length l.fn.buffer.items ≤ 1024 → IsJustRead l.buffer.items)
     × (l.reader.reader.ghost_name ≡ l.fn.reader.reader.ghost_name)
+    × (l.reader.left ≤ l.fn.reader.left)
 
 abbrev pub decreases-loop-spans : goal.decreases-loop-spans
 decreases-loop-spans g l = l.reader.left
