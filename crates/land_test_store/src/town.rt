@@ -43,8 +43,9 @@ impl<L: Connections + Drop> Host for TownHost<L> {
         Ok(Connection::open_in_memory(self.alloc)?)
     }
 
-    fn open_found(&mut self, file: &str) -> Result<Connection<MemStore>, ProgramFault> {
-        match Tables::create(self.open_new(file)?) {
+    fn open_found(&mut self, _file: &str) -> Result<Connection<MemStore>, ProgramFault> {
+        let conn = Connection::open_in_memory(self.alloc)?;
+        match Tables::create(conn) {
             Ok(tables) => Ok(tables.into_connection()),
             Err((_, StoreFault::NoMemory)) => Err(ProgramFault::NoMemory),
             Err(_) => Err(ProgramFault::Open),
