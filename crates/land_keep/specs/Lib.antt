@@ -1,5 +1,6 @@
 -- Definitions of the machine and of its keepers.
 pub mod Faults
+pub mod Keepers
 pub mod Keeping
 pub mod Laws
 pub mod Machine

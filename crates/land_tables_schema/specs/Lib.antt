@@ -1,5 +1,6 @@
 -- Definitions of the tables of the register.
 pub mod Columns
+pub mod Connections
 pub mod Definitions
 pub mod Land
 pub mod Laws
