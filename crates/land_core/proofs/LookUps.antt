@@ -1,4 +1,4 @@
--- A register is sound exactly where its look-ups say so.
+-- Proof that soundness is equivalent to conditions on lookups.
 use Rattle.std.proofs.Common.{◌≡◌, ◌≢◌, ℕ, ◌<◌, ◌≤◌, Bool, true, false, not, ◌||◌, ◌&&◌, nat_eq, nat_lt, List, [], ◌∷◌, length, Option, Some, None, is_some, refl, sym, ap, ◌∙◌, subst, arith}
 use Rattle.std.proofs.lemmas.Bool.{false≢true, lt-ltb, le-ltb, ltb-true, ltb-false, eqb-true, eq-eqb, and_from, and_parts, false_from_ne_true, not-false, not-true, or_from, or_parts}
 use Rattle.std.proofs.lemmas.Bool.Decides.{nat_tests}
@@ -41,7 +41,7 @@ use Rattle.land_fraction.specs.Wholeness.{IsWhole, wholeness}
 use Rattle.land_fraction.specs.declared.lists.Whole.{Whole}
 use Rattle.land_fraction.specs.declared.lists.Whole.TheVariants.{Yes, No, TooFine}
 
--- where no entry passes a test, none at a number does, and the other way round
+-- no entry passes a test if and only if no value of a key does
 at : {V : Type 0} (p : ℕ → V → Bool) (m : FinMap nat_cmp V) → some p m ≡ false → (n : ℕ) (v : V) → map.get m n ≡ Some v → p n v ≡ false
 at p m none n v is = none_at nat_cmp_total nat_cmp-IsAntisymmetric p m n v none is
 
@@ -54,7 +54,7 @@ in_use r n h = let it = used_bounds r n h in record { positive = it.0; below = i
 used : (r : Register) (n : ℕ) → IsInUse r n → is_used r n ≡ true
 used r n h = and_from (nat_lt 0 n) (nat_lt n r.next) (lt-ltb 0 n h.positive) (lt-ltb n r.next h.below)
 
--- types of rights are one where the test says so
+-- types of rights are equal if the test passes
 pub one_type : (a b : RightType) → is_type a b ≡ true → a ≡ b
 one_type Ownership Ownership h = refl
 one_type Ownership Lease h = absurd (false≢true h)
@@ -88,7 +88,7 @@ ranks_from None b h = absurd (false≢true h)
 ranks_to : (rank : ℕ) (a b : Option ℕ) → a ≡ Some rank → b ≡ Some rank → are_of_one_rank a b ≡ true
 ranks_to rank a b x y = ap (λ o. are_of_one_rank o b) x ∙ ap (are_of_one_rank (Some rank)) y ∙ eq-eqb rank rank refl
 
--- two entries of a unit go together where they do not clash
+-- two entries of a unit are compatible if they do not clash
 together : (e f : RrrRecord) → e.unit ≡ f.unit → do_clash e f ≡ false → GoTogether e f
 together e f unit h =
     let one = are_of_one_type (type_of e.class) (type_of f.class) in
@@ -166,7 +166,7 @@ size_from n h = (grind (arith, nat_tests), grind (arith, nat_tests))
 size_to : (n : ℕ) → 2 ≤ n → n ≤ 64 → is_group_size n ≡ true
 size_to n least most = grind (arith, nat_tests)
 
--- a grant that stands
+-- the value of a grant that exists
 granted : (o : Option (Unit {0})) → is_some o ≡ true → o ≡ Some tt
 granted None h = absurd (false≢true h)
 granted (Some u) h = refl
@@ -174,7 +174,7 @@ granted (Some u) h = refl
 administers : (role : Role) → is_role role StateAdministrator ≡ true → role ≡ StateAdministrator
 administers role h = sym (role_at_place role) ∙ ap role_at (eqb-true (place_of role) 5 h)
 
--- what a parcel and an entry refer to
+-- the references of a parcel and of an entry exist
 parcel_refers : (r : Register) (p : ParcelRecord) → not (has r.units p.unit && has r.sources p.source) ≡ false → ParcelRefers r p
 parcel_refers r p h = let it = and_parts (has r.units p.unit) (has r.sources p.source) (not-false _ h) in record { unit = it.0; source = it.1 }
 
@@ -260,7 +260,7 @@ rank_to : (r : Register) (o : Option ℕ) → ((rank : ℕ) → o ≡ Some rank 
 rank_to r None h = refl
 rank_to r (Some rank) h = ap not (used r rank (h rank refl))
 
--- shares make a whole where the answer is that they do
+-- shares sum to 1 if the function returns `Yes`
 module _ (law : WholenessLaw) where
   whole_from_yes : (shares : List Ratio) → is_yes (wholeness shares) ≡ true → IsWhole shares
   whole_from_yes shares h = (law shares Yes).1 (sym (is_it (wholeness shares) h))
@@ -331,7 +331,7 @@ module _ (law : WholenessLaw) where
         | false ↦ λ free. refl
       ] refl
 
-  -- what soundness says of look-ups
+  -- soundness implies the conditions on lookups
   look_ups_from : (r : Register) → IsSound r → IsSoundByLookUps r
   look_ups_from r sound =
       let parts = refers r (sound Reference) in
@@ -363,7 +363,7 @@ module _ (law : WholenessLaw) where
         );
       }
 
-  -- and what look-ups say of soundness
+  -- the conditions on lookups imply soundness
   look_ups_to : (r : Register) → IsSoundByLookUps r → IsSound r
   look_ups_to r h Reference =
       refers_back r (record {

@@ -1,4 +1,4 @@
--- Mandates between two single parties, where none is loose, and how they stay so.
+-- Lemmas on mandates: if none is dangling, each is between two single parties, and remains so.
 use Rattle.std.proofs.Common.{◌≡◌, ℕ, Bool, true, false, not, ◌&&◌, ◌||◌, nat_eq, List, [], ◌∷◌, Some, refl, sym, ap, ◌∙◌}
 use Rattle.std.proofs.lemmas.Bool.{false≢true}
 use Rattle.std.specs.FinMap as map
@@ -24,7 +24,7 @@ mandates_from r none m is =
     none_at mandates_total exact_mandates (λ m u. is_loose_mandate r m) r.mandates m tt
     (sym (list_any-map (λ (m : Mandate). is_loose_mandate r m) (λ e. e.0) (map.entries r.mandates)) ∙ none) is
 
--- where there are no mandates, none is loose
+-- if there are no mandates, none is dangling
 pub no_mandates_are_tight : (r : Register) → r.mandates ≡ map.empty → has_loose_mandate r ≡ false
 no_mandates_are_tight r none = loose_mandates_from r (λ m is. absurd (none_is_not_some (sym (map.get-empty mandate_cmp m) ∙ sym (ap (λ ms. map.get ms m) none) ∙ is)))
 
@@ -33,7 +33,7 @@ both_fail true b c d f g e = absurd (false≢true (sym e))
 both_fail false b true d f g e = absurd (false≢true (sym (f refl)))
 both_fail false b false d f g e = g e
 
--- where all that fail one test fail another
+-- if all items that fail one test fail another, and none passes the one, none passes the other
 none_more : {X : Type 0} (p q : X → Bool) → ((x : X) → p x ≡ false → q x ≡ false) → (xs : List X) → list_any p xs ≡ false → list_any q xs ≡ false
 none_more p q h [] e = refl
 none_more p q h (x ∷ xs) e = both_fail (p x) (list_any p xs) (q x) (list_any q xs) (h x) (none_more p q h xs) e
@@ -45,7 +45,7 @@ tight true true true false x f g e = absurd (false≢true (g refl))
 tight true false c d x f g e = absurd (false≢true (sym e))
 tight false b c d x f g e = absurd (false≢true (sym e))
 
--- where single parties stay single, the mandates that stood stay those of single parties
+-- if single parties stay single, no mandate becomes dangling
 pub mandates_stay : (r new : Register) → ((n : ℕ) → has_single_party r n ≡ true → has_single_party new n ≡ true) → new.mandates ≡ r.mandates → has_loose_mandate r ≡ false
     → has_loose_mandate new ≡ false
 mandates_stay r new stay same none =

@@ -15,7 +15,7 @@ pub list_any_same : {X : Type 0} (p q : X → Bool) → ((x : X) → p x ≡ q x
 list_any_same p q h [] = refl
 list_any_same p q h (x ∷ xs) = ap (λ b. b || list_any p xs) (h x) ∙ ap (λ b. q x || b) (list_any_same p q h xs)
 
--- where each item of a list passes two tests alike
+-- if each item of a list passes two tests alike, the list does
 list_any_alike : {X : Type 0} (p q : X → Bool) (xs : List X) → AllByRecursion (λ x. p x ≡ q x) xs → list_any p xs ≡ list_any q xs
 list_any_alike p q [] h = refl
 list_any_alike p q (x ∷ xs) h = ap (λ b. b || list_any p xs) h.0 ∙ ap (λ b. q x || b) (list_any_alike p q xs h.1)
@@ -34,7 +34,7 @@ module _ {V : Type 0} (test : V → V → Bool) where
   some_pair [] = false
   some_pair (e ∷ es) = list_any (λ f. test e.1 f.1) es || some_pair es
 
-  -- what a later entry is to the first, and the first to it
+  -- the order of a later entry and the first
   first_test : (e : ℕ × V) (es : List (ℕ × V)) → below_all nat_cmp e.0 es ≡ true → AllByRecursion (λ f. (nat_lt e.0 f.0 && test e.1 f.1) ≡ test e.1 f.1) es
   first_test e [] h = tt
   first_test e (f ∷ fs) h = (

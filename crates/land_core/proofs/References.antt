@@ -1,4 +1,5 @@
--- The references that were met so far say whether a party has lodged two mutations under one.
+-- Lemmas on the set of references already seen, which decides whether a party has lodged two mutations with
+-- the same one.
 use Rattle.std.proofs.Common.{◌≡◌, ℕ, Bool, true, false, cond, ◌||◌, List, [], ◌∷◌, Bor, refl, sym, ap, ◌∙◌}
 use Rattle.std.proofs.lemmas.Map.Text.{is_eq-slice_cmp}
 use Rattle.std.specs.BTreeMap.{is_at}
@@ -31,7 +32,7 @@ lodging_of m = (m.lodger, record { ref_ptr = (0, 0); now = m.reference })
 abbrev pub has_met : BTreeSet Lodging → MutationRecord → Bool
 has_met met m = contains lodging_cmp met (lodging_of m)
 
--- whether a mutation to come has what was met, or shares its reference with a later one
+-- whether a remaining mutation has a reference already seen, or the same as a later one
 abbrev pub is_reused_in : BTreeSet Lodging → List (ℕ × MutationRecord) → Bool
 is_reused_in met es = list_any (λ e. has_met met e.1) es || some_pair share_a_reference es
 
@@ -48,7 +49,7 @@ same_at k m h x =
 same_met : (met : BTreeSet Lodging) (k : Lodging) (m : MutationRecord) → IsLodging k m → contains lodging_cmp met k ≡ has_met met m
 same_met met k m h = list_any_same (is_at (lodging_cmp k)) (is_at (lodging_cmp (lodging_of m))) (same_at k m h) met.keys
 
--- keys are equal where mutations share a reference
+-- keys are equal if mutations have the same lodger and reference
 shared_at : (m other : MutationRecord) → is_at (lodging_cmp (lodging_of m)) (lodging_of other) ≡ share_a_reference m other
 shared_at m other = sym (both_tied _ _ (nat_cmp m.lodger other.lodger) (slice_cmp nat_cmp m.reference other.reference) (unsigned_ties m.lodger other.lodger) (sym (is_eq-slice_cmp m.reference other.reference)))
 
@@ -68,11 +69,11 @@ none_met met h (e ∷ es) = ap (λ ks. list_any (is_at (lodging_cmp (lodging_of 
 pub reused_begins : (r : Register) (met : BTreeSet Lodging) → met.keys ≡ [] → is_reused_in met (map.entries r.mutations) ≡ has_reused_reference r
 reused_begins r met h = ap (λ b. b || some_pair share_a_reference (map.entries r.mutations)) (none_met met h (map.entries r.mutations)) ∙ sym (later_pairs share_a_reference r.mutations)
 
--- a mutation has what was met
+-- a mutation has a reference that was already seen
 pub reused_now : (met : BTreeSet Lodging) (k : Lodging) (e : ℕ × MutationRecord) (es : List (ℕ × MutationRecord)) → IsLodging k e.1 → contains lodging_cmp met k ≡ true → is_reused_in met (e ∷ es) ≡ true
 reused_now met k e es is h = ap (λ b. (b || list_any (λ e. has_met met e.1) es) || some_pair share_a_reference (e ∷ es)) (sym (same_met met k e.1 is) ∙ h)
 
--- a mutation has what was not met, and is met then
+-- a mutation has a new reference, which is then added to the set
 pub reused_later : (met new : BTreeSet Lodging) (k : Lodging) (e : ℕ × MutationRecord) (es : List (ℕ × MutationRecord)) → IsLodging k e.1 → contains lodging_cmp met k ≡ false
     → ((q : Lodging) → contains lodging_cmp new q ≡ cond (is_at (lodging_cmp k) q) true (contains lodging_cmp met q))
     → is_reused_in met (e ∷ es) ≡ is_reused_in new es

@@ -1,4 +1,4 @@
--- What the entries of a finite map say of its look-ups, and the other way round.
+-- Lemmas that relate the entries of a finite map and its lookups.
 use Rattle.std.proofs.Common.{◌≡◌, Bool, true, false, cond, ◌||◌, ◌&&◌, List, [], ◌∷◌, ◌++◌, Some, None, refl, sym, ap, ◌∙◌, subst, append_assoc, append-nil}
 use Rattle.std.proofs.lemmas.Bool.{false≢true, and_parts}
 use Rattle.std.specs.Prelude.{filter, map as map_list}
@@ -45,7 +45,7 @@ module _ {K : Type 0} {R : K → K → Ordering} (same : IsAntisymmetric R) {V :
       ] refl f
 
 module _ {K : Type 0} {R : K → K → Ordering} (o : IsTotalOrder R) (same : IsAntisymmetric R) {V : Type 0} (p : K → V → Bool) where
-  -- what is found is among the entries
+  -- a value found by lookup is among the entries
   some_found : (es : List (K × V)) (k : K) (v : V) → find R k es ≡ Some v → p k v ≡ true → list_any (λ e. p e.0 e.1) es ≡ true
   some_found [] k v f h = absurd (none_some f)
     where
@@ -91,7 +91,7 @@ module _ {K : Type 0} {R : K → K → Ordering} (o : IsTotalOrder R) (same : Is
       let it = entry_found (map.entries m) (T_true _ (map.entries_sorted m)) h in
       record { key = it.key; value = it.value; there = map.get-entries m it.key ∙ it.found; passes = it.passes }
 
-  -- where no value at a key passes, no entry does
+  -- if no value of a key passes, no entry does
   pub none_passes : (m : FinMap R V) → ((k : K) (v : V) → map.get m k ≡ Some v → p k v ≡ false) → list_any (λ e. p e.0 e.1) (map.entries m) ≡ false
   none_passes m h =
       elim (list_any (λ e. p e.0 e.1) (map.entries m)) as (λ b. list_any (λ e. p e.0 e.1) (map.entries m) ≡ b → b ≡ false) [
@@ -104,7 +104,7 @@ module _ {K : Type 0} {R : K → K → Ordering} (o : IsTotalOrder R) (same : Is
       elim (p k v) as (λ b. p k v ≡ b → b ≡ false) [ true ↦ λ e. sym (some_at m k v g e) ∙ h | false ↦ λ e. refl ] refl
 
 module _ {K : Type 0} {R : K → K → Ordering} (o : IsTotalOrder R) (same : IsAntisymmetric R) {V : Type 0} where
-  -- a key above all others goes to the end
+  -- a key above all others is inserted at the end
   put_last : (xs : List (K × V)) (e : K × V) (es : List (K × V)) → is_sorted R (xs ++ e ∷ es) ≡ true → put R e.0 e.1 xs ≡ xs ++ e ∷ []
   put_last [] e es h = refl
   put_last (x ∷ xs) e es h =
@@ -115,7 +115,7 @@ module _ {K : Type 0} {R : K → K → Ordering} (o : IsTotalOrder R) (same : Is
       below_last [] b = (and_parts _ _ b).0
       below_last (y ∷ ys) b = below_last ys (and_parts _ _ b).1
 
-  -- to put in entries that come after all others is to append them
+  -- inserting entries above all others appends them
   pub entries-with_entries : (m : FinMap R V) (es : List (K × V)) → is_sorted R (map.entries m ++ es) ≡ true → map.entries (with_entries m es) ≡ map.entries m ++ es
   entries-with_entries m [] h = sym (append-nil (map.entries m))
   entries-with_entries m (e ∷ es) h =
@@ -162,11 +162,11 @@ module _ {K : Type 0} {R : K → K → Ordering} (o : IsTotalOrder R) (same : Is
             ] refl
       ] refl
 
-  -- a key that passes keeps its value
+  -- a key that passes has its value unchanged
   pub get-only : (p : K → V → Bool) (m : FinMap R V) (q : K) → ((v : V) → p q v ≡ true) → map.get (only p m) q ≡ map.get m q
   get-only p m q h = map.get-entries (only p m) q ∙ ap (find R q) (entries-only p m) ∙ find-filter p q h (map.entries m) ∙ sym (map.get-entries m q)
 
-  -- each entry is what its key has
+  -- each entry is the value of its key
   each_found : (es : List (K × V)) → is_sorted R es ≡ true → AllByRecursion (λ e. find R e.0 es ≡ Some e.1) es
   each_found [] h = tt
   each_found (e ∷ es) h = (
@@ -188,7 +188,7 @@ module _ {K : Type 0} {R : K → K → Ordering} (o : IsTotalOrder R) (same : Is
       from_found [] a = tt
       from_found (y ∷ ys) a = (map.get-entries m y.0 ∙ a.0, from_found ys a.1)
 
--- a test that only what is kept passes
+-- a test that only items of the filtered list pass
 pub list_any-filter : {X : Type 0} (t p : X → Bool) (xs : List X) → AllByRecursion (λ x. t x ≡ true → p x ≡ true) xs → list_any t (filter p xs) ≡ list_any t xs
 list_any-filter t p [] h = refl
 list_any-filter t p (x ∷ xs) h =

@@ -1,4 +1,4 @@
--- What soundness says of look-ups, and how it is shown by look-ups.
+-- Lemmas from soundness to lookups and back.
 use Rattle.std.proofs.Common.{◌≡◌, ℕ, ◌<◌, Bool, true, false, cond, ◌||◌, ◌&&◌, not, Option, Some, None, refl, sym, ap, ◌∙◌, arith}
 use Rattle.std.specs.Option.{option_map_or}
 use Rattle.std.specs.Ordering.{nat_cmp, eq_by_cmp, is_eq}
@@ -23,7 +23,7 @@ use Rattle.land_core.specs.declared.roles.Grant.{Grant}
 use Rattle.land_core.specs.declared.soundness.Unsound.TheVariants.{Reference, Administrator}
 use Rattle.land_fraction.specs.Ratio.{Ratio}
 
--- what a register without faults of reference has: the eight parts of that fault
+-- a register without a fault of reference: none of its eight conditions holds
 pub record Refers (r : Register) : Type 0 where
   pub room : is_past_the_numbers r ≡ false
   pub numbers : has_unused_number r ≡ false
@@ -111,14 +111,14 @@ administrator_at r g is role =
     list_any-map (λ (g : Grant). is_role g.role StateAdministrator) (λ e. e.0) (map.entries r.roles)
     ∙ some_at grants_total exact_grants (λ g u. is_role g.role StateAdministrator) r.roles g tt is role
 
--- the numbers of records are in use, where none is not
+-- the numbers of records are in use, if the fault does not hold
 pub used_from : {V : Type 0} (r : Register) (records : FinMap nat_cmp V) → has_unused r records ≡ false → (n : ℕ) (v : V) → map.get records n ≡ Some v → is_used r n ≡ true
 used_from r records none n v is = not-false _ (none_at nat_cmp_total nat_cmp-IsAntisymmetric (λ n v. not (is_used r n)) records n v none is)
 
 pub unused_from : {V : Type 0} (r : Register) (records : FinMap nat_cmp V) → ((n : ℕ) (v : V) → map.get records n ≡ Some v → is_used r n ≡ true) → has_unused r records ≡ false
 unused_from r records h = none_passes nat_cmp_total nat_cmp-IsAntisymmetric (λ n v. not (is_used r n)) records (λ n v is. ap not (h n v is))
 
--- what a register that has members for a number says of them
+-- the members of a number are those of a group, and single parties
 pub record AreTight (r : Register) (group : ℕ) (members : Members) : Type 0 where
   pub grouped : has_group r group ≡ true
   pub single : (n : ℕ) (share : Ratio) → map.get members n ≡ Some share → has_single_party r n ≡ true
@@ -139,7 +139,7 @@ members_from r none group members is =
       single = λ n share at. not-false _ (none_at nat_cmp_total nat_cmp-IsAntisymmetric (λ n share. not (has_single_party r n)) members n share parts.1 at);
     }
 
--- groups are whole, where none is broken
+-- the shares of groups sum to 1, if no group is broken
 abbrev is_broken : Register → ℕ → PartyRecord → Bool
 is_broken r n p = not (is_single p.kind) && not (are_group_shares (shares_of r n))
 
@@ -155,7 +155,7 @@ pub whole_from : (r : Register) → has_broken_group r ≡ false → (n : ℕ) (
 whole_from r none n p is group =
     not-false _ (sym (ap (λ b. not b && not (are_group_shares (shares_of r n))) group) ∙ none_at nat_cmp_total nat_cmp-IsAntisymmetric (is_broken r) r.parties n p none is)
 
--- a single party that stands has a record
+-- a single party that exists has a record
 pub record Stands (r : Register) (n : ℕ) : Type 0 where
   pub party : PartyRecord
   pub there : map.get r.parties n ≡ Some party
@@ -173,7 +173,7 @@ used_bounds r n h = (grind (arith, nat_tests), grind (arith, nat_tests))
 unit_is : (u : Unit {0}) → u ≡ tt
 unit_is u = refl
 
--- somebody administers a sound register, so its next number is above 0
+-- a sound register has an administrator, so its next number is above 0
 pub next_above_zero : (r : Register) → IsSound r → 0 < r.next
 next_above_zero r sound =
     let parts = refers r (sound Reference) in
@@ -186,7 +186,7 @@ next_above_zero r sound =
 pub apart_itself : (n : ℕ) → eq_by_cmp nat_cmp n n ≡ false → ⊥
 apart_itself n h = false≢true (sym h ∙ ap is_eq (tied_itself nat_cmp_total n))
 
--- a single party that is put at a number leaves single parties single
+-- inserting a single party leaves single parties single
 pub single_put : (r new : Register) (number : ℕ) (party : PartyRecord) → new.parties ≡ map.insert r.parties number party → is_single party.kind ≡ true
     → (n : ℕ) → ((eq_by_cmp nat_cmp n number ≡ false) → has_single_party r n ≡ true) → has_single_party new n ≡ true
 single_put r new number party is single n h =

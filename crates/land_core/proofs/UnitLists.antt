@@ -1,4 +1,4 @@
--- What is listed under the units of a register says what the whole register says.
+-- Lemmas that relate the lists by unit to the whole register.
 use Rattle.std.proofs.Common.{◌≡◌, ℕ, Bool, true, false, cond, not, ◌||◌, ◌&&◌, nat_eq, nat_lt, List, [], ◌∷◌, length, suc, Option, Some, None, is_some, refl, sym, ap, ◌∙◌, subst}
 use Rattle.std.proofs.Math.Dec.{eqb-suc-zero}
 use Rattle.std.proofs.lemmas.Bool.{false≢true, eqb-true, eq-eqb, and_parts, not-false}
@@ -26,7 +26,7 @@ use Rattle.land_core.specs.declared.soundness.by_unit.ByUnit.{ByUnit}
 use Rattle.land_core.specs.declared.unit.UnitRecord.{UnitRecord}
 
 module _ {X Y : Type 0} (place : X → ℕ) (says : X → Y) (unit : ℕ) where
-  -- as many are listed under a unit as are in it
+  -- the list of a unit has as many items as the unit
   pub length-placed : (xs : List X) → length (placed place says unit xs) ≡ length (filter (λ x. nat_eq (place x) unit) xs)
   length-placed [] = refl
   length-placed (x ∷ xs) =
@@ -36,7 +36,7 @@ module _ {X Y : Type 0} (place : X → ℕ) (says : X → Y) (unit : ℕ) where
         | false ↦ rest
       ]
 
-  -- nothing is listed under a unit where nothing is in it
+  -- the list of a unit is empty if and only if the unit has no items
   pub none_placed : (xs : List X) → nat_eq (length (placed place says unit xs)) 0 ≡ not (list_any (λ x. nat_eq (place x) unit) xs)
   none_placed [] = refl
   none_placed (x ∷ xs) =
@@ -46,7 +46,7 @@ module _ {X Y : Type 0} (place : X → ℕ) (says : X → Y) (unit : ℕ) where
         | false ↦ rest
       ]
 
-  -- what is listed passes a test where what is in the unit does
+  -- an item of the list passes a test if and only if an item of the unit does
   pub list_any-placed : (test : Y → Bool) (xs : List X) → list_any test (placed place says unit xs) ≡ list_any (λ x. nat_eq (place x) unit && test (says x)) xs
   list_any-placed test [] = refl
   list_any-placed test (x ∷ xs) =
@@ -56,7 +56,7 @@ module _ {X Y : Type 0} (place : X → ℕ) (says : X → Y) (unit : ℕ) where
         | false ↦ rest
       ]
 
-  -- what is taken of what is listed is taken of what is in the unit
+  -- a filtered list of the items is that of the unit
   pub filter_map-placed : {Z : Type 0} (take : Y → Option Z) (xs : List X) → filter_map take (placed place says unit xs) ≡ filter_map (λ x. cond (nat_eq (place x) unit) (take (says x)) None) xs
   filter_map-placed take [] = refl
   filter_map-placed take (x ∷ xs) =
@@ -71,7 +71,7 @@ pub filter_map_same : {X Y : Type 0} (p q : X → Option Y) → ((x : X) → p x
 filter_map_same p q h [] = refl
 filter_map_same p q h (x ∷ xs) = ap (λ o. cons_option o (filter_map p xs)) (h x) ∙ ap (cons_option (q x)) (filter_map_same p q h xs)
 
--- what a claim says of a right is what its entry says
+-- a claim is a right of a type if and only if its entry is
 right_claimed : (type : RightType) (party : ℕ) (class : Class) → is_claim_of type (claim_in party class) ≡ is_right_of type class
 right_claimed type party (Right other share) = refl
 right_claimed type party (Restriction words) = refl
@@ -88,7 +88,7 @@ no_type : (a b : Bool) → (a && false || b) ≡ b
 no_type true b = refl
 no_type false b = refl
 
--- two claims clash where two entries of one unit do
+-- two claims clash if and only if two entries of one unit do
 clash_claimed : (p q : ℕ) (c d : Class) → (nat_eq p q && are_of_one_type (type_of c) (type_of d) || are_of_one_rank (rank_of c) (rank_of d)) ≡ do_claims_clash (claim_in p c) (claim_in q d)
 clash_claimed p q (Right type share) (Right other part) = or_nothing (nat_eq p q && is_type type other)
 clash_claimed p q (Right type share) (Restriction words) = no_type (nat_eq p q) false
@@ -101,7 +101,7 @@ clash_claimed p q (Mortgage amount currency rank) (Restriction words) = no_type 
 clash_claimed p q (Mortgage amount currency rank) (Responsibility words) = no_type (nat_eq p q) false
 clash_claimed p q (Mortgage amount currency rank) (Mortgage other money place) = no_type (nat_eq p q) (nat_eq rank place)
 
--- a test of the keys of a map, made of what is listed, is the test of what stands
+-- a test of keys that uses the lists is the test that uses the register
 some_same : {V : Type 0} (p q : ℕ → V → Bool) → ((n : ℕ) (v : V) → p n v ≡ q n v) → (m : FinMap nat_cmp V) → some p m ≡ some q m
 some_same p q h m = list_any_same (λ e. p e.0 e.1) (λ e. q e.0 e.1) (λ e. h e.0 e.1) (map.entries m)
 
@@ -114,7 +114,7 @@ in_its_unit e es =
     ap (λ t. t && do_claims_clash (claim_of e.1) (claim_of f.1)) (nat_eq_equiv.symm f.1.unit e.1.unit)
     ∙ ap (λ t. nat_eq e.1.unit f.1.unit && t) (sym (clash_claimed e.1.party f.1.party e.1.class f.1.class))) es
 
--- the claims of a unit clash only where entries do
+-- the claims of a unit clash only if entries do
 from_unit : (unit : ℕ) (es : List (ℕ × RrrRecord)) → have_clash (claims_in es unit) ≡ true → some_pair do_clash es ≡ true
 from_unit unit [] h = absurd (false≢true h)
 from_unit unit (e ∷ es) h =
@@ -128,7 +128,7 @@ from_unit unit (e ∷ es) h =
       | false ↦ λ there h. ap (λ b. list_any (λ f. do_clash e.1 f.1) es || b) (from_unit unit es h) ∙ or_true _
     ] refl h
 
--- where entries clash, the claims of the unit of one of them do
+-- if entries clash, the claims of the unit of one of them do
 record ClashesIn (es : List (ℕ × RrrRecord)) : Type 0 where
   unit : ℕ
   has : list_any (λ e. nat_eq e.1.unit unit) es ≡ true
@@ -162,7 +162,7 @@ not_both : (a b : Bool) → (not a || not b) ≡ not (a && b)
 not_both true b = refl
 not_both false b = refl
 
--- what there is at a number, where there is something
+-- the value of a key that exists
 record Has {V : Type 0} (m : FinMap nat_cmp V) (n : ℕ) : Type 0 where
   value : V
   there : map.get m n ≡ Some value
@@ -215,7 +215,7 @@ module _ (b : ByUnit) (r : Register) (listed : IsByUnit b r) where
   clashes : has_clash r ≡ some_pair do_clash (map.entries r.rrrs)
   clashes = later_pairs do_clash r.rrrs
 
-  -- where each entry is in a unit that stands
+  -- if each entry is in a unit that exists, the two tests for clashes agree
   pub clash_same : has_loose_rrr r ≡ false → some (λ n (u : UnitRecord). have_clash (under b.claims n)) r.units ≡ has_clash r
   clash_same refers = same_tests _ _ to back
     where

@@ -20,50 +20,50 @@ use Rattle.land_core.specs.declared.ask.Request.{Request}
 use Rattle.land_core.specs.declared.member.Member.{Member}
 use Rattle.land_core.specs.declared.rrr.RightType.TheVariants.{Ownership}
 
--- a first registration has 1 to 64 parcels and 1 to 64 rights
+-- a registration has 1 to 64 parcels and 1 to 64 rights
 abbrev pub is_first_count : ℕ → Bool
 is_first_count count = nat_le 1 count && nat_le count 64
 
--- whether each of some members is named by a number
+-- each member has a valid number
 abbrev pub name_numbers : List Member → Bool
 name_numbers members = list_all (λ member. is_number member.party) members
 
--- a group may be asked for with 2 to 64 members, each named by a number
+-- a group has 2 to 64 members, each with a valid number
 abbrev pub are_members : List Member → Bool
 are_members members = is_group_size (length members) && name_numbers members
 
--- whether each of some parcels has a label
+-- each parcel has a valid label
 abbrev pub have_labels : List NewParcel → Bool
 have_labels parcels = list_all (λ parcel. is_label parcel.label) parcels
 
--- a unit is entered with 1 to 64 parcels, each with a label
+-- a unit is registered with 1 to 64 parcels, each with a valid label
 abbrev pub are_parcels : List NewParcel → Bool
 are_parcels parcels = is_first_count (length parcels) && have_labels parcels
 
--- whether each of some rights is of a party named by a number, and whether one of them is an ownership
+-- each right belongs to a party with a valid number
 abbrev pub have_parties : List NewRight → Bool
 have_parties rights = list_all (λ right. is_number right.party) rights
 
 abbrev pub have_owner : List NewRight → Bool
 have_owner rights = list_any (λ right. is_type right.right_type Ownership) rights
 
--- and with 1 to 64 rights, each of a party named by a number, an ownership among them
+-- a unit is registered with 1 to 64 rights, each of a party with a valid number, at least one an ownership
 abbrev pub are_rights : List NewRight → Bool
 are_rights rights = is_first_count (length rights) && have_parties rights && have_owner rights
 
--- a new unit has a name, a document, parcels and rights
+-- a new unit has a valid name, document, parcels and rights
 abbrev pub is_new_unit : NewUnit → Bool
 is_new_unit it = is_name it.name && is_title it.document && are_parcels it.parcels && are_rights it.rights
 
--- a burden has a unit, a party, words and a document
+-- a burden has a valid unit, party, wording and document
 abbrev pub is_burden : Burden → Bool
 is_burden it = is_number it.unit && is_number it.party && are_words it.words && is_title it.document
 
--- a lodging has a reference, a document and a content
+-- a lodging has a valid reference, document and content
 abbrev pub is_lodging : Lodging → Bool
 is_lodging it = is_reference it.reference && is_title it.document && is_well_formed_content it.content
 
--- who is enrolled is a single party with a name
+-- each field of an act is within its limits; only a single party is enrolled
 abbrev pub is_well_formed : Act → Bool
 is_well_formed (Enrol it) = is_single it.kind && is_name it.name
 is_well_formed (Group it) = is_name it.name && are_members it.members
@@ -79,7 +79,7 @@ is_well_formed (Lodge it) = is_lodging it
 is_well_formed (Approve it) = is_number it.mutation
 is_well_formed (Refuse it) = is_number it.mutation
 
--- a read has no limits: what does not stand is denied
+-- a read has no limits; if the object does not exist, it is denied
 abbrev pub is_well_formed_ask : Ask → Bool
 is_well_formed_ask (View k number at) = true
 is_well_formed_ask (AskList k at) = true

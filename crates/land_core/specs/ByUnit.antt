@@ -1,4 +1,4 @@
--- What stands in each unit, as one pass over a register lists it.
+-- The parcels and the claims of each unit, as one pass over a register groups them.
 use Rattle.std.specs.Prelude.{ℕ, ◌≡◌, Bool, false, not, ◌&&◌, ◌||◌, nat_eq, nat_lt, List, [], ◌∷◌, ◌++◌, length, Option, Some, None, unwrap_or, if◌then◌else◌}
 use Rattle.std.specs.List.{filter_map, list_any}
 use Rattle.std.specs.Ordering.{nat_cmp}
@@ -18,15 +18,15 @@ use Rattle.land_core.specs.declared.soundness.claim.Claim.TheVariants.{Right, Mo
 use Rattle.land_core.specs.declared.soundness.groups.Groups.{Groups}
 use Rattle.land_fraction.specs.Ratio.{Ratio}
 
--- the items that are listed under a unit
+-- the items of a unit
 abbrev pub under : {T : Type 0} → Groups T → (unit : ℕ) → List T
 under groups unit = unwrap_or (get nat_cmp groups.lists unit) []
 
--- an item is listed under a unit, after those that are there already
+-- an item is appended to the list of a unit
 abbrev pub IsAdded : {T : Type 0} → (old new : Groups T) → (unit : ℕ) → T → Type 0
 IsAdded old new unit item = (q : ℕ) → under new q ≡ (if nat_eq unit q then under old q ++ item ∷ [] else under old q)
 
--- what an entry claims in its unit
+-- the claim of an entry, from its party and its class
 abbrev pub claim_in : (party : ℕ) → Class → Claim
 claim_in party (class.Right type share) = Right party type share
 claim_in party (class.Restriction words) = Other
@@ -48,7 +48,7 @@ is_claim_of wanted (Right party type share) = is_type type wanted
 is_claim_of wanted (Mortgage rank) = false
 is_claim_of wanted Other = false
 
--- whether two claims do not go together in one unit
+-- whether two claims clash in a unit
 abbrev pub do_claims_clash : Claim → Claim → Bool
 do_claims_clash (Right party type share) (Right other wanted part) = nat_eq party other && is_type type wanted
 do_claims_clash (Right party type share) (Mortgage rank) = false
@@ -58,12 +58,12 @@ do_claims_clash (Mortgage rank) (Mortgage other) = nat_eq rank other
 do_claims_clash (Mortgage rank) Other = false
 do_claims_clash Other claim = false
 
--- whether a claim does not go together with a later one
+-- whether any two claims clash
 abbrev pub have_clash : List Claim → Bool
 have_clash [] = false
 have_clash (claim ∷ claims) = list_any (do_claims_clash claim) claims || have_clash claims
 
--- the shares of the rights of a type, and whether those of each type that occurs make a whole
+-- the shares of the rights of a type
 abbrev pub claimed_shares : RightType → List Claim → List Ratio
 claimed_shares type claims = filter_map (claimed_share type) claims
 
@@ -73,7 +73,7 @@ are_claims_whole claims =
     && are_whole_or_none (claimed_shares Lease claims)
     && are_whole_or_none (claimed_shares Usufruct claims)
 
--- what some entries of a map say, of those that are in a unit
+-- the values of those entries that are in a unit
 abbrev pub placed : {X Y : Type 0} → (place : X → ℕ) → (says : X → Y) → (unit : ℕ) → List X → List Y
 placed place says unit xs = filter_map (λ x. if nat_eq (place x) unit then Some (says x) else None) xs
 
@@ -81,16 +81,16 @@ placed place says unit xs = filter_map (λ x. if nat_eq (place x) unit then Some
 abbrev pub parcels_in : List (ℕ × ParcelRecord) → (unit : ℕ) → List ℕ
 parcels_in entries unit = placed (λ e. e.1.unit) (λ e. e.0) unit entries
 
--- what the entries of a unit claim, by ascending numbers
+-- the claims of the entries of a unit, ordered by number
 abbrev pub claims_in : List (ℕ × RrrRecord) → (unit : ℕ) → List Claim
 claims_in entries unit = placed (λ e. e.1.unit) (λ e. claim_of e.1) unit entries
 
--- under each unit stand the parcels and the claims that are in it
+-- the groups contain, for each unit, its parcels and its claims
 pub record IsByUnit (by_unit : ByUnit) (r : Register) : Type 0 where
   pub parcels : (unit : ℕ) → under by_unit.parcels unit ≡ parcels_in (map.entries r.parcels) unit
   pub claims : (unit : ℕ) → under by_unit.claims unit ≡ claims_in (map.entries r.rrrs) unit
 
--- the tests of one unit, as what is listed under it says
+-- a unit has no parcel or no owner
 abbrev pub is_bare : ByUnit → (unit : ℕ) → Bool
 is_bare by_unit unit = nat_eq (length (under by_unit.parcels unit)) 0 || not (list_any (is_claim_of Ownership) (under by_unit.claims unit))
 

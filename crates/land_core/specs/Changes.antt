@@ -1,4 +1,4 @@
--- Changes: entries that are put into the register's maps, and keys whose entries end.
+-- Changes: entries that are inserted or updated, and keys that are removed.
 use Rattle.std.specs.Prelude.{◌≡◌, ℕ, true, [], ◌++◌, nat_eq, map as map_list}
 use Rattle.std.specs.Ordering.{eq_by_cmp}
 use Rattle.land_core.specs.Entries.{updated, are_distinct}
@@ -9,14 +9,14 @@ use Rattle.land_core.specs.declared.change.Ended.{Ended}
 use Rattle.land_core.specs.declared.change.Put.{Put}
 use Rattle.land_core.specs.declared.register.Register.{Register}
 
--- nothing that is put, and nothing that ends
+-- no entries to insert
 abbrev pub no_put : Put
 no_put = record { parties = []; roles = []; members = []; units = []; parcels = []; rrrs = []; sources = []; mutations = []; mandates = [] }
 
 abbrev pub no_ended : Ended
 no_ended = record { parties = []; roles = []; members = []; units = []; parcels = []; rrrs = []; sources = []; mutations = []; mandates = [] }
 
--- the change that puts and ends nothing
+-- the empty change
 abbrev pub no_change : (next : ℕ) → Change
 no_change next = record { put = no_put; ended = no_ended; next = next }
 
@@ -35,7 +35,7 @@ after change r = record {
   next = change.next;
 }
 
--- no key of one map stands twice in the change, neither among what it puts nor among what it ends
+-- no key of a map occurs twice in the change, whether inserted or removed
 pub record NamesKeysOnce (change : Change) : Type 0 where
   pub parties : are_distinct nat_eq (map_list (λ e. e.0) change.put.parties ++ change.ended.parties) ≡ true
   pub roles : are_distinct (eq_by_cmp grant_cmp) (change.put.roles ++ change.ended.roles) ≡ true

@@ -1,4 +1,4 @@
--- Contents of mutations: what a lodging asks for.
+-- Contents of mutations.
 use Rattle.std.specs.Prelude.{ℕ, Bool, false, ◌&&◌, ◌||◌, nat_eq, nat_le, List, length}
 use Rattle.std.specs.List.{list_all, list_any}
 use Rattle.std.specs.Str.{bytes_eq}
@@ -14,7 +14,7 @@ use Rattle.land_fraction.specs.Ratio.{Ratio}
 
 -- ---- limits
 
--- a transfer names a unit, a right and a receiver
+-- a transfer has valid numbers of a unit, a right and a receiver
 abbrev pub is_transfer : Transfer → Bool
 is_transfer it = is_number it.unit && is_number it.right && is_number it.receiver
 
@@ -32,11 +32,11 @@ are_letters bytes = list_all is_capital bytes
 abbrev pub is_currency : List ℕ → Bool
 is_currency bytes = nat_eq (length bytes) 3 && are_letters bytes
 
--- a mortgage names a unit and a creditor
+-- a mortgage has valid numbers of a unit and a creditor, a valid amount and a valid currency
 abbrev pub is_mortgage : Mortgage → Bool
 is_mortgage it = is_number it.unit && is_number it.creditor && is_amount it.amount && is_currency it.currency
 
--- a discharge names a unit and a mortgage
+-- a discharge has valid numbers of a unit and a mortgage
 abbrev pub is_discharge : Discharge → Bool
 is_discharge it = is_number it.unit && is_number it.mortgage
 
@@ -91,9 +91,9 @@ is_same_content (content.Discharge it) (content.Merger other) = false
 is_same_content (content.Discharge it) (content.Mortgage other) = false
 is_same_content (content.Discharge it) (content.Discharge other) = is_same_discharge it other
 
--- ---- what a content names
+-- ---- the units of a content
 
--- whether a unit that stands in a content passes a test
+-- whether any unit to which a content refers passes a test
 abbrev pub names_where : (ℕ → Bool) → Content → Bool
 names_where passes (content.Transfer it) = passes it.unit
 names_where passes (content.Subdivision it) = passes it.unit
@@ -101,6 +101,6 @@ names_where passes (content.Merger it) = passes it.unit || list_any passes it.ot
 names_where passes (content.Mortgage it) = passes it.unit
 names_where passes (content.Discharge it) = passes it.unit
 
--- whether a unit stands in a content
+-- whether a content refers to a unit
 abbrev pub names_unit : (unit : ℕ) → Content → Bool
 names_unit unit it = names_where (λ n. nat_eq n unit) it

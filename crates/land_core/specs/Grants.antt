@@ -1,4 +1,4 @@
--- Grants: that a party holds a role. The roles of all parties are a set of them.
+-- Grants: roles of parties. The roles of all parties are a set of grants.
 use Rattle.std.specs.Prelude.{ℕ, List, Bool, is_some, map as map_list}
 use Rattle.std.specs.FinMap as map
 use Rattle.std.specs.FinMap.{FinMap}
@@ -17,7 +17,7 @@ grant_of party role = record { party = party; role = role }
 abbrev pub grant_cmp : Grant → Grant → Ordering
 grant_cmp a b = ordering_then (nat_cmp a.party b.party) (role_cmp a.role b.role)
 
--- a grant is known by its party's number and its role's place
+-- a grant is determined by its party's number and its role's position
 abbrev pub coded_grant : Coded Grant
 coded_grant = code_by (ℕ × ℕ) (coded× coded_ℕ coded_ℕ) (λ g. (g.party, place_of g.role)) (λ p. record { party = p.0; role = role_at p.1 }) (λ g. ap (λ r. record { party = g.party; role = r }) (role_at_place g.role))
 
@@ -25,7 +25,7 @@ coded_grant = code_by (ℕ × ℕ) (coded× coded_ℕ coded_ℕ) (λ g. (g.party
 abbrev pub marks : {K : Type 0} → List K → List (K × Unit {0})
 marks {K} ks = map_list {B = K × Unit {0}} (λ k. (k, tt)) ks
 
--- the grants that stand
+-- the set of current grants
 abbrev pub Grants : Type 0
 Grants = FinMap grant_cmp (Unit {0})
 

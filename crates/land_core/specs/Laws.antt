@@ -1,4 +1,4 @@
--- Soundness as a reader says it: of what stands at each number.
+-- Soundness in a readable form: conditions on the record of each number.
 use Rattle.std.specs.Prelude.{ℕ, ◌≡◌, ◌≢◌, ◌<◌, ◌≤◌, ◌↔◌, true, false, List, [], length, Some}
 use Rattle.std.specs.FinMap as map
 use Rattle.std.specs.FinMap.{FinMap}
@@ -24,57 +24,57 @@ use Rattle.land_core.specs.declared.unit.UnitRecord.{UnitRecord}
 use Rattle.land_fraction.specs.Ratio.{Ratio}
 use Rattle.land_fraction.specs.Wholeness.{IsWhole}
 
--- numbers begin at 1 and end before the next one
+-- a number in use is at least 1 and below the next one
 pub record IsInUse (r : Register) (n : ℕ) : Type 0 where
   pub positive : 0 < n
   pub below : n < r.next
 
--- something stands at a number of a map
+-- a map has a record of this number
 abbrev pub Stands : {V : Type 0} → FinMap nat_cmp V → ℕ → Type 0
 Stands m n = IsSome (map.get m n)
 
--- the unit and the source of a parcel stand
+-- the unit and the source of a parcel exist
 pub record ParcelRefers (r : Register) (parcel : ParcelRecord) : Type 0 where
   pub unit : Stands r.units parcel.unit
   pub source : Stands r.sources parcel.source
 
--- the unit, the party and the source of an entry stand
+-- the unit, the party and the source of an entry exist
 pub record EntryRefers (r : Register) (entry : RrrRecord) : Type 0 where
   pub unit : Stands r.units entry.unit
   pub party : Stands r.parties entry.party
   pub source : Stands r.sources entry.source
 
--- the lodger and the source of a mutation stand, and its content keeps its limits
+-- the lodger and the source of a mutation exist, and its content is within its limits
 pub record MutationRefers (r : Register) (mutation : MutationRecord) : Type 0 where
   pub lodger : Stands r.parties mutation.lodger
   pub source : Stands r.sources mutation.source
   pub content : is_well_formed_content mutation.content ≡ true
 
--- who has members is a group, and its members are single parties
+-- a party with members is a group, and its members are single parties
 pub record GroupRefers (r : Register) (group : ℕ) (members : Members) : Type 0 where
   pub grouped : has_group r group ≡ true
   pub single : (n : ℕ) (share : Ratio) → map.get members n ≡ Some share → has_single_party r n ≡ true
 
--- a mandate is between two single parties, which differ
+-- a mandate is between two different single parties
 pub record MandateRefers (r : Register) (principal agent : ℕ) : Type 0 where
   pub principal_single : has_single_party r principal ≡ true
   pub agent_single : has_single_party r agent ≡ true
   pub apart : principal ≢ agent
 
--- 2 to 64 shares that make a whole
+-- there are 2 to 64 shares, and they sum to 1
 pub record AreOfGroup (shares : List Ratio) : Type 0 where
   pub least : 2 ≤ length shares
   pub most : length shares ≤ 64
   pub whole : IsWhole shares
 
--- some parcel is in the unit
+-- the unit has a parcel
 pub record HasParcel (r : Register) (unit : ℕ) : Type 0 where
   pub number : ℕ
   pub parcel : ParcelRecord
   pub there : map.get r.parcels number ≡ Some parcel
   pub in_unit : parcel.unit ≡ unit
 
--- some entry is an ownership in the unit
+-- the unit has an entry that is an ownership
 pub record HasOwner (r : Register) (unit : ℕ) : Type 0 where
   pub number : ℕ
   pub entry : RrrRecord
@@ -82,8 +82,8 @@ pub record HasOwner (r : Register) (unit : ℕ) : Type 0 where
   pub in_unit : entry.unit ≡ unit
   pub owns : type_of entry.class ≡ Some Ownership
 
--- a unit that stands has a parcel and an owner, at most 256 parcels and 256 entries, and if it is checked, the shares of each
--- type of right that occurs in it make a whole
+-- a unit has a parcel, an owner, at most 256 parcels and at most 256 entries; if it is checked, the shares of
+-- each type of right that occurs sum to 1
 pub record IsSoundUnit (r : Register) (n : ℕ) (unit : UnitRecord) : Type 0 where
   pub parcel : HasParcel r n
   pub owner : HasOwner r n
@@ -91,12 +91,12 @@ pub record IsSoundUnit (r : Register) (n : ℕ) (unit : UnitRecord) : Type 0 whe
   pub entries : rrr_count r n ≤ 256
   pub whole : unit.checked ≡ true → (type : RightType) → type_shares r n type ≢ [] → IsWhole (type_shares r n type)
 
--- two entries of a unit are not two rights of one type of one party, and not two mortgages of one rank
+-- two entries of a unit are neither two rights of the same type and party nor two mortgages of the same rank
 pub record GoTogether (e f : RrrRecord) : Type 0 where
   pub rights : (type : RightType) → e.party ≡ f.party → type_of e.class ≡ Some type → type_of f.class ≢ Some type
   pub ranks : (rank : ℕ) → rank_of e.class ≡ Some rank → rank_of f.class ≢ Some rank
 
--- what holds in a sound register of what stands at each number
+-- the conditions of soundness on the record of each number
 pub record IsSoundByLookUps (r : Register) : Type 0 where
   pub room : r.next ≤ 1000000001
   pub numbers_of_parties : (n : ℕ) (party : PartyRecord) → map.get r.parties n ≡ Some party → IsInUse r n
@@ -118,6 +118,6 @@ pub record IsSoundByLookUps (r : Register) : Type 0 where
   pub references : (m n : ℕ) (it other : MutationRecord) → map.get r.mutations m ≡ Some it → map.get r.mutations n ≡ Some other → m ≢ n → it.lodger ≡ other.lodger → it.reference ≢ other.reference
   pub administrator : (party : ℕ) × (holds r party StateAdministrator ≡ true)
 
--- a register is sound exactly where its look-ups say so
+-- a register is sound if and only if the conditions on lookups hold
 abbrev pub SoundnessByLookUps : Type 0
 SoundnessByLookUps = (r : Register) → IsSound r ↔ IsSoundByLookUps r

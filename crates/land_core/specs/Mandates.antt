@@ -1,4 +1,4 @@
--- Mandates: that a party, the principal, lets another, the agent, look as it does. Those that stand are a set of pairs.
+-- Mandates: the agent sees as the principal does. The current mandates are a set of pairs.
 use Rattle.std.proofs.Common.{refl}
 use Rattle.std.specs.Prelude.{ℕ, List, Bool, is_some}
 use Rattle.std.specs.FinMap as map
@@ -15,11 +15,11 @@ mandate_of principal agent = record { principal = principal; agent = agent }
 abbrev pub mandate_cmp : Mandate → Mandate → Ordering
 mandate_cmp a b = ordering_then (nat_cmp a.principal b.principal) (nat_cmp a.agent b.agent)
 
--- a mandate is known by its two numbers
+-- a mandate is determined by its two numbers
 abbrev pub coded_mandate : Coded Mandate
 coded_mandate = code_by (ℕ × ℕ) (coded× coded_ℕ coded_ℕ) (λ m. (m.principal, m.agent)) (λ p. record { principal = p.0; agent = p.1 }) (λ m. refl)
 
--- the mandates that stand
+-- the set of current mandates
 abbrev pub Mandates : Type 0
 Mandates = FinMap mandate_cmp (Unit {0})
 

@@ -16,7 +16,7 @@ Members = FinMap nat_cmp Ratio
 abbrev pub member_of : ℕ → Ratio → Member
 member_of party share = record { party = party; share = share }
 
--- the members as they are shown, by ascending numbers
+-- the members as a list, ordered by number
 abbrev pub members_in : Members → List Member
 members_in members = map_list (λ e. member_of e.0 e.1) (map.entries members)
 
@@ -33,6 +33,6 @@ is_yes TooFine = false
 abbrev pub is_group_size : ℕ → Bool
 is_group_size count = nat_le 2 count && nat_le count 64
 
--- 2 to 64 shares that make a whole
+-- there are 2 to 64 shares, and they sum to 1
 abbrev pub are_group_shares : List Ratio → Bool
 are_group_shares shares = is_group_size (length shares) && is_yes (wholeness shares)

@@ -1,4 +1,4 @@
--- Mergers: parcels of a unit, and of others that end with it, become one parcel.
+-- Mergers: parcels of a unit and of other units, which end, become one parcel.
 use Rattle.std.specs.Prelude.{ℕ, Bool, true, not, ◌&&◌, nat_eq, nat_le, nat_lt, List, [], ◌∷◌, length}
 use Rattle.std.specs.Cmp.Lexicographic.{pointwise}
 use Rattle.std.specs.List.{list_all, list_any}
@@ -10,27 +10,27 @@ use Rattle.land_shape.specs.Place.{is_same_ring}
 
 -- ---- limits
 
--- whether each of some numbers is above the one before it, and the first above a last one
+-- the numbers are strictly ascending and the first is above `last`
 abbrev pub rise_above : (last : ℕ) → List ℕ → Bool
 rise_above last [] = true
 rise_above last (n ∷ ns) = nat_lt last n && rise_above n ns
 
--- numbers of objects, strictly ascending
+-- valid numbers of objects, strictly ascending
 abbrev pub are_rising : List ℕ → Bool
 are_rising numbers = rise_above 0 numbers && list_all is_number numbers
 
 abbrev pub lists_number : List ℕ → (number : ℕ) → Bool
 lists_number numbers n = list_any (λ it. nat_eq it n) numbers
 
--- up to 15 other units end, and the unit itself is not among them
+-- there are at most 15 other units, strictly ascending, without the unit itself
 abbrev pub are_others : (unit : ℕ) → (others : List ℕ) → Bool
 are_others unit others = nat_le (length others) 15 && are_rising others && not (lists_number others unit)
 
--- 2 to 16 parcels become one
+-- 2 to 16 parcels are merged
 abbrev pub are_merged : (parcels : List ℕ) → Bool
 are_merged parcels = nat_le 2 (length parcels) && nat_le (length parcels) 16 && are_rising parcels
 
--- a merger names a unit, others and parcels, and has a label
+-- a merger has valid numbers of a unit, other units and parcels, and a valid label
 abbrev pub is_merger : Merger → Bool
 is_merger it = is_number it.unit && are_others it.unit it.others && are_merged it.parcels && is_label it.label
 

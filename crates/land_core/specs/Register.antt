@@ -1,4 +1,4 @@
--- The register: what stands, without lifespans.
+-- The register: the current records, without lifespans.
 use Rattle.std.specs.Prelude.{ℕ, Bool, true, false, not, List, [], filter, Option, codes}
 use Rattle.std.specs.Option.{option_map, option_map_or}
 use Rattle.std.specs.FinMap as map
@@ -24,7 +24,7 @@ use Rattle.land_core.specs.declared.source.Source.{Source}
 use Rattle.land_core.specs.declared.unit.Unit.{Unit as UnitShown}
 use Rattle.land_fraction.specs.Ratio.{Ratio}
 
--- the register that holds nothing, as it was before the office began
+-- the empty register, the state before the first commit
 abbrev pub nothing : Register
 nothing = record {
   parties = map.empty;
@@ -39,7 +39,7 @@ nothing = record {
   next = 2;
 }
 
--- the register that an office begins with: party 1 is the land office itself and state administrator, and 2 is the next number
+-- a new register: party 1 is the land office, a state administrator; the next number is 2
 abbrev pub new_register : Register
 new_register = record {
   parties = map.insert map.empty 1 (record { kind = NonNaturalPerson; name = codes "Land Office" });
@@ -54,7 +54,7 @@ new_register = record {
   next = 2;
 }
 
--- whether an object of a kind stands
+-- whether an object of this kind and number exists
 abbrev pub stands : Register → Kind → ℕ → Bool
 stands r kind.Party n = has r.parties n
 stands r kind.Unit n = has r.units n
@@ -63,21 +63,21 @@ stands r kind.Rrr n = has r.rrrs n
 stands r kind.Source n = has r.sources n
 stands r kind.Mutation n = has r.mutations n
 
--- whether a party holds a role
+-- whether a party has a role
 abbrev pub holds : Register → ℕ → Role → Bool
 holds r party role = has_grant r.roles (grant_of party role)
 
--- a natural or non-natural person is a single party, a group is none (LA_Party, LA_GroupParty)
+-- a natural or non-natural person is a single party, a group is not (LA_Party, LA_GroupParty)
 abbrev pub is_single : PartyKind → Bool
 is_single NaturalPerson = true
 is_single NonNaturalPerson = true
 is_single Group = false
 
--- whether a single party stands
+-- whether a single party of this number exists
 abbrev pub has_single_party : Register → ℕ → Bool
 has_single_party r n = option_map_or (λ p. is_single p.kind) (map.get r.parties n) false
 
--- whether a group stands
+-- whether a group of this number exists
 abbrev pub has_group : Register → ℕ → Bool
 has_group r n = option_map_or (λ p. not (is_single p.kind)) (map.get r.parties n) false
 
@@ -85,7 +85,7 @@ has_group r n = option_map_or (λ p. not (is_single p.kind)) (map.get r.parties 
 abbrev pub is_member : Register → (group party : ℕ) → Bool
 is_member r group party = option_map_or (λ members. has members party) (map.get r.members group) false
 
--- the members of a group, by ascending numbers, and their shares; a single party has none
+-- the members of a group, ordered by number; empty for a single party
 abbrev pub members_of : Register → ℕ → List Member
 members_of r n = option_map_or members_in (map.get r.members n) []
 
@@ -96,7 +96,7 @@ shares_of r n = option_map_or shares_in (map.get r.members n) []
 abbrev pub roles_of : Register → ℕ → List Role
 roles_of r n = filter (λ role. holds r n role) all_roles
 
--- what stands at a number, as it is shown, or none: the record with its number
+-- the party of a number, if it exists: its record with its number
 abbrev pub party_at : Register → ℕ → Option Party
 party_at r n = option_map (λ p. record { number = n; kind = p.kind; name = p.name; members = members_of r n; roles = roles_of r n }) (map.get r.parties n)
 
@@ -123,7 +123,7 @@ mutation_at r n = option_map (λ m. record {
   content = m.content;
 }) (map.get r.mutations n)
 
--- the object of a kind that stands, as it is shown, or none
+-- the object of this kind and number, if it exists
 abbrev pub object_at : Register → Kind → ℕ → Option Object
 object_at r kind.Party n = option_map object.Party (party_at r n)
 object_at r kind.Unit n = option_map object.Unit (unit_at r n)

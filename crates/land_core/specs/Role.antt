@@ -5,7 +5,7 @@ use Rattle.std.specs.declared.cmp.Ordering.{Ordering}
 use Rattle.land_core.specs.declared.role.Role.{Role}
 use Rattle.land_core.specs.declared.role.Role.TheVariants.{Citizen, Conveyancer, Notary, Bank, CertifiedSurveyor, StateAdministrator}
 
--- the place of a role in the order of roles
+-- the position of a role in the order of roles
 abbrev pub place_of : Role → ℕ
 place_of Citizen = 0
 place_of Conveyancer = 1
@@ -21,11 +21,11 @@ all_roles = Citizen ∷ Conveyancer ∷ Notary ∷ Bank ∷ CertifiedSurveyor �
 abbrev pub role_cmp : Role → Role → Ordering
 role_cmp = on place_of nat_cmp
 
--- whether two roles are one
+-- whether two roles are equal
 abbrev pub is_role : Role → Role → Bool
 is_role a b = nat_eq (place_of a) (place_of b)
 
--- the role at a place
+-- the role at a position
 abbrev pub role_at : ℕ → Role
 role_at zero = Citizen
 role_at (suc zero) = Conveyancer

@@ -1,5 +1,5 @@
--- When a register is sound. A record is called loose where something that it refers to does not stand, or is not of the kind
--- that is asked for.
+-- Soundness of a register. A record is dangling if it refers to a record that does not exist or has the wrong
+-- kind.
 use Rattle.std.specs.Prelude.{ℕ, ◌≡◌, Bool, false, not, ◌&&◌, ◌||◌, nat_eq, nat_lt, Option, Some, None}
 use Rattle.std.specs.FinMap.{FinMap}
 use Rattle.std.specs.List.{list_any}
@@ -21,84 +21,84 @@ use Rattle.land_core.specs.declared.rrr.RrrRecord.{RrrRecord}
 use Rattle.land_core.specs.declared.soundness.Unsound.{Unsound}
 use Rattle.land_core.specs.declared.soundness.Unsound.TheVariants.{Reference, Shares, Group, Bare, Crowded, Twice, Rank, Administrator, Reused, Memory}
 
--- whether all numbers up to 1_000_000_000 are used and more
+-- whether the next number is above 1_000_000_001, the one after the last number
 abbrev pub is_past_the_numbers : Register → Bool
 is_past_the_numbers r = nat_lt 1000000001 r.next
 
--- a number of an object is at least 1 and below the next one
+-- a number is in use if it is at least 1 and below the next number
 abbrev pub is_used : Register → ℕ → Bool
 is_used r n = nat_lt 0 n && nat_lt n r.next
 
--- whether a record stands under a number that is not in use
+-- whether any record has a number that is not in use
 abbrev pub has_unused : {V : Type 0} → Register → FinMap nat_cmp V → Bool
 has_unused r records = some (λ n v. not (is_used r n)) records
 
 abbrev pub has_unused_number : Register → Bool
 has_unused_number r = has_unused r r.parties || has_unused r r.units || has_unused r r.parcels || has_unused r r.rrrs || has_unused r r.sources || has_unused r r.mutations
 
--- whether a role is that of no single party: of nobody, or of a group
+-- whether any role belongs to a party that does not exist or is a group
 abbrev pub has_loose_grant : Register → Bool
 has_loose_grant r = list_any (λ grant. not (has_single_party r grant.party)) (grants_in r.roles)
 
--- whether a member is no single party
+-- whether any member is not a single party
 abbrev pub has_loose_member : Register → Members → Bool
 has_loose_member r members = some (λ party share. not (has_single_party r party)) members
 
--- whether members are listed of what is no group, or one of them is no single party
+-- whether members belong to a party that is not a group, or one of them is not a single party
 abbrev pub are_loose : Register → ℕ → Members → Bool
 are_loose r group members = not (has_group r group) || has_loose_member r members
 
 abbrev pub has_loose_members : Register → Bool
 has_loose_members r = some (λ group members. are_loose r group members) r.members
 
--- whether a parcel is in no unit that stands, or comes from no source that stands
+-- whether the unit or the source of any parcel does not exist
 abbrev pub has_loose_parcel : Register → Bool
 has_loose_parcel r = some (λ n p. not (has r.units p.unit && has r.sources p.source)) r.parcels
 
--- whether an entry is in no unit, of no party or from no source that stands
+-- whether the unit, the party or the source of any entry does not exist
 abbrev pub has_loose_rrr : Register → Bool
 has_loose_rrr r = some (λ n e. not (has r.units e.unit && has r.parties e.party && has r.sources e.source)) r.rrrs
 
--- whether a mutation is of no lodger or from no source that stands, or asks for what is not within its limits; what a content names
--- is no reference: it may have ended since, or never have stood
+-- whether the lodger or the source of a mutation does not exist, or its content is not within its limits. The
+-- numbers in a content are not references: their objects may have ended, or may never have existed.
 abbrev pub is_loose_mutation : Register → MutationRecord → Bool
 is_loose_mutation r m = not (has r.parties m.lodger && has r.sources m.source && is_well_formed_content m.content)
 
 abbrev pub has_loose_mutation : Register → Bool
 has_loose_mutation r = some (λ n m. is_loose_mutation r m) r.mutations
 
--- whether a mandate is not one between two single parties that stand and differ
+-- whether a mandate is not between two different single parties that exist
 abbrev pub is_loose_mandate : Register → Mandate → Bool
 is_loose_mandate r m = not (has_single_party r m.principal && has_single_party r m.agent && not (nat_eq m.principal m.agent))
 
 abbrev pub has_loose_mandate : Register → Bool
 has_loose_mandate r = list_any (λ m. is_loose_mandate r m) (mandates_in r.mandates)
 
--- whether a group has not 2 to 64 members whose shares make a whole
+-- whether any group does not have 2 to 64 members whose shares sum to 1
 abbrev pub has_broken_group : Register → Bool
 has_broken_group r = some (λ n p. not (is_single p.kind) && not (are_group_shares (shares_of r n))) r.parties
 
--- whether the shares of some type of right in a checked unit do not make a whole
+-- whether in any checked unit the shares of a type of right that occurs do not sum to 1
 abbrev pub has_unit_in_parts : Register → Bool
 has_unit_in_parts r = some (λ n u. u.checked && not (has_whole_shares r n)) r.units
 
--- whether a unit has no parcel, or nobody owns it
+-- whether any unit has no parcel or no owner
 abbrev pub has_bare_unit : Register → Bool
 has_bare_unit r = some (λ n u. not (has_parcel r n && has_owner r n)) r.units
 
--- whether a unit has more than 256 parcels, or more than 256 entries
+-- whether any unit has more than 256 parcels or more than 256 entries
 abbrev pub has_crowded_unit : Register → Bool
 has_crowded_unit r = some (λ n u. nat_lt 256 (parcel_count r n) || nat_lt 256 (rrr_count r n)) r.units
 
--- whether an entry does not go together with one of a greater number
+-- whether an entry clashes with one of a greater number
 abbrev pub clashes_later : Register → ℕ → RrrRecord → Bool
 clashes_later r n e = some (λ m f. nat_lt n m && do_clash e f) r.rrrs
 
--- whether two entries do not go together
+-- whether any two entries clash
 abbrev pub has_clash : Register → Bool
 has_clash r = some (λ n e. clashes_later r n e) r.rrrs
 
--- whether a rank is out of its bounds: they are those of the numbers in use
+-- whether a rank is out of range; the range is that of the numbers in use
 abbrev pub is_loose_rank : Register → Option ℕ → Bool
 is_loose_rank r None = false
 is_loose_rank r (Some rank) = not (is_used r rank)
@@ -106,7 +106,7 @@ is_loose_rank r (Some rank) = not (is_used r rank)
 abbrev pub has_loose_rank : Register → Bool
 has_loose_rank r = some (λ n e. is_loose_rank r (rank_of e.class)) r.rrrs
 
--- whether some party is state administrator
+-- whether any party is state administrator
 abbrev pub has_administrator : Register → Bool
 has_administrator r = list_any (λ grant. is_role grant.role StateAdministrator) (grants_in r.roles)
 
@@ -114,33 +114,33 @@ has_administrator r = list_any (λ grant. is_role grant.role StateAdministrator)
 abbrev pub is_reused_later : Register → ℕ → MutationRecord → Bool
 is_reused_later r n m = some (λ k other. nat_lt n k && share_a_reference m other) r.mutations
 
--- whether two mutations have the same lodger and reference
+-- whether any two mutations have the same lodger and reference
 abbrev pub has_reused_reference : Register → Bool
 has_reused_reference r = some (λ n m. is_reused_later r n m) r.mutations
 
 -- whether the register has a fault
 abbrev pub has_fault : Unsound → Register → Bool
--- what a record refers to stands, numbers are in use, only groups have members, members are single parties, groups have no roles,
--- contents keep their limits, and mandates are between two single parties
+-- references exist, numbers are in use, only groups have members, members are single parties, groups have no
+-- roles, contents are within their limits, and mandates are between two different single parties
 has_fault Reference r =
     is_past_the_numbers r || has_unused_number r || has_loose_grant r || has_loose_members r || has_loose_parcel r || has_loose_rrr r || has_loose_mutation r || has_loose_mandate r
--- in each checked unit the shares of each type of right that occurs make a whole
+-- in each checked unit, the shares of each type of right that occurs sum to 1
 has_fault Shares r = has_unit_in_parts r
--- each group has 2 to 64 members whose shares make a whole
+-- each group has 2 to 64 members whose shares sum to 1
 has_fault Group r = has_broken_group r
 -- each unit has a parcel and an owner
 has_fault Bare r = has_bare_unit r
 -- each unit has at most 256 parcels and 256 entries
 has_fault Crowded r = has_crowded_unit r
--- in a unit no party has two rights of one type, and no two mortgages have one rank
+-- in a unit, no party has two rights of the same type, and no two mortgages have the same rank
 has_fault Twice r = has_clash r
 -- the rank of a mortgage is at least 1 and below the next number
 has_fault Rank r = has_loose_rank r
--- somebody can administer the register
+-- the register has an administrator
 has_fault Administrator r = not (has_administrator r)
--- no party has lodged two mutations under one reference
+-- no party has lodged two mutations with the same reference
 has_fault Reused r = has_reused_reference r
--- want of memory is no fault of the register
+-- running out of memory is not a fault of the register
 has_fault Memory r = false
 
 -- a sound register has no fault

@@ -1,5 +1,5 @@
--- Subdivisions: a parcel of a unit is cut into parts. The first stays in the unit; each other part stays there too, or goes to a new
--- unit.
+-- Subdivisions: a parcel of a unit is divided into parts. The first part stays in the unit; each other part
+-- stays too, or becomes the parcel of a new unit.
 use Rattle.std.specs.Prelude.{ℕ, Bool, true, false, ◌&&◌, nat_eq, nat_le, List, length, Option, Some, None}
 use Rattle.std.specs.Cmp.Lexicographic.{pointwise}
 use Rattle.std.specs.List.{list_all}
@@ -13,7 +13,7 @@ use Rattle.land_shape.specs.Place.{is_same_ring}
 
 -- ---- limits
 
--- a new unit has a name
+-- the name of a new unit, if any, is valid
 abbrev pub is_new_name : Option (List ℕ) → Bool
 is_new_name None = true
 is_new_name (Some name) = is_name name
@@ -21,7 +21,7 @@ is_new_name (Some name) = is_name name
 abbrev pub is_part : Part → Bool
 is_part part = is_label part.label && is_new_name part.unit
 
--- beside the first there are 1 to 15 parts
+-- there are 1 to 15 further parts
 abbrev pub is_rest_count : ℕ → Bool
 is_rest_count count = nat_le 1 count && nat_le count 15
 
@@ -31,13 +31,13 @@ have_names parts = list_all is_part parts
 abbrev pub is_rest : List Part → Bool
 is_rest parts = is_rest_count (length parts) && have_names parts
 
--- a subdivision names a unit and a parcel, and has parts
+-- a subdivision has valid numbers of a unit and a parcel, and valid parts
 abbrev pub is_subdivision : Subdivision → Bool
 is_subdivision it = is_number it.unit && is_number it.parcel && is_label it.first.label && is_rest it.rest
 
 -- ---- which subdivisions are the same
 
--- outlines are rings, so the same outline has the same points, from the first one that was given
+-- equal outlines have the same points in the same order, from the same first point
 abbrev pub is_same_parcel : NewParcel → NewParcel → Bool
 is_same_parcel it other = bytes_eq it.label other.label && is_same_ring it.outline other.outline
 

@@ -17,7 +17,7 @@ use Rattle.land_fraction.specs.Wholeness.{wholeness}
 abbrev pub all_types : List RightType
 all_types = Ownership ∷ Lease ∷ Usufruct ∷ []
 
--- whether two types of right are one
+-- whether two types of right are equal
 abbrev pub is_type : RightType → RightType → Bool
 is_type Ownership Ownership = true
 is_type Ownership Lease = false
@@ -69,45 +69,46 @@ share_in unit type e = if nat_eq e.unit unit then share_of type e.class else Non
 abbrev pub type_shares : Register → (unit : ℕ) → RightType → List Ratio
 type_shares r unit type = filter_map (λ e. share_in unit type e.1) (map.entries r.rrrs)
 
--- shares that make a whole, or none at all
+-- the shares sum to 1, or there are none
 abbrev pub are_whole_or_none : List Ratio → Bool
 are_whole_or_none [] = true
 are_whole_or_none (share ∷ shares) = is_yes (wholeness (share ∷ shares))
 
--- whether the shares of each type of right that occurs in a unit make a whole
+-- whether the shares of each type of right that occurs in a unit sum to 1
 abbrev pub has_whole_shares : Register → (unit : ℕ) → Bool
 has_whole_shares r unit =
     are_whole_or_none (type_shares r unit Ownership)
     && are_whole_or_none (type_shares r unit Lease)
     && are_whole_or_none (type_shares r unit Usufruct)
 
--- whether a unit has a parcel, and whether somebody owns it
+-- whether a unit has a parcel
 abbrev pub has_parcel : Register → (unit : ℕ) → Bool
 has_parcel r unit = some (λ n p. nat_eq p.unit unit) r.parcels
 
 abbrev pub has_owner : Register → (unit : ℕ) → Bool
 has_owner r unit = some (λ n e. is_right_in unit Ownership e) r.rrrs
 
--- how many parcels and entries a unit has
+-- the number of parcels of a unit
 abbrev pub parcel_count : Register → (unit : ℕ) → ℕ
 parcel_count r unit = count_where (λ n p. nat_eq p.unit unit) r.parcels
 
 abbrev pub rrr_count : Register → (unit : ℕ) → ℕ
 rrr_count r unit = count_where (λ n e. nat_eq e.unit unit) r.rrrs
 
--- whether two entries are rights of one type
+-- whether two entries are rights of the same type
 abbrev pub are_of_one_type : Option RightType → Option RightType → Bool
 are_of_one_type (Some type) (Some other) = is_type type other
 are_of_one_type (Some type) None = false
 are_of_one_type None other = false
 
--- whether two entries are mortgages of one rank
+-- whether two entries are mortgages of the same rank
 abbrev pub are_of_one_rank : Option ℕ → Option ℕ → Bool
 are_of_one_rank (Some rank) (Some other) = nat_eq rank other
 are_of_one_rank (Some rank) None = false
 are_of_one_rank None other = false
 
--- whether two entries do not go together: in one unit, two rights of one type of one party, or two mortgages of one rank
+-- whether two entries of a unit clash: two rights of the same type and party, or two mortgages of the same
+-- rank
 abbrev pub do_clash : RrrRecord → RrrRecord → Bool
 do_clash e f =
     nat_eq e.unit f.unit

@@ -1,4 +1,5 @@
--- The words of the register's codes (ISO 19152, code lists), as they stand in requests, replies, sheets, extracts and tables.
+-- The code words of the register (code lists of ISO 19152), as in requests, replies, sheets, extracts and
+-- tables.
 use Rattle.std.specs.Prelude.{List, ℕ, codes}
 use Rattle.land_core.specs.declared.content.Content.{Content}
 use Rattle.land_core.specs.declared.content.Content.TheVariants as content
@@ -15,13 +16,13 @@ use Rattle.land_core.specs.declared.rrr.RightType.TheVariants.{Ownership, Lease,
 use Rattle.land_core.specs.declared.source.SourceKind.{SourceKind}
 use Rattle.land_core.specs.declared.source.SourceKind.TheVariants.{Administrative, Spatial}
 
--- what a party is (LA_PartyType)
+-- the word of a kind of party (LA_PartyType)
 abbrev pub party_word : PartyKind → List ℕ
 party_word kind.NaturalPerson = codes "naturalPerson"
 party_word kind.NonNaturalPerson = codes "nonNaturalPerson"
 party_word kind.Group = codes "group"
 
--- a role (LA_PartyRoleType)
+-- the word of a role (LA_PartyRoleType)
 abbrev pub role_word : Role → List ℕ
 role_word role.Citizen = codes "citizen"
 role_word role.Conveyancer = codes "conveyancer"
@@ -30,25 +31,25 @@ role_word role.Bank = codes "bank"
 role_word role.CertifiedSurveyor = codes "certifiedSurveyor"
 role_word role.StateAdministrator = codes "stateAdministrator"
 
--- the type of a right (LA_RightType)
+-- the word of a type of right (LA_RightType)
 abbrev pub right_word : RightType → List ℕ
 right_word Ownership = codes "ownership"
 right_word Lease = codes "lease"
 right_word Usufruct = codes "usufruct"
 
--- the class of an entry; that of a right is its type
+-- the word of an entry's class; for a right it is the word of its type
 abbrev pub class_word : Class → List ℕ
 class_word (Right type share) = right_word type
 class_word (Restriction words) = codes "restriction"
 class_word (Responsibility words) = codes "responsibility"
 class_word (Mortgage amount currency rank) = codes "mortgage"
 
--- what a source is
+-- the word of a kind of source
 abbrev pub source_word : SourceKind → List ℕ
 source_word Administrative = codes "administrative"
 source_word Spatial = codes "spatial"
 
--- the act that lodges a content
+-- the word of the act that lodges a content
 abbrev pub act_word : Content → List ℕ
 act_word (content.Transfer it) = codes "transfer"
 act_word (content.Subdivision it) = codes "subdivision"
@@ -56,7 +57,7 @@ act_word (content.Merger it) = codes "merger"
 act_word (content.Mortgage it) = codes "mortgage"
 act_word (content.Discharge it) = codes "discharge"
 
--- how far a mutation has come
+-- the word of the state of a mutation
 abbrev pub state_word : MutationState → List ℕ
 state_word Lodged = codes "lodged"
 state_word Approved = codes "approved"

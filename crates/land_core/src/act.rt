@@ -1,4 +1,4 @@
-//! Acts: what a caller asks the office to do.
+//! The acts that a caller can request.
 ghost use Rattle.std.specs.Prelude.{◌≡◌};
 ghost use Rattle.std.specs.List.{list_all};
 ghost use Rattle.land_core.specs.Acts.{are_members, name_numbers, are_parcels, have_labels, are_rights, have_parties, have_owner};
@@ -15,37 +15,37 @@ use crate::text::Text;
 use land_fraction::Fraction;
 use land_shape::Ring;
 
-/// Enters a single party, which becomes a citizen.
+/// Enrols a single party, which gets the role of citizen.
 #[derive(Debug, Drop)]
 pub struct Enrol {
     /// A natural or a non-natural person.
     pub kind: PartyKind,
-    /// What it is called: 1 to 200 characters.
+    /// The name: 1 to 200 characters.
     pub name: Text,
 }
 
-/// Enters a group: parties that hold together, each with its share.
+/// Enters a group: parties that hold jointly, each with its share.
 #[derive(Debug, Drop)]
 pub struct NewGroup {
-    /// What it is called: 1 to 200 characters.
+    /// The name: 1 to 200 characters.
     pub name: Text,
     /// Its 2 to 64 members.
     pub members: Sequence<Member>,
 }
 
-/// Gives a group other members in place of those that it has.
+/// Replaces the members of a group.
 #[derive(Debug, Drop)]
 pub struct Regroup {
     /// The group's number.
     pub group: u64,
-    /// Its 2 to 64 members from then on.
+    /// Its new members: 2 to 64.
     pub members: Sequence<Member>,
 }
 
 /// A parcel of a new unit.
 #[derive(Debug, Drop)]
 pub struct NewParcel {
-    /// What it is called on the map: 1 to 40 characters.
+    /// The label on the map: 1 to 40 characters.
     pub label: Text,
     /// Its outline, in millimetres.
     pub outline: Ring,
@@ -54,7 +54,7 @@ pub struct NewParcel {
 /// A right in a new unit.
 #[derive(Clone, Copy, Debug)]
 pub struct NewRight {
-    /// The number of the party that has it.
+    /// The number of its party.
     pub party: u64,
     /// Its type.
     pub right_type: RightType,
@@ -65,31 +65,31 @@ pub struct NewRight {
 /// Enters a unit with its first parcels and rights.
 #[derive(Debug, Drop)]
 pub struct NewUnit {
-    /// What it is called: 1 to 200 characters.
+    /// The name: 1 to 200 characters.
     pub name: Text,
-    /// Whether the shares of each type of right in it have to make a whole.
+    /// Whether the shares of each type of right must sum to 1.
     pub checked: bool,
     /// The title of the document: 1 to 200 characters.
     pub document: Text,
     /// Its 1 to 64 parcels.
     pub parcels: Sequence<NewParcel>,
-    /// Its 1 to 64 rights, an ownership among them.
+    /// Its 1 to 64 rights, at least one of them an ownership.
     pub rights: Sequence<NewRight>,
 }
 
-/// What a unit is burdened with.
+/// The class of a burden.
 #[derive(Clone, Copy, Debug, PartialEq, Eq)]
 pub enum BurdenClass {
-    /// What the party may not do, or has to bear (LA_Restriction).
+    /// A duty to refrain or to tolerate (LA_Restriction).
     Restriction,
-    /// What the party has to do (LA_Responsibility).
+    /// A duty to act (LA_Responsibility).
     Responsibility,
 }
 
-/// Lets another party look as its caller does.
+/// Gives another party a mandate: it sees as the caller does.
 #[derive(Clone, Copy, Debug, PartialEq, Eq)]
 pub struct NewMandate {
-    /// The number of the party that holds the mandate from then on. The principal is the caller.
+    /// The number of the new agent. The principal is the caller.
     pub agent: u64,
 }
 
@@ -100,9 +100,9 @@ pub struct Burden {
     pub unit: u64,
     /// The party's number.
     pub party: u64,
-    /// Which of the two it is.
+    /// The class.
     pub class: BurdenClass,
-    /// What it says: 1 to 200 characters.
+    /// The wording: 1 to 200 characters.
     pub words: Text,
     /// The title of the document: 1 to 200 characters.
     pub document: Text,
@@ -118,11 +118,11 @@ pub struct Lift {
 /// Lodges a mutation, which is decided later.
 #[derive(Debug, Drop)]
 pub struct Lodging {
-    /// What its lodger calls it: 1 to 40 characters, once for each lodger.
+    /// The lodger's reference: 1 to 40 characters, unique for each lodger.
     pub reference: Text,
     /// The title of the document: 1 to 200 characters.
     pub document: Text,
-    /// What it asks for.
+    /// The requested change.
     pub content: Content,
 }
 
@@ -133,22 +133,22 @@ pub struct Decision {
     pub mutation: u64,
 }
 
-/// What a caller asks the office to do.
+/// An act that a caller requests.
 #[derive(Debug, Drop)]
 pub enum Act {
     /// Enters a single party.
     Enrol(Enrol),
     /// Enters a group.
     Group(NewGroup),
-    /// Gives a group other members.
+    /// Replaces the members of a group.
     Regroup(Regroup),
-    /// Gives a single party a role.
+    /// Grants a role to a single party.
     Grant(Grant),
-    /// Ends a role of a single party.
+    /// Revokes a role of a single party.
     Revoke(Grant),
     /// Gives another party a mandate of the caller.
     Mandate(NewMandate),
-    /// Ends a mandate.
+    /// Removes a mandate.
     Withdraw(Mandate),
     /// Enters a unit.
     Register(NewUnit),
@@ -158,16 +158,16 @@ pub enum Act {
     Lift(Lift),
     /// Lodges a mutation.
     Lodge(Lodging),
-    /// Approves a mutation: what it asks for is done.
+    /// Approves a mutation: its change is made.
     Approve(Decision),
-    /// Refuses a mutation: what it asks for is not done.
+    /// Refuses a mutation: nothing else changes.
     Refuse(Decision),
 }
 
 impl Act {
     ghost use Rattle.land_core.specs.Acts.{is_well_formed};
 
-    /// Whether the act keeps the limits of its fields.
+    /// Whether each field is within its limits.
     pub fn is_well_formed(&self) -> bool
         ensures { result ≡ is_well_formed self.now }
     {
@@ -225,7 +225,7 @@ impl Lodging {
     }
 }
 
-/// Whether a unit may be entered with these parcels: 1 to 64, each with a label.
+/// Whether a unit may be registered with these parcels: 1 to 64, each with a valid label.
 fn are_parcels(parcels: &[NewParcel]) -> bool
     ensures { result ≡ are_parcels parcels.now }
 {
@@ -238,8 +238,8 @@ fn have_labels(parcels: &[NewParcel]) -> bool
     parcels.iter().all(|parcel| is_label(parcel.label.as_str()))
 }
 
-/// Whether a unit may be entered with these rights: 1 to 64, each of a party named by a number, and an ownership among
-/// them.
+/// Whether a unit may be registered with these rights: 1 to 64, each of a party with a valid number, at least
+/// one of them an ownership.
 fn are_rights(rights: &[NewRight]) -> bool
     ensures { result ≡ are_rights rights.now }
 {
@@ -252,7 +252,7 @@ fn have_parties(rights: &[NewRight]) -> bool
     rights.iter().all(|right| is_number(right.party))
 }
 
-/// Whether one of some rights is an ownership.
+/// Whether any of the rights is an ownership.
 pub fn have_owner(rights: &[NewRight]) -> bool
     ensures { result ≡ have_owner rights.now }
 {
@@ -261,7 +261,7 @@ pub fn have_owner(rights: &[NewRight]) -> bool
         .any(|right| right.right_type.is(RightType::Ownership))
 }
 
-/// Whether a group may be asked for with these members: 2 to 64, each named by a number.
+/// Whether a group may have these members: 2 to 64, each with a valid number.
 fn are_members(members: &[Member]) -> bool
     ensures { result ≡ are_members members.now }
 {

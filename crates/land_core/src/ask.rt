@@ -1,53 +1,53 @@
-//! What callers ask.
+//! Requests of callers.
 ghost use Rattle.std.specs.Prelude.{◌≡◌};
 
 use crate::act::Act;
 use crate::caller::Caller;
 use crate::kind::Kind;
 
-/// What is asked of the register.
+/// A query or a command to the register.
 #[derive(Debug, Drop)]
 pub enum Ask {
-    /// To see one object, at a moment or now.
+    /// Views one object, at a moment or now.
     View {
         /// Its kind.
         kind: Kind,
         /// Its number.
         number: u64,
-        /// The moment, in milliseconds since 1970 UTC.
+        /// The moment, in Unix milliseconds.
         at: Option<i64>,
     },
-    /// The numbers of a kind that the caller sees, at a moment or now.
+    /// Lists the numbers of a kind that the caller sees, at a moment or now.
     List {
         /// The kind.
         kind: Kind,
-        /// The moment, in milliseconds since 1970 UTC.
+        /// The moment, in Unix milliseconds.
         at: Option<i64>,
     },
-    /// To see the title sheet of a unit, at a moment or now.
+    /// Views the title sheet of a unit, at a moment or now.
     Sheet {
         /// The unit's number.
         unit: u64,
-        /// The moment, in milliseconds since 1970 UTC.
+        /// The moment, in Unix milliseconds.
         at: Option<i64>,
     },
-    /// To do something.
+    /// Performs an act.
     Do(Act),
 }
 
-/// What a caller asks.
+/// A request: a query or a command, with its caller.
 #[derive(Debug, Drop)]
 pub struct Request {
-    /// Who asks.
+    /// The caller.
     pub caller: Caller,
-    /// What is asked.
+    /// The query or the command.
     pub ask: Ask,
 }
 
 impl Request {
     ghost use Rattle.land_core.specs.Acts.{is_well_formed_request};
 
-    /// Whether the request keeps the limits of its fields.
+    /// Whether each field is within its limits.
     pub fn is_well_formed(&self) -> bool
         ensures { result ≡ is_well_formed_request self.now }
     {

@@ -1,11 +1,11 @@
-//! Who asks.
+//! The caller.
 use crate::role::Role;
 
-/// A party that asks, and the role that it names. The gateway before the desk vouches for both.
+/// The calling party and the role in which it calls. The gateway authenticates both.
 #[derive(Clone, Copy, Debug, PartialEq, Eq)]
 pub struct Caller {
     /// The party's number.
     pub party: u64,
-    /// The role in which it asks.
+    /// The role in which it calls.
     pub role: Role,
 }

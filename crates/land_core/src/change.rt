@@ -1,4 +1,4 @@
-//! Changes of the register, and what the caller of an act is told.
+//! Changes of the register, and the receipt of an act.
 ghost use Rattle.std.specs.Prelude.{◌≡◌};
 ghost use Rattle.land_core.specs.Changes.{no_change};
 
@@ -14,37 +14,37 @@ use crate::source::SourceRecord;
 use crate::unit::UnitRecord;
 use std::alloc::Global;
 
-/// New or changed entries of the register's maps.
+/// Entries that are inserted or updated.
 #[derive(Debug, Drop)]
 pub struct Put {
-    /// Parties under their numbers.
+    /// Parties by number.
     pub parties: Sequence<(u64, PartyRecord)>,
-    /// Roles that begin.
+    /// Roles that are granted.
     pub roles: Sequence<Grant>,
-    /// Groups' members from then on, under the groups' numbers.
+    /// New members of groups, by the group's number.
     pub members: Sequence<(u64, Members)>,
-    /// Units under their numbers.
+    /// Units by number.
     pub units: Sequence<(u64, UnitRecord)>,
-    /// Parcels under their numbers.
+    /// Parcels by number.
     pub parcels: Sequence<(u64, ParcelRecord)>,
-    /// Entries of units under their numbers.
+    /// Entries of units by number.
     pub rrrs: Sequence<(u64, RrrRecord)>,
-    /// Sources under their numbers.
+    /// Sources by number.
     pub sources: Sequence<(u64, SourceRecord)>,
-    /// Mutations under their numbers.
+    /// Mutations by number.
     pub mutations: Sequence<(u64, MutationRecord)>,
-    /// Mandates that begin.
+    /// Mandates that are given.
     pub mandates: Sequence<Mandate>,
 }
 
-/// Keys of the register's maps whose entries end.
+/// Keys of the entries that are removed.
 #[derive(Debug, Drop)]
 pub struct Ended {
     /// Numbers of parties.
     pub parties: NumberList,
-    /// Roles that end.
+    /// Roles that are revoked.
     pub roles: Sequence<Grant>,
-    /// Numbers of groups whose members end.
+    /// Numbers of groups whose members are removed.
     pub members: NumberList,
     /// Numbers of units.
     pub units: NumberList,
@@ -56,23 +56,23 @@ pub struct Ended {
     pub sources: NumberList,
     /// Numbers of mutations.
     pub mutations: NumberList,
-    /// Mandates that end.
+    /// Mandates that are withdrawn.
     pub mandates: Sequence<Mandate>,
 }
 
-/// What an act changes. No key of one map stands twice in it.
+/// The change that an act makes. No key of a map occurs twice.
 #[derive(Debug, Drop)]
 pub struct Change {
-    /// What is new or changed.
+    /// The entries that are inserted or updated.
     pub put: Put,
-    /// What ends.
+    /// The keys of the entries that are removed.
     pub ended: Ended,
-    /// The next number from then on.
+    /// The next number after the change.
     pub next: u64,
 }
 
 impl Change {
-    /// The change that puts and ends nothing. It takes no memory.
+    /// Returns the empty change. Allocates nothing.
     pub fn nothing(alloc: Global, next: u64) -> Change
         ensures { result ≡ no_change next }
     {
@@ -104,13 +104,13 @@ impl Change {
     }
 }
 
-/// What the caller of an act that was done is told.
+/// The receipt of an act.
 #[derive(Debug, Drop)]
 pub struct Done {
-    /// The object that the act is about.
+    /// The number of the object that the act concerns.
     pub number: u64,
-    /// The numbers of new objects, ascending.
+    /// The numbers of the new objects, ascending.
     pub made: NumberList,
-    /// The moment from which the change stands, in milliseconds since 1970 UTC.
+    /// The commit time of the change, in Unix milliseconds.
     pub stamp: i64,
 }

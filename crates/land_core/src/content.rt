@@ -1,4 +1,4 @@
-//! What mutations ask for: the contents of lodgings.
+//! The contents of mutations.
 ghost use Rattle.std.specs.Prelude.{◌≡◌};
 ghost use Rattle.land_core.specs.Contents.{are_letters, is_amount, is_capital, is_currency, is_discharge, is_mortgage, is_same_discharge, is_same_mortgage, is_same_transfer, is_transfer};
 
@@ -10,25 +10,25 @@ use crate::text::Text;
 use land_fraction::Fraction;
 use std::alloc::{AllocError, Global};
 
-/// A share of a unit goes from a right to a receiver.
+/// Transfers a share of a unit from a right to a receiver.
 #[derive(Clone, Copy, Debug)]
 pub struct Transfer {
     /// The unit's number.
     pub unit: u64,
-    /// The number of the right that the share is taken from.
+    /// The number of the right from which the share is transferred.
     pub right: u64,
-    /// The number of the party that gets the share.
+    /// The number of the receiving party.
     pub receiver: u64,
-    /// The share, a part of the whole and not of the right.
+    /// The share, as a part of the whole unit.
     pub share: Fraction,
 }
 
-/// A unit becomes a security for a loan.
+/// Mortgages a unit as security for a loan.
 #[derive(Debug, Drop)]
 pub struct Mortgage {
     /// The unit's number.
     pub unit: u64,
-    /// The number of the party that lends.
+    /// The number of the lending party.
     pub creditor: u64,
     /// The amount in minor units: 1 to 1_000_000_000_000_000.
     pub amount: u64,
@@ -36,7 +36,7 @@ pub struct Mortgage {
     pub currency: Text,
 }
 
-/// A mortgage ends.
+/// Discharges a mortgage.
 #[derive(Clone, Copy, Debug)]
 pub struct Discharge {
     /// The unit's number.
@@ -45,25 +45,25 @@ pub struct Discharge {
     pub mortgage: u64,
 }
 
-/// What a mutation asks for.
+/// The change that a mutation requests.
 #[derive(Debug, Drop)]
 pub enum Content {
-    /// A share of a unit goes from a right to a receiver.
+    /// Transfers a share of a unit from a right to a receiver.
     Transfer(Transfer),
-    /// A parcel of a unit is cut into parts.
+    /// Divides a parcel of a unit into parts.
     Subdivision(Subdivision),
-    /// Parcels of a unit, and of others that end with it, become one.
+    /// Merges parcels of a unit and of other units, which end.
     Merger(Merger),
-    /// A unit becomes a security for a loan.
+    /// Mortgages a unit as security for a loan.
     Mortgage(Mortgage),
-    /// A mortgage ends.
+    /// Discharges a mortgage.
     Discharge(Discharge),
 }
 
 impl Content {
     ghost use Rattle.land_core.specs.Contents.{is_same_content, is_well_formed_content, names_unit};
 
-    /// Whether it keeps the limits of its fields.
+    /// Whether each field is within its limits.
     pub fn is_well_formed(&self) -> bool
         ensures { result ≡ is_well_formed_content self.now }
     {
@@ -76,7 +76,7 @@ impl Content {
         }
     }
 
-    /// Whether two contents ask for the same.
+    /// Whether two contents are equal.
     pub fn is_same(&self, other: &Content) -> bool
         ensures { result ≡ is_same_content self.now other.now }
     {
@@ -90,7 +90,7 @@ impl Content {
         }
     }
 
-    /// Whether it names a unit.
+    /// Whether it refers to the unit.
     pub fn names_unit(&self, unit: u64) -> bool
         ensures { result ≡ names_unit unit self.now }
     {
@@ -156,14 +156,14 @@ impl Discharge {
     }
 }
 
-/// Whether so many minor units may be lent: 1 to 1_000_000_000_000_000.
+/// Whether an amount is 1 to 1_000_000_000_000_000 minor units.
 pub fn is_amount(amount: u64) -> bool
     ensures { result ≡ is_amount amount }
 {
     1 <= amount && amount <= 1_000_000_000_000_000
 }
 
-/// Whether a text is three letters from A to Z.
+/// Whether a text is three letters A to Z (ISO 4217).
 pub fn is_currency(text: &str) -> bool
     ensures { result ≡ is_currency text.now }
 {

@@ -1,4 +1,4 @@
-//! The entries in a unit: how many, and the shares of its rights.
+//! The number of entries of a unit, and the shares of its rights.
 ghost use Rattle.std.specs.Prelude.{◌≡◌, IfOk};
 ghost use Rattle.land_core.specs.Units.{rrr_count, type_shares};
 
@@ -8,7 +8,7 @@ use crate::sequence::Sequence;
 use land_fraction::Fraction;
 use std::alloc::{AllocError, Global};
 
-/// How many entries a unit has.
+/// Returns the number of entries of a unit.
 pub fn rrr_count(register: &Register, unit: u64) -> usize
     ensures { result ≡ rrr_count register.now unit }
 {
@@ -19,7 +19,7 @@ pub fn rrr_count(register: &Register, unit: u64) -> usize
         .count()
 }
 
-/// The shares of the rights of a type in a unit, by ascending numbers of the rights.
+/// Returns the shares of a unit's rights of one type, ordered by the rights' numbers.
 pub fn type_shares(
     alloc: Global,
     register: &Register,

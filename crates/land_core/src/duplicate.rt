@@ -1,11 +1,11 @@
-//! Copies that may want memory.
+//! Fallible copies.
 ghost use Rattle.std.specs.Prelude.{◌≡◌, IfOk};
 
 use std::alloc::{AllocError, Global};
 
-/// A value that is copied where there is memory.
+/// A value that can be copied, unless memory runs out.
 pub trait Duplicate: Drop {
-    /// A second value that is equal to the first.
+    /// Returns an equal value.
     fn copy(&self, alloc: Global) -> Result<Self, AllocError>
         ensures { IfOk result (λ it. it ≡ self.now) };
 }

@@ -1,9 +1,9 @@
-//! Laws, each stated over the definitions alone.
+//! Laws of the definitions. Calling a function here gives its law as a fact; it does nothing else.
 ghost use Rattle.land_core.specs.Laws.{SoundnessByLookUps};
 
 use land_fraction::laws::wholeness_of_lists;
 
-/// A register is sound exactly where what stands at each number says so.
+/// Proves that soundness is equivalent to conditions on the record at each number.
 pub fn soundness_by_look_ups()
     ensures { SoundnessByLookUps }
 {

@@ -1,4 +1,4 @@
-//! The mandates that stand, which contracts see as a set of pairs.
+//! The current mandates. Contracts see them as a set of pairs.
 ghost use Rattle.std.specs.Prelude.{◌≡◌, OnOk, OnErr, IfOk};
 ghost use Rattle.std.specs.FinMap as map;
 ghost use Rattle.std.specs.Map.Iter.{ShowsInOrder, deref};
@@ -14,16 +14,16 @@ use std::collections::BTreeSet;
 use std::collections::btree_set::Iter;
 use std::marker::Model;
 
-/// A party lets another look as it does.
+/// A mandate: the agent sees as the principal does.
 #[derive(Clone, Copy, Debug, PartialEq, Eq, PartialOrd, Ord)]
 pub struct Mandate {
-    /// The number of the party that gives the mandate.
+    /// The number of the principal, who gives the mandate.
     pub principal: u64,
-    /// The number of the party that holds it.
+    /// The number of the agent, who has it.
     pub agent: u64,
 }
 
-/// Which party holds whose mandate. A mandate has no number and is no object.
+/// A set of mandates. A mandate has no number, so it is not an object.
 #[derive(Debug, Drop)]
 pub struct Mandates {
     pairs: BTreeSet<Mandate>,
@@ -43,7 +43,7 @@ impl Model for Mandates {
 }
 
 impl Mandates {
-    /// No mandates, which takes no memory.
+    /// Returns the empty set. Allocates nothing.
     pub fn new(alloc: Global) -> Mandates
         ensures { result ≡ map.empty }
     {
@@ -52,14 +52,14 @@ impl Mandates {
         }
     }
 
-    /// The mandates of a set, which they keep.
+    /// Wraps a set of mandates.
     pub fn from_set(pairs: BTreeSet<Mandate>) -> Mandates
         ensures { result ≡ map.from_entries (marks pairs.keys) }
     {
         Mandates { pairs }
     }
 
-    /// The set that the mandates kept.
+    /// Returns the set.
     pub fn into_set(self) -> BTreeSet<Mandate>
         ensures { map.from_entries (marks result.keys) ≡ self }
     {
@@ -67,14 +67,14 @@ impl Mandates {
         pairs
     }
 
-    /// Whether a mandate stands.
+    /// Whether a mandate exists.
     pub fn contains(&self, mandate: Mandate) -> bool
         ensures { result ≡ has_mandate self.now mandate }
     {
         self.pairs.contains(&mandate)
     }
 
-    /// Lets a mandate stand. After want of memory the mandates are unchanged.
+    /// Inserts a mandate. If out of memory, changes nothing.
     pub fn insert(&mut self, mandate: Mandate) -> Result<(), AllocError>
         ensures ok { OnOk result (self.new ≡ map.insert self.old mandate tt) }
         ensures err { OnErr result (self.new ≡ self.old) }
@@ -83,14 +83,14 @@ impl Mandates {
         Ok(())
     }
 
-    /// Ends a mandate.
+    /// Removes a mandate.
     pub fn remove(&mut self, mandate: Mandate)
         ensures { self.new ≡ map.remove self.old mandate }
     {
         let _ = self.pairs.remove(&mandate);
     }
 
-    /// All mandates, by principal and then by agent.
+    /// Returns an iterator over all mandates, ordered by principal and then by agent.
     pub fn iter(&self) -> Iter<'_, Mandate>
         ensures rest { result ≡ mandates_in self.now }
         ensures runs { ShowsInOrder (deref {X = Mandate}) }
@@ -98,7 +98,7 @@ impl Mandates {
         self.pairs.iter()
     }
 
-    /// These mandates without some, and with others given.
+    /// Returns a copy without the mandates in `ended` and with those in `put`.
     pub fn updated(
         &self,
         alloc: Global,

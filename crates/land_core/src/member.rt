@@ -8,7 +8,7 @@ use crate::sequence::Sequence;
 use land_fraction::Fraction;
 use std::alloc::{AllocError, Global};
 
-/// A party and its share in a group, as acts list members and objects show them.
+/// A party and its share in a group, as in acts and replies.
 #[derive(Clone, Copy, Debug)]
 pub struct Member {
     /// The party's number.
@@ -17,7 +17,7 @@ pub struct Member {
     pub share: Fraction,
 }
 
-/// The members of one group: each party's number with its share.
+/// The members of one group: the share of each, by its number.
 pub type Members = Records<Fraction>;
 
 impl Duplicate for Fraction {
@@ -32,7 +32,7 @@ impl Duplicate for Member {
     }
 }
 
-/// The members of a group as they are shown, by ascending numbers.
+/// Returns the members of a group as a list, ordered by number.
 pub fn listed(alloc: Global, members: &Members) -> Result<Sequence<Member>, AllocError>
     ensures { IfOk result (λ it. it ≡ members_in members.now) }
 {
@@ -46,7 +46,7 @@ pub fn listed(alloc: Global, members: &Members) -> Result<Sequence<Member>, Allo
     Ok(listed)
 }
 
-/// The shares of a group's members, in the order of their numbers.
+/// Returns the shares of a group's members, ordered by number.
 pub fn shares_of(alloc: Global, members: &Members) -> Result<Sequence<Fraction>, AllocError>
     ensures { IfOk result (λ it. it ≡ shares_in members.now) }
 {

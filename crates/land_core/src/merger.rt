@@ -1,4 +1,4 @@
-//! Mergers: parcels become one.
+//! Mergers: several parcels become one.
 ghost use Rattle.std.specs.Prelude.{◌≡◌};
 ghost use Rattle.std.specs.List.{list_all};
 ghost use Rattle.land_core.specs.Mergers.{are_merged, are_others, are_rising, is_merger, is_same_merger, lists_number, rise_above};
@@ -11,16 +11,16 @@ use crate::text::Text;
 use land_shape::Ring;
 use std::alloc::{AllocError, Global};
 
-/// Parcels of a unit, and of others that end with it, become one parcel of the unit.
+/// Merges parcels of a unit and of other units into one parcel of the unit. The other units end.
 #[derive(Debug, Drop)]
 pub struct Merger {
     /// The unit's number.
     pub unit: u64,
-    /// The numbers of up to 15 other units, which end: strictly ascending, the unit not among them.
+    /// The numbers of up to 15 other units, which end: strictly ascending, without the unit itself.
     pub others: NumberList,
-    /// The numbers of the 2 to 16 parcels that end: strictly ascending.
+    /// The numbers of the 2 to 16 parcels that are merged: strictly ascending.
     pub parcels: NumberList,
-    /// What the new parcel is called on the map: 1 to 40 characters.
+    /// The label of the new parcel on the map: 1 to 40 characters.
     pub label: Text,
     /// The new parcel's outline, in millimetres.
     pub outline: Ring,
@@ -47,35 +47,35 @@ impl Merger {
     }
 }
 
-/// Whether a number is listed.
+/// Whether a list contains a number.
 pub fn lists_number(numbers: &[u64], number: u64) -> bool
     ensures { result ≡ lists_number numbers.now number }
 {
     numbers.iter().any(|it| *it == number)
 }
 
-/// Whether other units may end with a unit.
+/// Whether these are valid numbers of other units: at most 15, strictly ascending, without the unit itself.
 fn are_others(unit: u64, others: &[u64]) -> bool
     ensures { result ≡ are_others unit others.now }
 {
     others.len() <= 15 && are_rising(others) && !lists_number(others, unit)
 }
 
-/// Whether parcels may become one.
+/// Whether these are valid numbers of merged parcels: 2 to 16, strictly ascending.
 fn are_merged(parcels: &[u64]) -> bool
     ensures { result ≡ are_merged parcels.now }
 {
     2 <= parcels.len() && parcels.len() <= 16 && are_rising(parcels)
 }
 
-/// Whether numbers of objects are strictly ascending.
+/// Whether these are strictly ascending numbers of objects.
 fn are_rising(numbers: &[u64]) -> bool
     ensures { result ≡ are_rising numbers.now }
 {
     rise_above(0, numbers) && are_numbers(numbers)
 }
 
-/// Whether each number is above the one before it, and the first above a last one.
+/// Whether the numbers are strictly ascending and the first is above `last`.
 pub fn rise_above(last: u64, numbers: &[u64]) -> bool
     ensures { result ≡ rise_above last numbers.now }
 {

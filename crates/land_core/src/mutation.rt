@@ -1,4 +1,4 @@
-//! Mutations: changes of units that somebody lodges, and that the office then approves or refuses.
+//! Mutations: changes of units that a party lodges and the registrar then approves or refuses.
 ghost use Rattle.std.specs.Prelude.{◌≡◌};
 
 use crate::content::Content;
@@ -6,38 +6,38 @@ use crate::duplicate::Duplicate;
 use crate::text::Text;
 use std::alloc::{AllocError, Global};
 
-/// How far a mutation has come.
+/// The state of a mutation.
 #[derive(Clone, Copy, Debug, PartialEq, Eq)]
 pub enum MutationState {
-    /// It is lodged, and undecided.
+    /// Lodged, not yet decided.
     Lodged,
-    /// It was approved: what it asks for was done.
+    /// Approved: the change was made.
     Approved,
-    /// It was refused: what it asks for was not done.
+    /// Refused: the change was not made.
     Refused,
 }
 
-/// What the register keeps of a mutation under its number.
+/// The record of a mutation, stored by its number.
 #[derive(Debug, Drop)]
 pub struct MutationRecord {
     /// The number of the party that lodged it.
     pub lodger: u64,
-    /// What its lodger calls it: 1 to 40 characters, once for each lodger.
+    /// The lodger's reference: 1 to 40 characters, unique for each lodger.
     pub reference: Text,
     /// The number of its document (LA_Source).
     pub source: u64,
-    /// When it was lodged, in milliseconds since 1970 UTC.
+    /// The lodging time, in Unix milliseconds.
     pub lodged: i64,
-    /// How far it has come.
+    /// The state.
     pub state: MutationState,
-    /// What it asks for.
+    /// The requested change.
     pub content: Content,
 }
 
 impl MutationRecord {
     ghost use Rattle.land_core.specs.Mutations.{is_lodged_as, is_undecided};
 
-    /// Whether nobody has approved or refused it yet.
+    /// Whether it is neither approved nor refused.
     pub fn is_undecided(&self) -> bool
         ensures { result ≡ is_undecided self.now }
     {
@@ -47,7 +47,7 @@ impl MutationRecord {
         }
     }
 
-    /// Whether a party lodged it under a reference.
+    /// Whether it has this lodger and this reference.
     pub fn is_lodged_as(&self, lodger: u64, reference: &str) -> bool
         ensures { result ≡ is_lodged_as lodger reference.now self.now }
     {
@@ -68,22 +68,22 @@ impl Duplicate for MutationRecord {
     }
 }
 
-/// A mutation as it is shown: its record with its number.
+/// A mutation: its record with its number.
 #[derive(Debug, Drop)]
 pub struct Mutation {
     /// Its number.
     pub number: u64,
     /// The number of the party that lodged it.
     pub lodger: u64,
-    /// What its lodger calls it.
+    /// The lodger's reference.
     pub reference: Text,
     /// The number of its document.
     pub source: u64,
-    /// When it was lodged, in milliseconds since 1970 UTC.
+    /// The lodging time, in Unix milliseconds.
     pub lodged: i64,
-    /// How far it has come.
+    /// The state.
     pub state: MutationState,
-    /// What it asks for.
+    /// The requested change.
     pub content: Content,
 }
 

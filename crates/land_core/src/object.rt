@@ -1,4 +1,4 @@
-//! Objects as they are shown.
+//! Objects: records with their numbers.
 use crate::duplicate::Duplicate;
 use crate::mutation::Mutation;
 use crate::parcel::Parcel;
@@ -8,7 +8,7 @@ use crate::source::Source;
 use crate::unit::Unit;
 use std::alloc::{AllocError, Global};
 
-/// An object of the register (LADM: VersionedObject), as it stands at some moment.
+/// An object of the register (LADM: VersionedObject) at a moment.
 #[derive(Debug, Drop)]
 pub enum Object {
     /// A party.

@@ -4,16 +4,16 @@ use crate::text::Text;
 use land_shape::Ring;
 use std::alloc::{AllocError, Global};
 
-/// What the register keeps of a parcel under its number.
+/// The record of a parcel, stored by its number.
 #[derive(Debug, Drop)]
 pub struct ParcelRecord {
     /// The number of its unit.
     pub unit: u64,
-    /// What it is called on the map: 1 to 40 characters.
+    /// The label on the map: 1 to 40 characters.
     pub label: Text,
     /// Its outline, in millimetres.
     pub outline: Ring,
-    /// The number of the source that it comes from.
+    /// The number of its source.
     pub source: u64,
 }
 
@@ -34,18 +34,18 @@ impl Duplicate for ParcelRecord {
     }
 }
 
-/// A parcel as it is shown: its record with its number. Its area is that of its outline.
+/// A parcel: its record with its number. Its area is that of its outline.
 #[derive(Debug, Drop)]
 pub struct Parcel {
     /// Its number.
     pub number: u64,
     /// The number of its unit.
     pub unit: u64,
-    /// What it is called on the map.
+    /// The label on the map.
     pub label: Text,
     /// Its outline, in millimetres.
     pub outline: Ring,
-    /// The number of the source that it comes from.
+    /// The number of its source.
     pub source: u64,
 }
 

@@ -7,12 +7,12 @@ use crate::sequence::Sequence;
 use crate::text::Text;
 use std::alloc::{AllocError, Global};
 
-/// What the register keeps of a party under its number. Its roles and its members stand in maps of their own.
+/// The record of a party, stored by its number. Its roles and its members are in separate maps.
 #[derive(Debug, Drop)]
 pub struct PartyRecord {
-    /// What it is.
+    /// The kind.
     pub kind: PartyKind,
-    /// What it is called: 1 to 200 characters.
+    /// The name: 1 to 200 characters.
     pub name: Text,
 }
 
@@ -25,18 +25,18 @@ impl Duplicate for PartyRecord {
     }
 }
 
-/// A party as it is shown: its record with its number, its members and its roles.
+/// A party: its record with its number, its members and its roles.
 #[derive(Debug, Drop)]
 pub struct Party {
     /// Its number.
     pub number: u64,
-    /// What it is.
+    /// The kind.
     pub kind: PartyKind,
-    /// What it is called.
+    /// The name.
     pub name: Text,
-    /// The members of a group, by ascending numbers (LA_PartyMember); none of a single party.
+    /// The members of a group, ordered by number (LA_PartyMember); empty for a single party.
     pub members: Sequence<Member>,
-    /// The roles that it holds, in the order of `Role`.
+    /// The roles that it has, in the order of `Role`.
     pub roles: Sequence<Role>,
 }
 

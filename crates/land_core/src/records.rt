@@ -1,4 +1,4 @@
-//! Records by their numbers, which contracts see as finite maps.
+//! Records by number. Contracts see them as finite maps.
 ghost use Rattle.std.specs.Prelude.{◌≡◌, ℕ, IfOk, OnOk, OnErr};
 ghost use Rattle.std.specs.Option.{option_copied};
 ghost use Rattle.std.specs.List.Sorted.{IsStrictlySortedBy};
@@ -14,7 +14,7 @@ use std::collections::BTreeMap;
 use std::collections::btree_map::Iter;
 use std::marker::Model;
 
-/// Records, each under its number.
+/// A map from numbers to records.
 #[derive(Debug, Drop)]
 pub struct Records<V> {
     entries: BTreeMap<u64, V>,
@@ -33,7 +33,7 @@ impl<V> Model for Records<V> {
 }
 
 impl<V> Records<V> {
-    /// No records, which takes no memory.
+    /// Returns the empty map. Allocates nothing.
     pub fn new(alloc: Global) -> Records<V>
         ensures { result ≡ map.empty }
     {
@@ -42,14 +42,14 @@ impl<V> Records<V> {
         }
     }
 
-    /// The records of a map, which they keep.
+    /// Wraps a map of records.
     pub fn from_map(entries: BTreeMap<u64, V>) -> Records<V>
         ensures { result ≡ map.from_entries entries.entries }
     {
         Records { entries }
     }
 
-    /// The map that the records kept.
+    /// Returns the map.
     pub fn into_map(self) -> BTreeMap<u64, V>
         ensures { map.from_entries result.entries ≡ self }
     {
@@ -57,14 +57,14 @@ impl<V> Records<V> {
         entries
     }
 
-    /// The record at a number.
+    /// Returns the record of a number, if it exists.
     pub fn get(&self, number: u64) -> Option<&V>
         ensures { option_copied result ≡ map.get self.now number }
     {
         self.entries.get(&number)
     }
 
-    /// The records with their numbers, ascending.
+    /// Returns an iterator over the records, ordered by number.
     pub fn iter(&self) -> Iter<'_, u64, V>
         ensures rest { result ≡ map.entries self.now }
         ensures ordered { IsStrictlySortedBy nat_cmp (map.keys self.now) }
@@ -75,7 +75,7 @@ impl<V> Records<V> {
 }
 
 impl<V: Drop> Records<V> {
-    /// Puts a record at a number, in place of one that stood there. After want of memory the records are unchanged.
+    /// Inserts a record, or replaces the record of this number. If out of memory, changes nothing.
     pub fn insert(&mut self, number: u64, value: V) -> Result<(), AllocError>
         ensures ok { OnOk result (self.new ≡ map.insert self.old number value) }
         ensures err { OnErr result (self.new ≡ self.old) }
@@ -84,14 +84,14 @@ impl<V: Drop> Records<V> {
         Ok(())
     }
 
-    /// Lets the record at a number go.
+    /// Removes the record of a number.
     pub fn remove(&mut self, number: u64)
         ensures { self.new ≡ map.remove self.old number }
     {
         let _ = self.entries.remove(&number);
     }
 
-    /// Lets the records at some numbers go.
+    /// Removes the records of these numbers.
     fn end_all(&mut self, ended: &[u64])
         ensures { self.new ≡ without self.old ended.now }
     {
@@ -102,7 +102,7 @@ impl<V: Drop> Records<V> {
 }
 
 impl<V: Duplicate> Records<V> {
-    /// These records without some, and with copies of others put in.
+    /// Returns a copy without the records in `ended` and with copies of those in `put`.
     pub fn updated(
         &self,
         alloc: Global,
@@ -117,7 +117,7 @@ impl<V: Duplicate> Records<V> {
         Ok(records)
     }
 
-    /// Puts copies of records in.
+    /// Inserts copies of records.
     fn put_all(&mut self, alloc: Global, put: &[(u64, V)]) -> Result<(), AllocError>
         ensures { OnOk result (self.new ≡ with_entries self.old put.now) }
     {

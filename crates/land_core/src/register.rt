@@ -1,4 +1,4 @@
-//! The register: everything that stands now.
+//! The register: all current records.
 ghost use Rattle.std.specs.Prelude.{◌≡◌, IfOk, OnOk, OnErr};
 ghost use Rattle.land_core.specs.Changes.{after};
 ghost use Rattle.land_core.specs.Register.{new_register, nothing, stands, object_at, party_at, unit_at, parcel_at, rrr_at, source_at, mutation_at, holds, has_single_party, has_group, is_member, members_of, roles_of};
@@ -24,33 +24,33 @@ use crate::unit::{Unit, UnitRecord};
 use land_shape::Ring;
 use std::alloc::{AllocError, Global};
 
-/// All records that stand, and the number of the next one.
+/// All current records, and the number of the next object.
 #[derive(Debug, Drop)]
 pub struct Register {
-    /// Parties under their numbers (LA_Party).
+    /// Parties by number (LA_Party).
     pub parties: Records<PartyRecord>,
-    /// Which party holds which roles (LA_PartyRoleType).
+    /// The roles of parties (LA_PartyRoleType).
     pub roles: Roles,
-    /// The members of groups, under the groups' numbers (LA_PartyMember).
+    /// The members of groups, by the group's number (LA_PartyMember).
     pub members: Records<Members>,
-    /// Units under their numbers (LA_BAUnit).
+    /// Units by number (LA_BAUnit).
     pub units: Records<UnitRecord>,
-    /// Parcels under their numbers (LA_SpatialUnit).
+    /// Parcels by number (LA_SpatialUnit).
     pub parcels: Records<ParcelRecord>,
-    /// The entries of units under their numbers (LA_RRR).
+    /// The entries of units by number (LA_RRR).
     pub rrrs: Records<RrrRecord>,
-    /// Sources under their numbers (LA_Source).
+    /// Sources by number (LA_Source).
     pub sources: Records<SourceRecord>,
-    /// Mutations under their numbers.
+    /// Mutations by number.
     pub mutations: Records<MutationRecord>,
-    /// Which party holds whose mandate.
+    /// The mandates.
     pub mandates: Mandates,
-    /// The number that the next new object takes: 2 to 1_000_000_001 in a sound register.
+    /// The number of the next new object: 2 to 1_000_000_001 in a sound register.
     pub next: u64,
 }
 
 impl Register {
-    /// The register that an office begins with: party 1, `Land Office`, is state administrator.
+    /// Returns a new register. Its only party is 1, `Land Office`, a state administrator.
     pub fn new(alloc: Global) -> Result<Register, AllocError>
         ensures new { IfOk result (λ it. it ≡ new_register) }
         ensures sound { IfOk result (λ it. IsSound it) }
@@ -69,7 +69,7 @@ impl Register {
         Ok(register)
     }
 
-    /// A register that holds nothing, as before the office began. It takes no memory.
+    /// Returns the empty register, the state before the first commit. Allocates nothing.
     pub fn nothing(alloc: Global) -> Register
         ensures { result ≡ nothing }
     {
@@ -87,7 +87,7 @@ impl Register {
         }
     }
 
-    /// The register after a change; this one stays as it is.
+    /// Returns a copy of the register with a change made.
     pub fn changed(&self, alloc: Global, change: &Change) -> Result<Register, AllocError>
         ensures { IfOk result (λ it. it ≡ after change.now self.now) }
     {
@@ -111,14 +111,14 @@ impl Register {
         })
     }
 
-    /// Whether a party holds a role.
+    /// Whether a party has a role.
     pub fn holds(&self, party: u64, role: Role) -> bool
         ensures { result ≡ holds self.now party role }
     {
         self.roles.contains(Grant { party, role })
     }
 
-    /// Whether an object of a kind stands at a number.
+    /// Whether an object of this kind and number exists.
     pub fn stands(&self, kind: Kind, number: u64) -> bool
         ensures { result ≡ stands self.now kind number }
     {
@@ -132,7 +132,7 @@ impl Register {
         }
     }
 
-    /// Whether a natural or non-natural person stands at a number.
+    /// Whether a party of this number exists and is not a group.
     pub fn has_single_party(&self, number: u64) -> bool
         ensures { result ≡ has_single_party self.now number }
     {
@@ -142,7 +142,7 @@ impl Register {
         }
     }
 
-    /// Whether a group stands at a number.
+    /// Whether a group of this number exists.
     pub fn has_group(&self, number: u64) -> bool
         ensures { result ≡ has_group self.now number }
     {
@@ -162,7 +162,7 @@ impl Register {
         }
     }
 
-    /// A copy of the object of a kind that stands at a number, or `None`.
+    /// Returns a copy of the object of this kind and number, or `None` if it does not exist.
     pub fn object(
         &self,
         alloc: Global,
@@ -270,7 +270,7 @@ impl Register {
         }
     }
 
-    /// The members of a group, by ascending numbers.
+    /// Returns the members of a group, ordered by number.
     fn members_of(&self, alloc: Global, group: u64) -> Result<Sequence<Member>, AllocError>
         ensures { IfOk result (λ it. it ≡ members_of self.now group) }
     {
@@ -280,7 +280,7 @@ impl Register {
         }
     }
 
-    /// The roles of a party, in their order.
+    /// Returns the roles of a party, in the order of `Role`.
     fn roles_of(&self, alloc: Global, party: u64) -> Result<Sequence<Role>, AllocError>
         ensures { IfOk result (λ it. it ≡ roles_of self.now party) }
     {
@@ -320,7 +320,7 @@ impl Duplicate for Register {
     }
 }
 
-/// Makes a change. After want of memory the register is unchanged.
+/// Applies a change. If out of memory, the register is unchanged.
 pub fn apply(alloc: Global, register: &mut Register, change: &Change) -> Result<(), AllocError>
     ensures ok { OnOk result (register.new ≡ after change.now register.old) }
     ensures err { OnErr result (register.new ≡ register.old) }

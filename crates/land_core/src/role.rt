@@ -1,4 +1,4 @@
-//! The roles of parties, in their order.
+//! The roles of parties.
 ghost use Rattle.std.specs.Prelude.{◌≡◌, ◌==◌};
 ghost use Rattle.std.proofs.Common.{rules};
 ghost use Rattle.std.specs.Cmp.{partial_order_from_own_ties};
@@ -10,20 +10,20 @@ use crate::duplicate::Duplicate;
 use std::alloc::{AllocError, Global};
 use std::cmp::Ordering;
 
-/// A role that a party holds (LA_PartyRoleType).
+/// A role of a party (LA_PartyRoleType).
 #[derive(Clone, Copy, Debug)]
 pub enum Role {
-    /// Looks after its own holdings; each single party is one when it is enrolled.
+    /// Manages its own holdings. Each single party has this role from its enrolment.
     Citizen,
     /// Lodges transfers for others.
     Conveyancer,
-    /// Lodges transfers, mortgages and discharges, and sees all.
+    /// Lodges transfers, mortgages and discharges, and sees everything.
     Notary,
     /// Lodges mortgages and discharges as their creditor.
     Bank,
     /// Lodges subdivisions and mergers.
     CertifiedSurveyor,
-    /// Keeps the register: enrols, grants, registers, decides.
+    /// Maintains the register: enrols, grants, registers, decides.
     StateAdministrator,
 }
 

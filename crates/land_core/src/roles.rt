@@ -1,4 +1,4 @@
-//! The roles of all parties, which contracts see as a set of pairs.
+//! The roles of all parties. Contracts see them as a set of pairs.
 ghost use Rattle.std.specs.Prelude.{◌≡◌, OnOk, OnErr, IfOk};
 ghost use Rattle.std.specs.FinMap as map;
 ghost use Rattle.std.specs.Map.Iter.{ShowsInOrder, deref};
@@ -14,16 +14,16 @@ use std::collections::BTreeSet;
 use std::collections::btree_set::Iter;
 use std::marker::Model;
 
-/// A party holds a role.
+/// A role of a party.
 #[derive(Clone, Copy, Debug, PartialEq, Eq, PartialOrd, Ord)]
 pub struct Grant {
     /// The party's number.
     pub party: u64,
-    /// The role that it holds.
+    /// The role.
     pub role: Role,
 }
 
-/// Which party holds which roles.
+/// A set of roles of parties.
 #[derive(Debug, Drop)]
 pub struct Roles {
     grants: BTreeSet<Grant>,
@@ -42,7 +42,7 @@ impl Model for Roles {
 }
 
 impl Roles {
-    /// No roles, which takes no memory.
+    /// Returns the empty set. Allocates nothing.
     pub fn new(alloc: Global) -> Roles
         ensures { result ≡ map.empty }
     {
@@ -51,14 +51,14 @@ impl Roles {
         }
     }
 
-    /// The roles of a set, which they keep.
+    /// Wraps a set of roles.
     pub fn from_set(grants: BTreeSet<Grant>) -> Roles
         ensures { result ≡ map.from_entries (marks grants.keys) }
     {
         Roles { grants }
     }
 
-    /// The set that the roles kept.
+    /// Returns the set.
     pub fn into_set(self) -> BTreeSet<Grant>
         ensures { map.from_entries (marks result.keys) ≡ self }
     {
@@ -66,14 +66,14 @@ impl Roles {
         grants
     }
 
-    /// Whether a party holds a role.
+    /// Whether a party has a role.
     pub fn contains(&self, grant: Grant) -> bool
         ensures { result ≡ has_grant self.now grant }
     {
         self.grants.contains(&grant)
     }
 
-    /// Gives a party a role. After want of memory the roles are unchanged.
+    /// Inserts a role of a party. If out of memory, changes nothing.
     pub fn insert(&mut self, grant: Grant) -> Result<(), AllocError>
         ensures ok { OnOk result (self.new ≡ map.insert self.old grant tt) }
         ensures err { OnErr result (self.new ≡ self.old) }
@@ -82,14 +82,14 @@ impl Roles {
         Ok(())
     }
 
-    /// Ends a role of a party.
+    /// Removes a role of a party.
     pub fn remove(&mut self, grant: Grant)
         ensures { self.new ≡ map.remove self.old grant }
     {
         let _ = self.grants.remove(&grant);
     }
 
-    /// All grants, by party and then by role.
+    /// Returns an iterator over all roles, ordered by party and then by role.
     pub fn iter(&self) -> Iter<'_, Grant>
         ensures rest { result ≡ grants_in self.now }
         ensures runs { ShowsInOrder (deref {X = Grant}) }
@@ -97,7 +97,7 @@ impl Roles {
         self.grants.iter()
     }
 
-    /// These roles without some, and with others given.
+    /// Returns a copy without the roles in `ended` and with those in `put`.
     pub fn updated(
         &self,
         alloc: Global,

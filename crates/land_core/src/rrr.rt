@@ -19,7 +19,7 @@ pub enum RightType {
 }
 
 impl RightType {
-    /// Whether two types are one.
+    /// Whether two types are equal.
     pub fn is(self, other: RightType) -> bool
         ensures { result ≡ is_type self other }
     {
@@ -32,27 +32,27 @@ impl RightType {
     }
 }
 
-/// What an entry says, by its class.
+/// The class of an entry, with the data of that class.
 #[derive(Debug, Drop)]
 pub enum Class {
     /// A right to a share of the unit (LA_Right).
     Right {
         /// The type of the right.
         right_type: RightType,
-        /// The share that its party has.
+        /// The share of its party.
         share: Fraction,
     },
-    /// What its party may not do, or has to bear (LA_Restriction).
+    /// A duty of its party to refrain or to tolerate (LA_Restriction).
     Restriction {
-        /// In words: 1 to 200 characters.
+        /// The wording: 1 to 200 characters.
         words: Text,
     },
-    /// What its party has to do (LA_Responsibility).
+    /// A duty of its party to act (LA_Responsibility).
     Responsibility {
-        /// In words: 1 to 200 characters.
+        /// The wording: 1 to 200 characters.
         words: Text,
     },
-    /// What the unit is a security for; its party is the creditor (LA_Mortgage).
+    /// A loan that the unit secures; its party is the creditor (LA_Mortgage).
     Mortgage {
         /// The amount in minor units: 1 to 1_000_000_000_000_000.
         amount: u64,
@@ -66,7 +66,7 @@ pub enum Class {
 impl Class {
     ghost use Rattle.land_core.specs.Units.{is_right_of, share_of};
 
-    /// The type of a right.
+    /// Returns the type of a right; `None` for another class.
     pub fn right_type(&self) -> Option<RightType>
         ensures { result ≡ type_of self.now }
     {
@@ -76,7 +76,7 @@ impl Class {
         }
     }
 
-    /// The rank of a mortgage.
+    /// Returns the rank of a mortgage; `None` for another class.
     pub fn rank(&self) -> Option<u64>
         ensures { result ≡ rank_of self.now }
     {
@@ -86,7 +86,7 @@ impl Class {
         }
     }
 
-    /// Whether it is a right of a type.
+    /// Whether it is a right of this type.
     pub fn is_right_of(&self, wanted: RightType) -> bool
         ensures { result ≡ is_right_of wanted self.now }
     {
@@ -96,7 +96,7 @@ impl Class {
         }
     }
 
-    /// The share of a right of a type.
+    /// Returns the share of a right of this type, else `None`.
     pub fn share_of(&self, wanted: RightType) -> Option<Fraction>
         ensures { result ≡ share_of wanted self.now }
     {
@@ -133,16 +133,16 @@ impl Duplicate for Class {
     }
 }
 
-/// What the register keeps of an entry under its number.
+/// The record of an entry, stored by its number.
 #[derive(Debug, Drop)]
 pub struct RrrRecord {
     /// The number of its unit.
     pub unit: u64,
-    /// The number of its party: who has the right or the duty, or the creditor.
+    /// The number of its party: the holder of the right or the duty, or the creditor.
     pub party: u64,
-    /// What it says.
+    /// The class.
     pub class: Class,
-    /// The number of the source that it comes from.
+    /// The number of its source.
     pub source: u64,
 }
 
@@ -154,7 +154,7 @@ impl RrrRecord {
         self.unit == unit && self.class.is_right_of(right_type)
     }
 
-    /// The share of a right of a type in a unit.
+    /// Returns the share of a right of this type in this unit, else `None`.
     pub fn share_in(&self, unit: u64, right_type: RightType) -> Option<Fraction>
         ensures { result ≡ share_in unit right_type self.now }
     {
@@ -177,18 +177,18 @@ impl Duplicate for RrrRecord {
     }
 }
 
-/// An entry as it is shown: its record with its number.
+/// An entry: its record with its number.
 #[derive(Debug, Drop)]
 pub struct Rrr {
     /// Its number.
     pub number: u64,
     /// The number of its unit.
     pub unit: u64,
-    /// The number of its party: who has the right or the duty, or the creditor.
+    /// The number of its party: the holder of the right or the duty, or the creditor.
     pub party: u64,
-    /// What it says.
+    /// The class.
     pub class: Class,
-    /// The number of the source that it comes from.
+    /// The number of its source.
     pub source: u64,
 }
 

@@ -1,4 +1,4 @@
-//! Lists, which contracts see as lists.
+//! Lists. Contracts see them as lists too.
 ghost use Rattle.std.specs.Prelude.{◌≡◌, ◌∷◌, ◌++◌, [], IfOk, OnOk, OnErr};
 
 use crate::duplicate::Duplicate;
@@ -26,7 +26,7 @@ impl<T> Model for Sequence<T> {
 }
 
 impl<T> Sequence<T> {
-    /// The empty list, which takes no memory.
+    /// Returns the empty list. Allocates nothing.
     pub fn new(alloc: Global) -> Sequence<T>
         ensures { result ≡ [] }
     {
@@ -35,14 +35,14 @@ impl<T> Sequence<T> {
         }
     }
 
-    /// The list of a vector, which it keeps.
+    /// Wraps a vector.
     pub fn from_vec(items: Vec<T>) -> Sequence<T>
         ensures { result ≡ items.items }
     {
         Sequence { items }
     }
 
-    /// The vector that the list kept.
+    /// Returns the vector.
     pub fn into_vec(self) -> Vec<T>
         ensures { result.items ≡ self }
     {
@@ -50,7 +50,7 @@ impl<T> Sequence<T> {
         items
     }
 
-    /// The items, lent.
+    /// Returns the items as a slice.
     pub fn as_slice(&self) -> &[T]
         ensures { result.now ≡ self.now }
     {
@@ -59,7 +59,7 @@ impl<T> Sequence<T> {
 }
 
 impl<T: Drop> Sequence<T> {
-    /// Appends an item. After want of memory the list is unchanged.
+    /// Appends an item. If out of memory, the list is unchanged.
     pub fn push(&mut self, item: T) -> Result<(), AllocError>
         ensures ok { OnOk result (self.new ≡ self.old ++ item ∷ []) }
         ensures err { OnErr result (self.new ≡ self.old) }
@@ -68,7 +68,7 @@ impl<T: Drop> Sequence<T> {
         Ok(())
     }
 
-    /// The list of one item.
+    /// Returns a list of one item.
     pub fn of_one(alloc: Global, item: T) -> Result<Sequence<T>, AllocError>
         ensures { IfOk result (λ it. it ≡ item ∷ []) }
     {

@@ -1,9 +1,9 @@
-//! Sources (LA_Source): the documents that records come from.
+//! Sources (LA_Source): the documents on which records are based.
 use crate::duplicate::Duplicate;
 use crate::text::Text;
 use std::alloc::{AllocError, Global};
 
-/// What a source is.
+/// The kind of a source.
 #[derive(Clone, Copy, Debug, PartialEq, Eq)]
 pub enum SourceKind {
     /// A deed, an order or another document (LA_AdministrativeSource).
@@ -12,10 +12,10 @@ pub enum SourceKind {
     Spatial,
 }
 
-/// What the register keeps of a source under its number.
+/// The record of a source, stored by its number.
 #[derive(Debug, Drop)]
 pub struct SourceRecord {
-    /// What it is.
+    /// The kind.
     pub kind: SourceKind,
     /// The document's title: 1 to 200 characters.
     pub title: Text,
@@ -30,12 +30,12 @@ impl Duplicate for SourceRecord {
     }
 }
 
-/// A source as it is shown: its record with its number.
+/// A source: its record with its number.
 #[derive(Debug, Drop)]
 pub struct Source {
     /// Its number.
     pub number: u64,
-    /// What it is.
+    /// The kind.
     pub kind: SourceKind,
     /// The document's title.
     pub title: Text,

@@ -1,4 +1,4 @@
-//! Subdivisions: a parcel is cut into parts.
+//! Subdivisions: a parcel is divided into parts.
 ghost use Rattle.std.specs.Prelude.{◌≡◌, IfOk};
 ghost use Rattle.land_core.specs.Subdivisions.{are_same_parts, have_names, is_new_name, is_part, is_rest, is_rest_count, is_same_name, is_same_parcel, is_same_part, is_same_subdivision, is_subdivision};
 
@@ -10,23 +10,23 @@ use crate::text::Text;
 use land_shape::Ring;
 use std::alloc::{AllocError, Global};
 
-/// A part of a parcel beside the first one.
+/// A part of a divided parcel, other than the first.
 #[derive(Debug, Drop)]
 pub struct Part {
-    /// What it is called on the map: 1 to 40 characters.
+    /// The label on the map: 1 to 40 characters.
     pub label: Text,
     /// Its outline, in millimetres.
     pub outline: Ring,
-    /// The name of a new unit that it goes to: 1 to 200 characters. Without one it stays in the unit.
+    /// The name of the new unit of the part: 1 to 200 characters. `None`: the part stays in the unit.
     pub unit: Option<Text>,
 }
 
-/// A parcel of a unit is cut into 2 to 16 parts.
+/// Divides a parcel of a unit into 2 to 16 parts.
 #[derive(Debug, Drop)]
 pub struct Subdivision {
     /// The unit's number.
     pub unit: u64,
-    /// The number of the parcel that ends.
+    /// The number of the divided parcel, which ends.
     pub parcel: u64,
     /// The part that stays in the unit.
     pub first: NewParcel,
@@ -54,7 +54,7 @@ impl Subdivision {
     }
 }
 
-/// Whether parts may be cut off: 1 to 15 of them.
+/// Whether these are valid further parts: 1 to 15.
 fn is_rest(parts: &[Part]) -> bool
     ensures { result ≡ is_rest parts.now }
 {
@@ -79,7 +79,7 @@ fn is_part(part: &Part) -> bool
     is_label(part.label.as_str()) && is_new_name(&part.unit)
 }
 
-/// Whether a new unit, if there is one, may be called so.
+/// Whether the name of the new unit, if any, is valid.
 fn is_new_name(name: &Option<Text>) -> bool
     ensures { result ≡ is_new_name name.now }
 {

@@ -1,11 +1,11 @@
-//! Texts, which contracts see as their bytes in UTF-8.
+//! Texts. Contracts see them as their bytes in UTF-8.
 ghost use Rattle.std.specs.Prelude.{◌≡◌, string_bytes};
 
 use crate::duplicate::Duplicate;
 use std::alloc::{AllocError, Global};
 use std::marker::Model;
 
-/// A text of the register: a name, a document, words.
+/// A text of the register: a name, a title or a wording.
 #[derive(Debug, Drop)]
 pub struct Text {
     text: String,
@@ -20,21 +20,21 @@ impl Model for Text {
 }
 
 impl Text {
-    /// The text of a string, which it keeps.
+    /// Wraps a string.
     pub fn new(text: String) -> Text
         ensures { result ≡ string_bytes text }
     {
         Text { text }
     }
 
-    /// The text, lent.
+    /// Returns the text as a slice.
     pub fn as_str(&self) -> &str
         ensures { result.now ≡ self.now }
     {
         self.text.as_str()
     }
 
-    /// The string that the text kept.
+    /// Returns the string.
     pub fn into_string(self) -> String
         ensures { string_bytes result ≡ self }
     {

@@ -3,12 +3,12 @@ use crate::duplicate::Duplicate;
 use crate::text::Text;
 use std::alloc::{AllocError, Global};
 
-/// What the register keeps of a unit under its number. Its parcels and its entries stand in maps of their own.
+/// The record of a unit, stored by its number. Its parcels and its entries are in separate maps.
 #[derive(Debug, Drop)]
 pub struct UnitRecord {
-    /// What it is called: 1 to 200 characters.
+    /// The name: 1 to 200 characters.
     pub name: Text,
-    /// Whether the shares of each type of right in it have to make a whole.
+    /// Whether the shares of each type of right must sum to 1.
     pub checked: bool,
 }
 
@@ -21,14 +21,14 @@ impl Duplicate for UnitRecord {
     }
 }
 
-/// A unit as it is shown: its record with its number.
+/// A unit: its record with its number.
 #[derive(Debug, Drop)]
 pub struct Unit {
     /// Its number.
     pub number: u64,
-    /// What it is called.
+    /// The name.
     pub name: Text,
-    /// Whether the shares of each type of right in it have to make a whole.
+    /// Whether the shares of each type of right must sum to 1.
     pub checked: bool,
 }
 

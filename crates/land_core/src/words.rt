@@ -1,4 +1,5 @@
-//! The words of the register's codes (ISO 19152, code lists), as they stand in requests, replies, sheets, extracts and tables.
+//! The code words of the register (code lists of ISO 19152), as in requests, replies, sheets, extracts and
+//! tables.
 ghost use Rattle.std.specs.Prelude.{◌≡◌};
 ghost use Rattle.land_core.specs.Words.{act_word, class_word, party_word, right_word, role_word, source_word, state_word};
 
@@ -9,7 +10,7 @@ use crate::role::Role;
 use crate::rrr::{Class, RightType};
 use crate::source::SourceKind;
 
-/// What a party is (LA_PartyType).
+/// Returns the word of a kind of party (LA_PartyType).
 pub fn party_word(kind: PartyKind) -> &'static str
     ensures { result.now ≡ party_word kind }
 {
@@ -20,7 +21,7 @@ pub fn party_word(kind: PartyKind) -> &'static str
     }
 }
 
-/// A role (LA_PartyRoleType).
+/// Returns the word of a role (LA_PartyRoleType).
 pub fn role_word(role: Role) -> &'static str
     ensures { result.now ≡ role_word role }
 {
@@ -34,7 +35,7 @@ pub fn role_word(role: Role) -> &'static str
     }
 }
 
-/// The type of a right (LA_RightType).
+/// Returns the word of a type of right (LA_RightType).
 pub fn right_word(right_type: RightType) -> &'static str
     ensures { result.now ≡ right_word right_type }
 {
@@ -45,7 +46,7 @@ pub fn right_word(right_type: RightType) -> &'static str
     }
 }
 
-/// The class of an entry; that of a right is its type.
+/// Returns the word of an entry's class. For a right it is the word of its type.
 pub fn class_word(class: &Class) -> &'static str
     ensures { result.now ≡ class_word class.now }
 {
@@ -57,7 +58,7 @@ pub fn class_word(class: &Class) -> &'static str
     }
 }
 
-/// What a source is.
+/// Returns the word of a kind of source.
 pub fn source_word(kind: SourceKind) -> &'static str
     ensures { result.now ≡ source_word kind }
 {
@@ -67,7 +68,7 @@ pub fn source_word(kind: SourceKind) -> &'static str
     }
 }
 
-/// The act that lodges a content.
+/// Returns the word of the act that lodges a content.
 pub fn act_word(content: &Content) -> &'static str
     ensures { result.now ≡ act_word content.now }
 {
@@ -80,7 +81,7 @@ pub fn act_word(content: &Content) -> &'static str
     }
 }
 
-/// How far a mutation has come.
+/// Returns the word of the state of a mutation.
 pub fn state_word(state: MutationState) -> &'static str
     ensures { result.now ≡ state_word state }
 {

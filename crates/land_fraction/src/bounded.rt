@@ -36,7 +36,7 @@ impl Model for Fraction {
 }
 
 impl Fraction {
-    /// The fraction `n`/`d` in lowest terms, or the first of these faults:
+    /// Returns the fraction `n`/`d` in lowest terms, or the first of these faults:
     ///
     /// - 101 `Zero`: `n` or `d` is 0.
     /// - 102 `AboveOne`: `n` is above `d`.
@@ -62,7 +62,7 @@ impl Fraction {
         })
     }
 
-    /// The sum of two fractions, exactly, or the first of these faults:
+    /// Returns the sum of two fractions, exactly, or the first of these faults:
     ///
     /// - 102 `AboveOne`: the sum is above one.
     /// - 103 `TooFine`: its denominator in lowest terms is above 1_000_000_000.
@@ -89,7 +89,7 @@ impl Fraction {
         Fraction::new(left, self.denominator * other.denominator)
     }
 
-    /// The numerator in lowest terms, 1 to the denominator.
+    /// Returns the numerator in lowest terms, 1 to the denominator.
     pub fn numerator(self) -> u64
         ensures value { result ≡ self.numerator }
         ensures lowest { IsFraction self }
@@ -97,7 +97,7 @@ impl Fraction {
         self.numerator
     }
 
-    /// The denominator in lowest terms, 1 to 1_000_000_000.
+    /// Returns the denominator in lowest terms, 1 to 1_000_000_000.
     pub fn denominator(self) -> u64
         ensures value { result ≡ self.denominator }
         ensures lowest { IsFraction self }

@@ -2,7 +2,7 @@
 
 ghost use Rattle.land_fraction.specs.Divisor.{IsGreatestDivisor};
 
-/// The greatest common divisor of two numbers, which is the other one where one of them is 0.
+/// Returns the greatest common divisor of two numbers, which is the other one where one of them is 0.
 pub fn greatest_divisor(a: u64, b: u64) -> u64
     ensures { IsGreatestDivisor a b result }
 {

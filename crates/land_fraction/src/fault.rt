@@ -19,7 +19,7 @@ pub enum FractionFault {
 }
 
 impl FractionFault {
-    /// The number of the fault, 101 to 103.
+    /// Returns the number of the fault, 101 to 103.
     pub fn number(self) -> u16
         ensures { result ≡ number_of self }
     {

@@ -4,7 +4,7 @@ ghost use Rattle.land_fraction.specs.Laws.{AnswerLaw, CommonLaw, WholenessLaw, O
 ghost use Rattle.land_fraction.specs.Laws.{KeptSumLaw, PermutedLaw, MovedLaw, SplitLaw, JoinedLaw};
 ghost use Rattle.land_fraction.specs.Laws.{SumPartsLaw, DifferencePartsLaw, SamePartsLaw};
 
-/// A pair is one fraction or has one fault, the one that `fraction_of` gives.
+/// Returns a pair is one fraction or has one fault, the one that `fraction_of` gives.
 pub fn answers_of_pairs()
     ensures { AnswerLaw }
 {}
@@ -25,7 +25,7 @@ pub fn fractions_are_one()
     ensures { OneFractionLaw }
 {}
 
-/// A fraction read again is itself.
+/// Returns a fraction read again is itself.
 pub fn fractions_stay()
     ensures { SameFractionLaw }
 {}
@@ -40,27 +40,27 @@ pub fn moving_keeps_the_sum()
     ensures { KeptSumLaw }
 {}
 
-/// A list is whole, not whole or too fine in whatever order.
+/// Returns a list is whole, not whole or too fine in whatever order.
 pub fn order_of_lists()
     ensures { PermutedLaw }
 {}
 
-/// A whole list in which a share goes from one entry to another is whole, or too fine.
+/// Returns a whole list in which a share goes from one entry to another is whole, or too fine.
 pub fn moving_keeps_wholeness()
     ensures { MovedLaw }
 {}
 
-/// A whole list in which a share of an entry becomes a new entry is whole, or too fine.
+/// Returns a whole list in which a share of an entry becomes a new entry is whole, or too fine.
 pub fn splitting_keeps_wholeness()
     ensures { SplitLaw }
 {}
 
-/// A whole list in which two entries become one is whole, or too fine.
+/// Returns a whole list in which two entries become one is whole, or too fine.
 pub fn joining_keeps_wholeness()
     ensures { JoinedLaw }
 {}
 
-/// A sum has the parts of both fractions.
+/// Returns a sum has the parts of both fractions.
 pub fn parts_of_sums()
     ensures { SumPartsLaw }
 {}

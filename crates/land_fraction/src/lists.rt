@@ -19,7 +19,8 @@ pub enum Whole {
     TooFine,
 }
 
-/// The least common multiple of the denominators where it is at most 1_000_000_000, and 1 for the empty list.
+/// Returns the least common multiple of the denominators where it is at most 1_000_000_000, and 1 for the
+/// empty list.
 pub fn common(shares: &[Fraction]) -> Option<u64>
     ensures meaning { IsCommon shares.now result }
     ensures value { result ≡ common_of shares.now }
@@ -47,7 +48,7 @@ pub fn is_whole(shares: &[Fraction]) -> Whole
     }
 }
 
-/// The least common multiple of two numbers above 0.
+/// Returns the least common multiple of two numbers above 0.
 fn least_multiple(a: u64, b: u64) -> u64
     requires first { 0 < a }
     requires second { 0 < b }

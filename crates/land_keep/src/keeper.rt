@@ -37,7 +37,7 @@ pub trait Keeper {
     /// Whether the store has given back what was written to it, so far. What a keeper says holds as long as it has.
     ghost honest: { Self → Type 0 };
 
-    /// The stamp of the last accepted change, 0 in a new register.
+    /// Returns the stamp of the last accepted change, 0 in a new register.
     fn last(&self) -> i64
         ensures last { IsLive (honest self.now) (closed self.now) → result ≡ last_stamp (timeline self.now) }
         ensures moment { result ≤ℤ last_moment }
@@ -62,7 +62,7 @@ pub trait Keeper {
         ensures was { honest self.new → honest self.old }
         ensures closes { Closes (closed self.old) (closed self.new) result };
 
-    /// The numbers of a kind that the caller sees at a moment, ascending.
+    /// Returns the numbers of a kind that the caller sees at a moment, ascending.
     fn sight(
         &mut self,
         alloc: Global,
@@ -75,7 +75,7 @@ pub trait Keeper {
         ensures was { honest self.new → honest self.old }
         ensures closes { Closes (closed self.old) (closed self.new) result };
 
-    /// The object that stands at a moment, or `None`.
+    /// Returns the object that stands at a moment, or `None`.
     fn object(
         &mut self,
         alloc: Global,
@@ -88,8 +88,8 @@ pub trait Keeper {
         ensures was { honest self.new → honest self.old }
         ensures closes { Closes (closed self.old) (closed self.new) result };
 
-    /// The objects of a kind that stand at a moment under some numbers, in the order of these, as they are listed. It may read all of the
-    /// kind from the least of the numbers to the greatest.
+    /// Returns the objects of a kind that stand at a moment under some numbers, in the order of these, as
+    /// they are listed. It may read all of the kind from the least of the numbers to the greatest.
     fn objects(
         &mut self,
         alloc: Global,
@@ -102,7 +102,8 @@ pub trait Keeper {
         ensures was { honest self.new → honest self.old }
         ensures closes { Closes (closed self.old) (closed self.new) result };
 
-    /// The unit that stands at a moment, as a caller sees it, or `None`. A view names the moment that it was asked for.
+    /// Returns the unit that stands at a moment, as a caller sees it, or `None`. A view names the moment that
+    /// it was asked for.
     fn view(
         &mut self,
         alloc: Global,
@@ -116,7 +117,7 @@ pub trait Keeper {
         ensures was { honest self.new → honest self.old }
         ensures closes { Closes (closed self.old) (closed self.new) result };
 
-    /// The records of the last register that planning may look at.
+    /// Returns the records of the last register that planning may look at.
     fn slice(&mut self, alloc: Global, caller: Caller, act: &Act) -> Result<Slice, StoreFault>
         ensures value { honest self.new → IfOk result (λ it. it ≡ slice_of (last_register (timeline self.old)) caller act.now) }
         ensures same { IsLive (honest self.new) (closed self.new) → timeline self.new ≡ timeline self.old }

@@ -1,12 +1,12 @@
 //! Laws, each stated over the definitions alone.
 ghost use Rattle.land_keep.specs.Laws.{ChangesKeepSharesWhole, SharesAreWhole, WritingKeepsSound, PastStays, ChangeStands, OpenKeepersLackMemoryAlone, ReadsLookAtTwoRegisters, RepliesTellNothingUnseen};
 
-/// A timeline stays sound after each change that may be written.
+/// Returns a timeline stays sound after each change that may be written.
 pub fn writing_keeps_soundness()
     ensures { WritingKeepsSound }
 {}
 
-/// A change leaves the register at each moment before its stamp as it was.
+/// Returns a change leaves the register at each moment before its stamp as it was.
 pub fn the_past_stays()
     ensures { PastStays }
 {}
@@ -26,12 +26,12 @@ pub fn changes_keep_shares_whole()
     ensures { ChangesKeepSharesWhole }
 {}
 
-/// A keeper that stays open answers, or had no memory; the keeper in memory always stays open.
+/// Returns a keeper that stays open answers, or had no memory; the keeper in memory always stays open.
 pub fn open_keepers_lack_memory_alone()
     ensures { OpenKeepersLackMemoryAlone }
 {}
 
-/// The reply to a read is told by now, the last register and the register at the asked moment alone.
+/// Returns the reply to a read is told by now, the last register and the register at the asked moment alone.
 pub fn reads_look_at_two_registers()
     ensures { ReadsLookAtTwoRegisters }
 {}

@@ -134,7 +134,7 @@ fn prepared_by(outcome: Result<Planned, Refusal>) -> Result<Prepared, StoreFault
     }
 }
 
-/// A reply that changes nothing.
+/// Returns a reply that changes nothing.
 fn without_change(reply: Reply) -> Prepared
     ensures reply { result.reply ≡ reply }
     ensures writing { result.writing ≡ None }

@@ -13,7 +13,7 @@ pub(crate) fn now_at(clock: i64, last: i64) -> i64
     clock.max(0).min(LAST_MOMENT).max(last)
 }
 
-/// The stamp of a change, if there is one, by the clock and the last stamp.
+/// Returns the stamp of a change, if there is one, by the clock and the last stamp.
 pub(crate) fn stamp_at(clock: i64, last: i64) -> Option<i64>
     requires { last ≤ℤ last_moment }
     ensures { result ≡ stamp_after clock last }
@@ -25,7 +25,7 @@ pub(crate) fn stamp_at(clock: i64, last: i64) -> Option<i64>
     }
 }
 
-/// The moment that an ask names.
+/// Returns the moment that an ask names.
 pub fn named_moment(ask: &Ask) -> Option<i64>
     ensures { result ≡ at_of ask.now }
 {

@@ -20,7 +20,7 @@ pub struct NamedObject {
     pub name: Text,
 }
 
-/// An object as it is listed.
+/// Returns an object as it is listed.
 fn listed(alloc: Global, object: Object) -> Object
     ensures { result ≡ listed object }
 {
@@ -55,7 +55,7 @@ fn name_beside(alloc: Global, register: &Register, object: &Object) -> Result<Te
     }
 }
 
-/// The objects of a kind that stand in a register under some numbers, in the order of these.
+/// Returns the objects of a kind that stand in a register under some numbers, in the order of these.
 pub fn objects_of(
     alloc: Global,
     register: &Register,

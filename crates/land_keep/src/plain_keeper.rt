@@ -46,7 +46,7 @@ impl Model for PlainKeeper {
 }
 
 impl PlainKeeper {
-    /// A keeper of the new register.
+    /// Returns a keeper of the new register.
     pub fn new(alloc: Global) -> Result<PlainKeeper, AllocError>
         ensures { IfOk result (λ it. it ≡ new_timeline) }
     {
@@ -65,7 +65,7 @@ impl PlainKeeper {
         self.versions.last()
     }
 
-    /// The last register. A sound timeline has one; an empty one would stand in for it.
+    /// Returns the last register. A sound timeline has one; an empty one would stand in for it.
     fn last_register<'a>(&'a self, empty: &'a Register) -> &'a Register
         requires { empty.now ≡ nothing }
         ensures register { result.now ≡ last_register self.now }
@@ -74,7 +74,7 @@ impl PlainKeeper {
         register_of(self.last_version(), empty)
     }
 
-    /// The register at a moment: before the first stamp it is the empty one.
+    /// Returns the register at a moment: before the first stamp it is the empty one.
     fn register_at<'a>(&'a self, t: i64, empty: &'a Register) -> &'a Register
         requires { empty.now ≡ nothing }
         ensures { result.now ≡ register_at self.now t }
@@ -92,7 +92,7 @@ impl PlainKeeper {
         Ok(())
     }
 
-    /// The last version whose stamp is at most `t`.
+    /// Returns the last version whose stamp is at most `t`.
     fn version_at(&self, t: i64) -> Option<&Version>
         ensures { option_copied result ≡ version_at self.now t }
     {
@@ -208,7 +208,7 @@ impl Keeper for PlainKeeper {
     }
 }
 
-/// The register of a version, or the empty one.
+/// Returns the register of a version, or the empty one.
 fn register_of<'a>(version: Option<&'a Version>, empty: &'a Register) -> &'a Register
     ensures { result.now ≡ unwrap_or (option_map (λ v. v.register) (option_copied version.entry)) empty.now }
 {

@@ -23,7 +23,7 @@ pub struct Prepared {
 }
 
 impl Prepared {
-    /// The reply that stands if the change is written.
+    /// Returns the reply that stands if the change is written.
     pub fn reply(&self) -> &Reply
         ensures { result.now ≡ self.now.reply }
     {

@@ -17,7 +17,7 @@ pub enum StoreFault {
 impl StoreFault {
     ghost use Rattle.land_keep.specs.Faults.{number_of};
 
-    /// The number that the caller is told.
+    /// Returns the number that the caller is told.
     pub fn number(self) -> u16
         ensures { result ≡ number_of self }
     {

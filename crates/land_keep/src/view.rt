@@ -37,7 +37,7 @@ pub struct View {
     pub at: i64,
 }
 
-/// The unit that stands in a register, as a caller sees it, or `None`.
+/// Returns the unit that stands in a register, as a caller sees it, or `None`.
 pub fn view_of(
     alloc: Global,
     register: &Register,
@@ -62,7 +62,7 @@ pub fn view_of(
     }
 }
 
-/// The parcels of a unit, by ascending numbers.
+/// Returns the parcels of a unit, by ascending numbers.
 fn parcels_of(alloc: Global, register: &Register, unit: u64) -> Result<Sequence<Parcel>, AllocError>
     ensures { IfOk result (λ it. it ≡ parcels_at register.now unit) }
 {
@@ -81,7 +81,7 @@ fn parcels_of(alloc: Global, register: &Register, unit: u64) -> Result<Sequence<
     Ok(parcels)
 }
 
-/// The entries of a unit that the caller sees, by ascending numbers, with the names of their parties.
+/// Returns the entries of a unit that the caller sees, by ascending numbers, with the names of their parties.
 fn entries_of(
     alloc: Global,
     register: &Register,

@@ -131,7 +131,7 @@ impl<'a> Progress<'a> {
     }
 }
 
-/// The rings of a body, or None where the tokens are no body.
+/// Returns the rings of a body, or None where the tokens are no body.
 pub(crate) fn body_of<'a>(
     alloc: Global,
     tokens: &[Token<'a>],

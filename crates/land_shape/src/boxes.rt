@@ -17,7 +17,7 @@ pub(crate) struct EdgeBox {
     greatest: Point,
 }
 
-/// The point of the lesser coordinates of two points.
+/// Returns the point of the lesser coordinates of two points.
 fn lesser(a: Point, b: Point) -> Point
     ensures x { result.x ≡ int_min a.x b.x }
     ensures y { result.y ≡ int_min a.y b.y }
@@ -28,7 +28,7 @@ fn lesser(a: Point, b: Point) -> Point
     }
 }
 
-/// The point of the greater coordinates of two points.
+/// Returns the point of the greater coordinates of two points.
 fn greater(a: Point, b: Point) -> Point
     ensures x { result.x ≡ int_max a.x b.x }
     ensures y { result.y ≡ int_max a.y b.y }
@@ -40,7 +40,7 @@ fn greater(a: Point, b: Point) -> Point
 }
 
 impl EdgeBox {
-    /// The box stretched to hold a point.
+    /// Returns the box stretched to hold a point.
     fn with(self, point: Point) -> EdgeBox
         ensures holds { IsInBox (place_of result.least) (place_of result.greatest) (place_of point) }
         ensures still { (p : Place) → IsInBox (place_of self.least) (place_of self.greatest) p → IsInBox (place_of result.least) (place_of result.greatest) p }
@@ -59,7 +59,7 @@ impl EdgeBox {
     }
 }
 
-/// The box around the edges from `start` to before `end`.
+/// Returns the box around the edges from `start` to before `end`.
 pub(crate) fn box_of(points: &[Point], start: usize, end: usize) -> EdgeBox
     requires order { start < end }
     requires within { end ≤ length points.now }

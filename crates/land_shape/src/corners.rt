@@ -5,7 +5,7 @@ ghost use Rattle.land_shape.specs.Simple.{place_of, places, place_at, next_at};
 
 use crate::plane::Point;
 
-/// The corner at `i`.
+/// Returns the corner at `i`.
 pub(crate) fn corner(points: &[Point], i: usize) -> Point
     requires { i < length points.now }
     ensures { place_of result ≡ place_at (places points.now) i }
@@ -13,7 +13,7 @@ pub(crate) fn corner(points: &[Point], i: usize) -> Point
     points[i]
 }
 
-/// The corner after the one at `i`.
+/// Returns the corner after the one at `i`.
 pub(crate) fn corner_after(points: &[Point], i: usize) -> Point
     requires { i < length points.now }
     ensures { place_of result ≡ next_at (places points.now) i }

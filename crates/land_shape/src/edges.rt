@@ -16,7 +16,7 @@ pub(crate) struct Edge {
 }
 
 impl Edge {
-    /// The edge the other way round.
+    /// Returns the edge the other way round.
     pub(crate) fn reversed(self) -> Edge
         ensures { edge_of result ≡ reversed (edge_of self) }
     {

@@ -37,7 +37,7 @@ pub enum ShapeFault {
 }
 
 impl ShapeFault {
-    /// The number of the fault: 110 to 120, or 501.
+    /// Returns the number of the fault: 110 to 120, or 501.
     pub fn number(self) -> u16
         ensures { result ≡ number_of self }
     {
@@ -57,7 +57,7 @@ impl ShapeFault {
         }
     }
 
-    /// The fault in the user's words.
+    /// Returns the fault in the user's words.
     pub fn text(self) -> &'static str
         ensures { result.now ≡ text_of self }
     {

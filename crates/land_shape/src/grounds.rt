@@ -11,7 +11,7 @@ use crate::outline::Ring;
 use crate::plane::Point;
 use std::alloc::{AllocError, Global};
 
-/// Some edges, and then those of a ring.
+/// Returns some edges, and then those of a ring.
 fn with_ring(so_far: Vec<Edge>, points: &[Point]) -> Result<Vec<Edge>, AllocError>
     requires { 0 < length points.now }
     ensures { IfOk result (λ v. edges v.items ≡ edges so_far.items ++ ring_edges (places points.now)) }
@@ -33,7 +33,7 @@ fn with_ring(so_far: Vec<Edge>, points: &[Point]) -> Result<Vec<Edge>, AllocErro
     Ok(all)
 }
 
-/// The edges of some rings.
+/// Returns the edges of some rings.
 pub(crate) fn edges_of(alloc: Global, rings: &[Ring]) -> Result<Vec<Edge>, AllocError>
     ensures { IfOk result (λ v. edges v.items ≡ edges_of rings.now) }
 {
@@ -44,7 +44,7 @@ pub(crate) fn edges_of(alloc: Global, rings: &[Ring]) -> Result<Vec<Edge>, Alloc
     Ok(all)
 }
 
-/// Some points, and then the corners of some rings.
+/// Returns some points, and then the corners of some rings.
 fn with_corners(so_far: Vec<Point>, rings: &[Ring]) -> Result<Vec<Point>, AllocError>
     ensures { IfOk result (λ v. places v.items ≡ places so_far.items ++ places_of rings.now) }
 {
@@ -55,7 +55,7 @@ fn with_corners(so_far: Vec<Point>, rings: &[Ring]) -> Result<Vec<Point>, AllocE
     Ok(all)
 }
 
-/// The corners of two lists of rings.
+/// Returns the corners of two lists of rings.
 pub(crate) fn corners_of(
     alloc: Global,
     rings: &[Ring],

@@ -3,22 +3,22 @@
 ghost use Rattle.land_shape.specs.Laws.{PrintedLaw, OneAnswerLaw, AnswerLaw};
 ghost use Rattle.land_shape.specs.Matching.{LiesLaw, MatchingLaw, TestLaw};
 
-/// The printed form of a ring stands for that ring and no other.
+/// Returns the printed form of a ring stands for that ring and no other.
 pub fn printed_rings()
     ensures { PrintedLaw }
 {}
 
-/// No text has two answers.
+/// Returns no text has two answers.
 pub fn one_answer()
     ensures { OneAnswerLaw }
 {}
 
-/// Each text has an answer: a ring that it stands for, or a first fault.
+/// Returns each text has an answer: a ring that it stands for, or a first fault.
 pub fn every_text_is_judged()
     ensures { AnswerLaw }
 {}
 
-/// A place lies on an edge where the edge has that point.
+/// Returns a place lies on an edge where the edge has that point.
 pub fn places_on_edges()
     ensures { LiesLaw }
 {}

@@ -44,7 +44,7 @@ fn has_wrong_point(points: &[WrittenPoint<'_>]) -> bool
     false
 }
 
-/// The point of two words.
+/// Returns the point of two words.
 fn point_of(words: &[Word<'_>]) -> Result<Point, ShapeFault>
     requires { HasTwoWords words.now }
     ensures { ReadsPoint words.now result }
@@ -54,7 +54,7 @@ fn point_of(words: &[Word<'_>]) -> Result<Point, ShapeFault>
     Ok(Point { x, y })
 }
 
-/// The points of a ring. All words are numbers before any of them is too large.
+/// Returns the points of a ring. All words are numbers before any of them is too large.
 pub(crate) fn listed_points(
     alloc: Global,
     ring: &[WrittenPoint<'_>],

@@ -15,7 +15,7 @@ const LIMIT: u64 = 10_000_000_000;
 /// One more than the limit, which stands for every number above it.
 const BEYOND: u64 = LIMIT + 1;
 
-/// The number that digits write, or the one beyond the limit where it is greater.
+/// Returns the number that digits write, or the one beyond the limit where it is greater.
 fn capped_value(digits: &[u8]) -> u64
     requires { are_digits digits.now ≡ true }
     ensures { result ≡ min (digits_value 10 digits.now) 10000000001 }
@@ -48,7 +48,7 @@ fn are_few_zeros(bytes: &[u8]) -> bool
     are_zeros(bytes) && bytes.len() <= 20
 }
 
-/// The number that one digit or more write, capped.
+/// Returns the number that one digit or more write, capped.
 fn digits_of(bytes: &[u8]) -> Option<u64>
     ensures { result ≡ option_map (λ n. min n 10000000001) (digits_of bytes.now) }
 {
@@ -86,7 +86,7 @@ fn after_point(word: &[u8], point: usize) -> &[u8]
     }
 }
 
-/// The number of digits with or without a point and zeros, capped.
+/// Returns the number of digits with or without a point and zeros, capped.
 fn unsigned_of(word: &[u8]) -> Option<u64>
     ensures { result ≡ option_map (λ n. min n 10000000001) (unsigned_of word.now) }
 {
@@ -110,7 +110,7 @@ fn after_sign(word: &[u8]) -> (bool, &[u8])
     }
 }
 
-/// The coordinate that a word writes, in millimetres.
+/// Returns the coordinate that a word writes, in millimetres.
 pub(crate) fn coordinate(word: &[u8]) -> Result<i64, ShapeFault>
     ensures { ReadsNumber word.now result }
 {

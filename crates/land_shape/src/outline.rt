@@ -42,7 +42,7 @@ impl Model for Ring {
 }
 
 impl Ring {
-    /// The points, without the first one at the end again.
+    /// Returns the points, without the first one at the end again.
     pub fn points(&self) -> &[Point]
         ensures points { places result.now ≡ self.now }
         ensures sound { IsOutline self.now }
@@ -50,7 +50,7 @@ impl Ring {
         self.points.as_slice()
     }
 
-    /// Twice the area, in square millimetres: 1 to 1_000_000_000_000_000_000.
+    /// Returns twice the area, in square millimetres: 1 to 1_000_000_000_000_000_000.
     pub fn doubled_area(&self) -> u64
         ensures value { result ≡ doubled_area self.now }
         ensures some { 1 ≤ result }
@@ -59,14 +59,14 @@ impl Ring {
         self.doubled
     }
 
-    /// A ring runs counterclockwise. Nothing is done: it is for callers that are to know it.
+    /// Returns a ring runs counterclockwise. Nothing is done: it is for callers that are to know it.
     pub fn runs_counterclockwise(&self)
         ensures { runs_counterclockwise self.now ≡ true }
     {
         let _points = &self.points;
     }
 
-    /// The ring in well-known text: `POLYGON ((x y, x y, ...))`, closed by the first point again.
+    /// Returns the ring in well-known text: `POLYGON ((x y, x y, ...))`, closed by the first point again.
     pub fn write_wkt(&self) -> Result<String, AllocError>
         ensures { IfOk result (λ text. string_bytes text ≡ printed self.now) }
     {
@@ -80,7 +80,7 @@ impl Ring {
         self.points() == other.points()
     }
 
-    /// The same ring once more.
+    /// Returns the same ring once more.
     pub fn copy(&self) -> Result<Ring, AllocError>
         ensures { IfOk result (λ ring. ring ≡ self.now) }
     {
@@ -109,7 +109,7 @@ fn put_counterclockwise(points: &mut [Point]) -> i128
     }
 }
 
-/// The ring of listed points, the last of which closes it and is dropped.
+/// Returns the ring of listed points, the last of which closes it and is dropped.
 pub(crate) fn enclosed(listed: Vec<Point>) -> Result<Ring, ShapeFault>
     requires some { 4 ≤ length listed.items }
     requires few { length listed.items ≤ 201 }

@@ -21,7 +21,7 @@ fn has_long_point(points: &[WrittenPoint<'_>]) -> bool
     false
 }
 
-/// The only ring of a polygon without a tag, whose points have two words each.
+/// Returns the only ring of a polygon without a tag, whose points have two words each.
 pub(crate) fn plain_ring<'a>(polygon: WrittenPolygon<'a>) -> Result<WrittenRing<'a>, ShapeFault>
     requires { IsFull (written polygon) }
     ensures { PlainRing (written polygon.entry) result }

@@ -25,7 +25,7 @@ pub(crate) struct Shift {
 }
 
 impl Point {
-    /// The way from this point to another.
+    /// Returns the way from this point to another.
     pub(crate) fn shift_to(self, end: Point) -> Shift
         ensures x { result.x ≡ end.x -ℤ self.x }
         ensures y { result.y ≡ end.y -ℤ self.y }
@@ -36,7 +36,7 @@ impl Point {
         }
     }
 
-    /// The way from the origin to this point.
+    /// Returns the way from the origin to this point.
     fn from_origin(self) -> Shift
         ensures x { result.x ≡ self.x }
         ensures y { result.y ≡ self.y }
@@ -47,7 +47,7 @@ impl Point {
         }
     }
 
-    /// Twice the area of the triangle from the origin over this point to the other, counterclockwise.
+    /// Returns twice the area of the triangle from the origin over this point to the other, counterclockwise.
     pub(crate) fn cross(self, other: Point) -> i128
         ensures value { result ≡ cross_of self.x self.y other.x other.y }
         ensures small { IsTriangle result }
@@ -57,14 +57,14 @@ impl Point {
 }
 
 impl Shift {
-    /// Twice the area of the triangle that two ways from one point make, counterclockwise.
+    /// Returns twice the area of the triangle that two ways from one point make, counterclockwise.
     pub(crate) fn cross(self, other: Shift) -> i128
         ensures { result ≡ cross_of self.x self.y other.x other.y }
     {
         self.x * other.y - self.y * other.x
     }
 
-    /// The length of this way times that of the part of the other that goes along it.
+    /// Returns the length of this way times that of the part of the other that goes along it.
     pub(crate) fn dot(self, other: Shift) -> i128
         ensures { result ≡ dot_of self.x self.y other.x other.y }
     {

@@ -58,7 +58,7 @@ fn is_empty_alone(tokens: &[Token<'_>]) -> bool
     false
 }
 
-/// The polygon of a whole text, or None where it is none.
+/// Returns the polygon of a whole text, or None where it is none.
 pub(crate) fn polygon_of<'a>(
     alloc: Global,
     tokens: &[Token<'a>],

@@ -17,7 +17,7 @@ fn push_point(out: &mut String, point: Point) -> Result<(), AllocError>
     write!(out, "{x} {y}")
 }
 
-/// The printed form of a ring.
+/// Returns the printed form of a ring.
 pub(crate) fn write_points(alloc: Global, points: &[Point]) -> Result<String, AllocError>
     requires { 0 < length points.now }
     ensures { IfOk result (λ text. string_bytes text ≡ printed (places points.now)) }

@@ -17,7 +17,7 @@ use crate::polygon::{WrittenPolygon, polygon_of};
 use crate::tokens::tokens_of;
 use std::alloc::Global;
 
-/// The polygon that the whole text is.
+/// Returns the polygon that the whole text is.
 fn find_polygon<'a>(alloc: Global, text: &'a str) -> Result<WrittenPolygon<'a>, ShapeFault>
     ensures polygon { IfOk result (λ polygon. IsPolygon text.entry.now (written polygon)) }
     ensures fault { IfErr result (λ fault. fault ≢ ShapeFault.NoMemory → IsFirst text.entry.now fault) }
@@ -29,7 +29,7 @@ fn find_polygon<'a>(alloc: Global, text: &'a str) -> Result<WrittenPolygon<'a>, 
     }
 }
 
-/// The points that the whole text lists, the last of them included.
+/// Returns the points that the whole text lists, the last of them included.
 fn find_points(alloc: Global, text: &str) -> Result<Vec<Point>, ShapeFault>
     ensures points { IfOk result (λ points. IsPlainList text.now (places points.items)) }
     ensures fault { IfErr result (λ fault. fault ≢ ShapeFault.NoMemory → IsFirst text.now fault) }

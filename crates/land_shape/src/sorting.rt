@@ -9,7 +9,7 @@ ghost use Rattle.land_shape.specs.Walks.{HaveSameEdges, IsOneOf, Rises, edge_bef
 use crate::edges::Edge;
 use crate::plane::Point;
 
-/// The points from left to right.
+/// Returns the points from left to right.
 pub(crate) fn sorted_points(points: Vec<Point>) -> Vec<Point>
     ensures rise { Rises is_before (places result.items) }
     ensures all { (p : Place) → IsOneOf p (places points.items) → IsOneOf p (places result.items) }
@@ -20,7 +20,7 @@ pub(crate) fn sorted_points(points: Vec<Point>) -> Vec<Point>
     sorted
 }
 
-/// The edges in order.
+/// Returns the edges in order.
 fn sorted_edges(list: Vec<Edge>) -> Vec<Edge>
     ensures rise { Rises edge_before (edges result.items) }
     ensures same { HaveSameEdges (edges result.items) (edges list.items) }

@@ -27,7 +27,7 @@ impl<'a> Word<'a> {
         self.bytes
     }
 
-    /// The same word once more, which takes no memory.
+    /// Returns the same word once more, which takes no memory.
     pub(crate) fn copy(&self) -> Word<'a>
         ensures { result ≡ self.now }
     {
@@ -74,7 +74,7 @@ fn push_mark(tokens: &mut Vec<Token<'_>>, byte: u8) -> Result<(), AllocError>
     Ok(())
 }
 
-/// The tokens of a text, in order.
+/// Returns the tokens of a text, in order.
 pub(crate) fn tokens_of<'a>(alloc: Global, text: &'a str) -> Result<Vec<Token<'a>>, AllocError>
     ensures { IfOk result (λ tokens. tokens.items ≡ tokens_of text.now) }
 {

@@ -18,7 +18,7 @@ fn is_before(a: Point, b: Point) -> bool
     a < b
 }
 
-/// How many of the corners come before a point.
+/// Returns the number of of the corners come before a point.
 fn count_before(corners: &[Point], point: Point) -> usize
     requires { Rises is_before (places corners.now) }
     ensures within { result ≤ length corners.now }
@@ -28,7 +28,7 @@ fn count_before(corners: &[Point], point: Point) -> usize
     corners.partition_point(|corner| is_before(*corner, point))
 }
 
-/// The corners that may lie inside an edge.
+/// Returns the corners that may lie inside an edge.
 fn corners_near(corners: &[Point], edge: Edge) -> &[Point]
     requires rise { Rises is_before (places corners.now) }
     requires up { IsTrue (is_before (place_of edge.from) (place_of edge.to)) }
@@ -40,7 +40,8 @@ fn corners_near(corners: &[Point], edge: Edge) -> &[Point]
     &rest[..end]
 }
 
-/// Some edges, and then the pieces of one that leads to a later point: from each corner to the next that lies inside it.
+/// Returns some edges, and then the pieces of one that leads to a later point: from each corner to the next
+/// that lies inside it.
 fn with_walk(so_far: Vec<Edge>, corners: &[Point], edge: Edge) -> Result<Vec<Edge>, AllocError>
     ensures { IfOk result (λ v. edges v.items ≡ edges so_far.items ++ walk (place_of edge.from) (place_of edge.to) (places corners.now)) }
 {
@@ -66,7 +67,7 @@ fn with_walk(so_far: Vec<Edge>, corners: &[Point], edge: Edge) -> Result<Vec<Edg
     Ok(all)
 }
 
-/// Some edges, and then the pieces of those of a list that lead to a later point.
+/// Returns some edges, and then the pieces of those of a list that lead to a later point.
 fn with_walks(so_far: Vec<Edge>, corners: &[Point], list: &[Edge]) -> Result<Vec<Edge>, AllocError>
     requires { Rises is_before (places corners.now) }
     ensures { IfOk result (λ v. edges v.items ≡ edges so_far.items ++ walks (places corners.now) (edges list.now)) }
@@ -80,7 +81,7 @@ fn with_walks(so_far: Vec<Edge>, corners: &[Point], list: &[Edge]) -> Result<Vec
     Ok(all)
 }
 
-/// The edges the other way round.
+/// Returns the edges the other way round.
 fn reversed(alloc: Global, list: &[Edge]) -> Result<Vec<Edge>, AllocError>
     ensures { IfOk result (λ v. edges v.items ≡ map reversed (edges list.now)) }
 {
@@ -91,7 +92,7 @@ fn reversed(alloc: Global, list: &[Edge]) -> Result<Vec<Edge>, AllocError>
     Ok(all)
 }
 
-/// The pieces from left to right of some edges, and of others the other way round.
+/// Returns the pieces from left to right of some edges, and of others the other way round.
 pub(crate) fn pieces_one_way(
     alloc: Global,
     corners: &[Point],

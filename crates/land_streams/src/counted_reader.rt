@@ -17,7 +17,7 @@ pub struct CountedReader<'a, R> {
 }
 
 impl<'a, R> CountedReader<'a, R> {
-    /// A reader that has not been asked yet.
+    /// Returns a reader that has not been asked yet.
     pub fn new(reader: &'a mut R) -> CountedReader<'a, R>
         ensures same { result.reader.now ≡ reader.old }
         ensures left { result.left ≡ 10000000 }
@@ -26,7 +26,7 @@ impl<'a, R> CountedReader<'a, R> {
         CountedReader::with_budget(reader, MOST_READS)
     }
 
-    /// A reader that may be asked so often.
+    /// Returns a reader that may be asked so often.
     pub fn with_budget(reader: &'a mut R, left: u64) -> CountedReader<'a, R>
         ensures same { result.reader.now ≡ reader.old }
         ensures left { result.left ≡ left }

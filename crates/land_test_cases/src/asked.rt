@@ -98,7 +98,7 @@ fn square(alloc: Global, label: &str) -> Result<NewParcel, Stop> {
     })
 }
 
-/// Squares of ten metres, so many of them.
+/// Returns squares of ten metres, so many of them.
 fn squares(alloc: Global, count: usize, label: &str) -> Result<Sequence<NewParcel>, Stop> {
     let mut parcels = Sequence::new(alloc);
     for _ in 0..count {
@@ -150,7 +150,7 @@ fn new_burden(
     })
 }
 
-/// The act of a row.
+/// Returns the act of a row.
 pub fn act(alloc: Global, it: &RowAct) -> Result<Act, Stop> {
     Ok(match it {
         RowAct::Enrol(kind, name) => Act::Enrol(Enrol {

@@ -40,7 +40,7 @@ fn add_all<'a>(all: &mut Vec<&'a Row>, rows: &'a [Row]) -> Result<(), AllocError
     Ok(())
 }
 
-/// The rows of some parts, in their order.
+/// Returns the rows of some parts, in their order.
 fn rows_of<'a>(alloc: Global, parts: &[&'a [Row]]) -> Result<Vec<&'a Row>, AllocError> {
     let mut all = Vec::new(alloc);
     for part in parts {
@@ -49,7 +49,7 @@ fn rows_of<'a>(alloc: Global, parts: &[&'a [Row]]) -> Result<Vec<&'a Row>, Alloc
     Ok(all)
 }
 
-/// The rows that others begin with, and these, in their order.
+/// Returns the rows that others begin with, and these, in their order.
 fn all_of<'a>(
     alloc: Global,
     base: &[&'a [Row]],
@@ -75,7 +75,7 @@ fn requests(alloc: Global, rows: &[&Row]) -> Result<Vec<Request>, Stop> {
     Ok(requests)
 }
 
-/// The replies to requests over a keeper; the rows read the clock.
+/// Returns the replies to requests over a keeper; the rows read the clock.
 fn answered_by(
     alloc: Global,
     keeper: &mut PlainKeeper,
@@ -89,13 +89,13 @@ fn answered_by(
     Ok(run(alloc, keeper, &mut clock, requests)?)
 }
 
-/// The replies to requests over a new register; the rows read the clock.
+/// Returns the replies to requests over a new register; the rows read the clock.
 pub fn answered(alloc: Global, rows: &[&Row], requests: &[Request]) -> Result<Vec<Reply>, Stop> {
     let mut keeper = PlainKeeper::new(alloc)?;
     answered_by(alloc, &mut keeper, rows, requests)
 }
 
-/// The place of the first row with another reply, if any.
+/// Returns the place of the first row with another reply, if any.
 fn wrong_row(alloc: Global, rows: &[&Row], replies: &[Reply]) -> Result<Option<usize>, AllocError> {
     if rows.len() != replies.len() {
         return Ok(Some(replies.len()));

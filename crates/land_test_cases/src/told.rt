@@ -12,7 +12,7 @@ use land_keep::reply::Reply;
 use land_keep::view::{NamedRrr, View};
 use std::alloc::{AllocError, Global};
 
-/// The members of a group, each as a number and a share.
+/// Returns the members of a group, each as a number and a share.
 fn write_members(line: &mut String, members: &[Member]) -> Result<(), AllocError> {
     for member in members {
         write!(line, "({} {})", member.party, member.share)?;
@@ -122,7 +122,7 @@ fn write_entries(line: &mut String, entries: &[NamedRrr]) -> Result<(), AllocErr
     Ok(())
 }
 
-/// A title sheet: the unit, its parcels' numbers, and its entries with their parties' names.
+/// Returns a title sheet: the unit, its parcels' numbers, and its entries with their parties' names.
 fn write_sheet(line: &mut String, it: &View) -> Result<(), AllocError> {
     write!(
         line,
@@ -145,7 +145,7 @@ pub fn write_done(line: &mut String, it: &Done) -> Result<(), AllocError> {
     )
 }
 
-/// A reply in one line. A reply of 501 is want of memory.
+/// Returns a reply in one line. A reply of 501 is want of memory.
 fn write_reply(line: &mut String, reply: &Reply) -> Result<(), AllocError> {
     match reply {
         Reply::Object(object) => write_object(line, object),
@@ -160,7 +160,7 @@ fn write_reply(line: &mut String, reply: &Reply) -> Result<(), AllocError> {
     }
 }
 
-/// A title sheet with all that its parcels and its entries show.
+/// Returns a title sheet with all that its parcels and its entries show.
 fn write_whole_sheet(line: &mut String, it: &View) -> Result<(), AllocError> {
     write_unit(line, &it.unit)?;
     write!(line, " at {}", it.at)?;
@@ -181,7 +181,7 @@ fn write_whole(line: &mut String, reply: &Reply) -> Result<(), AllocError> {
     }
 }
 
-/// A reply in words, with all that it tells. A reply of 501 is want of memory.
+/// Returns a reply in words, with all that it tells. A reply of 501 is want of memory.
 pub fn told_whole(alloc: Global, reply: &Reply) -> Result<String, AllocError> {
     let mut line = String::new(alloc);
     write_whole(&mut line, reply)?;

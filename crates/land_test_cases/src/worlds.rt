@@ -88,7 +88,7 @@ fn ask_of(look: Look, at: Option<i64>) -> Ask {
     }
 }
 
-/// All that a keeper tells of a look, in words.
+/// Returns all that a keeper tells of a look, in words.
 fn told_by<K: Keeper>(
     alloc: Global,
     keeper: &mut K,
@@ -128,7 +128,7 @@ impl<K: Keeper> Worlds<'_, K> {
         Ok(one.as_str() != other.as_str())
     }
 
-    /// The first view of a kind, by numbers from 1 to 20, whose replies differ.
+    /// Returns the first view of a kind, by numbers from 1 to 20, whose replies differ.
     fn first_view(
         &mut self,
         alloc: Global,
@@ -145,7 +145,7 @@ impl<K: Keeper> Worlds<'_, K> {
         Ok(None)
     }
 
-    /// The first sheet, by numbers from 1 to 20, whose replies differ.
+    /// Returns the first sheet, by numbers from 1 to 20, whose replies differ.
     fn first_sheet(
         &mut self,
         alloc: Global,
@@ -161,7 +161,7 @@ impl<K: Keeper> Worlds<'_, K> {
         Ok(None)
     }
 
-    /// The first list whose replies differ.
+    /// Returns the first list whose replies differ.
     fn first_list(
         &mut self,
         alloc: Global,
@@ -177,7 +177,8 @@ impl<K: Keeper> Worlds<'_, K> {
         Ok(None)
     }
 
-    /// The first look whose replies differ, the views kind by kind before the lists, and these before the sheets.
+    /// Returns the first look whose replies differ, the views kind by kind before the lists, and these before
+    /// the sheets.
     fn first_difference(
         &mut self,
         alloc: Global,
@@ -226,7 +227,7 @@ fn are_told_alike_to_all<K: Keeper>(
     Ok(())
 }
 
-/// The first difference that a caller may be told of.
+/// Returns the first difference that a caller may be told of.
 fn difference_for(seers: &[Seer], caller: Caller, at: Option<i64>) -> Option<Look> {
     let moment = at.unwrap_or(NOW);
     for seer in seers {
@@ -238,14 +239,16 @@ fn difference_for(seers: &[Seer], caller: Caller, at: Option<i64>) -> Option<Loo
     None
 }
 
-/// Two worlds that differ in a unit: those who do not see it are told the same of both, and to all others it is the first difference.
+/// Returns two worlds that differ in a unit: those who do not see it are told the same of both, and to all
+/// others it is the first difference.
 pub fn are_alike_to_whom_they_look_alike(alloc: Global) -> Result<(), Stop> {
     let mut one = keeper_after(alloc, WITH_GARDEN)?;
     let mut other = keeper_after(alloc, WITH_FIELD)?;
     are_told_alike_to_all(alloc, &mut one, &mut other, SEERS_OF_THE_UNIT)
 }
 
-/// Two worlds of which one has a mandate more: its agent alone is told a difference, as a citizen, from the mandate on.
+/// Returns two worlds of which one has a mandate more: its agent alone is told a difference, as a citizen,
+/// from the mandate on.
 pub fn a_mandate_is_told_to_its_agent_alone(alloc: Global) -> Result<(), Stop> {
     let mut one = keeper_after(alloc, WITH_GARDEN)?;
     let mut other = keeper_after(alloc, WITH_MANDATE)?;

@@ -133,20 +133,20 @@ fn tell_parts(
     tell_all(alloc, register, facts)
 }
 
-/// The new register, which is told the facts of all parts and then these.
+/// Returns the new register, which is told the facts of all parts and then these.
 fn register_of(alloc: Global, parts: &[&[Fact]], facts: &[Fact]) -> Result<Register, Stop> {
     let mut register = Register::new(alloc)?;
     tell_parts(alloc, &mut register, parts, facts)?;
     Ok(register)
 }
 
-/// A register with the farm and the house, which is then told these facts. It alone names all parts: a function is the dearer
-/// to prove for each row of a constant that it names.
+/// Returns a register with the farm and the house, which is then told these facts. It alone names all parts:
+/// a function is the dearer to prove for each row of a constant that it names.
 fn farm_and_house_with(alloc: Global, facts: &[Fact]) -> Result<Register, Stop> {
     register_of(alloc, ALL, facts)
 }
 
-/// A register with the farm and the house.
+/// Returns a register with the farm and the house.
 fn farm_and_house(alloc: Global) -> Result<Register, Stop> {
     farm_and_house_with(alloc, &[])
 }
@@ -156,7 +156,7 @@ fn fault_of_all(alloc: Global) -> Result<Option<Unsound>, Stop> {
     fault(alloc, &register)
 }
 
-/// The farm and the house are soundly registered.
+/// Returns the farm and the house are soundly registered.
 pub fn the_farm_and_the_house_are_soundly_registered(alloc: Global) -> Result<(), Stop> {
     expect(fault_of_all(alloc)? == None, "the register", 0)
 }

@@ -80,14 +80,14 @@ pub(super) fn facts_of(part: &Part) -> &'static [Fact] {
     }
 }
 
-/// The new register, which is told the facts of all parts and then these.
+/// Returns the new register, which is told the facts of all parts and then these.
 fn register_of(alloc: Global, parts: &[Part], facts: &[Fact]) -> Result<Register, Stop> {
     let mut register = Register::new(alloc)?;
     tell_parts(alloc, &mut register, parts, facts)?;
     Ok(register)
 }
 
-/// The new register, which is told the facts of all parts.
+/// Returns the new register, which is told the facts of all parts.
 fn register_with(alloc: Global, parts: &[Part]) -> Result<Register, Stop> {
     register_of(alloc, parts, &[])
 }
@@ -124,7 +124,7 @@ struct Case(&'static [Fact], Option<Unsound>);
 
 const REFERENCE: Option<Unsound> = Some(Unsound::Reference);
 
-/// The fault of a register that is told facts.
+/// Returns the fault of a register that is told facts.
 fn fault_of(alloc: Global, base: &[Part], facts: &[Fact]) -> Result<Option<Unsound>, Stop> {
     let register = register_of(alloc, base, facts)?;
     fault(alloc, &register)

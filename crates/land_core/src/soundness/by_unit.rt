@@ -1,4 +1,4 @@
-//! The parcels and the entries of a register, listed under their units in one pass.
+//! The parcels and the entries of a register, grouped by unit in one pass.
 ghost use Rattle.std.specs.Prelude.{◌≡◌, ℕ, IfOk};
 ghost use Rattle.std.specs.FinMap as map;
 ghost use Rattle.land_core.specs.ByUnit.{IsByUnit, claims_in, parcels_in, under};
@@ -8,17 +8,17 @@ use crate::soundness::claim::Claim;
 use crate::soundness::groups::Groups;
 use std::alloc::{AllocError, Global};
 
-/// What stands in each unit.
+/// The parcels and the claims of each unit.
 #[derive(Debug, Drop)]
 pub(crate) struct ByUnit {
     /// The numbers of its parcels, ascending.
     pub(crate) parcels: Groups<u64>,
-    /// What its entries claim, by ascending numbers of the entries.
+    /// The claims of its entries, ordered by the entries' numbers.
     pub(crate) claims: Groups<Claim>,
 }
 
 impl ByUnit {
-    /// Lists the parcels and the entries of a register under their units.
+    /// Groups the parcels and the entries of a register by unit.
     pub(crate) fn of(alloc: Global, register: &Register) -> Result<ByUnit, AllocError>
         ensures { IfOk result (λ it. IsByUnit it register.now) }
     {

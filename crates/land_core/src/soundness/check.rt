@@ -1,4 +1,4 @@
-//! When a register is sound.
+//! The check that a register is sound.
 ghost use Rattle.std.specs.Prelude.{◌≡◌, ◌≢◌, true, IfOk, OnOk, IfErr};
 ghost use Rattle.land_core.specs.Members.{are_group_shares};
 ghost use Rattle.land_core.specs.Register.{shares_of};
@@ -16,7 +16,7 @@ use crate::soundness::units::check_units;
 use land_fraction::{Fraction, Whole, is_whole};
 use std::alloc::{AllocError, Global};
 
-/// Whether the register is sound, or a fault that it has.
+/// Checks that the register is sound. The error is a fault that it has, or `Memory` if out of memory.
 pub fn check(alloc: Global, register: &Register) -> Result<(), Unsound>
     ensures ok { OnOk result (IsSound register.now) }
     ensures fault { IfErr result (λ fault. fault ≢ Unsound.Memory → has_fault fault register.now ≡ true) }
@@ -104,7 +104,7 @@ fn has_loose_mandate(register: &Register) -> bool
         .any(|mandate| is_loose_mandate(register, *mandate))
 }
 
-/// Whether a mandate is not one between two single parties that stand and differ.
+/// Whether a mandate is not between two different single parties that exist.
 fn is_loose_mandate(register: &Register, mandate: Mandate) -> bool
     ensures { result ≡ is_loose_mandate register.now mandate }
 {
@@ -147,7 +147,7 @@ fn has_broken_group(alloc: Global, register: &Register) -> Result<bool, AllocErr
     Ok(false)
 }
 
-/// Whether a group has 2 to 64 members whose shares make a whole.
+/// Whether a group has 2 to 64 members whose shares sum to 1.
 fn is_whole_group(alloc: Global, register: &Register, group: u64) -> Result<bool, AllocError>
     ensures { IfOk result (λ it. it ≡ are_group_shares (shares_of register.now group)) }
 {
@@ -160,7 +160,7 @@ fn is_whole_group(alloc: Global, register: &Register, group: u64) -> Result<bool
     }
 }
 
-/// Whether these are 2 to 64 shares that make a whole.
+/// Whether these are 2 to 64 shares that sum to 1.
 fn are_group_shares(shares: &[Fraction]) -> bool
     ensures { result ≡ are_group_shares shares.now }
 {

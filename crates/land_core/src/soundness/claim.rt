@@ -1,16 +1,16 @@
-//! What an entry claims in its unit, beside the other entries there.
+//! The claims of entries: the data that must be compatible within a unit.
 ghost use Rattle.std.specs.Prelude.{◌≡◌};
 ghost use Rattle.land_core.specs.ByUnit.{claim_of, claimed_share, do_claims_clash, is_claim_of};
 
 use crate::rrr::{Class, RightType, RrrRecord};
 use land_fraction::Fraction;
 
-/// What has to go together with the other entries of the unit.
+/// The claim of an entry, which must be compatible with the other claims in its unit.
 #[derive(Clone, Copy, Debug)]
 pub(crate) enum Claim {
-    /// A party has a share in rights of a type.
+    /// A party has a right of this type, with a share.
     Right {
-        /// Who has the right.
+        /// The holder of the right.
         party: u64,
         /// Its type.
         right_type: RightType,
@@ -22,12 +22,12 @@ pub(crate) enum Claim {
         /// The rank.
         rank: u64,
     },
-    /// Nothing: a restriction or a responsibility goes together with any other entry.
+    /// No claim: a restriction or a responsibility is compatible with any other entry.
     Other,
 }
 
 impl Claim {
-    /// What an entry claims.
+    /// Returns the claim of an entry.
     pub(crate) fn of(entry: &RrrRecord) -> Claim
         ensures { result ≡ claim_of entry.now }
     {
@@ -42,7 +42,7 @@ impl Claim {
         }
     }
 
-    /// The share of a right of a type.
+    /// Returns the share of a right of this type, else `None`.
     pub(crate) fn share_of(self, wanted: RightType) -> Option<Fraction>
         ensures { result ≡ claimed_share wanted self }
     {
@@ -56,7 +56,7 @@ impl Claim {
         }
     }
 
-    /// Whether it is a right of a type.
+    /// Whether it is a right of this type.
     pub(crate) fn is_right_of(self, wanted: RightType) -> bool
         ensures { result ≡ is_claim_of wanted self }
     {
@@ -66,8 +66,8 @@ impl Claim {
         }
     }
 
-    /// Whether two claims do not go together in one unit: two rights of one type of one party, or two mortgages of one
-    /// rank.
+    /// Whether two claims clash in a unit: two rights of the same type and party, or two mortgages of the
+    /// same rank.
     pub(crate) fn do_clash(self, other: Claim) -> bool
         ensures { result ≡ do_claims_clash self other }
     {

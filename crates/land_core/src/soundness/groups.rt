@@ -1,4 +1,4 @@
-//! Items, each listed under the unit that it is in.
+//! Items grouped by unit.
 ghost use Rattle.std.specs.Prelude.{◌≡◌, ℕ, [], IfOk, OnOk};
 ghost use Rattle.land_core.specs.ByUnit.{IsAdded, under};
 
@@ -6,14 +6,14 @@ use crate::sequence::Sequence;
 use std::alloc::{AllocError, Global};
 use std::collections::BTreeMap;
 
-/// Lists of items under the numbers of units.
+/// Lists of items by the number of the unit.
 #[derive(Debug, Drop)]
 pub(crate) struct Groups<T> {
     lists: BTreeMap<u64, Sequence<T>>,
 }
 
 impl<T> Groups<T> {
-    /// Nothing is listed yet, which takes no memory.
+    /// Returns empty groups. Allocates nothing.
     pub(crate) fn new(alloc: Global) -> Groups<T>
         ensures { (unit : ℕ) → under result unit ≡ [] }
     {
@@ -22,7 +22,7 @@ impl<T> Groups<T> {
         }
     }
 
-    /// The items that are listed under a unit, in the order in which they came.
+    /// Returns the items of a unit, in the order of insertion.
     pub(crate) fn under(&self, unit: u64) -> &[T]
         ensures { result.now ≡ under self.now unit }
     {
@@ -34,7 +34,7 @@ impl<T> Groups<T> {
 }
 
 impl<T: Drop> Groups<T> {
-    /// Lists an item under a unit, after those that are there already.
+    /// Appends an item to the list of a unit.
     pub(crate) fn add(&mut self, alloc: Global, unit: u64, item: T) -> Result<(), AllocError>
         ensures { OnOk result (IsAdded self.old self.new unit item) }
     {

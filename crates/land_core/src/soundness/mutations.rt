@@ -1,4 +1,4 @@
-//! What a sound register asks of its mutations.
+//! The conditions of soundness on mutations.
 ghost use Rattle.std.specs.Prelude.{◌≡◌, IfOk};
 ghost use Rattle.land_core.specs.Soundness.{has_loose_mutation, has_reused_reference, is_loose_mutation};
 
@@ -8,7 +8,7 @@ use crate::register::Register;
 use std::alloc::{AllocError, Global};
 use std::collections::BTreeSet;
 
-/// Whether a mutation is of no lodger or from no source that stands, or asks for what is not within its limits.
+/// Whether a mutation's lodger or source does not exist, or its content is not within its limits.
 pub(crate) fn has_loose_mutation(register: &Register) -> bool
     ensures { result ≡ has_loose_mutation register.now }
 {
@@ -26,7 +26,7 @@ fn is_loose_mutation(register: &Register, mutation: &MutationRecord) -> bool
         && mutation.content.is_well_formed())
 }
 
-/// Whether a party has lodged two mutations under one reference.
+/// Whether a party has lodged two mutations with the same reference.
 pub(crate) fn has_reused_reference(alloc: Global, register: &Register) -> Result<bool, AllocError>
     ensures { IfOk result (λ it. it ≡ has_reused_reference register.now) }
 {

@@ -1,4 +1,4 @@
-//! What a sound register asks of its units.
+//! The conditions of soundness on units.
 ghost use Rattle.std.specs.Prelude.{◌≡◌, ◌≢◌, ◌&&◌, true, false, IfOk, OnOk, IfErr};
 ghost use Rattle.std.specs.List.{list_any};
 ghost use Rattle.land_core.specs.ByUnit.{are_claims_whole, claimed_shares, do_claims_clash, have_clash, is_bare, is_claim_of, is_crowded, is_in_parts, under};
@@ -17,7 +17,7 @@ use crate::soundness::claim::Claim;
 use land_fraction::{Fraction, Whole, is_whole};
 use std::alloc::{AllocError, Global};
 
-/// Whether no unit has a fault, or a fault that one has.
+/// Checks the conditions on units. The error is a fault of a unit, or `Memory` if out of memory.
 pub(crate) fn check_units(alloc: Global, register: &Register) -> Result<(), Unsound>
     requires { has_fault Unsound.Reference register.now ≡ false }
     ensures ok { OnOk result ((has_fault Unsound.Shares register.now ≡ false) × (has_fault Unsound.Bare register.now ≡ false)
@@ -91,7 +91,7 @@ fn has_clash(register: &Register, by_unit: &ByUnit) -> bool
         .any(|(number, _)| have_clash(by_unit.claims.under(*number)))
 }
 
-/// Whether some claim does not go together with a later one.
+/// Whether any two claims clash.
 fn have_clash(claims: &[Claim]) -> bool
     ensures { result ≡ have_clash claims.now }
 {
@@ -105,7 +105,7 @@ fn have_clash(claims: &[Claim]) -> bool
     false
 }
 
-/// Whether a claim does not go together with one of some others.
+/// Whether a claim clashes with any of the others.
 fn clashes(claim: Claim, others: &[Claim]) -> bool
     ensures { result ≡ list_any (do_claims_clash claim) others.now }
 {
@@ -145,7 +145,7 @@ fn has_unit_in_parts(
     Ok(false)
 }
 
-/// Whether the shares of each type of right that is claimed make a whole.
+/// Whether the shares of each type of right that occurs sum to 1.
 fn are_whole(alloc: Global, claims: &[Claim]) -> Result<bool, AllocError>
     ensures { IfOk result (λ it. it ≡ are_claims_whole claims.now) }
 {
@@ -163,7 +163,7 @@ fn is_whole_type(alloc: Global, claims: &[Claim], right_type: RightType) -> Resu
     Ok(are_whole_or_none(shares.as_slice()))
 }
 
-/// The shares of the rights of a type, in the order of the claims.
+/// Returns the shares of the rights of one type, in the order of the claims.
 fn shares_of(
     alloc: Global,
     claims: &[Claim],

@@ -31,7 +31,7 @@ pub struct Lodged(
 /// When all of them were lodged.
 pub const MOMENT: i64 = 1000;
 
-/// A transfer, where its share was made.
+/// Returns a transfer, where its share was made.
 fn transfer(
     unit: u64,
     right: u64,
@@ -46,7 +46,7 @@ fn transfer(
     }))
 }
 
-/// A mortgage, where its currency was made.
+/// Returns a mortgage, where its currency was made.
 fn mortgage(
     unit: u64,
     creditor: u64,
@@ -77,7 +77,7 @@ pub fn content(alloc: Global, it: &Asked) -> Result<Content, Stop> {
     }
 }
 
-/// A mutation that was lodged so.
+/// Returns a mutation that was lodged so.
 pub(crate) fn mutation(alloc: Global, it: &Lodged) -> Result<MutationRecord, Stop> {
     Ok(MutationRecord {
         lodger: it.0,

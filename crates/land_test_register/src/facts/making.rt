@@ -14,12 +14,12 @@ use land_shape::read_wkt;
 use land_test_cases::stop::Stop;
 use std::alloc::{AllocError, Global};
 
-/// A text as records have it.
+/// Returns a text as records have it.
 pub fn text(alloc: Global, text: &str) -> Result<Text, AllocError> {
     Ok(Text::new(String::from_str(alloc, text)?))
 }
 
-/// A party of this kind and name.
+/// Returns a party of this kind and name.
 pub(crate) fn party(alloc: Global, kind: PartyKind, name: &str) -> Result<PartyRecord, Stop> {
     Ok(PartyRecord {
         kind,
@@ -27,7 +27,7 @@ pub(crate) fn party(alloc: Global, kind: PartyKind, name: &str) -> Result<PartyR
     })
 }
 
-/// Members with these shares.
+/// Returns members with these shares.
 pub(crate) fn members(alloc: Global, shares: &[Share]) -> Result<Members, Stop> {
     let mut members = Records::new(alloc);
     for (party, n, d) in shares {
@@ -46,7 +46,7 @@ pub(crate) fn crowd(alloc: Global, count: u64) -> Result<Members, Stop> {
     Ok(members)
 }
 
-/// A document, which is called Deed 1.
+/// Returns a document, which is called Deed 1.
 pub(crate) fn source(alloc: Global) -> Result<SourceRecord, Stop> {
     Ok(SourceRecord {
         kind: SourceKind::Administrative,
@@ -54,7 +54,7 @@ pub(crate) fn source(alloc: Global) -> Result<SourceRecord, Stop> {
     })
 }
 
-/// A unit of this name, whose shares are checked or not.
+/// Returns a unit of this name, whose shares are checked or not.
 pub(crate) fn unit(alloc: Global, name: &str, checked: bool) -> Result<UnitRecord, Stop> {
     Ok(UnitRecord {
         name: text(alloc, name)?,
@@ -62,7 +62,7 @@ pub(crate) fn unit(alloc: Global, name: &str, checked: bool) -> Result<UnitRecor
     })
 }
 
-/// A parcel whose outline is a square.
+/// Returns a parcel whose outline is a square.
 pub(crate) fn parcel(
     alloc: Global,
     unit: u64,
@@ -98,7 +98,7 @@ fn class(alloc: Global, held: &Held) -> Result<Class, Stop> {
     })
 }
 
-/// An entry.
+/// Returns an entry.
 pub(crate) fn rrr(
     alloc: Global,
     unit: u64,

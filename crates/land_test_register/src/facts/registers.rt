@@ -22,23 +22,23 @@ fn enter<V: Drop>(
     Ok(records.insert(number, record?)?)
 }
 
-/// A role of a party begins.
+/// Returns a role of a party begins.
 fn grant(roles: &mut Roles, party: u64, role: Role) -> Result<(), Stop> {
     Ok(roles.insert(Grant { party, role })?)
 }
 
-/// A role of a party ends.
+/// Returns a role of a party ends.
 fn revoke(roles: &mut Roles, party: u64, role: Role) -> Result<(), Stop> {
     roles.remove(Grant { party, role });
     Ok(())
 }
 
-/// A mandate begins.
+/// Returns a mandate begins.
 fn give(mandates: &mut Mandates, principal: u64, agent: u64) -> Result<(), Stop> {
     Ok(mandates.insert(Mandate { principal, agent })?)
 }
 
-/// A mandate ends.
+/// Returns a mandate ends.
 fn withdraw(mandates: &mut Mandates, principal: u64, agent: u64) -> Result<(), Stop> {
     mandates.remove(Mandate { principal, agent });
     Ok(())
@@ -102,7 +102,7 @@ pub fn tell_all(alloc: Global, register: &mut Register, facts: &[Fact]) -> Resul
     Ok(())
 }
 
-/// The fault that a register has, or `None`.
+/// Returns the fault that a register has, or `None`.
 pub fn fault(alloc: Global, register: &Register) -> Result<Option<Unsound>, Stop> {
     match check(alloc, register) {
         Ok(()) => Ok(None),

@@ -17,7 +17,7 @@ fn is_shown(alloc: Global, at: &Register, row: &Row) -> Result<bool, AllocError>
     Ok(numbers.as_slice() == row.3)
 }
 
-/// How many rows are shown as expected before the first that is not.
+/// Returns the number of rows are shown as expected before the first that is not.
 pub(super) fn shown_rows(alloc: Global, at: &Register, rows: &[Row]) -> Result<usize, Stop> {
     for (place, row) in rows.iter().enumerate() {
         if !is_shown(alloc, at, row)? {
@@ -27,7 +27,7 @@ pub(super) fn shown_rows(alloc: Global, at: &Register, rows: &[Row]) -> Result<u
     Ok(rows.len())
 }
 
-/// The rows that are shown of the farm and the house.
+/// Returns the rows that are shown of the farm and the house.
 fn rows_of_all(alloc: Global, rows: &[Row]) -> Result<usize, Stop> {
     let at = farm_and_house(alloc)?;
     shown_rows(alloc, &at, rows)
@@ -123,7 +123,7 @@ const NOTHING: &[Row] = &[
     Row(NORA, Notary, Source, &[]),
 ];
 
-/// The rows that are shown before the office began.
+/// Returns the rows that are shown before the office began.
 fn rows_of_nothing(alloc: Global, rows: &[Row]) -> Result<usize, Stop> {
     let at = Register::nothing(alloc);
     shown_rows(alloc, &at, rows)

@@ -29,7 +29,7 @@ const MANDATES: &[Fact] = &[
     Fact::Withdrawn(NORA, BEN),
 ];
 
-/// The register with the farm, the house and the mandates.
+/// Returns the register with the farm, the house and the mandates.
 fn with_mandates(alloc: Global) -> Result<Register, Stop> {
     farm_and_house_with(alloc, MANDATES)
 }
@@ -39,7 +39,7 @@ fn fault_of_all(alloc: Global) -> Result<Option<Unsound>, Stop> {
     fault(alloc, &register)
 }
 
-/// The mandates are soundly registered.
+/// Returns the mandates are soundly registered.
 pub fn the_mandates_are_soundly_registered(alloc: Global) -> Result<(), Stop> {
     expect(fault_of_all(alloc)? == None, "the register", 0)
 }

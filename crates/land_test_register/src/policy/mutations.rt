@@ -103,7 +103,7 @@ const SEEN: &[Shown] = &[
     Shown(SAM, Conveyancer, Unit, &[]),
 ];
 
-/// The register with the farm, the house and their mutations.
+/// Returns the register with the farm, the house and their mutations.
 fn with_mutations(alloc: Global) -> Result<Register, Stop> {
     farm_and_house_with(alloc, MUTATIONS)
 }
@@ -113,7 +113,7 @@ fn fault_of_all(alloc: Global) -> Result<Option<Unsound>, Stop> {
     fault(alloc, &register)
 }
 
-/// The mutations are soundly registered.
+/// Returns the mutations are soundly registered.
 pub fn the_mutations_are_soundly_registered(alloc: Global) -> Result<(), Stop> {
     expect(fault_of_all(alloc)? == None, "the register", 0)
 }
@@ -141,7 +141,8 @@ fn lodging(alloc: Global, it: &Asked) -> Result<Ask, Stop> {
     })))
 }
 
-/// How many callers are told as expected of an ask over the farm and the house with their mutations.
+/// Returns the number of callers are told as expected of an ask over the farm and the house with their
+/// mutations.
 fn told_rows(alloc: Global, ask: &Ask, rows: &[Row]) -> Result<usize, Stop> {
     let register = with_mutations(alloc)?;
     Ok(told_of(&register, ask, false, rows))
@@ -231,7 +232,7 @@ const DECIDERS: &[Deciders] = &[
     ),
 ];
 
-/// How many callers are told as expected of a decision.
+/// Returns the number of callers are told as expected of a decision.
 fn told_of_deciding(alloc: Global, act: Act, rows: &[Row]) -> Result<usize, Stop> {
     told_rows(alloc, &Ask::Do(act), rows)
 }

@@ -109,7 +109,7 @@ const LODGERS: &[Row] = &[
     Row(SAM, CertifiedSurveyor, 0),
 ];
 
-/// How many callers are told as expected of an ask over the farm and the house.
+/// Returns the number of callers are told as expected of an ask over the farm and the house.
 fn told_rows(alloc: Global, ask: &Ask, rows: &[Row]) -> Result<usize, Stop> {
     let register = farm_and_house(alloc)?;
     Ok(told_of(&register, ask, false, rows))
@@ -163,7 +163,7 @@ fn lodge_all(alloc: Global, register: &mut Register) -> Result<(), Stop> {
     Ok(())
 }
 
-/// The farm and the house, with what Sam lodged.
+/// Returns the farm and the house, with what Sam lodged.
 fn farm_and_house_surveyed(alloc: Global) -> Result<Register, Stop> {
     let mut register = farm_and_house_with(alloc, &[Fact::Next(24)])?;
     lodge_all(alloc, &mut register)?;
@@ -255,7 +255,7 @@ fn all_are_told(alloc: Global) -> Result<bool, Stop> {
     Ok(TOLD.iter().all(|it| are_told(&register, it.0, it.1)))
 }
 
-/// A merger is shown by each unit that it names.
+/// Returns a merger is shown by each unit that it names.
 pub fn a_merger_is_shown_by_each_unit_that_it_names(alloc: Global) -> Result<(), Stop> {
     expect(all_are_told(alloc)?, "mergers", 0)
 }

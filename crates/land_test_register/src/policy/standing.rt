@@ -23,7 +23,8 @@ const VIEW: Ask = Ask::View {
 /// Who asks, and the number of the rule that denies it; 0 where none does.
 pub(super) struct Row(pub u64, pub Role, pub u8);
 
-/// How many callers are told as expected of an ask over one register, before the first that is not.
+/// Returns the number of callers are told as expected of an ask over one register, before the first that is
+/// not.
 pub(super) fn told_of(register: &Register, ask: &Ask, past: bool, rows: &[Row]) -> usize {
     for (place, row) in rows.iter().enumerate() {
         if verdict(register, register, caller(row.0, row.1), ask, past) != told(row.2) {
@@ -33,7 +34,7 @@ pub(super) fn told_of(register: &Register, ask: &Ask, past: bool, rows: &[Row]) 
     rows.len()
 }
 
-/// How many callers are told as expected of an ask over the farm and the house.
+/// Returns the number of callers are told as expected of an ask over the farm and the house.
 fn told_rows(alloc: Global, ask: &Ask, past: bool, rows: &[Row]) -> Result<usize, Stop> {
     let register = farm_and_house(alloc)?;
     Ok(told_of(&register, ask, past, rows))
@@ -71,7 +72,7 @@ const IN_THE_PAST: &[Row] = &[
     Row(OFFICE, StateAdministrator, 0),
 ];
 
-/// Some roles are told of the present alone.
+/// Returns some roles are told of the present alone.
 pub fn some_roles_are_told_of_the_present_alone(alloc: Global) -> Result<(), Stop> {
     expect_told(alloc, VIEW, true, IN_THE_PAST)
 }
@@ -92,14 +93,14 @@ fn burden(alloc: Global) -> Result<Ask, AllocError> {
     })))
 }
 
-/// How many callers are told as expected of a burden.
+/// Returns the number of callers are told as expected of a burden.
 fn told_burden(alloc: Global) -> Result<usize, Stop> {
     told_at_last(alloc, burden(alloc)?, false, OFFICE_ACTS)
 }
 
 const LIFT: Ask = Ask::Do(Act::Lift(Lift { rrr: 17 }));
 
-/// The office alone burdens units and lifts burdens.
+/// Returns the office alone burdens units and lifts burdens.
 pub fn the_office_alone_burdens_units_and_lifts_burdens(alloc: Global) -> Result<(), Stop> {
     expect(told_burden(alloc)? == OFFICE_ACTS.len(), "burdens", 0)?;
     expect_told(alloc, LIFT, false, OFFICE_ACTS)

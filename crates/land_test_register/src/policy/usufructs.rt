@@ -40,7 +40,7 @@ fn expect_lists(alloc: Global, register: &Register, rows: &[Shown]) -> Result<()
     expect(shown == rows.len(), "list", shown)
 }
 
-/// A usufruct is no ownership.
+/// Returns a usufruct is no ownership.
 pub fn a_usufruct_is_no_ownership(alloc: Global) -> Result<(), Stop> {
     let register = farm_and_house_with(alloc, USUFRUCT)?;
     expect_views(&register, VIEWS)?;

@@ -24,7 +24,7 @@ fn is_told(register: &Register, row: &Row) -> bool {
     verdict_on(register, register, caller(row.0, row.1), ask, false) == told(row.4)
 }
 
-/// How many rows are told as expected before the first that is not.
+/// Returns the number of rows are told as expected before the first that is not.
 pub(super) fn told_of(register: &Register, rows: &[Row]) -> usize {
     for (place, row) in rows.iter().enumerate() {
         if !is_told(register, row) {
@@ -63,7 +63,7 @@ const CITIZENS: &[Row] = &[
     Row(ANNA, Citizen, Source, ABSENT, 26),
 ];
 
-/// A citizen is denied by rules 11 to 13.
+/// Returns a citizen is denied by rules 11 to 13.
 pub fn a_citizen_is_denied_by_rules_11_to_13(alloc: Global) -> Result<(), Stop> {
     expect_views(alloc, CITIZENS)
 }
@@ -80,7 +80,7 @@ const BANKS: &[Row] = &[
     Row(NORTH, Bank, Source, DEED, 26),
 ];
 
-/// A bank is denied by rules 15 to 17.
+/// Returns a bank is denied by rules 15 to 17.
 pub fn a_bank_is_denied_by_rules_15_to_17(alloc: Global) -> Result<(), Stop> {
     expect_views(alloc, BANKS)
 }
@@ -95,7 +95,7 @@ const CONVEYANCERS: &[Row] = &[
     Row(LENA, Conveyancer, Source, DEED, 26),
 ];
 
-/// A conveyancer is denied by rules 19 to 21.
+/// Returns a conveyancer is denied by rules 19 to 21.
 pub fn a_conveyancer_is_denied_by_rules_19_to_21(alloc: Global) -> Result<(), Stop> {
     expect_views(alloc, CONVEYANCERS)
 }
@@ -110,7 +110,7 @@ const SURVEYORS: &[Row] = &[
     Row(SAM, CertifiedSurveyor, Source, DEED, 26),
 ];
 
-/// A surveyor is denied by rules 23 and 24.
+/// Returns a surveyor is denied by rules 23 and 24.
 pub fn a_surveyor_is_denied_by_rules_23_and_24(alloc: Global) -> Result<(), Stop> {
     expect_views(alloc, SURVEYORS)
 }
@@ -157,7 +157,7 @@ fn is_told_of(register: &Register, row: &Sheet) -> bool {
     verdict_on(register, register, caller(row.0, row.1), ask, false) == told(row.3)
 }
 
-/// How many sheets are told as expected before the first that is not.
+/// Returns the number of sheets are told as expected before the first that is not.
 fn sheets_of(register: &Register, rows: &[Sheet]) -> usize {
     for (place, row) in rows.iter().enumerate() {
         if !is_told_of(register, row) {
@@ -177,7 +177,7 @@ fn expect_sheets(alloc: Global, rows: &[Sheet]) -> Result<(), Stop> {
     expect(told == rows.len(), "row", told)
 }
 
-/// A sheet is judged as its unit.
+/// Returns a sheet is judged as its unit.
 pub fn a_sheet_is_judged_as_its_unit(alloc: Global) -> Result<(), Stop> {
     expect_sheets(alloc, SHEETS)
 }

@@ -186,7 +186,7 @@ const REGROUPING: &Changing = &Changing {
     )],
 };
 
-/// A group gets other members.
+/// Returns a group gets other members.
 pub fn a_group_gets_other_members(alloc: Global) -> Result<(), Stop> {
     expect(changes(alloc, REGROUPING)?, "the change", 0)
 }
@@ -216,7 +216,7 @@ fn change_members(
     }
 }
 
-/// The members after a change.
+/// Returns the members after a change.
 fn members_after(alloc: Global, it: &Changing) -> Result<Membership, Stop> {
     let mut register = register_with(alloc, it.base)?;
     change_members(alloc, &mut register, it)
@@ -237,7 +237,7 @@ const MEMBERS: &[(&Changing, Membership)] = &[
     (UNGROUPING, (false, false, false, false, false)),
 ];
 
-/// Members are those of the change.
+/// Returns members are those of the change.
 pub fn members_are_those_of_the_change(alloc: Global) -> Result<(), Stop> {
     for (place, row) in MEMBERS.iter().enumerate() {
         expect(members_after(alloc, row.0)? == row.1, "row", place)?;
@@ -254,7 +254,7 @@ const UNGROUPING: &Changing = &Changing {
     shown: &[Shown(Kind::Party, 5, Look::Nothing)],
 };
 
-/// An ended group has no members.
+/// Returns an ended group has no members.
 pub fn an_ended_group_has_no_members(alloc: Global) -> Result<(), Stop> {
     expect(changes(alloc, UNGROUPING)?, "the change", 0)
 }
@@ -279,7 +279,7 @@ const PLANTING: &Changing = &Changing {
     shown: &[Shown(Kind::Rrr, 19, Look::Rrr(17, ANNA, 16, ALL))],
 };
 
-/// A unit is entered.
+/// Returns a unit is entered.
 pub fn a_unit_is_entered(alloc: Global) -> Result<(), Stop> {
     expect(changes(alloc, PLANTING)?, "the change", 0)
 }
@@ -304,7 +304,7 @@ const CLEARING: &Changing = &Changing {
     shown: &[],
 };
 
-/// A unit is ended.
+/// Returns a unit is ended.
 pub fn a_unit_is_ended(alloc: Global) -> Result<(), Stop> {
     expect(changes(alloc, CLEARING)?, "the change", 0)
 }

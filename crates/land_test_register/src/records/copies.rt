@@ -12,7 +12,7 @@ use land_test_cases::stop::{Stop, expect};
 use std::alloc::{AllocError, Global};
 use std::fmt::Debug;
 
-/// All fields of a value, in one line.
+/// Returns all fields of a value, in one line.
 pub(super) fn fields<T: Debug>(alloc: Global, value: &T) -> Result<String, AllocError> {
     format!(in alloc; "{value:?}")
 }
@@ -38,7 +38,7 @@ fn is_made_new(alloc: Global) -> Result<bool, Stop> {
     is_new(alloc, &register)
 }
 
-/// A new register is sound.
+/// Returns a new register is sound.
 pub fn a_new_register_is_sound(alloc: Global) -> Result<(), Stop> {
     expect(is_made_new(alloc)?, "a new register", 0)
 }
@@ -102,7 +102,7 @@ fn is_well_copied(alloc: Global, register: &Register) -> Result<bool, Stop> {
     Ok(has_sound_copy(alloc, register)? && is_copied(alloc, register)?)
 }
 
-/// A register of many records.
+/// Returns a register of many records.
 fn with_all(alloc: Global) -> Result<Register, Stop> {
     register_with(alloc, WITH_ALL)
 }
@@ -113,7 +113,7 @@ fn is_whole_copied(alloc: Global) -> Result<bool, Stop> {
     is_well_copied(alloc, &register)
 }
 
-/// A register and its copy are alike and sound.
+/// Returns a register and its copy are alike and sound.
 pub fn a_register_and_its_copy_are_alike_and_sound(alloc: Global) -> Result<(), Stop> {
     expect(is_whole_copied(alloc)?, "the copy", 0)
 }
@@ -147,7 +147,7 @@ const OBJECTS: &[(Kind, u64)] = &[
     (Kind::Mutation, 18),
 ];
 
-/// How many objects are copied alike before the first that is not.
+/// Returns the number of objects are copied alike before the first that is not.
 fn copied_rows(alloc: Global, register: &Register, rows: &[(Kind, u64)]) -> Result<usize, Stop> {
     for (place, row) in rows.iter().enumerate() {
         if !is_object_copied(alloc, register, row.0, row.1)? {
@@ -167,7 +167,7 @@ fn expect_copied(alloc: Global, rows: &[(Kind, u64)]) -> Result<(), Stop> {
     expect(copied == rows.len(), "row", copied)
 }
 
-/// A copied object has all fields.
+/// Returns a copied object has all fields.
 pub fn a_copied_object_has_all_fields(alloc: Global) -> Result<(), Stop> {
     expect_copied(alloc, OBJECTS)
 }

@@ -39,7 +39,7 @@ fn crowd_of(alloc: Global, crowd: Crowd, count: u64) -> Result<Vec<Fact>, AllocE
     Ok(facts)
 }
 
-/// The fault of a register with so many of a crowd more.
+/// Returns the fault of a register with so many of a crowd more.
 fn crowded(
     alloc: Global,
     base: &[Part],
@@ -54,15 +54,14 @@ const OF_64: &[Part] = &[Part::Of64];
 
 const OF_65: &[Part] = &[Part::Of65];
 
-/// A group has at most 64 members.
+/// Returns a group has at most 64 members.
 pub fn a_group_has_at_most_64_members(alloc: Global) -> Result<(), Stop> {
     let full = crowded(alloc, OF_64, Crowd::Parties, 64)?;
     let beyond = crowded(alloc, OF_65, Crowd::Parties, 65)?;
     expect(full == None && beyond == Some(Unsound::Group), "a crowd", 0)
 }
 
-/// The garden has two parcels and six entries.
-/// A unit has at most 256 parcels.
+/// Returns the garden has two parcels and six entries. A unit has at most 256 parcels.
 pub fn a_unit_has_at_most_256_parcels(alloc: Global) -> Result<(), Stop> {
     let full = crowded(alloc, WITH_GARDEN, Crowd::Parcels, 254)?;
     let beyond = crowded(alloc, WITH_GARDEN, Crowd::Parcels, 255)?;
@@ -73,7 +72,7 @@ pub fn a_unit_has_at_most_256_parcels(alloc: Global) -> Result<(), Stop> {
     )
 }
 
-/// A unit has at most 256 entries.
+/// Returns a unit has at most 256 entries.
 pub fn a_unit_has_at_most_256_entries(alloc: Global) -> Result<(), Stop> {
     let full = crowded(alloc, WITH_GARDEN, Crowd::Entries, 250)?;
     let beyond = crowded(alloc, WITH_GARDEN, Crowd::Entries, 251)?;

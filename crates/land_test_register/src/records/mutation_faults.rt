@@ -35,7 +35,7 @@ const LODGERS: &[Case] = &[
     ),
 ];
 
-/// The lodger of a mutation stands.
+/// Returns the lodger of a mutation stands.
 pub fn the_lodger_of_a_mutation_stands(alloc: Global) -> Result<(), Stop> {
     expect_faults(alloc, UP_TO_19, LODGERS)
 }
@@ -58,7 +58,7 @@ const SOURCES: &[Case] = &[
     ),
 ];
 
-/// The source of a mutation stands.
+/// Returns the source of a mutation stands.
 pub fn the_source_of_a_mutation_stands(alloc: Global) -> Result<(), Stop> {
     expect_faults(alloc, UP_TO_19, SOURCES)
 }
@@ -195,7 +195,7 @@ const REFERENCES: &[Case] = &[
     ),
 ];
 
-/// A lodger has a reference once.
+/// Returns a lodger has a reference once.
 pub fn a_lodger_has_a_reference_once(alloc: Global) -> Result<(), Stop> {
     expect_faults(alloc, UP_TO_19, REFERENCES)
 }

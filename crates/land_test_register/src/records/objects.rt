@@ -173,7 +173,7 @@ pub(super) fn is_shown(
     }
 }
 
-/// How many rows a register shows before the first that it does not.
+/// Returns the number of rows a register shows before the first that it does not.
 pub(super) fn shown_rows(
     alloc: Global,
     register: &Register,
@@ -187,7 +187,7 @@ pub(super) fn shown_rows(
     Ok(rows.len())
 }
 
-/// How many rows a register of these facts shows before the first that it does not.
+/// Returns the number of rows a register of these facts shows before the first that it does not.
 fn rows_of(alloc: Global, base: &[Part], rows: &[Shown]) -> Result<usize, Stop> {
     let register = register_with(alloc, base)?;
     shown_rows(alloc, &register, rows)

@@ -29,7 +29,7 @@ const UNCHECKED_BARE: &[Part] = &[
     Part::Unchecked,
 ];
 
-/// The fault of the garden with these rights and no others.
+/// Returns the fault of the garden with these rights and no others.
 fn held(alloc: Global, base: &[Part], rights: &[Right]) -> Result<Option<Unsound>, Stop> {
     let facts = rights_of(alloc, rights)?;
     fault_of(alloc, base, facts.as_slice())
@@ -123,7 +123,7 @@ const TYPES: &[Holding] = &[
     Holding(ALL_OF_ANNA, None, None),
 ];
 
-/// A party has one right of a type.
+/// Returns a party has one right of a type.
 pub fn a_party_has_one_right_of_a_type(alloc: Global) -> Result<(), Stop> {
     expect_held(alloc, TYPES)
 }
@@ -136,7 +136,7 @@ const TWO_UNITS: &[Case] = &[Case(
     None,
 )];
 
-/// A party has rights of one type in two units.
+/// Returns a party has rights of one type in two units.
 pub fn a_party_has_rights_of_one_type_in_two_units(alloc: Global) -> Result<(), Stop> {
     expect_faults(alloc, WITH_TWO_UNITS, TWO_UNITS)
 }

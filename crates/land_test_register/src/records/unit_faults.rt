@@ -150,7 +150,7 @@ const LACKING: &[Case] = &[
     ),
 ];
 
-/// A unit has a parcel and an owner.
+/// Returns a unit has a parcel and an owner.
 pub fn a_unit_has_a_parcel_and_an_owner(alloc: Global) -> Result<(), Stop> {
     expect_faults(alloc, WITH_GARDEN, LACKING)
 }

@@ -3,6 +3,6 @@ use Rattle.land_core.specs.Entries.{with_entries}
 use Rattle.land_core.specs.Grants.{marks}
 use Rattle.land_core.proofs.mandates.Mandates.put_all.Given as goal
 
--- what is left to put leads to the same
+-- inserting the remaining entries yields the same result
 abbrev pub invariant-loop-mandate : goal.invariant-loop-mandate
 invariant-loop-mandate l = with_entries l.self (marks (drop l.mandate-index l.put)) ≡ with_entries l.fn.self (marks l.put)

@@ -5,6 +5,6 @@ use Rattle.land_core.specs.Register.{is_single, shares_of}
 use Rattle.land_core.specs.Soundness.{has_broken_group}
 use Rattle.land_core.proofs.soundness.check.has_broken_group.Given as goal
 
--- whether a group is broken is whether one of those to come is
+-- a group is broken if and only if one of the remaining ones is
 abbrev pub invariant-loop-number : goal.invariant-loop-number
 invariant-loop-number l = list_any (λ e. not (is_single e.1.kind) && not (are_group_shares (shares_of l.register e.0))) l.number-iterator ≡ has_broken_group l.register

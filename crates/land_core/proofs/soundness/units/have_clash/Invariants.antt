@@ -2,7 +2,7 @@ use Rattle.std.proofs.Common.{◌≡◌, length}
 use Rattle.land_core.specs.ByUnit.{have_clash}
 use Rattle.land_core.proofs.soundness.units.have_clash.Given as goal
 
--- none clashes with a later one so far
+-- no claim already processed clashes with a later one
 abbrev pub invariant-loop-rest : goal.invariant-loop-rest
 invariant-loop-rest l = have_clash l.rest ≡ have_clash l.claims
 
