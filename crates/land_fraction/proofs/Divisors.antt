@@ -15,7 +15,7 @@ greatest_of_zero a b e =
       greatest = λ d k p q. p;
     }
 
--- a number that divides b divides a % b exactly where it divides a, also after both are taken k times
+-- a number that divides b divides a % b if and only if it divides a, also if both are multiplied by k
 rest_times : (a b k : ℕ) → a / b * (b * k) + a % b * k ≡ a * k
 rest_times a b k = let e : a / b * b + a % b ≡ a = div-add-mod' a b in let f : (a / b * b + a % b) * k ≡ a * k = ap (λ (t : ℕ). t * k) e in omega arith
 

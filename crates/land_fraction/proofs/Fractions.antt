@@ -1,4 +1,4 @@
--- Fractions: least denominators, and the one right answer to a pair.
+-- Lemmas on fractions: least denominators, and the unique result for a pair.
 use Rattle.std.proofs.Common.{◌≡◌, ℕ, zero, suc, ◌*◌, ◌/◌, ◌<◌, ◌≤◌, refl, sym, ap, subst, arith, ◌∙◌, Bool, true, false, nat_eq, nat_lt, ◌||◌, ◌⊎◌, inl, inr, Option, Some, None, unwrap_or, if◌then◌else◌, Result, Ok, Err}
 use Rattle.std.specs.Int.{◌∣◌}
 use Rattle.std.proofs.Math.Nat.{dvd-mul_left, dvd-mul_right, pos_of_dvd_of_pos, div-mul_cancel, dvd_of_mul-dvd-mul_right, eq_of_mul-eq-mul_left, eq_of_mul-eq-mul_right, mul-pos, mul-le-mul_right, le_of_mul-le-mul_right}
@@ -54,7 +54,7 @@ one_fraction f g h k e =
     let whole : over f.numerator f.denominator ≡ over g.numerator g.denominator = cc in
     whole
 
--- the pair with the least denominator is a fraction, where it is not too fine
+-- the pair with the least denominator is a fraction, if it is not too fine
 pub lowest_fraction : (p : Ratio) (n d : ℕ) → IsProper p → IsLeastDenominator p d → MeanSame p (over n d) → d ≤ finest → IsFraction (over n d)
 lowest_fraction p n d h least e fits =
     let above : 0 < p.denominator = denominator_pos p h in
@@ -100,7 +100,7 @@ least_by_divisor n d g above h =
     swap : (x y : ℕ) → x * y ≡ y * x
     swap x y = omega arith
 
--- ---- the answer as a function
+-- ---- the result as a function
 
 true_false : {b : Bool} → b ≡ true → b ≡ false → ⊥
 true_false e f = cc
@@ -148,7 +148,7 @@ reduced-is p f above e same =
 abbrev answer_by : Ratio → Bool → Bool → Bool → Result Ratio FractionFault
 answer_by p none large fine = if none then Err Zero else if large then Err AboveOne else if fine then Err TooFine else Ok (reduced p)
 
--- the function by what its three tests answer
+-- the function by the results of its three tests
 by_tests : (p : Ratio) (none large fine : Bool) → (nat_eq p.numerator 0 || nat_eq p.denominator 0) ≡ none → nat_lt p.denominator p.numerator ≡ large → nat_lt finest (least_denominator p) ≡ fine → answer_by p none large fine ≡ fraction_of p
 unfolding fraction_of
 by_tests p none large fine e f g = rw (← e, ← f, ← g) refl
@@ -165,7 +165,7 @@ some_none m n h = grind (arith, nat_tests)
 none_none : (m n : ℕ) → 0 < m → 0 < n → (nat_eq m 0 || nat_eq n 0) ≡ false
 none_none m n h k = grind (arith, nat_tests)
 
--- the right answer is the function's
+-- the correct result is the function's
 pub the_answer : (p : Ratio) (r : Result Ratio FractionFault) → IsAnswer p r → r ≡ fraction_of p
 the_answer p (Err Zero) h = by_tests p true (nat_lt p.denominator p.numerator) (nat_lt finest (least_denominator p)) (some_none p.numerator p.denominator h) refl refl
 the_answer p (Err AboveOne) h = by_tests p false true (nat_lt finest (least_denominator p)) (none_none p.numerator p.denominator h.0 h.1) (below p.denominator p.numerator h.2) refl
@@ -191,7 +191,7 @@ proper_answer p h =
       | inr fits ↦ (Ok (reduced p), (h, lowest_fraction p _ _ h least (reduced-same p above) fits, reduced-same p above))
     ]
 
--- each pair has a right answer
+-- each pair has a correct result
 pub some_answer : (p : Ratio) → (r : Result Ratio FractionFault) × IsAnswer p r
 some_answer p =
     elim (cases_eq p.numerator 0) [

@@ -1,4 +1,4 @@
--- What the least number that passes is.
+-- Lemmas on the least number that passes a test.
 use Rattle.std.proofs.Common.{◌≡◌, ℕ, zero, suc, ◌<◌, ◌≤◌, Bool, true, false, Option, Some, None, is_some, if◌then◌else◌, ◌⊎◌, inl, inr, refl, ap, subst, arith}
 use Rattle.std.proofs.lemmas.Bool.{cases_lt}
 use Rattle.land_fraction.specs.Least.{least_to}
@@ -52,7 +52,7 @@ least-some (suc n) passes m e =
       )
     ]
 
--- what a search to a bound may answer
+-- the correct results of a search up to a bound
 abbrev pub IsLeastTo : ℕ → (ℕ → Bool) → Option ℕ → Type 0
 IsLeastTo n passes (Some m) = IsLeast passes m × (m ≤ n)
 IsLeastTo n passes None = (m : ℕ) → 0 < m → m ≤ n → passes m ≡ false
@@ -67,7 +67,7 @@ least_to-is n passes = by_answer (least_to n passes) refl
 both : {b : Bool} → b ≡ true → b ≡ false → ⊥
 both e f = cc
 
--- there is one answer
+-- the result is unique
 pub one_least_to : (n : ℕ) (passes : ℕ → Bool) (o p : Option ℕ) → IsLeastTo n passes o → IsLeastTo n passes p → o ≡ p
 one_least_to n passes None None h k = refl
 one_least_to n passes None (Some m) h k = absurd (both k.0.passing (h m k.0.positive k.1))

@@ -38,7 +38,7 @@ wholeness-permuted xs ys h = the_wholeness ys (wholeness xs) (permuted_wholeness
 
 -- ---- sums
 
--- what a sum means, by products alone
+-- the meaning of a sum, in products only
 summed : (a b c d n m x y z w : ℕ) → 0 < w → x * b ≡ w → y * d ≡ w → z * m ≡ w → (a * d + c * b) * m ≡ n * (b * d) → a * x + c * y ≡ n * z
 summed a b c d n m x y z w above ex ey ez h =
     let multiplied : (a * d + c * b) * m * (x * y * z) ≡ n * (b * d) * (x * y * z) = ap (λ (t : ℕ). t * (x * y * z)) h in
@@ -53,7 +53,7 @@ parts_summed m p q r above hp hq hr e =
     summed p.numerator p.denominator q.numerator q.denominator r.numerator r.denominator (m / p.denominator) (m / q.denominator) (m / r.denominator) m above
     (div-mul_cancel p.denominator hp) (div-mul_cancel q.denominator hq) (div-mul_cancel r.denominator hr) e
 
--- what a difference means: added to what was taken, it is what there was
+-- the meaning of a difference: added to the subtrahend, it yields the minuend
 added_back : (a b c d n m : ℕ) → 0 < a * d - c * b → (a * d - c * b) * m ≡ n * (b * d) → (n * d + c * m) * b ≡ a * (m * d)
 added_back a b c d n m above h =
     let left : ℕ = a * d - c * b in
@@ -62,7 +62,7 @@ added_back a b c d n m above h =
     let same : left * m ≡ n * (b * d) = h in
     omega arith
 
--- ---- what the answers of a sum and of a difference say
+-- ---- results of a sum and of a difference
 
 pub sum_answer : (p q r : Ratio) → fraction_of (sum_of p q) ≡ Ok r → IsAnswer (sum_of p q) (Ok r)
 sum_answer p q r e = subst (λ (a : Result Ratio FractionFault). IsAnswer (sum_of p q) a) e (answered (sum_of p q))
@@ -70,14 +70,14 @@ sum_answer p q r e = subst (λ (a : Result Ratio FractionFault). IsAnswer (sum_o
 pub difference_answer : (p q r : Ratio) → fraction_of (difference_of p q) ≡ Ok r → IsAnswer (difference_of p q) (Ok r)
 difference_answer p q r e = subst (λ (a : Result Ratio FractionFault). IsAnswer (difference_of p q) a) e (answered (difference_of p q))
 
--- what is left and what was taken make what there was
+-- the difference and the subtrahend sum to the minuend
 pub left_and_taken : (p q r : Ratio) → IsAnswer (difference_of p q) (Ok r) → MeanSame (sum_of r q) p
 left_and_taken p q r h = added_back p.numerator p.denominator q.numerator q.denominator r.numerator r.denominator h.0.above_zero h.2
 
 taken_pos : (p q : Ratio) → IsProper (difference_of p q) → 0 < q.denominator
 taken_pos p q h = pos_first q.denominator p.denominator (p.denominator * q.denominator) (omega arith) (denominator_pos (difference_of p q) h)
 
--- ---- shares that move keep their sum
+-- ---- moving a share preserves the sum
 
 kept : (a b c d s t l m g n : ℕ) → 0 < t → (l * t + s * m) * b ≡ a * (m * t) → (c * t + s * d) * n ≡ g * (d * t) → (l * n + g * m) * (b * d) ≡ (a * d + c * b) * (m * n)
 kept a b c d s t l m g n above e f =
@@ -94,7 +94,7 @@ sum_kept a b s left grown e f =
 
 -- ---- lists with the same parts
 
--- over some common multiple of both lists they have as many parts
+-- the lists have equal numbers of parts, for some common multiple of both
 pub record SameParts (xs ys : List Ratio) : Type 0 where
   pub parts : ℕ
   pub first : IsCommonMultiple parts xs
@@ -134,7 +134,7 @@ rest_of m s xs h = record { positive = h.positive; of_all = All-tail (λ (share 
 head_of : (m : ℕ) (s : Ratio) (xs : List Ratio) → IsCommonMultiple m (s ∷ xs) → s.denominator ∣ m
 head_of m s xs h = All-head (λ (share : Ratio). share.denominator ∣ m) s xs h.of_all
 
--- ---- a share taken apart, two put together, one moved
+-- ---- splitting, joining and moving shares
 
 -- the parts of one share more
 more_parts : (m : ℕ) (s : Ratio) (xs : List Ratio) (n : ℕ) → parts_of m xs ≡ n → parts_of m (s ∷ xs) ≡ s.numerator * (m / s.denominator) + n

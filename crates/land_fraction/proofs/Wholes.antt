@@ -1,4 +1,4 @@
--- The one right answer to a list of shares.
+-- Lemmas on the unique result for a list of shares.
 use Rattle.std.proofs.Common.{◌≡◌, ℕ, ◌<◌, ◌≤◌, refl, subst, arith, Bool, true, false, ◌&&◌, nat_eq, List, Option, Some, None, is_some, is_none, if◌then◌else◌, ◌⊎◌, inl, inr, eq-eqb}
 use Rattle.std.proofs.lemmas.Bool.{cases_lt, cases_eq, eqb-true, and_parts}
 use Rattle.land_fraction.specs.Least.{least_to}
@@ -100,7 +100,7 @@ whole_of shares (Some m) h e =
     let both = and_parts (is_common_multiple m shares) (nat_eq (parts_of m shares) m) h.0.passing in
     (m, h.1, common_multiple m shares h.0.positive both.0, eqb-true (parts_of m shares) m both.1)
 
--- the right answer is the function's
+-- the correct result is the function's
 pub the_wholeness : (shares : List Ratio) (w : Whole) → IsWholeness shares w → w ≡ wholeness shares
 the_wholeness shares Yes h =
     by_tests shares false true (coarse_tested shares (common_of shares) (common_of-is shares) (whole_not_fine shares h))
@@ -114,7 +114,7 @@ the_wholeness shares No h =
 the_wholeness shares TooFine h =
     by_tests shares true (is_some (least_to finest (fills_all shares))) (fine_tested shares (common_of shares) (common_of-is shares) h) refl
 
--- shares with a common multiple in range are whole exactly where they have all its parts
+-- shares with a common multiple in range are whole if and only if they have all its parts
 pub whole_at : (m : ℕ) (shares : List Ratio) → m ≤ finest → IsCommonMultiple m shares → parts_of m shares ≡ m → IsWholeness shares Yes
 whole_at m shares fits multiple e = (m, fits, multiple, e)
 

@@ -1,11 +1,12 @@
--- Which fraction a pair is, or which fault it has.
+-- The fraction that a pair equals, or the fault that it has.
 use Rattle.std.specs.Prelude.{◌≡◌, ℕ, ◌*◌, ◌/◌, ◌%◌, ◌<◌, ◌⊎◌, ◌||◌, Bool, nat_eq, nat_lt, Result, Ok, Err, unwrap_or, if◌then◌else◌}
 use Rattle.land_fraction.specs.Least.{least_to}
 use Rattle.land_fraction.specs.Ratio.{Ratio, over, MeanSame, IsLeastDenominator, IsProper, IsFraction, finest}
 use Rattle.land_fraction.specs.declared.fault.FractionFault.{FractionFault}
 use Rattle.land_fraction.specs.declared.fault.FractionFault.TheVariants.{Zero, AboveOne, TooFine}
 
--- The answer to a pair: each fault where its condition holds and no earlier one, else the fraction that means the same
+-- the result for a pair: a fault if its condition holds and no earlier one does, else the fraction equal to
+-- the pair
 abbrev pub IsAnswer : Ratio → Result Ratio FractionFault → Type 0
 IsAnswer p (Err Zero) = (p.numerator ≡ 0) ⊎ (p.denominator ≡ 0)
 IsAnswer p (Err AboveOne) = (0 < p.numerator) × (0 < p.denominator) × (p.denominator < p.numerator)
@@ -22,7 +23,7 @@ least_denominator p = unwrap_or (least_to p.denominator (λ d. is_multiple (p.nu
 abbrev pub reduced : Ratio → Ratio
 reduced p = over (p.numerator * least_denominator p / p.denominator) (least_denominator p)
 
--- the answer as a function of the pair (`laws::answers_of_pairs` says that it is the one answer that is right)
+-- the result as a function of the pair (`laws::answers_of_pairs` proves that it is the unique correct result)
 unfoldable pub fraction_of : Ratio → Result Ratio FractionFault
 fraction_of p =
     if nat_eq p.numerator 0 || nat_eq p.denominator 0 then Err Zero

@@ -2,7 +2,7 @@
 use Rattle.std.specs.Prelude.{ℕ, ◌*◌}
 use Rattle.std.specs.Int.{◌∣◌}
 
--- g divides both numbers, and what divides some multiple of the one and the same multiple of the other divides that multiple of g
+-- g divides both numbers, and a number that divides the same multiple of both divides that multiple of g
 pub record IsGreatestDivisor (a b g : ℕ) : Type 0 where
   pub first : g ∣ a
   pub second : g ∣ b

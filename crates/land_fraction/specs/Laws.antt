@@ -1,4 +1,4 @@
--- What holds of the definitions for all pairs and all lists of them.
+-- Laws of the definitions, for all pairs and all lists of pairs.
 use Rattle.std.specs.Prelude.{◌≡◌, ◌≢◌, ◌↔◌, ◌<◌, ℕ, List, [], ◌∷◌, Option, Result, Ok}
 use Rattle.std.specs.Int.{◌∣◌}
 use Rattle.std.specs.List.Sorted.{IsPermutation}
@@ -10,7 +10,7 @@ use Rattle.land_fraction.specs.declared.fault.FractionFault.{FractionFault}
 use Rattle.land_fraction.specs.declared.lists.Whole.{Whole}
 use Rattle.land_fraction.specs.declared.lists.Whole.TheVariants.{Yes, TooFine}
 
--- each pair has one right answer, and the function gives it
+-- each pair has one correct result, and the function returns it
 abbrev pub AnswerLaw : Type 0
 AnswerLaw = (p : Ratio) (r : Result Ratio FractionFault) → IsAnswer p r ↔ (r ≡ fraction_of p)
 
@@ -18,7 +18,7 @@ AnswerLaw = (p : Ratio) (r : Result Ratio FractionFault) → IsAnswer p r ↔ (r
 abbrev pub CommonLaw : Type 0
 CommonLaw = (shares : List Ratio) (common : Option ℕ) → IsCommon shares common ↔ (common ≡ common_of shares)
 
--- each list is whole, not whole or too fine, and one of them alone
+-- each list is exactly one of whole, not whole and too fine
 abbrev pub WholenessLaw : Type 0
 WholenessLaw = (shares : List Ratio) (whole : Whole) → IsWholeness shares whole ↔ (whole ≡ wholeness shares)
 
@@ -26,7 +26,7 @@ WholenessLaw = (shares : List Ratio) (whole : Whole) → IsWholeness shares whol
 abbrev pub OneFractionLaw : Type 0
 OneFractionLaw = (f g : Ratio) → IsFraction f → IsFraction g → MeanSame f g → f ≡ g
 
--- a fraction is its own answer
+-- a fraction is unchanged by the function
 abbrev pub SameFractionLaw : Type 0
 SameFractionLaw = (f : Ratio) → IsFraction f → fraction_of f ≡ Ok f
 
@@ -34,7 +34,7 @@ SameFractionLaw = (f : Ratio) → IsFraction f → fraction_of f ≡ Ok f
 abbrev pub OrderLaw : Type 0
 OrderLaw = (f g : Ratio) → IsFraction f → IsFraction g → ratio_cmp f g ≡ cross_cmp f g
 
--- what is left of a, and b with the share that was taken from a, have the sum of a and b
+-- a without a share, and b with that share, have the sum of a and b
 abbrev pub KeptSumLaw : Type 0
 KeptSumLaw = (a b share left grown : Ratio) → fraction_of (difference_of a share) ≡ Ok left → fraction_of (sum_of b share) ≡ Ok grown
     → MeanSame (sum_of left grown) (sum_of a b)
@@ -58,17 +58,18 @@ abbrev pub JoinedLaw : Type 0
 JoinedLaw = (a b sum : Ratio) (rest : List Ratio) → fraction_of (sum_of a b) ≡ Ok sum
     → wholeness (a ∷ b ∷ rest) ≡ Yes → wholeness (sum ∷ rest) ≢ TooFine → wholeness (sum ∷ rest) ≡ Yes
 
--- the parts of a sum are those of both fractions, over each number that all three denominators divide
+-- the parts of a sum are those of both fractions, for each number that all three denominators divide
 abbrev pub SumPartsLaw : Type 0
 SumPartsLaw = (m : ℕ) (a b sum : Ratio) → fraction_of (sum_of a b) ≡ Ok sum → 0 < m → a.denominator ∣ m → b.denominator ∣ m → sum.denominator ∣ m
     → parts_of m (a ∷ b ∷ []) ≡ parts_of m (sum ∷ [])
 
--- the parts of what is left and of what was taken are those of what there was
+-- the parts of a difference and of its subtrahend are those of the minuend
 abbrev pub DifferencePartsLaw : Type 0
 DifferencePartsLaw = (m : ℕ) (a share left : Ratio) → fraction_of (difference_of a share) ≡ Ok left → 0 < m → a.denominator ∣ m → share.denominator ∣ m → left.denominator ∣ m
     → parts_of m (left ∷ share ∷ []) ≡ parts_of m (a ∷ [])
 
--- lists with as many parts over some common multiple: where one is whole, the other one is whole or too fine
+-- if two lists have equal numbers of parts for some common multiple and one is whole, the other is whole or
+-- too fine
 abbrev pub SamePartsLaw : Type 0
 SamePartsLaw = (m : ℕ) (shares others : List Ratio) → IsCommonMultiple m shares → IsCommonMultiple m others → parts_of m shares ≡ parts_of m others
     → wholeness shares ≡ Yes → wholeness others ≢ TooFine → wholeness others ≡ Yes

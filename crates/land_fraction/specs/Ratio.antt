@@ -1,5 +1,5 @@
--- Pairs of whole numbers read as n/d, and when two of them mean the same. (ISO 19152:2012 gives the share of LA_RRR and of
--- LA_PartyMember as such a pair; the bounds are those of this project's profile.)
+-- Pairs of whole numbers n/d, and equality of their values. (ISO 19152:2012 defines the share of LA_RRR and
+-- of LA_PartyMember as such a pair; the bounds are those of this project's profile.)
 use Rattle.std.specs.Prelude.{◌≡◌, ℕ, ◌+◌, ◌-◌, ◌*◌, ◌<◌, ◌≤◌}
 
 pub record Ratio : Type 0 where
@@ -10,7 +10,7 @@ pub record Ratio : Type 0 where
 abbrev pub over : ℕ → ℕ → Ratio
 over n d = record { numerator = n; denominator = d }
 
--- a/b and c/d mean the same where a * d is c * b
+-- a/b and c/d are equal if a * d is c * b
 abbrev pub MeanSame : Ratio → Ratio → Type 0
 MeanSame p q = p.numerator * q.denominator ≡ q.numerator * p.denominator
 
@@ -29,7 +29,7 @@ pub record IsProper (p : Ratio) : Type 0 where
   pub above_zero : 0 < p.numerator
   pub at_most_one : p.numerator ≤ p.denominator
 
--- what a fraction is: a proper pair in lowest terms whose denominator is not too large
+-- a fraction is a proper pair in lowest terms with a denominator of at most the maximum
 pub record IsFraction (f : Ratio) : Type 0 where
   pub proper : IsProper f
   pub lowest : IsLeastDenominator f f.denominator
@@ -39,6 +39,7 @@ pub record IsFraction (f : Ratio) : Type 0 where
 abbrev pub sum_of : Ratio → Ratio → Ratio
 sum_of p q = over (p.numerator * q.denominator + q.numerator * p.denominator) (p.denominator * q.denominator)
 
--- a/b - c/d is (a * d - c * b)/(b * d). The subtraction stops at 0, so the numerator is 0 where nothing is left
+-- a/b - c/d is (a * d - c * b)/(b * d). The subtraction stops at 0, so the numerator is 0 if the result is
+-- not positive
 abbrev pub difference_of : Ratio → Ratio → Ratio
 difference_of p q = over (p.numerator * q.denominator - q.numerator * p.denominator) (p.denominator * q.denominator)

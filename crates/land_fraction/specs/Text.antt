@@ -1,4 +1,4 @@
--- What is printed.
+-- Printed forms.
 use Rattle.std.specs.Prelude.{ℕ, List, ◌++◌, codes}
 use Rattle.std.specs.Fmt.{decimal}
 use Rattle.land_fraction.specs.Ratio.{Ratio}
@@ -9,7 +9,7 @@ use Rattle.land_fraction.specs.declared.fault.FractionFault.TheVariants.{Zero, A
 abbrev pub text_of : Ratio → List ℕ
 text_of f = decimal f.numerator ++ codes "/" ++ decimal f.denominator
 
--- what each fault says
+-- the message of each fault
 abbrev pub fault_text : FractionFault → List ℕ
 fault_text Zero = codes "a fraction is above zero"
 fault_text AboveOne = codes "a fraction is at most one"

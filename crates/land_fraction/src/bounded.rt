@@ -36,7 +36,7 @@ impl Model for Fraction {
 }
 
 impl Fraction {
-    /// Returns the fraction `n`/`d` in lowest terms, or the first of these faults:
+    /// Returns the fraction `n`/`d` in lowest terms, or the first of these errors:
     ///
     /// - 101 `Zero`: `n` or `d` is 0.
     /// - 102 `AboveOne`: `n` is above `d`.
@@ -62,10 +62,10 @@ impl Fraction {
         })
     }
 
-    /// Returns the sum of two fractions, exactly, or the first of these faults:
+    /// Returns the sum of two fractions, exactly, or the first of these errors:
     ///
-    /// - 102 `AboveOne`: the sum is above one.
-    /// - 103 `TooFine`: its denominator in lowest terms is above 1_000_000_000.
+    /// - 102 `AboveOne`: the sum is above 1.
+    /// - 103 `TooFine`: the denominator in lowest terms is above 1_000_000_000.
     pub fn plus(self, other: Fraction) -> Result<Fraction, FractionFault>
         ensures meaning { IsAnswer (sum_of self other) result }
         ensures value { result ≡ fraction_of (sum_of self other) }
@@ -75,9 +75,9 @@ impl Fraction {
         Fraction::new(own + added, self.denominator * other.denominator)
     }
 
-    /// What is left of a fraction when another one is taken from it, exactly, or the first of these faults:
+    /// Returns the difference of two fractions, exactly, or the first of these errors:
     ///
-    /// - 101 `Zero`: nothing is left, or `other` is the greater one.
+    /// - 101 `Zero`: the result is 0, or `other` is greater.
     /// - 103 `TooFine`: the denominator in lowest terms is above 1_000_000_000.
     pub fn minus(self, other: Fraction) -> Result<Fraction, FractionFault>
         ensures meaning { IsAnswer (difference_of self other) result }

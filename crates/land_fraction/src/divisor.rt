@@ -2,7 +2,8 @@
 
 ghost use Rattle.land_fraction.specs.Divisor.{IsGreatestDivisor};
 
-/// Returns the greatest common divisor of two numbers, which is the other one where one of them is 0.
+/// Returns the greatest common divisor of two numbers, by Euclid's algorithm. If one number is 0, returns the
+/// other.
 pub fn greatest_divisor(a: u64, b: u64) -> u64
     ensures { IsGreatestDivisor a b result }
 {

@@ -1,4 +1,4 @@
-//! Why there is no fraction.
+//! Errors of fractions.
 
 ghost use Rattle.std.specs.Prelude.{◌≡◌, Some};
 ghost use Rattle.land_fraction.specs.Number.{number_of};
@@ -7,10 +7,11 @@ ghost use Rattle.land_fraction.specs.Text.{fault_text};
 use std::error::Error;
 use std::fmt;
 
-/// Why a pair of numbers is no fraction. The fault with the least number is answered.
+/// Why a pair of numbers is not a fraction. If several faults hold, the one with the lowest number is
+/// returned.
 #[derive(Clone, Copy, Debug, PartialEq, Eq)]
 pub enum FractionFault {
-    /// 101: the numerator or the denominator is zero, or nothing is left by a subtraction.
+    /// 101: the numerator or the denominator is 0, or the result of a subtraction is not positive.
     Zero,
     /// 102: the value is above one.
     AboveOne,
@@ -19,7 +20,7 @@ pub enum FractionFault {
 }
 
 impl FractionFault {
-    /// Returns the number of the fault, 101 to 103.
+    /// Returns the number of the error, 101 to 103.
     pub fn number(self) -> u16
         ensures { result ≡ number_of self }
     {

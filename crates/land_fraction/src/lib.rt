@@ -1,5 +1,5 @@
-//! Bounded fractions, as shares of a right or of a group are written: above zero, at most one, in lowest terms and with
-//! a denominator of at most 1_000_000_000. Nothing is rounded, and no call takes memory.
+//! Bounded fractions, the shares of rights and of groups: above 0, at most 1, in lowest terms, with a
+//! denominator of at most 1_000_000_000. Nothing is rounded, and no function allocates.
 #![tactic(auto)]
 
 mod bounded;

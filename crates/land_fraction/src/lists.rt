@@ -1,4 +1,4 @@
-//! Whether shares make a whole.
+//! Sums of shares.
 
 ghost use Rattle.std.specs.Prelude.{◌≡◌, ◌*◌, ◌<◌, ◌≤◌, ◌^◌, ◌↔◌, IsTrue};
 ghost use Rattle.land_fraction.specs.Divisor.{IsLeastMultiple};
@@ -11,7 +11,7 @@ use crate::divisor::greatest_divisor;
 /// Whether the fractions of a list sum to one.
 #[derive(Clone, Copy, Debug, PartialEq, Eq)]
 pub enum Whole {
-    /// They sum to one.
+    /// They sum to 1.
     Yes,
     /// They sum to another number.
     No,
@@ -19,8 +19,8 @@ pub enum Whole {
     TooFine,
 }
 
-/// Returns the least common multiple of the denominators where it is at most 1_000_000_000, and 1 for the
-/// empty list.
+/// Returns the least common multiple of the denominators, 1 for the empty list; `None` if it is above
+/// 1_000_000_000.
 pub fn common(shares: &[Fraction]) -> Option<u64>
     ensures meaning { IsCommon shares.now result }
     ensures value { result ≡ common_of shares.now }
@@ -35,8 +35,8 @@ pub fn common(shares: &[Fraction]) -> Option<u64>
     Some(multiple)
 }
 
-/// Whether the shares make a whole: over some common multiple of their denominators, at most 1_000_000_000, their
-/// numerators sum to it. The empty list does not.
+/// Whether the shares sum to 1: for some common multiple of their denominators, at most 1_000_000_000, their
+/// parts sum to it. The empty list does not.
 pub fn is_whole(shares: &[Fraction]) -> Whole
     ensures meaning { IsWholeness shares.now result }
     ensures value { result ≡ wholeness shares.now }
@@ -58,7 +58,7 @@ fn least_multiple(a: u64, b: u64) -> u64
     a / greatest_divisor(a, b) * b
 }
 
-/// Whether the shares have all of `multiple` equal parts together.
+/// Whether the shares together have all of `multiple` equal parts.
 fn has_all_parts(shares: &[Fraction], multiple: u64) -> bool
     requires bound { multiple ≤ finest }
     ensures { IsTrue result ↔ (parts_of multiple shares.now ≡ multiple) }

@@ -1,4 +1,4 @@
--- What a keeper that is open after a call answers.
+-- Lemma on keepers that are open after a call.
 use Rattle.std.proofs.Common.{◌≡◌, true, false, refl}
 use Rattle.land_keep.specs.Laws.{OpenKeepersLackMemoryAlone}
 use Rattle.land_keep.specs.declared.store_fault.StoreFault.TheVariants.{NoMemory, Store, Closed}

@@ -1,4 +1,4 @@
--- A change leaves what stood before its stamp, and stands from then on.
+-- Lemmas: a change leaves the register before its stamp unchanged and applies from its stamp.
 use Rattle.std.proofs.Common.{◌≡◌, true, false, cond, [], ◌∷◌, ◌++◌, Option, Some, None, refl, ap, ◌∙◌, arith}
 use Rattle.std.specs.Prelude.{ℤ, ◌<ℤ◌, ◌≤ℤ◌, int_le, fold, unwrap_or, if◌then◌else◌}
 use Rattle.std.specs.Option.{option_map}

@@ -1,4 +1,4 @@
--- Runs go on by one step, and what is prepared leads to the machine's step.
+-- Lemmas: a run continues by one step, and a prepared reply commits the machine's step.
 use Rattle.std.proofs.Common.{◌≡◌, Bool, true, false, not, drop, List, [], ◌∷◌, ◌++◌, Option, Some, None, Result, Ok, Err, refl, sym, ap, ◌∙◌, subst, inl, inr, ℕ, arith}
 use Rattle.std.specs.Prelude.{ℤ, ◌≤ℤ◌, ◌<ℤ◌, int_lt, unwrap_or, MatchOption}
 use Rattle.std.proofs.lemmas.Bool.{false≢true}
@@ -31,7 +31,7 @@ use Rattle.land_keep.specs.declared.store_fault.StoreFault.TheVariants.{NoMemory
 use Rattle.land_rules.specs.Rules.{Rules, first_denial, rules_on}
 use Rattle.land_rules.specs.declared.verdict.Verdict.TheVariants.{Allowed, Denied}
 
--- a run goes on by one request
+-- a run is extended by one request
 pub run_more : {C : Type 0} (reads : C → ℤ → C → Type 0) (from mid to : State C) (reading : ℤ) (qs : List Request) (q : Request) (rs : List Reply) (r : Reply)
     → Run reads from qs rs mid → reads mid.clock reading to.clock → Element mid.closed reading q mid.timeline r to.timeline to.closed
     → Run reads from (qs ++ q ∷ []) (rs ++ r ∷ []) to
@@ -51,7 +51,7 @@ element_from true closed_after tl shown new shown_after reading q r same el show
 element_from false closed_after tl shown new shown_after reading q r same el shows =
     (new, subst (λ (t : Timeline). Element false reading q t r new closed_after) (same refl) el, shows)
 
--- a run to where a keeper stands goes on by what the keeper answers
+-- a run to a state that the keeper represents is extended by the keeper's reply
 pub runs_on : {C : Type 0} (reads : C → ℤ → C → Type 0) (from : State C) (honest honest_after : Type 0) (closed closed_after : Bool)
     (shown shown_after : Timeline) (clock clock_after : C) (reading : ℤ) (qs : List Request) (q : Request) (rs : List Reply) (r : Reply)
     → honest → RunsTo reads from qs rs honest closed shown clock → reads clock reading clock_after
@@ -69,7 +69,7 @@ runs_on {C} reads from honest honest_after closed closed_after shown shown_after
       (refl, refl, λ live. next.2 live.1),
     )
 
--- where no rule denies, a step is what is allowed
+-- if no rule denies, a step is the allowed one
 pub step_allowed : (clock : ℤ) (request : Request) (tl : Timeline)
     → int_lt (now_of clock tl) (moment_of request.ask (now_of clock tl)) ≡ false
     → verdict_at tl request.caller request.ask (now_of clock tl) ≡ Allowed
@@ -80,7 +80,7 @@ step_allowed clock request tl late free = rw (late, free) refl
 pub stamp_bounds : (clock last s : ℤ) → stamp_after clock last ≡ Some s → (s ≤ℤ last_moment) × (last <ℤ s)
 stamp_bounds clock last s e = (grind (arith, ints), grind (arith, ints))
 
--- what is prepared for an outcome leads to it
+-- the reply prepared for an outcome commits that outcome
 pub leads_to : (tl : Timeline) (clock : ℤ) (caller : Caller) (a : Act) (p : Result Planned Refusal)
     → is_well_formed a ≡ true → holds (last_register tl) caller.party caller.role ≡ true
     → outcome_of (last_register tl) caller a (stamp_of clock tl) ≡ p
@@ -98,28 +98,28 @@ leads_to tl clock caller a (Ok (New change done)) wf role e =
         subst (λ (at : ℤ). CanWrite tl change at) (sym (tells_stamp (last_register tl) change s accepted))
         (record { moment = bounds.0; later = bounds.1; made = accepted })
 
--- what is prepared for an act shows no sheet
+-- the reply prepared for an act is not a sheet
 pub shows_no_sheet : (t : ℤ) (p : Result Planned Refusal) → ShowsAt t (preparation p).reply
 shows_no_sheet t (Err refusal) = tt
 shows_no_sheet t (Ok (Repeat done)) = tt
 shows_no_sheet t (Ok (New change done)) = tt
 
--- ---- what is answered without a change
+-- ---- replies without a change
 
--- a moment that is still to come is a fault
+-- a moment in the future is a fault
 pub step_late : (clock : ℤ) (request : Request) (tl : Timeline)
     → int_lt (now_of clock tl) (moment_of request.ask (now_of clock tl)) ≡ true
     → step clock request tl ≡ (reply.Fault 135, tl)
 step_late clock request tl late = rw late refl
 
--- where a rule denies, that rule is told
+-- if a rule denies, the reply has its number
 pub step_denied : (clock : ℤ) (request : Request) (tl : Timeline) (rule : ℕ)
     → int_lt (now_of clock tl) (moment_of request.ask (now_of clock tl)) ≡ false
     → verdict_at tl request.caller request.ask (now_of clock tl) ≡ Denied rule
     → step clock request tl ≡ (reply.Denied rule, tl)
 step_denied clock request tl rule late denied = rw (late, denied) refl
 
--- where no rule denies, the caller holds its role
+-- if no rule denies, the caller has its role
 second_passes : (x h : Bool) (rest : Rules) → first_denial ((1, x) ∷ (2, not h) ∷ rest) ≡ Allowed → h ≡ true
 second_passes true h rest e = absurd (let denied : Denied 1 ≡ Allowed = e in cc)
 second_passes false true rest e = refl
@@ -137,7 +137,7 @@ role_is_held tl caller (ask.List k at) now free = second_passes (first_fails tl 
 role_is_held tl caller (ask.Sheet unit at) now free = second_passes (first_fails tl caller) (holds (last_register tl) caller.party caller.role) (later_rules tl caller (ask.Sheet unit at) now) free
 role_is_held tl caller (ask.Do it) now free = second_passes (first_fails tl caller) (holds (last_register tl) caller.party caller.role) (later_rules tl caller (ask.Do it) now) free
 
--- what is without a change leads to a reply, and to the timeline as it is
+-- a reply without a change leaves the timeline unchanged
 pub without_change_leads : (p : Prepared) (r : Reply) (next : Next) (tl : Timeline) → p.reply ≡ r → p.writing ≡ None → next ≡ (r, tl) → Leads p next tl
 without_change_leads p r next tl is none e =
     subst (λ (n : Next). Leads p n tl) (sym e)
@@ -152,7 +152,7 @@ without_change_leads p r next tl is none e =
 pub now_is_moment : (clock last : ℤ) → last ≤ℤ last_moment → IsMoment (now_after clock last)
 now_is_moment clock last late = (omega (arith, ints, clamps), omega (arith, ints, clamps, late))
 
--- a sheet of the asked moment names the one that is asked for, or now
+-- a sheet has the requested moment, or now
 pub shows_asked : (a : Ask) (t now : ℤ) (r : Reply) → t ≡ unwrap_or (at_of a) now → IsMoment now → ShowsAt t r → ShowsAsked a r
 shows_asked a t now (reply.Object it) e is shows = tt
 shows_asked a t now (reply.Numbers it) e is shows = tt
@@ -169,12 +169,12 @@ shows_asked a t now (reply.Store number) e is shows = tt
 
 -- ---- the store
 
--- a keeper that answers was open and is
+-- a keeper that returns a value was open and is open
 pub opens : {T : Type 0} (before closed : Bool) (it : T) → Closes before closed (Ok it) → (before ≡ false) × (closed ≡ false)
 opens true closed it closes = absurd closes
 opens false closed it closes = (refl, closes)
 
--- a fault is an element that changes nothing
+-- a store fault is an element that changes nothing
 pub fault_element : (T : Type 0) (before closed : Bool) (reading : ℤ) (q : Request) (tl : Timeline) (fault : StoreFault)
     → Closes {T = T} before closed (Err fault) → Element before reading q tl (reply.Store (number_of fault)) tl closed
 fault_element T true closed reading q tl fault closes = (ap (λ (f : StoreFault). reply.Store (number_of f)) closes.0, refl, closes.1)
@@ -187,14 +187,14 @@ pub was_open : (T : Type 0) (before closed : Bool) (fault : StoreFault) → Clos
 was_open T true closed fault closes is_open = absurd (false≢true (sym is_open ∙ closes.1))
 was_open T false closed fault closes is_open = refl
 
--- so an element tells of the store
+-- a store fault reports whether the store is closed
 pub fault_tells : (T : Type 0) (before closed : Bool) (fault : StoreFault) → Closes {T = T} before closed (Err fault) → TellsOf before (reply.Store (number_of fault)) closed
 fault_tells T true closed fault closes = (ap (λ (f : StoreFault). reply.Store (number_of f)) closes.0, closes.1)
 fault_tells T false closed NoMemory closes = λ shut. absurd (false≢true (sym closes ∙ shut))
 fault_tells T false closed Store closes = λ shut. refl
 fault_tells T false closed Closed closes = absurd closes
 
--- what was prepared and finished is a step
+-- a reply that was prepared and finished is a step
 pub finished_element : (before closed : Bool) (reading : ℤ) (q : Request) (tl : Timeline) (p : Prepared)
     → before ≡ false → closed ≡ false → IsPrepared p reading q tl → Element before reading q tl p.reply (after_writing p.writing tl) closed
 finished_element before closed reading q tl p was is leads =

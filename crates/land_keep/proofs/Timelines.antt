@@ -1,4 +1,4 @@
--- The last version of a timeline, and timelines that go on.
+-- Lemmas on the last version of a timeline and on appended versions.
 use Rattle.std.proofs.Common.{◌≡◌, ◌≤◌, ◌-◌, inl, inr, Bool, true, false, cond, [], ◌∷◌, ◌++◌, length, Option, Some, None, refl, ap, ◌∙◌, arith}
 use Rattle.std.specs.Prelude.{ℤ, pos, ◌<ℤ◌, ◌≤ℤ◌, int_le, fold, unwrap_or, slice_get, if◌then◌else◌}
 use Rattle.std.specs.List.{AllByRecursion}
@@ -15,7 +15,7 @@ use Rattle.land_keep.specs.Timeline.{Timeline, IsSoundTimeline, Rises, last_from
 use Rattle.land_keep.specs.declared.timeline.Version.{Version}
 use Rattle.land_rules.specs.Laws.{IsSoundOrNothing}
 
--- what is at the last place of a list
+-- the last item of a list
 slice_get-last : (v : Version) (vs : Timeline) → slice_get (v ∷ vs) (length vs) ≡ Some (last_from v vs)
 slice_get-last v [] = refl
 slice_get-last v (w ∷ ws) = slice_get-last w ws

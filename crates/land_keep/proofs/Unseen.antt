@@ -1,4 +1,5 @@
--- Replies tell nothing unseen: what a view, a list or a sheet shows is made of what is in sight.
+-- Proof that replies reveal nothing unseen: the reply to a view, a list or a sheet depends only on the
+-- objects in sight.
 use Rattle.std.proofs.Common.{◌≡◌, ◌⊎◌, inl, inr, ℕ, Bool, true, false, ◌&&◌, not, cond, List, [], ◌∷◌, filter, Option, Some, None, is_some, refl, sym, ap, ◌∙◌, subst}
 use Rattle.std.specs.Prelude.{ℤ, nat_eq, int_lt, int_le, fold, unwrap_or, map as map_list}
 use Rattle.std.specs.Cmp.{nat_cmp_total}
@@ -47,7 +48,7 @@ use Rattle.land_rules.specs.declared.verdict.Verdict.TheVariants.{Allowed, Denie
 -- ---- lists
 
 module _ {X : Type 0} where
-  -- what holds of all holds of those that pass a test, with the test
+  -- a property of all items holds of those that pass a test, together with the test
   all_passing : (P : X → Type 0) (p : X → Bool) (xs : List X) → AllByRecursion P xs → AllByRecursion (λ x. P x × (p x ≡ true)) (filter p xs)
   all_passing P p [] h = tt
   all_passing P p (x ∷ xs) h =
@@ -85,7 +86,7 @@ module _ {X Y : Type 0} where
   same_items f g [] h = refl
   same_items f g (x ∷ xs) h = ap (λ it. it ∷ map_list f xs) h.0 ∙ ap (λ it. g x ∷ it) (same_items f g xs h.1)
 
-  -- what is shown tells what there is
+  -- an injective map of lists is injective
   exact_items : (f : X → Y) → ((a b : X) → f a ≡ f b → a ≡ b) → (xs ys : List X) → map_list f xs ≡ map_list f ys → xs ≡ ys
   exact_items f exact [] [] e = refl
   exact_items f exact [] (y ∷ ys) e = absurd (empty_is_not e)
@@ -96,7 +97,7 @@ twice_mapped : {X Y Z : Type 0} (f : X → Y) (g : Y → Z) (xs : List X) → ma
 twice_mapped f g [] = refl
 twice_mapped f g (x ∷ xs) = ap (λ it. g (f x) ∷ it) (twice_mapped f g xs)
 
--- ---- records that are shown
+-- ---- records in replies
 
 by_sight : {V : Type 0} (x y : Option V) → is_some x ≡ is_some y → (is_some x ≡ true → x ≡ y) → x ≡ y
 by_sight None None e h = refl
@@ -147,7 +148,7 @@ module _ (at : Register) (caller : Caller) where
   seen_entries : (unit : ℕ) → entries_seen at caller unit ≡ map_list (λ e. named_rrr at e.0 e.1) (filter (λ e. nat_eq e.1.unit unit) in_sight)
   seen_entries unit = ap (map_list (λ e. named_rrr at e.0 e.1)) (two_tests (λ e. nat_eq e.1.unit unit) (λ e. sees at caller kind.Rrr e.0) (map.entries at.rrrs))
 
--- ---- a sheet is made of what is in sight
+-- ---- a sheet depends only on the objects in sight
 
 module _ (one other : Register) (caller : Caller) (sound : IsSoundOrNothing one) (alike : LookAlike one other caller) where
   same_name : (n : ℕ) → sees one caller kind.Party n ≡ true → name_at one n ≡ name_at other n
@@ -195,12 +196,12 @@ module _ (one other : Register) (caller : Caller) (sound : IsSoundOrNothing one)
 
 -- ---- replies
 
--- what is shown need be the same only where it is shown
+-- two replies need to be equal only if the verdict allows them
 same_reply : (v : Verdict) (r s : Reply) → (v ≡ Allowed → r ≡ s) → by_verdict v r ≡ by_verdict v s
 same_reply Allowed r s h = h refl
 same_reply (Denied k) r s h = refl
 
--- a view that no rule denies is of what is in sight
+-- if no rule denies a view, its object is in sight
 view_passes : (s h late : Bool) (v : Verdict) → cond (not s) (Denied 1) (cond (not h) (Denied 2) (cond late (Denied 3) v)) ≡ Allowed → is_allowed v ≡ true
 view_passes true true true v e = absurd (let it : Denied 3 ≡ Allowed = e in cc)
 view_passes true true false v e = ap is_allowed e

@@ -20,7 +20,7 @@ use Rattle.land_keep.specs.Machine.{written}
 use Rattle.land_keep.specs.Timeline.{Timeline}
 use Rattle.land_keep.specs.declared.timeline.Version.{Version}
 
--- a sound register has whole shares, and so has one that holds nothing
+-- a sound register has whole shares, and so has the empty one
 sound_whole : (r : Register) → IsSound r → HasWholeShares r
 sound_whole r sound = record {
   units = λ n u is checked. not-false (has_whole_shares r n)

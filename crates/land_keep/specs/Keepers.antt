@@ -4,7 +4,7 @@ use Rattle.land_keep.specs.Keeping.{IsAt}
 use Rattle.land_keep.specs.Machine.{State}
 use Rattle.land_keep.specs.declared.keeper.Keeper.{Ghosts}
 
--- the state that a keeper and a clock show
+-- the state that a keeper and a clock represent
 abbrev pub state_of : {K C : Type 0} → Ghosts K → K → C → State C
 state_of g keeper clock = record { closed = g.closed keeper; timeline = g.timeline keeper; clock = clock }
 

@@ -1,4 +1,4 @@
--- What a keeper of the timeline may be asked, how its faults go, and what is prepared for a request.
+-- Preconditions and faults of a keeper, and replies that are prepared for requests.
 use Rattle.std.specs.Prelude.{◌≡◌, Bool, true, false, List, Option, Some, None, Result, Ok, Err, ℤ, ◌<ℤ◌, ◌≤ℤ◌, MatchOption}
 use Rattle.land_acts.specs.Laws.{IsAccepted}
 use Rattle.land_acts.specs.Mutations.Planning.{number_of}
@@ -19,7 +19,8 @@ use Rattle.land_keep.specs.declared.store_fault.StoreFault.{StoreFault}
 use Rattle.land_keep.specs.declared.store_fault.StoreFault.TheVariants.{NoMemory, Store, Closed}
 use Rattle.land_keep.specs.declared.view.View.{View}
 
--- a failed store call closes a keeper, want of memory does not, and a closed keeper says that it is closed and nothing else
+-- a failed store operation closes a keeper, running out of memory does not, and a closed keeper returns only
+-- `Closed`
 abbrev pub Closes : {T : Type 0} → (before after : Bool) → Result T StoreFault → Type 0
 Closes true after (Ok x) = ⊥
 Closes true after (Err fault) = (fault ≡ Closed) × (after ≡ true)
@@ -28,37 +29,38 @@ Closes false after (Err NoMemory) = after ≡ false
 Closes false after (Err Store) = after ≡ true
 Closes false after (Err Closed) = ⊥
 
--- a keeper shows its timeline: its store is honest and not closed
+-- a keeper shows its timeline if its store is honest and open
 abbrev pub IsLive : (honest : Type 0) → (closed : Bool) → Type 0
 IsLive honest closed = honest × (closed ≡ false)
 
--- a change may be written: its stamp is a moment after the last one, and an act makes it of the last register
+-- a change can be written if its stamp is a moment after the last one and an act makes it on the last
+-- register
 pub record CanWrite (tl : Timeline) (change : Change) (stamp : ℤ) : Type 0 where
   pub moment : stamp ≤ℤ last_moment
   pub later : last_stamp tl <ℤ stamp
   pub made : IsAccepted (last_register tl) change stamp
 
--- ---- what is prepared
+-- ---- prepared replies
 
 abbrev pub after_writing : Option Writing → Timeline → Timeline
 after_writing None tl = tl
 after_writing (Some w) tl = written tl w.change w.stamp
 
--- what is prepared can be finished over a timeline
+-- a prepared reply can be finished on a timeline
 abbrev pub CanFinish : Prepared → Timeline → Type 0
 CanFinish p tl = MatchOption p.writing (Unit {0}) (λ w. CanWrite tl w.change w.stamp)
 
--- what is prepared leads to a reply and a timeline
+-- finishing a prepared reply yields this reply and this timeline
 pub record Leads (p : Prepared) (next : Next) (tl : Timeline) : Type 0 where
   pub reply : p.reply ≡ next.0
   pub timeline : after_writing p.writing tl ≡ next.1
   pub can_finish : CanFinish p tl
 
--- what is prepared for a request leads to the machine's step
+-- finishing the reply prepared for a request yields the machine's step
 abbrev pub IsPrepared : Prepared → ℤ → Request → Timeline → Type 0
 IsPrepared p clock request tl = Leads p (step clock request tl) tl
 
--- what is prepared for the outcome of an act
+-- the reply prepared for the outcome of an act
 abbrev pub preparation : Result Planned Refusal → Prepared
 preparation (Ok (New change done)) = record { reply = reply.Done done; writing = Some (record { change = change; stamp = done.stamp }) }
 preparation (Ok (Repeat done)) = record { reply = reply.Done done; writing = None }
@@ -66,7 +68,7 @@ preparation (Err refusal) = record { reply = reply.Refused (number_of refusal); 
 
 -- ---- the moment of a sheet
 
--- what is said of a sheet, where one is shown
+-- a property of a reply's sheet, if the reply is one
 abbrev pub OnSheet : Reply → (View → Type 0) → Type 0
 OnSheet (reply.Object it) P = Unit {0}
 OnSheet (reply.Numbers it) P = Unit {0}
@@ -77,32 +79,33 @@ OnSheet (reply.Fault number) P = Unit {0}
 OnSheet (reply.Refused number) P = Unit {0}
 OnSheet (reply.Store number) P = Unit {0}
 
--- a sheet that is shown names this moment
+-- a sheet has this moment
 abbrev pub ShowsAt : ℤ → Reply → Type 0
 ShowsAt t r = OnSheet r (λ view. view.at ≡ t)
 
--- a sheet that is shown names the moment that the ask names, else one that there is
+-- a sheet has the moment that the request states, or else a valid moment
 abbrev pub ShowsAsked : Ask → Reply → Type 0
 ShowsAsked a r = OnSheet r (λ view. MatchOption (at_of a) (IsMoment view.at) (λ named. view.at ≡ named))
 
--- ---- answers and runs
+-- ---- replies and runs
 
--- what a reply tells of the store: a closed one says so and stays closed, and an open one is closed by 502 alone
+-- a closed store replies 503 and stays closed; an open one is closed only with reply 502
 abbrev pub TellsOf : (closed : Bool) → Reply → (closed_after : Bool) → Type 0
 TellsOf true r closed_after = (r ≡ reply.Store 503) × (closed_after ≡ true)
 TellsOf false r closed_after = closed_after ≡ true → r ≡ reply.Store 502
 
--- a request is answered by an element that leads to a timeline, which the keeper shows unless it is closed
+-- a request is answered by an element, and the keeper then shows the element's timeline, unless it is closed
 abbrev pub IsAnswered : (closed : Bool) → ℤ → Request → Timeline → Reply → (shown : Timeline) → (closed_after : Bool) → Type 0
 IsAnswered closed clock request tl r shown closed_after =
     (new : Timeline) × Element closed clock request tl r new closed_after × (closed_after ≡ false → shown ≡ new)
 
--- a keeper with its clock stands at a state of the machine: it shows the state's timeline while it is honest and open
+-- the abstraction relation: closed and clock are the state's, and so is the timeline if the keeper is honest
+-- and open
 abbrev pub IsAt : {C : Type 0} → (honest : Type 0) → (closed : Bool) → (shown : Timeline) → (clock : C) → State C → Type 0
 IsAt honest closed shown clock state =
     (state.closed ≡ closed) × (state.clock ≡ clock) × (IsLive honest closed → shown ≡ state.timeline)
 
--- replies are a run of the machine from a state to one at which the keeper stands
+-- replies are a run of the machine from a state to one that the keeper represents
 abbrev pub RunsTo : {C : Type 0} → (C → ℤ → C → Type 0) → State C → List Request → List Reply
     → (honest : Type 0) → (closed : Bool) → (shown : Timeline) → (clock : C) → Type 0
 RunsTo {C} reads from requests replies honest closed shown clock =

@@ -1,4 +1,4 @@
--- The register machine: what it replies to a request, and the timeline that it leaves.
+-- The register machine: the reply to a request, and the timeline after it.
 use Rattle.std.specs.Prelude.{◌≡◌, ℕ, Bool, true, false, List, [], ◌∷◌, ◌++◌, Option, Some, None, Result, Ok, Err, ℤ, int_lt, unwrap_or, ◌⊎◌, if◌then◌else◌}
 use Rattle.land_acts.specs.Mutations.Planning.{number_of}
 use Rattle.land_acts.specs.Outcome.{outcome_of}
@@ -27,21 +27,21 @@ use Rattle.land_rules.specs.declared.verdict.Verdict.TheVariants.{Allowed, Denie
 
 -- ---- moments
 
--- now, for a read, and the stamp of a change, by a reading of the clock
+-- now, from a reading of the clock
 abbrev pub now_of : ℤ → Timeline → ℤ
 now_of clock tl = now_after clock (last_stamp tl)
 
 abbrev pub stamp_of : ℤ → Timeline → Option ℤ
 stamp_of clock tl = stamp_after clock (last_stamp tl)
 
--- the moment that an ask names
+-- the moment that a request states, if any
 abbrev pub at_of : Ask → Option ℤ
 at_of (ask.View k number at) = at
 at_of (ask.List k at) = at
 at_of (ask.Sheet unit at) = at
 at_of (ask.Do it) = None
 
--- the asked moment: the one that is named, else now
+-- the requested moment: the stated one, else now
 abbrev pub moment_of : Ask → (now : ℤ) → ℤ
 moment_of a now = unwrap_or (at_of a) now
 
@@ -51,48 +51,50 @@ moment_of a now = unwrap_or (at_of a) now
 abbrev pub Next : Type 0
 Next = Reply × Timeline
 
--- an object that is asked for stands where the policy allows its view
+-- the reply with an object; denied by rule 27 if it does not exist
 abbrev pub shown : Option Object → Reply
 shown None = reply.Denied 27
 shown (Some it) = reply.Object it
 
--- what an allowed view shows, of the register at the asked moment alone
+-- the reply to an allowed view; it depends only on the register at the requested moment
 abbrev pub viewed : (at : Register) → Kind → ℕ → Reply
 viewed at k number = shown (object_at at k number)
 
--- a unit that is asked for stands where the policy allows its view
+-- the reply with a sheet; denied by rule 27 if the unit does not exist
 abbrev pub shown_sheet : Option View → Reply
 shown_sheet None = reply.Denied 27
 shown_sheet (Some it) = reply.Sheet it
 
--- the timeline with a change of the last register, from its stamp on
+-- the timeline with a change of the last register appended
 abbrev pub written : Timeline → Change → ℤ → Timeline
 written tl change stamp = tl ++ record { stamp = stamp; register = after change (last_register tl) } ∷ []
 
--- what an allowed act leads to: a change stands from the stamp on that its caller is told
+-- the result of an allowed act: a change applies from the stamp that its receipt states
 abbrev pub acted : Result Planned Refusal → Timeline → Next
 acted (Ok (New change done)) tl = (reply.Done done, written tl change done.stamp)
 acted (Ok (Repeat done)) tl = (reply.Done done, tl)
 acted (Err refusal) tl = (reply.Refused (number_of refusal), tl)
 
--- what is allowed, at an asked moment t; an act looks at the last register alone
+-- the result of an allowed request at moment t; an act reads only the last register
 abbrev pub allowed : (clock : ℤ) → Caller → Ask → (t : ℤ) → Timeline → Next
 allowed clock caller (ask.View k number at) t tl = (viewed (register_at tl t) k number, tl)
 allowed clock caller (ask.List k at) t tl = (reply.Numbers (seen_of (register_at tl t) caller k), tl)
 allowed clock caller (ask.Sheet unit at) t tl = (shown_sheet (view_at (register_at tl t) caller unit t), tl)
 allowed clock caller (ask.Do it) t tl = acted (outcome_of (last_register tl) caller it (stamp_of clock tl)) tl
 
--- what is denied changes nothing
+-- the result by verdict; a denied request changes nothing
 abbrev pub judged : Verdict → Next → Timeline → Next
 judged Allowed next tl = next
 judged (Denied rule) next tl = (reply.Denied rule, tl)
 
--- the verdict on an ask, where now is a moment: standing rules read the last register, sight rules the one at the asked moment
+-- the verdict on a request at time `now`: standing rules read the last register, sight rules the one at the
+-- requested moment
 abbrev pub verdict_at : Timeline → Caller → Ask → (now : ℤ) → Verdict
 verdict_at tl caller a now =
     verdict_of (last_register tl) (register_at tl (moment_of a now)) caller a (int_lt (moment_of a now) now)
 
--- one step: a moment that is still to come is fault 135, else the policy is asked, and then what it allows is done
+-- one step: if the requested moment is in the future, fault 135; else the policy decides, and an allowed
+-- request is performed
 abbrev pub step : (clock : ℤ) → Request → Timeline → Next
 step clock request tl =
     let now = now_of clock tl in
@@ -102,7 +104,8 @@ step clock request tl =
 
 -- ---- runs, in which the store may fail
 
--- one request: a step, or a store fault that changes nothing; 502 closes, and a closed store says 503 and nothing else
+-- one request: a step, or a store fault that changes nothing. 502 closes the store, and a closed store
+-- replies only 503
 abbrev pub Element : (closed : Bool) → ℤ → Request → Timeline → Reply → Timeline → (closed_after : Bool) → Type 0
 Element true clock request tl r new closed = (r ≡ reply.Store 503) × (new ≡ tl) × (closed ≡ true)
 Element false clock request tl r new closed =
@@ -110,13 +113,13 @@ Element false clock request tl r new closed =
     ⊎ ((r ≡ reply.Store 501) × (new ≡ tl) × (closed ≡ false))
     ⊎ ((r ≡ reply.Store 502) × (new ≡ tl) × (closed ≡ true))
 
--- where the machine and its clock stand
+-- a state of the machine with its clock
 pub record State (C : Type 0) : Type 0 where
   pub closed : Bool
   pub timeline : Timeline
   pub clock : C
 
--- the replies to requests in turn, with one reading of the clock for each
+-- a run: the replies to requests in order, with one reading of the clock for each
 abbrev pub Run : {C : Type 0} → (C → ℤ → C → Type 0) → State C → List Request → List Reply → State C → Type 0
 Run reads from [] [] to = to ≡ from
 Run {C} reads from (request ∷ requests) (r ∷ replies) to =

@@ -1,8 +1,8 @@
--- Moments: whole milliseconds since 1970 in UTC, what a reading of the clock says of them, and the stamps of changes.
+-- Moments, in Unix milliseconds: now from a reading of the clock, and the stamps of changes.
 use Rattle.std.specs.Prelude.{◌||◌, Option, Some, None, ℤ, pos, ◌+ℤ◌, ◌≤ℤ◌, int_lt, if◌then◌else◌}
 use Rattle.std.specs.Int.{int_min, int_max}
 
--- the end of the year 2099 in UTC, in milliseconds since 1970
+-- the last moment: the end of the year 2099 UTC, in Unix milliseconds
 abbrev pub last_moment : ℤ
 last_moment = pos 4102444799999
 
@@ -13,11 +13,11 @@ IsMoment t = (pos 0 ≤ℤ t) × (t ≤ℤ last_moment)
 abbrev pub reading_of : ℤ → ℤ
 reading_of clock = int_max clock (pos 0)
 
--- now, for a read: the clock, but no moment before the last stamp, and none after the last moment
+-- now, for a read: the clock, but at least the last stamp and at most the last moment
 abbrev pub now_after : (clock last : ℤ) → ℤ
 now_after clock last = int_max (int_min (reading_of clock) last_moment) last
 
--- the stamp of a change: the clock, but after the last stamp; there is none past the last moment
+-- the stamp of a change: the clock, but after the last stamp; none after the last moment
 abbrev pub stamp_after : (clock last : ℤ) → Option ℤ
 stamp_after clock last =
     if int_lt last_moment clock || int_lt last_moment (last +ℤ pos 1) then None

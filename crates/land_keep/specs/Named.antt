@@ -1,4 +1,4 @@
--- Objects as they are listed, each with what is shown beside it.
+-- Objects in lists, each with the name of its party.
 use Rattle.std.specs.Prelude.{ℕ, List, [], ◌∷◌}
 use Rattle.std.specs.List.{flat_map}
 use Rattle.std.specs.Option.{option_map_or}
@@ -10,7 +10,7 @@ use Rattle.land_core.specs.declared.register.Register.{Register}
 use Rattle.land_keep.specs.Sheets.{name_at}
 use Rattle.land_keep.specs.declared.named.NamedObject.{NamedObject}
 
--- an object as it is listed: a party without its members and roles
+-- the list form of an object: a party without its members and roles
 abbrev pub listed : Object → Object
 listed (object.Party it) = object.Party (record { number = it.number; kind = it.kind; name = it.name; members = []; roles = [] })
 listed (object.Unit it) = object.Unit it
@@ -19,7 +19,7 @@ listed (object.Rrr it) = object.Rrr it
 listed (object.Source it) = object.Source it
 listed (object.Mutation it) = object.Mutation it
 
--- what is shown beside an object: what the party of an entry is called; nothing beside another
+-- the name in the row of an object: that of the party of an entry; empty for another object
 abbrev pub name_beside : Register → Object → List ℕ
 name_beside r (object.Party it) = []
 name_beside r (object.Unit it) = []
@@ -31,10 +31,10 @@ name_beside r (object.Mutation it) = []
 abbrev pub named : Register → Object → NamedObject
 named r it = record { object = listed it; name = name_beside r it }
 
--- the object under a number, where one stands
+-- the object of a number, if it exists
 abbrev pub named_at : Register → Kind → (number : ℕ) → List NamedObject
 named_at r k number = option_map_or (λ it. named r it ∷ []) (object_at r k number) []
 
--- the objects that stand under some numbers, in the order of these
+-- the objects of these numbers that exist, in the order of the numbers
 abbrev pub objects_at : Register → Kind → (numbers : List ℕ) → List NamedObject
 objects_at r k numbers = flat_map (named_at r k) numbers

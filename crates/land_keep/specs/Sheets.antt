@@ -1,4 +1,4 @@
--- A unit as a caller sees it at a moment: what a title sheet is made of.
+-- A unit as a caller sees it at a moment: the data of a title sheet.
 use Rattle.std.specs.Prelude.{ℕ, ℤ, ◌&&◌, nat_eq, List, [], filter, map as map_list, Option}
 use Rattle.std.specs.Option.{option_map, option_map_or}
 use Rattle.std.specs.FinMap as map
@@ -17,11 +17,11 @@ use Rattle.land_rules.specs.Rules.{sees}
 abbrev pub shown_parcel : ℕ → ParcelRecord → Parcel
 shown_parcel n p = record { number = n; unit = p.unit; label = p.label; outline = p.outline; source = p.source }
 
--- the parcels of a unit, by ascending numbers
+-- the parcels of a unit, ordered by number
 abbrev pub parcels_at : Register → (unit : ℕ) → List Parcel
 parcels_at at unit = map_list (λ e. shown_parcel e.0 e.1) (filter (λ e. nat_eq e.1.unit unit) (map.entries at.parcels))
 
--- what a party is called; nothing where it does not stand
+-- the name of a party; empty if it does not exist
 abbrev pub name_at : Register → (party : ℕ) → List ℕ
 name_at at party = option_map_or (λ p. p.name) (map.get at.parties party) []
 
@@ -32,12 +32,12 @@ named_rrr at n e = record {
   name = name_at at e.party;
 }
 
--- the entries of a unit that the caller sees, by ascending numbers
+-- the entries of a unit that the caller sees, ordered by number
 abbrev pub entries_seen : Register → Caller → (unit : ℕ) → List NamedRrr
 entries_seen at caller unit =
     map_list (λ e. named_rrr at e.0 e.1) (filter (λ e. nat_eq e.1.unit unit && sees at caller kind.Rrr e.0) (map.entries at.rrrs))
 
--- the unit that stands, as the caller sees it, or none
+-- the unit as the caller sees it, if it exists
 abbrev pub view_at : Register → Caller → (unit : ℕ) → (moment : ℤ) → Option View
 view_at at caller unit moment =
     option_map (λ u. record { unit = u; parcels = parcels_at at unit; rrrs = entries_seen at caller unit; at = moment }) (unit_at at unit)

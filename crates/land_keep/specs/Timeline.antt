@@ -1,4 +1,4 @@
--- The register through time: stamps, and the register from each on (LADM: VersionedObject).
+-- The register through time: stamps, each with the register from that moment on (LADM: VersionedObject).
 use Rattle.std.specs.Prelude.{◌≤◌, List, [], ◌∷◌, Option, Some, None, ℤ, pos, ◌<ℤ◌, int_le, fold, unwrap_or, if◌then◌else◌}
 use Rattle.std.specs.Option.{option_map}
 use Rattle.std.specs.List.{AllByRecursion}
@@ -11,7 +11,7 @@ use Rattle.land_keep.specs.declared.timeline.Version.{Version}
 abbrev pub Timeline : Type 0
 Timeline = List Version
 
--- a new office has the new register from the first moment on
+-- a new timeline: the new register from moment 0
 abbrev pub new_timeline : Timeline
 new_timeline = record { stamp = pos 0; register = new_register } ∷ []
 
@@ -19,11 +19,11 @@ new_timeline = record { stamp = pos 0; register = new_register } ∷ []
 abbrev pub version_at : Timeline → ℤ → Option Version
 version_at tl t = fold (λ found v. if int_le v.stamp t then Some v else found) None tl
 
--- the register at t; before the first stamp there is nothing
+-- the register at t; empty before the first stamp
 abbrev pub register_at : Timeline → ℤ → Register
 register_at tl t = unwrap_or (option_map (λ v. v.register) (version_at tl t)) nothing
 
--- the last of a version and those after it
+-- the last of a version and the versions after it
 abbrev pub last_from : Version → Timeline → Version
 last_from v [] = v
 last_from v (w ∷ ws) = last_from w ws
@@ -40,17 +40,18 @@ last_stamp tl = unwrap_or (option_map (λ v. v.stamp) (last_version tl)) (pos 0)
 abbrev pub last_register : Timeline → Register
 last_register tl = unwrap_or (option_map (λ v. v.register) (last_version tl)) nothing
 
--- from a version on, stamps rise and the next numbers never fall
+-- from a version on, stamps are strictly increasing and the next numbers never decrease
 abbrev pub Rises : Version → Timeline → Type 0
 Rises before [] = Unit {0}
 Rises before (v ∷ vs) = (before.stamp <ℤ v.stamp) × (before.register.next ≤ v.register.next) × Rises v vs
 
--- there is a version, and stamps rise
+-- the timeline has a version, and stamps are strictly increasing
 abbrev pub IsRising : Timeline → Type 0
 IsRising [] = ⊥
 IsRising (v ∷ vs) = Rises v vs
 
--- a sound timeline begins, its stamps are moments and rise, its next numbers never fall, and each of its registers is sound
+-- a sound timeline has a version, strictly increasing stamps that are moments, next numbers that never
+-- decrease, and sound registers
 pub record IsSoundTimeline (tl : Timeline) : Type 0 where
   pub rising : IsRising tl
   pub moments : AllByRecursion (λ v. IsMoment v.stamp) tl

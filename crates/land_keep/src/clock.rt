@@ -1,12 +1,12 @@
 //! Clocks.
 ghost use Rattle.std.specs.Prelude.{ℤ};
 
-/// A clock, which is read once for each request.
+/// A clock. It is read once for each request.
 pub trait Clock {
-    /// Holds of the clock before a reading, the reading, and the clock after it.
+    /// Relates the clock before a reading, the reading, and the clock after it.
     ghost reads: { Self → ℤ → Self → Type 0 };
 
-    /// Milliseconds since 1970 UTC.
+    /// Returns the time in Unix milliseconds.
     fn read(&mut self) -> i64
         ensures { reads self.old result self.new };
 }

@@ -24,20 +24,23 @@ use land_core::sequence::{NumberList, Sequence};
 use land_rules::verdict::Verdict;
 use std::alloc::Global;
 
-/// A keeper of the register through time, which contracts see as a sound timeline, whether its store is closed, and whether
-/// its store is honest. A call that fails changes nothing: 501 leaves the keeper open, 502 closes it, and a closed keeper
-/// answers 503. What a keeper says holds while it is honest, and what it shows while it is also open.
+/// A keeper of the register through time. Contracts see it as a sound timeline, whether its store is closed,
+/// and whether its store is honest.
+///
+/// A call that fails changes nothing. Errors: 501 `NoMemory` leaves the keeper open; 502 `Store` closes it; a
+/// closed keeper returns 503 `Closed`. Results are guaranteed only if the store is honest, and the timeline
+/// only if it is also open.
 pub trait Keeper {
-    /// The registers so far, with their stamps.
+    /// The timeline: all registers with their stamps.
     ghost timeline: { Self → Timeline };
 
-    /// Whether a store call has failed.
+    /// Whether a store operation has failed.
     ghost closed: { Self → Bool };
 
-    /// Whether the store has given back what was written to it, so far. What a keeper says holds as long as it has.
+    /// Whether each read of the store until now returned the data last written. Results hold only if it did.
     ghost honest: { Self → Type 0 };
 
-    /// Returns the stamp of the last accepted change, 0 in a new register.
+    /// Returns the stamp of the last accepted change; 0 in a new register.
     fn last(&self) -> i64
         ensures last { IsLive (honest self.now) (closed self.now) → result ≡ last_stamp (timeline self.now) }
         ensures moment { result ≤ℤ last_moment }
@@ -47,7 +50,7 @@ pub trait Keeper {
     fn is_closed(&self) -> bool
         ensures { result ≡ closed self.now };
 
-    /// What the policy says of an ask, where now is a moment.
+    /// Returns the verdict of the policy on a request at time `now`.
     fn first_denial(
         &mut self,
         alloc: Global,
@@ -75,7 +78,7 @@ pub trait Keeper {
         ensures was { honest self.new → honest self.old }
         ensures closes { Closes (closed self.old) (closed self.new) result };
 
-    /// Returns the object that stands at a moment, or `None`.
+    /// Returns an object at a moment, or `None` if it does not exist then.
     fn object(
         &mut self,
         alloc: Global,
@@ -88,8 +91,8 @@ pub trait Keeper {
         ensures was { honest self.new → honest self.old }
         ensures closes { Closes (closed self.old) (closed self.new) result };
 
-    /// Returns the objects of a kind that stand at a moment under some numbers, in the order of these, as
-    /// they are listed. It may read all of the kind from the least of the numbers to the greatest.
+    /// Returns the objects of these numbers that exist at a moment, in the order of the numbers, in list
+    /// form. May read all objects of the kind from the least number to the greatest.
     fn objects(
         &mut self,
         alloc: Global,
@@ -102,8 +105,8 @@ pub trait Keeper {
         ensures was { honest self.new → honest self.old }
         ensures closes { Closes (closed self.old) (closed self.new) result };
 
-    /// Returns the unit that stands at a moment, as a caller sees it, or `None`. A view names the moment that
-    /// it was asked for.
+    /// Returns a unit as a caller sees it at a moment, or `None` if it does not exist then. The view has the
+    /// requested moment.
     fn view(
         &mut self,
         alloc: Global,
@@ -117,14 +120,14 @@ pub trait Keeper {
         ensures was { honest self.new → honest self.old }
         ensures closes { Closes (closed self.old) (closed self.new) result };
 
-    /// Returns the records of the last register that planning may look at.
+    /// Returns the slice of the last register that planning an act reads.
     fn slice(&mut self, alloc: Global, caller: Caller, act: &Act) -> Result<Slice, StoreFault>
         ensures value { honest self.new → IfOk result (λ it. it ≡ slice_of (last_register (timeline self.old)) caller act.now) }
         ensures same { IsLive (honest self.new) (closed self.new) → timeline self.new ≡ timeline self.old }
         ensures was { honest self.new → honest self.old }
         ensures closes { Closes (closed self.old) (closed self.new) result };
 
-    /// Writes a change that an act makes of the last register, with its stamp.
+    /// Writes a change that an act makes on the last register, with its stamp.
     fn write(&mut self, alloc: Global, change: &Change, stamp: i64) -> Result<(), StoreFault>
         requires { IsLive (honest self.old) (closed self.old) → CanWrite (timeline self.old) change.now stamp }
         ensures ok { IsLive (honest self.new) (closed self.new) → OnOk result (timeline self.new ≡ written (timeline self.old) change.now stamp) }

@@ -1,44 +1,47 @@
 //! Laws, each stated over the definitions alone.
 ghost use Rattle.land_keep.specs.Laws.{ChangesKeepSharesWhole, SharesAreWhole, WritingKeepsSound, PastStays, ChangeStands, OpenKeepersLackMemoryAlone, ReadsLookAtTwoRegisters, RepliesTellNothingUnseen};
 
-/// Returns a timeline stays sound after each change that may be written.
+/// Proves that a timeline stays sound after each change that can be written.
 pub fn writing_keeps_soundness()
     ensures { WritingKeepsSound }
 {}
 
-/// Returns a change leaves the register at each moment before its stamp as it was.
+/// Proves that a change leaves the register at each moment before its stamp unchanged.
 pub fn the_past_stays()
     ensures { PastStays }
 {}
 
-/// From its stamp on, the register is the last one with the change made.
+/// Proves that from a change's stamp on, the register is the last one with the change made.
 pub fn a_change_stands_from_its_stamp_on()
     ensures { ChangeStands }
 {}
 
-/// At each moment all checked shares are whole, and those of groups.
+/// Proves that at each moment all checked shares and the shares of groups are whole.
 pub fn shares_are_whole()
     ensures { SharesAreWhole }
 {}
 
-/// After every accepted change all checked shares are whole, and those of groups.
+/// Proves that after each accepted change all checked shares and the shares of groups are whole.
 pub fn changes_keep_shares_whole()
     ensures { ChangesKeepSharesWhole }
 {}
 
-/// Returns a keeper that stays open answers, or had no memory; the keeper in memory always stays open.
+/// Proves that a call that leaves a keeper open fails only if out of memory. The keeper in memory is always
+/// open.
 pub fn open_keepers_lack_memory_alone()
     ensures { OpenKeepersLackMemoryAlone }
 {}
 
-/// Returns the reply to a read is told by now, the last register and the register at the asked moment alone.
+/// Proves that the reply to a read depends only on now, the last register and the register at the requested
+/// moment.
 pub fn reads_look_at_two_registers()
     ensures { ReadsLookAtTwoRegisters }
 {}
 
-/// Replies tell nothing unseen: where two sound timelines with the same now look alike to a caller, in their last registers and in
-/// those at the asked moment, every view, list and sheet is given the same reply in both, the number of a denial included. Of acts
-/// it says nothing: numbers that are made, stamps, refusals and the default now show that others have acted.
+/// Proves that replies reveal nothing unseen (noninterference): if two sound timelines with the same now look
+/// alike to a caller, in their last registers and in those at the requested moment, then each view, list and
+/// sheet has the same reply in both, including the number of a denial. Acts are not covered: new numbers,
+/// stamps, refusals and the default now reveal that other parties have acted.
 pub fn replies_tell_nothing_unseen()
     ensures { RepliesTellNothingUnseen }
 {}

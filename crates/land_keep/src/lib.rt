@@ -1,4 +1,4 @@
-//! The register machine: what a request leads to, and the keepers of the register through time.
+//! The register machine, and the keepers of the register through time.
 #![tactic(auto)]
 
 pub mod clock;

@@ -1,4 +1,4 @@
-//! The register machine over any keeper: a request is prepared, finished, answered; requests are run in turn.
+//! The register machine on any keeper: prepares, finishes and answers requests, and runs sequences of them.
 ghost use Rattle.std.specs.Prelude.{◌≡◌, ◌≢◌, ℤ, true, false, IfOk, OnOk, OnErr, All, IsTrue, ◌↔◌};
 ghost use Rattle.land_acts.specs.Outcome.{outcome_of};
 ghost use Rattle.land_core.specs.Acts.{is_well_formed, is_well_formed_request};
@@ -22,7 +22,8 @@ use land_core::caller::Caller;
 use land_rules::verdict::Verdict;
 use std::alloc::{AllocError, Global};
 
-/// Finds the reply to a request and what has to be written for it, and changes nothing.
+/// Prepares the reply to a request and the change to write for it. Changes nothing. Errors: 501 `NoMemory`,
+/// 502 `Store`, 503 `Closed`.
 pub fn prepare<K: Keeper>(
     alloc: Global,
     keeper: &mut K,
@@ -50,7 +51,7 @@ pub fn prepare<K: Keeper>(
     }
 }
 
-/// Finds the reply to what the policy allows, at the asked moment.
+/// Prepares the reply to a request that the policy allows, at the requested moment.
 fn prepare_allowed<K: Keeper>(
     alloc: Global,
     keeper: &mut K,
@@ -90,7 +91,7 @@ fn prepare_allowed<K: Keeper>(
     }
 }
 
-/// Plans an act on a slice of the last register.
+/// Plans an act on its slice of the last register.
 fn prepare_act<K: Keeper>(
     alloc: Global,
     keeper: &mut K,
@@ -115,7 +116,7 @@ fn prepare_act<K: Keeper>(
     prepared_by(plan(alloc, &slice, caller, act, stamp))
 }
 
-/// What is prepared for the outcome of an act.
+/// Prepares the reply for the outcome of an act. Error: `NoMemory`.
 fn prepared_by(outcome: Result<Planned, Refusal>) -> Result<Prepared, StoreFault>
     ensures ok { IfOk result (λ it. (outcome ≢ Err Refusal.NoMemory) × (it ≡ preparation outcome)) }
     ensures err { OnErr result (result ≡ Err StoreFault.NoMemory) }
@@ -134,7 +135,7 @@ fn prepared_by(outcome: Result<Planned, Refusal>) -> Result<Prepared, StoreFault
     }
 }
 
-/// Returns a reply that changes nothing.
+/// Returns a prepared reply without a change.
 fn without_change(reply: Reply) -> Prepared
     ensures reply { result.reply ≡ reply }
     ensures writing { result.writing ≡ None }
@@ -145,7 +146,8 @@ fn without_change(reply: Reply) -> Prepared
     }
 }
 
-/// Writes what is to be written, and gives the reply. The keeper has to be as it was when this was prepared.
+/// Writes the prepared change, if any, and returns the reply. The keeper must be unchanged since `prepare`.
+/// If the write fails, returns its error, and nothing has changed.
 pub fn finish<K: Keeper>(
     alloc: Global,
     keeper: &mut K,
@@ -166,7 +168,8 @@ pub fn finish<K: Keeper>(
     Ok(reply)
 }
 
-/// Answers a request by one step of the register machine, or by a store fault that changes nothing.
+/// Answers a request: performs one step of the register machine, or replies with a store fault and changes
+/// nothing.
 pub fn answer<K: Keeper>(alloc: Global, keeper: &mut K, clock: i64, request: &Request) -> Reply
     requires { is_well_formed_request request.now ≡ true }
     ensures answered { K.honest keeper.new
@@ -183,15 +186,15 @@ pub fn answer<K: Keeper>(alloc: Global, keeper: &mut K, clock: i64, request: &Re
     }
 }
 
-/// Whether each of some requests keeps the limits of its fields, as `run` asks.
+/// Whether the fields of each request are within their limits, as `run` requires.
 pub fn are_well_formed(requests: &[Request]) -> bool
     ensures { IsTrue result ↔ All (λ request. is_well_formed_request request ≡ true) requests.now }
 {
     requests.iter().all(|request| request.is_well_formed())
 }
 
-/// Answers requests in turn, each with one reading of the clock: a run of the register machine. Room for all replies
-/// is taken first.
+/// Answers requests in order, each with one reading of the clock: a run of the register machine. Allocates
+/// the vector of replies first; if that fails, answers no request.
 pub fn run<K: Keeper, C: Clock>(
     alloc: Global,
     keeper: &mut K,

@@ -6,14 +6,15 @@ ghost use Rattle.land_keep.specs.Moments.{last_moment, now_after, stamp_after};
 use land_core::ask::Ask;
 use land_core::limits::LAST_MOMENT;
 
-/// Now, for a read, by the clock and the last stamp.
+/// Returns now, for a read, from the clock and the last stamp.
 pub(crate) fn now_at(clock: i64, last: i64) -> i64
     ensures { result ≡ now_after clock last }
 {
     clock.max(0).min(LAST_MOMENT).max(last)
 }
 
-/// Returns the stamp of a change, if there is one, by the clock and the last stamp.
+/// Returns the stamp of a change, from the clock and the last stamp; `None` if it would be after the last
+/// moment.
 pub(crate) fn stamp_at(clock: i64, last: i64) -> Option<i64>
     requires { last ≤ℤ last_moment }
     ensures { result ≡ stamp_after clock last }
@@ -25,7 +26,7 @@ pub(crate) fn stamp_at(clock: i64, last: i64) -> Option<i64>
     }
 }
 
-/// Returns the moment that an ask names.
+/// Returns the moment that a request states, if any.
 pub fn named_moment(ask: &Ask) -> Option<i64>
     ensures { result ≡ at_of ask.now }
 {

@@ -1,4 +1,4 @@
-//! Objects as they are listed, each with what is shown beside it.
+//! Objects in lists, each with the name of its party.
 ghost use Rattle.std.specs.Prelude.{◌≡◌, IfOk};
 ghost use Rattle.land_keep.specs.Named.{listed, name_beside, objects_at};
 
@@ -11,16 +11,16 @@ use land_core::sequence::Sequence;
 use land_core::text::Text;
 use std::alloc::{AllocError, Global};
 
-/// An object as it is listed, with what is shown beside it.
+/// An object in list form, with the name of its party.
 #[derive(Debug, Drop)]
 pub struct NamedObject {
-    /// The object, as it stands at the moment; a party without its members and roles.
+    /// The object at the moment; a party is without its members and roles.
     pub object: Object,
-    /// What the party of an entry is called at the moment; empty beside any other object.
+    /// The name of an entry's party at the moment; empty for any other object.
     pub name: Text,
 }
 
-/// Returns an object as it is listed.
+/// Returns the list form of an object: a party without its members and roles.
 fn listed(alloc: Global, object: Object) -> Object
     ensures { result ≡ listed object }
 {
@@ -45,7 +45,7 @@ fn listed(alloc: Global, object: Object) -> Object
     }
 }
 
-/// What is shown beside an object.
+/// Returns the name of an entry's party; an empty text for any other object.
 fn name_beside(alloc: Global, register: &Register, object: &Object) -> Result<Text, AllocError>
     ensures { IfOk result (λ it. it ≡ name_beside register.now object.now) }
 {
@@ -55,7 +55,7 @@ fn name_beside(alloc: Global, register: &Register, object: &Object) -> Result<Te
     }
 }
 
-/// Returns the objects of a kind that stand in a register under some numbers, in the order of these.
+/// Returns the objects of these numbers that exist in a register, in the order of the numbers.
 pub fn objects_of(
     alloc: Global,
     register: &Register,

@@ -1,4 +1,4 @@
-//! The plain keeper: the list of whole registers, in memory.
+//! The plain keeper: a list of whole registers in memory.
 ghost use Rattle.std.specs.Prelude.{◌≡◌, ◌∷◌, ◌++◌, [], false, ⊤, unwrap_or, IfOk, OnOk, OnErr};
 ghost use Rattle.std.specs.Option.{option_copied, option_map};
 ghost use Rattle.land_core.specs.Register.{nothing};
@@ -25,7 +25,7 @@ use land_rules::verdict::Verdict;
 use std::alloc::{AllocError, Global};
 use std::marker::Model;
 
-/// The whole register from each stamp on. It is never closed.
+/// The list of versions, each a whole register. It is never closed.
 #[derive(Debug, Drop)]
 pub struct PlainKeeper {
     versions: Vec<Version>,
@@ -46,7 +46,7 @@ impl Model for PlainKeeper {
 }
 
 impl PlainKeeper {
-    /// Returns a keeper of the new register.
+    /// Returns a keeper of a new register.
     pub fn new(alloc: Global) -> Result<PlainKeeper, AllocError>
         ensures { IfOk result (λ it. it ≡ new_timeline) }
     {
@@ -65,7 +65,7 @@ impl PlainKeeper {
         self.versions.last()
     }
 
-    /// Returns the last register. A sound timeline has one; an empty one would stand in for it.
+    /// Returns the last register. A sound timeline has one; `empty` is for the case that cannot occur.
     fn last_register<'a>(&'a self, empty: &'a Register) -> &'a Register
         requires { empty.now ≡ nothing }
         ensures register { result.now ≡ last_register self.now }
@@ -74,7 +74,7 @@ impl PlainKeeper {
         register_of(self.last_version(), empty)
     }
 
-    /// Returns the register at a moment: before the first stamp it is the empty one.
+    /// Returns the register at a moment; `empty` before the first stamp.
     fn register_at<'a>(&'a self, t: i64, empty: &'a Register) -> &'a Register
         requires { empty.now ≡ nothing }
         ensures { result.now ≡ register_at self.now t }
@@ -82,7 +82,7 @@ impl PlainKeeper {
         register_of(self.version_at(t), empty)
     }
 
-    /// Appends a version that keeps the timeline sound. After want of memory nothing has changed.
+    /// Appends a version, with which the timeline stays sound. If out of memory, changes nothing.
     fn append(&mut self, version: Version) -> Result<(), AllocError>
         requires { IsSoundTimeline (self.old ++ version ∷ []) }
         ensures ok { OnOk result (self.new ≡ self.old ++ version ∷ []) }
@@ -92,7 +92,7 @@ impl PlainKeeper {
         Ok(())
     }
 
-    /// Returns the last version whose stamp is at most `t`.
+    /// Returns the last version with a stamp of at most `t`.
     fn version_at(&self, t: i64) -> Option<&Version>
         ensures { option_copied result ≡ version_at self.now t }
     {
@@ -208,7 +208,7 @@ impl Keeper for PlainKeeper {
     }
 }
 
-/// Returns the register of a version, or the empty one.
+/// Returns the register of a version, or `empty`.
 fn register_of<'a>(version: Option<&'a Version>, empty: &'a Register) -> &'a Register
     ensures { result.now ≡ unwrap_or (option_map (λ v. v.register) (option_copied version.entry)) empty.now }
 {

@@ -1,4 +1,4 @@
-//! What is prepared for a request, before anything is written.
+//! Replies that are prepared before their change is written.
 ghost use Rattle.std.specs.Prelude.{◌≡◌};
 
 use crate::reply::Reply;
@@ -7,23 +7,23 @@ use land_core::change::Change;
 /// A change to be written, with its stamp.
 #[derive(Debug, Drop)]
 pub struct Writing {
-    /// What changes.
+    /// The change.
     pub change: Change,
-    /// The moment from which it stands, in milliseconds since 1970 UTC.
+    /// The stamp, in Unix milliseconds.
     pub stamp: i64,
 }
 
-/// A reply that stands once its change is written, if it has one.
+/// A reply, valid once its change is written, if it has one.
 #[derive(Debug, Drop)]
 pub struct Prepared {
     /// The reply.
     pub reply: Reply,
-    /// What is to be written first.
+    /// The change to write first.
     pub writing: Option<Writing>,
 }
 
 impl Prepared {
-    /// Returns the reply that stands if the change is written.
+    /// Returns the reply, which is valid only once the change is written.
     pub fn reply(&self) -> &Reply
         ensures { result.now ≡ self.now.reply }
     {

@@ -3,12 +3,12 @@ ghost use Rattle.std.specs.Prelude.{◌≡◌};
 
 use std::alloc::AllocError;
 
-/// Why a keeper gives no answer. Nothing has changed.
+/// Errors of a keeper. Nothing has changed.
 #[derive(Clone, Copy, Debug, PartialEq, Eq)]
 pub enum StoreFault {
-    /// 501: there was no memory.
+    /// 501: out of memory.
     NoMemory,
-    /// 502: a store call failed for another cause; the keeper is closed from now on.
+    /// 502: a store operation failed for another cause; the keeper is closed.
     Store,
     /// 503: the keeper is closed, until its store is opened again.
     Closed,
@@ -17,7 +17,7 @@ pub enum StoreFault {
 impl StoreFault {
     ghost use Rattle.land_keep.specs.Faults.{number_of};
 
-    /// Returns the number that the caller is told.
+    /// Returns the number of the error: 501, 502 or 503.
     pub fn number(self) -> u16
         ensures { result ≡ number_of self }
     {

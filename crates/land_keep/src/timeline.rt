@@ -1,11 +1,11 @@
 //! The register through time.
 use land_core::register::Register;
 
-/// The register from a stamp on, until the next version's.
+/// A version: the register from its stamp until the next version's.
 #[derive(Debug, Drop)]
 pub struct Version {
-    /// The moment from which it stands, in milliseconds since 1970 UTC.
+    /// The stamp, in Unix milliseconds.
     pub stamp: i64,
-    /// All that stands then.
+    /// The register.
     pub register: Register,
 }

@@ -1,4 +1,4 @@
-//! A unit as a caller sees it at a moment: what a title sheet is made of.
+//! A unit as a caller sees it at a moment: the data of a title sheet.
 ghost use Rattle.std.specs.Prelude.{◌≡◌, IfOk};
 ghost use Rattle.land_keep.specs.Sheets.{entries_seen, name_at, parcels_at, view_at};
 
@@ -20,7 +20,7 @@ use std::alloc::{AllocError, Global};
 pub struct NamedRrr {
     /// The entry.
     pub rrr: Rrr,
-    /// What its party is called.
+    /// The name of its party.
     pub name: Text,
 }
 
@@ -29,15 +29,15 @@ pub struct NamedRrr {
 pub struct View {
     /// The unit.
     pub unit: Unit,
-    /// Its parcels, by ascending numbers.
+    /// Its parcels, ordered by number.
     pub parcels: Sequence<Parcel>,
-    /// Its entries in sight, by ascending numbers.
+    /// Its entries in sight, ordered by number.
     pub rrrs: Sequence<NamedRrr>,
-    /// The moment, in milliseconds since 1970 UTC.
+    /// The moment, in Unix milliseconds.
     pub at: i64,
 }
 
-/// Returns the unit that stands in a register, as a caller sees it, or `None`.
+/// Returns a unit of a register as a caller sees it, or `None` if it does not exist.
 pub fn view_of(
     alloc: Global,
     register: &Register,
@@ -62,7 +62,7 @@ pub fn view_of(
     }
 }
 
-/// Returns the parcels of a unit, by ascending numbers.
+/// Returns the parcels of a unit, ordered by number.
 fn parcels_of(alloc: Global, register: &Register, unit: u64) -> Result<Sequence<Parcel>, AllocError>
     ensures { IfOk result (λ it. it ≡ parcels_at register.now unit) }
 {
@@ -81,7 +81,7 @@ fn parcels_of(alloc: Global, register: &Register, unit: u64) -> Result<Sequence<
     Ok(parcels)
 }
 
-/// Returns the entries of a unit that the caller sees, by ascending numbers, with the names of their parties.
+/// Returns the entries of a unit that the caller sees, ordered by number, with the names of their parties.
 fn entries_of(
     alloc: Global,
     register: &Register,
@@ -107,7 +107,7 @@ fn entries_of(
     Ok(entries)
 }
 
-/// What a party is called; nothing where it does not stand.
+/// Returns the name of a party; an empty text if it does not exist.
 pub(crate) fn name_of(alloc: Global, register: &Register, party: u64) -> Result<Text, AllocError>
     ensures { IfOk result (λ it. it ≡ name_at register.now party) }
 {

@@ -1,4 +1,4 @@
--- The sum over the edges of a ring, one edge after another
+-- Lemmas on the sum over the edges of a ring
 use Rattle.std.proofs.Common.{◌≡◌, ℕ, ◌+◌, ◌<◌, List, [], ◌∷◌, ◌++◌, length, ◌∙◌, drop, get_or, refl, sym, ap, arith, drop-cons, add-one}
 use Rattle.std.proofs.lemmas.Int.{ints}
 use Rattle.std.proofs.Common.{◌*◌, suc}
@@ -12,7 +12,7 @@ use Rattle.land_shape.specs.Coordinate.{cross_of, IsTriangle}
 use Rattle.land_shape.specs.Place.{area_of, path_edges, ring_edges}
 use Rattle.land_shape.specs.Simple.{place_of, places}
 
--- the area along a path that goes on from a corner over the others and back to the first
+-- the area along a path from a corner through the remaining ones and back to the first
 abbrev pub rest_area : Point → List Point → Point → ℤ
 rest_area last others first = area_of (path_edges (place_of last ∷ places others ++ place_of first ∷ []))
 

@@ -1,4 +1,5 @@
--- Lists of edges lead along every edge alike where the walks of the one and the walks back of the other are the same
+-- Lemmas: two lists of edges have the same balance along every edge if the walks of one with the reversed
+-- walks of the other are the same
 use Rattle.std.proofs.Common.{◌≡◌, ◌↔◌, ℕ, ◌+◌, false, cond, List, [], ◌∷◌, ◌++◌, map, ◌⊎◌, inl, inr, refl, sym, ap, ◌∙◌, subst, arith, append_assoc}
 use Rattle.std.proofs.lemmas.Int.{ints}
 use Rattle.land_shape.specs.Matching.{pieces, reversed, is_same_edge, count_along, LeadAlike}
@@ -92,7 +93,7 @@ pub walks-append : (ps : List Place) (es fs : List Edge) → walks ps (es ++ fs)
 walks-append ps [] fs = refl
 walks-append ps (e ∷ es) fs = ap (λ (gs : List Edge). own_walk ps e ++ gs) (walks-append ps es fs) ∙ sym (append_assoc (own_walk ps e) (walks ps es) (walks ps fs))
 
--- walks have only pieces that lead to a later place
+-- the pieces of walks lead only to later places
 other_piece : (a b : Place) (z : Edge) → Before a b → ¬ Before z.from z.to → is_same_edge (edge a b) z ≡ false
 other_piece a b z up n =
     either_way (is_same_edge (edge a b) z)
@@ -113,7 +114,7 @@ walks_up ps (e ∷ es) z n =
     (λ yes. rw (yes, tally-append is_same_edge z (walk e.from e.to ps) (walks ps es)) (omega (arith, walk_up e.from e.to ps z (before_of e.from e.to yes) n, walks_up ps es z n)))
     (λ no. rw no (walks_up ps es z n))
 
--- what lies one way of two lists of edges
+-- the edges of one list and the reversed edges of the other
 abbrev pub one_way : List Place → List Edge → List Edge → List Edge
 one_way ps es fs = walks ps (es ++ map reversed fs)
 

@@ -125,7 +125,7 @@ overlap_of a b p h =
     let boxes = common-boxes a b p p h in
     and_from (is_between a.x b.x p.x) (is_between a.y b.y p.y) ((in_box a.x b.x p.x).1 boxes.0) ((in_box a.y b.y p.y).1 boxes.1)
 
--- a place on the line whose coordinate to the right lies between those of the ends is one of the edge's
+-- a place on the line whose x lies between those of the ends lies on the edge
 common_at : (a b p : Place) → a.x <ℤ b.x → a.x ≤ℤ p.x → p.x ≤ℤ b.x → On a b p → HaveCommonPoint a b p p
 common_at a b p wide low high on =
     let q = nat_abs (b.x -ℤ a.x) in let s = nat_abs (p.x -ℤ a.x) in
@@ -175,7 +175,7 @@ not_same p q n = elim (is_same_place p q) as (λ b. is_same_place p q ≡ b → 
   | false ↦ λ h. refl
 ] refl
 
--- what lies on a line, and between two places of it, lies inside the edge between those
+-- a place that lies on a line, strictly between two places of it, lies inside the edge between those
 pub inside_of : (a b p : Place) → Before a b → On a b p → Before a p → Before p b → lies_inside p (edge a b) ≡ true
 inside_of a b p up on ap pb =
     and_from (not (is_same_place p a) && not (is_same_place p b)) (lies_on p (edge a b))

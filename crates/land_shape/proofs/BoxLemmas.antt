@@ -1,4 +1,4 @@
--- Edges beside a box
+-- Lemmas on edges outside a box
 use Rattle.std.proofs.Common.{◌≡◌, ℕ, ◌+◌, ◌<◌, ◌≤◌, List, length, Option, Some, None, MatchOption, arith, inl, inr, subst, w64, to_z, of_z}
 use Rattle.std.proofs.lemmas.Bool.{cases_lt}
 use Rattle.std.proofs.lemmas.Int.{ints, clamps}
@@ -13,7 +13,7 @@ use Rattle.land_shape.specs.Simple.{joint, place_at, next_at, MeetRightly}
 use Rattle.land_shape.specs.Turns.{Overlap, BoxesOverlap, IsInBox, HoldsEdges}
 use Rattle.land_shape.proofs.Meeting.{common-boxes}
 
--- what overlaps a part of a span overlaps the span
+-- an interval that overlaps a part of a span overlaps the span
 wider : (low high a b c d : ℤ) → low ≤ℤ a → a ≤ℤ high → low ≤ℤ b → b ≤ℤ high → Overlap a b c d → Overlap low high c d
 wider low high a b c d la ah lb bh o = let f = o.low in let g = o.high in record { low = omega (arith, ints, clamps); high = omega (arith, ints, clamps) }
 
@@ -61,7 +61,7 @@ at_least a b m is = (omega (arith, ints, clamps), omega (arith, ints, clamps))
 at_most : (a b m : ℤ) → m ≡ int_max a b → (a ≤ℤ m) × (b ≤ℤ m)
 at_most a b m is = (omega (arith, ints, clamps), omega (arith, ints, clamps))
 
--- a box made of the lesser and the greater coordinates of another and of a point
+-- a box of the lesser and the greater coordinates of another box and of a point
 pub record IsStretched (least greatest place low high : Place) : Type 0 where
   pub left : low.x ≡ int_min least.x place.x
   pub right : high.x ≡ int_max greatest.x place.x

@@ -1,4 +1,5 @@
--- The pieces of an edge that leads to a later place: a chain of places along it, whatever the order of the cuts
+-- Lemmas on the pieces of an edge that leads to a later place: a chain of places along it, for any order of
+-- the cuts
 use Rattle.std.proofs.Common.{◌≡◌, true, false, cond, List, [], ◌∷◌, ◌⊎◌, inl, inr, refl, sym, ap, ◌∙◌, subst}
 use Rattle.land_shape.specs.Matching.{lies_inside, cut_at, pieces}
 use Rattle.land_shape.specs.Place.{Place, Edge, path_edges}
@@ -7,7 +8,7 @@ use Rattle.land_shape.proofs.Betweenness.{edge, On, on_part, on_whole, on_start,
 use Rattle.land_shape.proofs.Order.{Before, never_itself, before_all, one_before}
 use Rattle.land_shape.proofs.Tallies.{either_way}
 
--- the places after the first of a chain, with one more where it lies inside a piece
+-- the places after the first of a chain, with one more if it lies inside a piece
 abbrev pub after : Place → Place → List Place → List Place
 after p a [] = []
 after p a (b ∷ c) = cond (lies_inside p (edge a b)) (p ∷ b ∷ after p b c) (b ∷ after p b c)
@@ -28,7 +29,7 @@ pieces_path [] a c = refl
 pieces_path (p ∷ ps) a c = ap (pieces ps) (cut_path p a c) ∙ pieces_path ps a (after p a c)
 
 module _ (f t : Place) (up : Before f t) where
-  -- the places from a on rise along the edge from f to t, and end there
+  -- the places from a on are increasing along the edge from f to t, and the last is t
   abbrev pub Chain : Place → List Place → Type 0
   Chain a [] = a ≡ t
   Chain a (b ∷ c) = Before a b × On f t b × Chain b c
@@ -48,7 +49,7 @@ module _ (f t : Place) (up : Before f t) where
       ))
       (λ no. rw no (h.0, h.1, chain_after p b c h.1 h.2))
 
-  -- what lies on the line, between a place of the chain and its end
+  -- a place on the line, between a place of the chain and its end
   abbrev pub IsAhead : Place → Place → Type 0
   IsAhead a q = On f t q × Before a q × Before q t
 
@@ -178,7 +179,7 @@ module _ (f t : Place) (up : Before f t) where
       ap (λ (r : List Place). b ∷ r) (one_chain b c g h.2 k'.2 (drop_first a b c g h to') (drop_first a b g c k' from'))
       ∙ ap (λ (r : Place). r ∷ g) e
 
--- the pieces of an edge that leads to a later place depend on which places there are alone
+-- the pieces of an edge that leads to a later place depend only on the set of places
 pub same_pieces : (f t : Place) → Before f t → (ps qs : List Place)
     → ((q : Place) → IsOneOf q ps → IsOneOf q qs) → ((q : Place) → IsOneOf q qs → IsOneOf q ps)
     → pieces ps (edge f t ∷ []) ≡ pieces qs (edge f t ∷ [])

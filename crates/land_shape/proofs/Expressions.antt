@@ -66,7 +66,7 @@ by_parts_le l r h = at_most_in (value l) (value r) (omega (arith, parts_of l, pa
 pub by_parts_lt : (l r : Expr) → upper l + lower r < upper r + lower l → value l <ℤ value r
 by_parts_lt l r h = below_in (value l) (value r) (omega (arith, parts_of l, parts_of r))
 
--- the parts of an equation or an order that is given
+-- the parts of an equation or an inequality
 pub parts_eq : (l r : Expr) → value l ≡ value r → upper l + lower r ≡ upper r + lower l
 parts_eq l r h = omega (arith, parts_of l, parts_of r, same_out (value l) (value r) h)
 

@@ -1,4 +1,4 @@
--- Edges a b and b c share b alone, unless the second goes back along the first.
+-- Lemmas: edges a b and b c have only b in common, unless the second goes back along the first.
 use Rattle.std.proofs.Common.{◌≡◌, ◌↔◌, ℕ, ◌+◌, ◌*◌, ◌-◌, ◌≤◌, ◌<◌, ◌⊎◌, inl, inr, arith, sym, ◌∙◌, ap}
 use Rattle.std.proofs.lemmas.Int.{ints, by_lt_z}
 use lib.IntN.{ℤ, pos, ◌+ℤ◌, ◌-ℤ◌, ◌*ℤ◌, nat_abs}
@@ -50,7 +50,7 @@ no_square k r square dot h le e =
     let g = parts_eq (num k ⊗ var square ⊕ num r ⊗ var dot) (num 0) e in
     omega (arith, times k (down square + 1) (up square) (omega (arith, ints)), times r (down dot) (up dot) (omega (arith, ints)))
 
--- where the second edge does not go straight back
+-- if the second edge does not go straight back
 stays : (q s r : ℕ) (ux uy vx vy : ℤ) → s ≤ q → pos s *ℤ ux ≡ pos q *ℤ ux +ℤ pos r *ℤ vx → pos s *ℤ uy ≡ pos q *ℤ uy +ℤ pos r *ℤ vy
     → pos 0 <ℤ dot_of ux uy ux uy → (cross_of ux uy vx vy ≡ pos 0 → pos 0 ≤ℤ dot_of ux uy vx vy) → s ≡ q
 stays q s r ux uy vx vy le hx hy square ahead =
@@ -69,7 +69,7 @@ stays q s r ux uy vx vy le hx hy square ahead =
 at_end : (q s : ℕ) (a b : ℤ) → s ≡ q → along q s a b ≡ pos q *ℤ b
 at_end q s a b e = rw e (by_parts (num q ⊗ var a ⊕ num q ⊗ (var b ⊖ var a)) (num q ⊗ var b) (omega arith))
 
--- Whether b leads on, and not back over the edge from a, can be seen from the signs of two products.
+-- The signs of two products determine whether the second edge goes forward or back along the first.
 abbrev pub IsAhead : Place → Place → Place → Type 0
 IsAhead a b c = cross_of (b.x -ℤ a.x) (b.y -ℤ a.y) (c.x -ℤ b.x) (c.y -ℤ b.y) ≡ pos 0
     → pos 0 ≤ℤ dot_of (b.x -ℤ a.x) (b.y -ℤ a.y) (c.x -ℤ b.x) (c.y -ℤ b.y)
@@ -84,7 +84,7 @@ ahead-meets a b c long ahead =
     (along_shift q s r a.x b.x b.x c.x o.same_x) (along_shift q s r a.y b.y b.y c.y o.same_y) long ahead in
     record { x_there = λ q s r o. at_end q s a.x b.x (end q s r o); y_there = λ q s r o. at_end q s a.y b.y (end q s r o) }
 
--- where it goes straight back, a place beyond the joint is common
+-- if it goes straight back, a place other than the joint is common
 beyond : (ux uy vx vy : ℤ) (square m : ℕ) → pos square ≡ dot_of ux uy ux uy → pos m ≡ pos 0 -ℤ dot_of ux uy vx vy → cross_of ux uy vx vy ≡ pos 0
     → (pos square *ℤ ux ≡ pos (square + m) *ℤ ux +ℤ pos square *ℤ vx) × (pos square *ℤ uy ≡ pos (square + m) *ℤ uy +ℤ pos square *ℤ vy)
 beyond ux uy vx vy square m es em flat =

@@ -22,7 +22,7 @@ is_point-means words h = (grind (arith, nat_tests), grind (arith, nat_tests))
 abbrev state : At → Rings → Points → Words → Reading
 state at rings points words = record { at = at; rings = rings; points = points; words = words }
 
--- ---- what is written is read
+-- ---- the reader accepts each written form
 
 words_read : (more words : Words) (rings : Rings) (points : Points) (rest : List Token)
     → after_all (state InPoint rings points words) (map Word more ++ rest) ≡ after_all (state InPoint rings points (words ++ more)) rest
@@ -72,7 +72,7 @@ pub body_written : (rings : Rings) → IsBody rings → body_of (body_tokens rin
 body_written [] h = let few = h.0 in absurd (omega arith)
 body_written (ring ∷ more) h = rw (rings_read ring more [] h.1.0 h.1.1) refl
 
--- ---- what is read is written
+-- ---- the reader accepts only written forms
 
 -- parts with a comma after each
 abbrev before_commas : List (List Token) → List Token
@@ -110,7 +110,7 @@ tokens_read InPoint rings points words =
 tokens_read AfterRing rings points words = Open ∷ with_commas (map ring_tokens rings)
 tokens_read AfterBody rings points words = body_tokens rings
 
--- what has been taken so far is well formed
+-- the parts read are well formed
 abbrev IsSound : At → Rings → Points → Words → Type 0
 IsSound BeforeBody rings points words = (rings ≡ []) × (points ≡ []) × (words ≡ [])
 IsSound BeforeRing rings points words = AllByRecursion IsRing rings × (points ≡ []) × (words ≡ [])
@@ -118,7 +118,7 @@ IsSound InPoint rings points words = AllByRecursion IsRing rings × AllByRecursi
 IsSound AfterRing rings points words = AllByRecursion IsRing rings × (1 ≤ length rings) × (points ≡ []) × (words ≡ [])
 IsSound AfterBody rings points words = AllByRecursion IsRing rings × (1 ≤ length rings)
 
--- reading has come this far, from tokens read before
+-- the reader has this state after these tokens
 abbrev Came : List Token → Reading → Type 0
 Came before s = IsSound s.at s.rings s.points s.words × (tokens_read s.at s.rings s.points s.words ≡ before)
 

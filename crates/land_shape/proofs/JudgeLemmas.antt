@@ -1,4 +1,4 @@
--- Which faults hold of a text, from what was read of it
+-- Lemmas on the faults of a text, from the results of the reader's steps
 use Rattle.std.proofs.Common.{◌≡◌, ◌≢◌, ℕ, ◌+◌, ◌<◌, ◌≤◌, Bool, true, false, List, [], ◌∷◌, length, refl, sym, ap, ◌∙◌, arith, inl, inr, ◌⊎◌, subst, Some, None, ◌==◌, cond, Result, Ok, Err}
 use Rattle.std.specs.List.{AllByRecursion}
 use Rattle.std.specs.Result.{IfOk, IfErr, MatchResult}
@@ -46,7 +46,7 @@ same_list [] (p ∷ ps) qs h k = absurd h
 same_list (words ∷ points) [] qs h k = absurd h
 same_list (words ∷ points) (p ∷ ps) [] h k = absurd k
 
--- ---- what listed places say of their words
+-- ---- from listed places to their words
 
 no_long : (points : Points) → AllByRecursion HasTwoWords points → ¬ SomeOf IsLong points
 no_long [] all h = h
@@ -123,7 +123,7 @@ next text fault n is none not_this other below =
       | inr at ↦ (let same = same_fault other fault (at ∙ sym is) in subst (λ (f : ShapeFault). ¬ HasFault f text) (sym same) not_this)
     ]
 
--- ---- the faults in turn
+-- ---- the faults in order
 
 pub no_polygon : (text : List ℕ) → polygon_of (tokens_of text) ≡ None → IsFirst text NotPolygon
 no_polygon text e = record {
@@ -145,7 +145,7 @@ pub inner_first : (text : List ℕ) (tagged : Bool) (rings : Rings) → IsPolygo
 inner_first text tagged rings p h =
     record { holds = record { tagged = tagged; rings = rings; is_polygon = p; holds = h }; none_before = a_body text tagged rings p }
 
--- what is said of a body is said of the only one
+-- a property of a body holds of the only body
 in_body : (text : List ℕ) (P : Bool → Rings → Type 0) (tagged : Bool) (rings : Rings) → IsPolygon text (body tagged rings) → InBody text P → P tagged rings
 in_body text P tagged rings p i =
     let e = same_polygon text (body i.tagged i.rings) (body tagged rings) i.is_polygon p in
@@ -164,7 +164,7 @@ z_or_m_first text tagged ring p h = record {
   none_before = one_ring text tagged ring p;
 }
 
--- what a body of one ring has in a point
+-- a property of a point in a body of one ring
 in_ring : (P : Words → Type 0) (ring : Points) → ¬ SomeOf P ring → ¬ HasPoint P (ring ∷ [])
 in_ring P ring none (inl h) = none h
 in_ring P ring none (inr h) = h
@@ -208,7 +208,7 @@ listed_once text ps qs k l =
     let same : k.points ≡ l.points = cc in
     same_list l.points ps qs (subst (λ (points : Points). Lists points ps) same k.lists) l.lists
 
--- what is said of a list is said of the only one
+-- a property of a list of places holds of the only list
 in_list : (text : List ℕ) (P : List Place → Type 0) (ps : List Place) → ListsPlaces text ps → InList text P → P ps
 in_list text P ps l i = subst P (listed_once text i.0 ps i.1.0 l) i.1.1
 
@@ -299,7 +299,7 @@ stands text ps ring c is o =
       is_ring = is;
     }
 
--- ---- what the steps of the reader answer
+-- ---- results of the reader's steps
 
 pub plain_fault : (text : List ℕ) (polygon : Polygon) (fault : ShapeFault) → IsPolygon text polygon → PlainRing polygon (Err fault) → IsFirst text fault
 plain_fault text polygon Empty p h = empty_first text (subst (IsPolygon text) h p)

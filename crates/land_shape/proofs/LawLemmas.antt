@@ -103,7 +103,7 @@ printed_stands : (ring : List Place) → IsOutline ring → StandsFor (printed r
 printed_stands [] o = let some = o.some in absurd (omega arith)
 printed_stands (p ∷ ps) o = stands (printed (p ∷ ps)) ((p ∷ ps) ++ p ∷ []) (p ∷ ps) (printed_list p ps o) (own_ring p ps o) o
 
--- ---- one answer
+-- ---- the result is unique
 
 one_ring : (text : List ℕ) (ring other : List Place) → StandsFor text ring → StandsFor text other → ring ≡ other
 one_ring text ring other s t =

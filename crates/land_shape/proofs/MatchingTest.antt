@@ -1,4 +1,5 @@
--- Lists of edges that lead alike along each of their edges lead alike along every edge
+-- Lemmas: lists of edges with the same balance along each of their edges have the same balance along every
+-- edge
 use Rattle.std.proofs.Common.{◌≡◌, ◌↔◌, ℕ, ◌+◌, ◌≤◌, true, List, [], ◌∷◌, ◌++◌, refl, arith, inl, inr, ◌⊎◌, subst}
 use Rattle.std.specs.List.{list_all}
 use Rattle.std.proofs.lemmas.Bool.Decides.{Decides-int_eq}
@@ -25,7 +26,7 @@ counted ours theirs (f ∷ es) e h all =
 none_or_some : (n : ℕ) → (n ≡ 0) ⊎ (1 ≤ n)
 none_or_some n = grind arith
 
--- an edge that stands nowhere, in neither direction, is led along by no list
+-- an edge that occurs in neither list, in neither direction, has balance 0 in both
 everywhere : (ours theirs : List Edge) → list_all (do_agree ours theirs) (ours ++ theirs) ≡ true → LeadAlike ours theirs
 everywhere ours theirs all e =
     let split = tally-append is_same_edge e ours theirs in
@@ -39,7 +40,7 @@ everywhere ours theirs all e =
       ]
     ]
 
--- what agrees everywhere agrees at each of some edges
+-- balances that agree along every edge agree along each edge of a list
 at_each : (ours theirs es : List Edge) → LeadAlike ours theirs → list_all (do_agree ours theirs) es ≡ true
 at_each ours theirs [] agree = refl
 at_each ours theirs (e ∷ es) agree =

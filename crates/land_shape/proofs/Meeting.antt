@@ -1,5 +1,6 @@
--- Two closed segments have a common point exactly where the signs of three cross products, and for segments on one line the
--- overlap of their boxes, say so. The segments run along u and v, and w leads from the start of the first to that of the second.
+-- Lemmas: two closed segments have a common point if and only if the signs of three cross products, and for
+-- segments on one line the overlap of their boxes, imply it. The segments are u and v, and w is the vector
+-- from the start of the first to the start of the second.
 use Rattle.std.proofs.Common.{◌≡◌, ◌↔◌, ℕ, ◌+◌, ◌*◌, ◌-◌, ◌≤◌, ◌<◌, ◌⊎◌, inl, inr, arith, refl, sym, ◌∙◌, ap}
 use Rattle.std.proofs.lemmas.Int.{ints, clamps, by_lt_z}
 use Rattle.std.specs.Int.{int_min, int_max}
@@ -61,7 +62,7 @@ not_above q s t ud dd ux dx one eq hd e h =
     let e2 : q * dd ≡ (s + t) * dd = ap (λ (k : ℕ). k * dd) eq in
     omega (arith, times t dd ud (omega arith), times q (ud + dx + 1) (ux + dd) (omega arith))
 
--- what is s parts of q of a positive number lies between 0 and that number
+-- s/q of a positive number lies between 0 and that number
 ratio_within : (q s : ℕ) (d x : ℤ) → 1 ≤ q → s ≤ q → pos 0 <ℤ d → pos s *ℤ d ≡ pos q *ℤ x → (pos 0 ≤ℤ x) × (x ≤ℤ d)
 ratio_within q s d x one le hd e =
     let h : upper (num s ⊗ var d) + lower (num q ⊗ var x) ≡ upper (num q ⊗ var x) + lower (num s ⊗ var d)
@@ -148,7 +149,7 @@ meets-overlap ux uy vx vy wx wy m = record { low = low_overlap ux uy vx vy wx wy
 pub nat_of : (z : ℤ) → pos 0 ≤ℤ z → pos (nat_abs z) ≡ z
 nat_of z h = pos-nat_abs z (yes_non_neg h)
 
--- the lines cross, and the second runs to the left of the first
+-- the lines cross, and the second points to the left of the first
 crossing : (ux uy vx vy wx wy : ℤ) → pos 0 <ℤ cross_of ux uy vx vy
     → pos 0 ≤ℤ cross_of wx wy vx vy → cross_of wx wy vx vy ≤ℤ cross_of ux uy vx vy
     → pos 0 ≤ℤ cross_of wx wy ux uy → cross_of wx wy ux uy ≤ℤ cross_of ux uy vx vy
@@ -328,7 +329,7 @@ meets-line ux uy vx vy wx wy zero m = record {
   from_second = zero_ratio m.q m.s _ _ m.positive zero (first_ratio ux uy vx vy wx wy m);
 }
 
--- the lines cross inside both segments, where the second runs to the left of the first
+-- the lines cross inside both segments, if the second points to the left of the first
 pub record CrossInside (d s r : ℤ) : Type 0 where
   pub first_from : pos 0 ≤ℤ s
   pub first_to : s ≤ℤ d
@@ -364,7 +365,7 @@ right-meets ux uy vx vy wx wy hd =
       λ h. swap_meets ux uy vx vy wx wy (both.1 (rw (turned ux uy vx vy, turned wx wy vx vy, turned wx wy ux uy) h)),
     )
 
--- ---- over points
+-- ---- for points
 
 abbrev AtPoints : Place → Place → Place → Place → Type 0
 AtPoints a b c d = Meets (b.x -ℤ a.x) (b.y -ℤ a.y) (d.x -ℤ c.x) (d.y -ℤ c.y) (c.x -ℤ a.x) (c.y -ℤ a.y)
@@ -405,7 +406,7 @@ common_of_meets a b c d h = record {
   };
 }
 
--- where the lines cross
+-- if the lines cross
 pub left-common : (a b c d : Place) (whole first second : ℤ) → AreTurns a b c d whole first second → pos 0 <ℤ whole
     → HaveCommonPoint a b c d ↔ AreInside (pos 0) whole first second
 left-common a b c d whole first second t left =
@@ -443,7 +444,7 @@ common-boxes a b c d h =
     let m = meets_of_common a b c d h in
     (overlap_back a.x b.x c.x d.x (meets-overlap _ _ _ _ _ _ m), overlap_back a.y b.y c.y d.y (meets-overlap _ _ _ _ _ _ (swap_meets _ _ _ _ _ _ m)))
 
--- where they do not
+-- if the lines do not cross
 pub line-common : (a b c d : Place) (whole first second : ℤ) → AreTurns a b c d whole first second → whole ≡ pos 0 → BoxesOverlap a b c d
     → HaveCommonPoint a b c d ↔ ((first ≡ pos 0) × (second ≡ pos 0))
 line-common a b c d whole first second t flat boxes = (

@@ -15,7 +15,7 @@ all_at P [] k d h all = absurd (omega arith)
 all_at P (x ∷ xs) zero d h all = all.0
 all_at P (x ∷ xs) (suc k) d h all = all_at P xs k d (omega arith) all.1
 
--- what is not before a place that comes before t comes before t too
+-- if q is before t and not before p, then p is before t
 no_later : (p q t : Place) → is_before q p ≡ false → is_before q t ≡ true → is_before p t ≡ true
 no_later p q t n h =
     elim (one_before p q) as (λ o. is_before p t ≡ true) [

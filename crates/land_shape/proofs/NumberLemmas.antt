@@ -25,7 +25,7 @@ digit_at ds i h all =
     (λ t. digit_means (get_or ds i 0) t)
     (λ f. let g : are_digits ds ≡ false = list_all_at is_ascii_digit ds i 0 h f in let e : true ≡ false = sym all ∙ g in cc e)
 
--- one more digit, where every number above a limit is capped
+-- one more digit, with every number above the limit capped
 pub capped_more : (ds : List ℕ) (i value : ℕ) → i < length ds → are_digits ds ≡ true → value ≡ min (digits_value 10 (take i ds)) 10000000001
     → min (value * 10 + (get_or ds i 0 - 48)) 10000000001 ≡ min (digits_value 10 (take (i + 1) ds)) 10000000001
 capped_more ds i value h all e =
@@ -34,7 +34,7 @@ capped_more ds i value h all e =
     let m = digits_value_more 10 ds i h in
     omega (arith, r, d, m, e)
 
--- the value that stands behind a capped number above the limit is no coordinate
+-- the value of a capped number above the limit is not a coordinate
 too_far : (negative : Bool) (n : ℕ) → 10000000000 < n → ¬ IsCoordinate (with_sign negative n)
 too_far true n h c = let l = c.0 in let g = c.1 in omega (arith, ints)
 too_far false n h c = let l = c.0 in let g = c.1 in omega (arith, ints)

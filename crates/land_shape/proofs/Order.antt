@@ -1,4 +1,4 @@
--- The order of places from left to right, and of edges by their ends
+-- Lemmas on the order of places from left to right, and of edges by their ends
 use Rattle.std.proofs.Common.{◌≡◌, ◌⊎◌, inl, inr, refl, sym, ◌∙◌, arith, subst, true}
 use Rattle.std.proofs.lemmas.Int.{ints}
 use Rattle.std.specs.Cmp.{IsTotalOrder, strict, int_ranks}

@@ -1,4 +1,4 @@
--- Rings put counterclockwise
+-- Lemmas on rings that are made counterclockwise
 use Rattle.std.proofs.Common.{◌≡◌, ℕ, ◌-◌, ◌<◌, ◌≤◌, true, List, [], ◌∷◌, ◌++◌, length, take, drop, map, reverse, refl, sym, ap, ◌∙◌, arith, suc}
 use Rattle.std.proofs.lemmas.Int.{ints}
 use Rattle.std.proofs.lemmas.List.{append-nil, drop_all, reverse-append, map-append, length-reverse, length-take-le, length-map}
@@ -23,7 +23,7 @@ map-reverse (p ∷ ps) =
     ap places (reverse-append (p ∷ []) ps) ∙ map-append place_of (reverse ps) (p ∷ [])
     ∙ ap (λ (s : List Place). s ++ place_of p ∷ []) (map-reverse ps) ∙ sym (reverse-append (place_of p ∷ []) (map place_of ps))
 
--- what a write to all points but the first leaves
+-- the result of a write to all points except the first
 pub turned_part : (ps rest : List Point) (k : ℕ) → 0 < length ps → k ≡ length ps - 1 → rest ≡ reverse (take k (drop 1 ps))
     → places (take 1 ps ++ (rest ++ drop k (drop 1 ps))) ≡ turned (places ps)
 turned_part [] rest k h e f = absurd (omega arith)
@@ -65,7 +65,7 @@ pub length-ring_of : (listed : List Place) → length (ring_of listed) ≡ lengt
 length-ring_of listed =
     length_left (take (length listed - 1) listed) ∙ length-take-le (length listed - 1) listed (omega arith)
 
--- what was found out of a ring makes it an outline
+-- the results of the checks imply that the ring is an outline
 pub outlined : (ps : List Point) (listed : List Place) (area : ℤ) → places ps ≡ ring_of listed → 4 ≤ length listed → length listed ≤ 201
     → area ≡ area_of (ring_edges (places ps)) → pos 0 ≤ℤ area → ¬ (area ≡ pos 0) → area ≤ℤ pos 1000000000000000000
     → HaveLength (places ps) × AllMeetRightly (places ps) → IsOutline (places ps)

@@ -21,7 +21,7 @@ plain_keyword k h = rw (spelled k (codes "polygon") h) refl
 no_tag : (w : List ℕ) → is_empty_word w ≡ true → is_tag w ≡ false
 no_tag w h = rw (spelled w (codes "empty") h) refl
 
--- ---- what is written is read
+-- ---- the reader accepts each written form
 
 after_empty : (tagged : Bool) (w : List ℕ) → is_empty_word w ≡ true → polygon_after (tagged, Word w ∷ []) ≡ Some empty
 after_empty tagged w h = rw h refl
@@ -47,7 +47,7 @@ pub polygon_written : (tokens : List Token) (polygon : Polygon) → IsWritten to
 polygon_written tokens empty w = ap polygon_of w.whole ∙ empty_written w.tagged w.head w.word w.is_head w.is_empty
 polygon_written tokens (body tagged rings) w = ap polygon_of w.whole ∙ bodied_written tagged w.head rings w.is_head w.is_body
 
--- ---- what is read is written
+-- ---- the reader accepts only written forms
 
 alone : (tagged : Bool) (head ts : List Token) → IsHead tagged head → is_empty_alone ts ≡ true → IsWritten (head ++ ts) empty
 alone tagged head (Word w ∷ []) h e = record { tagged = tagged; head = head; word = w; is_head = h; is_empty = e; whole = refl }

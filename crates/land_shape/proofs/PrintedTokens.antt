@@ -29,7 +29,7 @@ nil_right : (xs : List ℕ) → xs ++ [] ≡ xs
 nil_right [] = refl
 nil_right (x ∷ xs) = ap (λ (t : List ℕ). x ∷ t) (nil_right xs)
 
--- a run of word bytes goes on with the word
+-- a run of word bytes extends the current word
 pub tokens_after-word : (begun w rest : List ℕ) → list_all is_word_byte w ≡ true → tokens_after begun (w ++ rest) ≡ tokens_after (begun ++ w) rest
 tokens_after-word begun [] rest h = ap (λ (s : List ℕ). tokens_after s rest) (sym (nil_right begun))
 tokens_after-word begun (b ∷ w) rest h =

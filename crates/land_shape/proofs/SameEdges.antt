@@ -1,4 +1,4 @@
--- Lists have each edge as often where they are the same list once sorted
+-- Lemmas: lists contain each edge equally often if and only if they are equal once sorted
 use Rattle.std.proofs.Common.{◌≡◌, ◌↔◌, true, false, List, refl, sym, ◌∙◌, inl, inr, subst, IsTrue}
 use Rattle.std.specs.Cmp.Lexicographic.{pointwise, pointwise_decides}
 use Rattle.land_shape.specs.Matching.{is_same_edge, count_of}

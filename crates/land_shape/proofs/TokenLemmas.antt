@@ -1,4 +1,4 @@
--- One more byte of a text
+-- Lemmas on one more byte of a text
 use Rattle.std.proofs.Common.{◌≡◌, ℕ, ◌+◌, ◌-◌, ◌<◌, ◌≤◌, true, false, List, [], ◌∷◌, ◌++◌, length, take, drop, get_or, refl, sym, ap, ◌∙◌, arith, drop-cons, add-one, length-drop}
 use Rattle.std.proofs.lemmas.List.{append_assoc, take_more, get_or-drop}
 use Rattle.land_shape.specs.declared.tokens.Token.{Token}
@@ -16,7 +16,7 @@ longer_word bytes start i begun h =
     let g : get_or (drop start bytes) (i - start) 0 ≡ get_or bytes i 0 = rw get_or-drop (ap (λ (k : ℕ). get_or bytes k 0) at) in
     rw e (take_more (drop start bytes) (i - start) 0 m ∙ ap (λ (b : ℕ). take (i - start) (drop start bytes) ++ b ∷ []) g)
 
--- the word goes on
+-- the byte extends the word
 pub word_goes_on : (bytes : List ℕ) (start i : ℕ) → start ≤ i → i < length bytes → is_word_byte (get_or bytes i 0) ≡ true
     → tokens_after (take (i - start) (drop start bytes)) (drop i bytes)
     ≡ tokens_after (take (i + 1 - start) (drop start bytes)) (drop (i + 1) bytes)
@@ -24,7 +24,7 @@ word_goes_on bytes start i begun h within =
     ap (λ (rest : List ℕ). tokens_after (take (i - start) (drop start bytes)) rest) (next_byte bytes i h)
     ∙ rw (within, longer_word bytes start i begun h) refl
 
--- the word ends, and its end may be a token
+-- the byte ends the word, and may be a token
 pub word_ends_here : (bytes word : List ℕ) (i : ℕ) → i < length bytes → is_word_byte (get_or bytes i 0) ≡ false
     → tokens_after word (drop i bytes) ≡ word_of word ++ mark_of (get_or bytes i 0) ++ tokens_after [] (drop (i + 1) bytes)
 word_ends_here bytes word i h ends =
@@ -36,6 +36,6 @@ ends_so_far so_far word mark rest now whole e h =
     append_assoc (so_far ++ word) mark rest ∙ append_assoc so_far word (mark ++ rest)
     ∙ ap (λ (t : List Token). so_far ++ t) (sym (append_assoc word mark rest) ∙ sym e) ∙ h
 
--- no byte of a word stands between an index and itself
+-- the word between an index and itself is empty
 pub no_word : (bytes : List ℕ) (i : ℕ) → take (i - i) (drop i bytes) ≡ []
 no_word bytes i = let e : i - i ≡ 0 = omega arith in rw e refl

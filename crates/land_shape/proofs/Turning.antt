@@ -1,4 +1,4 @@
--- Edges the other way round: what is cut of them is what is cut of the edges, the other way round
+-- Lemmas on reversed edges: their pieces are the reversed pieces of the edges
 use Rattle.std.proofs.Common.{◌≡◌, Bool, true, false, List, [], ◌∷◌, ◌++◌, ◌&&◌, not, refl, sym, ap, ◌∙◌, arith, append_assoc}
 use Rattle.std.proofs.lemmas.Int.{ints, clamps}
 use Rattle.std.proofs.lemmas.Bool.Decides.{Decides-int_eq}

@@ -1,4 +1,4 @@
--- A walk over all corners from left to right gives the pieces of an edge
+-- Proof that a walk over all corners from left to right yields the pieces of an edge
 use Rattle.std.proofs.Common.{◌≡◌, Bool, true, false, List, [], ◌∷◌, ◌++◌, refl, sym, ap, ◌∙◌}
 use Rattle.std.specs.List.{AllByRecursion}
 use Rattle.land_shape.specs.Matching.{lies_inside, pieces}
@@ -9,7 +9,7 @@ use Rattle.land_shape.proofs.Order.{Before, never_itself, before_all, before_of,
 use Rattle.land_shape.proofs.Tallies.{either_way}
 use Rattle.land_shape.proofs.Turning.{pieces-append}
 
--- the places rise from left to right
+-- the places are ordered from left to right
 abbrev pub Rise : List Place → Type 0
 Rise ps = Rises is_before ps
 
@@ -35,7 +35,7 @@ walk_pieces a t (p ∷ ps) up h =
     ))
     (λ no. rw no (walk_pieces a t ps up h.1))
 
--- ---- the corners that no walk needs to look at
+-- ---- the corners that a walk can skip
 
 -- those that are not after its start
 pub skip_before : (a t : Place) (ps qs : List Place) → Before a t → AllByRecursion (λ q. is_before q a ≡ true) ps → walk a t (ps ++ qs) ≡ walk a t qs

@@ -1,10 +1,10 @@
--- Edges of the code, seen by where they lead
+-- Edges of the code as edges of the definitions
 use Rattle.std.specs.Prelude.{List, map}
 use Rattle.land_shape.specs.declared.edges.Edge as code
 use Rattle.land_shape.specs.Place.{Edge}
 use Rattle.land_shape.specs.Simple.{place_of}
 
--- where an edge leads from and to
+-- the start and the end of an edge
 abbrev pub edge_of : code.Edge → Edge
 edge_of e = record { from = place_of e.from; to = place_of e.to }
 

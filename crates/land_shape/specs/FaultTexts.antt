@@ -1,4 +1,4 @@
--- The numbers and the texts of the faults
+-- The numbers and the messages of the faults
 use Rattle.std.specs.Prelude.{ℕ, List, codes}
 use Rattle.land_shape.specs.declared.faults.ShapeFault.{ShapeFault}
 use Rattle.land_shape.specs.declared.faults.ShapeFault.TheVariants.{NotPolygon, Empty, Inner, ZOrM, Number, Range, FewPoints, ManyPoints, NotClosed, NotSimple, AreaTooLarge, NoMemory}

@@ -12,7 +12,7 @@ use Rattle.land_shape.specs.Simple.{IsSimple, place_at}
 
 -- ---- words and points
 
--- one of the elements is such
+-- at least one element has this property
 abbrev pub SomeOf : {X : Type 0} → (X → Type 0) → List X → Type 0
 SomeOf P [] = ⊥
 SomeOf P (x ∷ xs) = P x ⊎ SomeOf P xs
@@ -45,7 +45,7 @@ Lists _ _ = ⊥
 
 -- ---- texts
 
--- the text is a polygon with such a body
+-- the text is a polygon with a body that has this property
 pub record InBody (text : List ℕ) (P : Bool → Rings → Type 0) : Type 0 where
   pub tagged : Bool
   pub rings : Rings
@@ -76,9 +76,9 @@ HasFault NotSimple text = InList text (λ places. ¬ IsSimple (ring_of places))
 HasFault AreaTooLarge text = InList text (λ places. 1000000000000000000 < doubled_area (ring_of places))
 HasFault NoMemory text = ⊥
 
--- ---- answers
+-- ---- results
 
--- the fault holds, and none of a lesser number
+-- the fault holds, and none with a lower number does
 pub record IsFirst (text : List ℕ) (fault : ShapeFault) : Type 0 where
   pub holds : HasFault fault text
   pub none_before : (other : ShapeFault) → number_of other < number_of fault → ¬ HasFault other text
@@ -90,7 +90,7 @@ pub record StandsFor (text : List ℕ) (ring : List Place) : Type 0 where
   pub listed : ListsPlaces text places
   pub is_ring : ring ≡ ring_of places
 
--- the answer to a text: a ring that it stands for, or its first fault
+-- the result for a text: the ring that it denotes, or its first fault
 abbrev pub IsOutlineAnswer : List ℕ → Result (List Place) ShapeFault → Type 0
 IsOutlineAnswer text (Ok ring) = StandsFor text ring
 IsOutlineAnswer text (Err fault) = IsFirst text fault

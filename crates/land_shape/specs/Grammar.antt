@@ -1,5 +1,5 @@
--- Polygons in the well-known text of OGC 06-103r4 (section 7.2), in this register's profile: how the tokens of a polygon
--- are written, apart from how they are read.
+-- Polygons in the well-known text of OGC 06-103r4 (section 7.2), in this register's profile: the tokens of a
+-- polygon, independent of the reader.
 use Rattle.std.specs.Prelude.{◌≡◌, ℕ, Bool, true, false, List, [], ◌∷◌, ◌++◌, ◌≤◌, ◌||◌, IsTrue, length, map, codes}
 use Rattle.std.specs.List.{AllByRecursion}
 use Rattle.std.specs.Str.{str_eq_ignore_ascii_case}
@@ -9,7 +9,7 @@ use Rattle.land_shape.specs.Tokens.{tokens_of}
 
 -- ---- words
 
--- Letter case is that of ASCII.
+-- letter case is ignored (ASCII)
 abbrev pub is_keyword : List ℕ → Bool
 is_keyword w = str_eq_ignore_ascii_case w (codes "polygon")
 
@@ -27,7 +27,7 @@ is_empty_word w = str_eq_ignore_ascii_case w (codes "empty")
 
 -- ---- heads
 
--- The keyword, alone or with a tag, which is a word of its own or joined to it.
+-- the keyword, without a tag or with one, which is a separate word or joined to it
 abbrev pub IsHead : Bool → List Token → Type 0
 IsHead false (Word k ∷ []) = IsTrue (is_keyword k)
 IsHead true (Word k ∷ []) = IsTrue (is_tagged_keyword k)
@@ -76,7 +76,7 @@ IsBody rings = (1 ≤ length rings) × AllByRecursion IsRing rings
 
 -- ---- whole texts
 
--- What follows the head of a polygon: the word EMPTY, or a body. Whether the head has a tag is kept with the body.
+-- a polygon after its head: the word EMPTY, or a body with whether the head has a tag
 pub data Polygon : Type 0 where
   empty : Polygon
   body : Bool → Rings → Polygon
@@ -99,6 +99,6 @@ abbrev pub IsWritten : List Token → Polygon → Type 0
 IsWritten tokens empty = HasNoBody tokens
 IsWritten tokens (body tagged rings) = HasBody tokens tagged rings
 
--- the whole text is this polygon's
+-- the text is exactly this polygon
 abbrev pub IsPolygon : List ℕ → Polygon → Type 0
 IsPolygon text polygon = IsWritten (tokens_of text) polygon

@@ -6,17 +6,17 @@ use Rattle.land_shape.specs.Outline.{IsOutline}
 use Rattle.land_shape.specs.Place.{Place}
 use Rattle.land_shape.specs.Printed.{printed}
 
--- The printed form of a ring stands for that ring and no other.
+-- the canonical form of a ring denotes that ring and no other
 pub record PrintedLaw : Type 0 where
   pub stands : (ring : List Place) → IsOutline ring → StandsFor (printed ring) ring
   pub alone : (ring other : List Place) → IsOutline ring → StandsFor (printed ring) other → other ≡ ring
 
--- No text has two answers: it stands for one ring at most, has one first fault at most, and not both.
+-- a text does not have two results: it denotes at most one ring, has at most one first fault, and not both
 pub record OneAnswerLaw : Type 0 where
   pub one_ring : (text : List ℕ) (ring other : List Place) → StandsFor text ring → StandsFor text other → ring ≡ other
   pub one_fault : (text : List ℕ) (fault other : ShapeFault) → IsFirst text fault → IsFirst text other → fault ≡ other
   pub not_both : (text : List ℕ) (ring : List Place) (fault : ShapeFault) → StandsFor text ring → ¬ IsFirst text fault
 
--- Each text has an answer: a ring that it stands for, or a first fault.
+-- each text has a result: the ring that it denotes, or a first fault
 abbrev pub AnswerLaw : Type 0
 AnswerLaw = (text : List ℕ) → (answer : Result (List Place) ShapeFault) × IsOutlineAnswer text answer

@@ -14,7 +14,7 @@ pub mod Faults
 pub mod Laws
 -- grounds
 pub mod Matching
--- what private functions compute
+-- specifications of private functions
 pub mod Turns
 pub mod Reader
 pub mod Steps

@@ -1,4 +1,4 @@
--- Lists of rings that have the same ground, by their signed edges
+-- Lists of rings that have the same ground, in terms of signed edges
 use Rattle.std.specs.Prelude.{◌≡◌, ◌↔◌, ℕ, ℤ, Bool, List, [], ◌∷◌, ◌++◌, pos, ◌&&◌, not, if◌then◌else◌, count_by, int_le, int_lt, ◌-ℤ◌, ◌<ℤ◌, sum_by, IsTrue}
 use Rattle.std.specs.List.{AllByRecursion, list_all}
 use Rattle.std.specs.Ordering.{int_eq}
@@ -8,7 +8,7 @@ use Rattle.land_shape.specs.Outline.{doubled_area}
 use Rattle.land_shape.specs.Place.{Place, Edge, is_same_place, ring_edges, area_of}
 use Rattle.land_shape.specs.Segment.{HaveCommonPoint}
 
--- whether x lies between two ends, or at one of them
+-- whether x lies between two ends, inclusive
 abbrev pub is_between : ℤ → ℤ → ℤ → Bool
 is_between a b x = int_le (int_min a b) x && int_le x (int_max a b)
 
@@ -24,11 +24,11 @@ is_in_box p e = is_between e.from.x e.to.x p.x && is_between e.from.y e.to.y p.y
 abbrev pub lies_on : Place → Edge → Bool
 lies_on p e = is_on_line p e && is_in_box p e
 
--- whether a place lies on an edge, and not at its ends
+-- whether a place lies on an edge but not at its ends
 abbrev pub lies_inside : Place → Edge → Bool
 lies_inside p e = not (is_same_place p e.from) && not (is_same_place p e.to) && lies_on p e
 
--- an edge, in two pieces where the place lies inside it
+-- an edge, in two pieces if the place lies inside it
 abbrev pub cut_edge : Place → Edge → List Edge
 cut_edge p e = if lies_inside p e then record { from = e.from; to = p } ∷ record { from = p; to = e.to } ∷ [] else e ∷ []
 
@@ -56,33 +56,34 @@ places_of (ring ∷ rings) = ring ++ places_of rings
 abbrev pub reversed : Edge → Edge
 reversed e = record { from = e.to; to = e.from }
 
--- whether two edges lead from the same place to the same place
+-- whether two edges have the same start and the same end
 abbrev pub is_same_edge : Edge → Edge → Bool
 is_same_edge e f = is_same_place e.from f.from && is_same_place e.to f.to
 
--- how often an edge stands in a list
+-- the number of occurrences of an edge in a list
 abbrev pub count_of : Edge → List Edge → ℕ
 count_of e es = count_by (λ f. is_same_edge f e) es
 
--- how much more often a list leads along an edge than back
+-- the balance of a list along an edge: the occurrences of the edge minus those of the reversed edge
 abbrev pub count_along : Edge → List Edge → ℤ
 count_along e es = pos (count_of e es) -ℤ pos (count_of (reversed e) es)
 
--- Two lists of edges lead from each place to each other as often, less how often they lead back.
+-- two lists of edges have the same balance along every edge
 abbrev pub LeadAlike : List Edge → List Edge → Type 0
 LeadAlike ours theirs = (e : Edge) → count_along e ours ≡ count_along e theirs
 
--- Two lists of rings have the same ground: their edges, each cut at every corner of any of the rings, lead alike.
+-- two lists of rings have the same ground: their edges, each cut at every corner of any of the rings, have
+-- the same balance
 unfoldable pub Match : List (List Place) → List (List Place) → Type 0
 Match rings others =
     let corners = places_of (rings ++ others) in
     LeadAlike (pieces corners (edges_of rings)) (pieces corners (edges_of others))
 
--- whether two lists of edges lead alike along one edge
+-- whether two lists of edges have the same balance along an edge
 abbrev pub do_agree : List Edge → List Edge → Edge → Bool
 do_agree ours theirs e = int_eq (count_along e ours) (count_along e theirs)
 
--- The test of it: the pieces of both lead alike along each that stands among them.
+-- the test for the same ground: the pieces of both have the same balance along each piece that occurs
 unfoldable pub do_match : List (List Place) → List (List Place) → Bool
 do_match rings others =
     let corners = places_of (rings ++ others) in
@@ -90,7 +91,7 @@ do_match rings others =
     let theirs = pieces corners (edges_of others) in
     list_all (do_agree ours theirs) (ours ++ theirs)
 
--- The test tells whether lists of rings match.
+-- the test decides whether lists of rings match
 abbrev pub TestLaw : Type 0
 TestLaw = (rings others : List (List Place)) → IsTrue (do_match rings others) ↔ Match rings others
 
@@ -102,11 +103,11 @@ runs_counterclockwise ring = int_lt (pos 0) (area_of (ring_edges ring))
 abbrev pub IsCounterclockwise : List Place → Type 0
 IsCounterclockwise ring = pos 0 <ℤ area_of (ring_edges ring)
 
--- Rings that match have equal sums of doubled areas.
+-- rings that match have equal sums of doubled areas
 abbrev pub MatchingLaw : Type 0
 MatchingLaw = (rings others : List (List Place)) → AllByRecursion IsCounterclockwise rings → AllByRecursion IsCounterclockwise others
     → Match rings others → sum_by doubled_area rings ≡ sum_by doubled_area others
 
--- A place lies on an edge where the edge has that point.
+-- a place lies on an edge if and only if it is a point of the edge
 abbrev pub LiesLaw : Type 0
 LiesLaw = (p : Place) (e : Edge) → IsTrue (lies_on p e) ↔ HaveCommonPoint e.from e.to p p

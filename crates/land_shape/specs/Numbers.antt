@@ -29,7 +29,7 @@ digits_of bs = if nat_lt 0 (length bs) && are_digits bs then Some (digits_value 
 abbrev pub unsigned_of : List ℕ → Option ℕ
 unsigned_of w = if are_few_zeros (after_first is_point_byte w) then digits_of (before_first is_point_byte w) else None
 
--- whether a minus stands first, and what is left without a sign
+-- whether the first byte is a minus, and the remainder without a sign
 abbrev pub after_sign : List ℕ → Bool × List ℕ
 after_sign [] = (false, [])
 after_sign (b ∷ w) = if b == 45 then (true, w) else (if b == 43 then (false, w) else (false, b ∷ w))
@@ -37,6 +37,6 @@ after_sign (b ∷ w) = if b == 45 then (true, w) else (if b == 43 then (false, w
 abbrev pub with_sign : Bool → ℕ → ℤ
 with_sign negative n = if negative then pos 0 -ℤ pos n else pos n
 
--- the value of a word, or None where it is no coordinate
+-- the value of a word, or None if it is not a coordinate
 abbrev pub coordinate_of : List ℕ → Option ℤ
 coordinate_of w = option_map (with_sign (after_sign w).0) (unsigned_of (after_sign w).1)

@@ -10,7 +10,7 @@ use Rattle.land_shape.specs.Simple.{IsSimple}
 abbrev pub doubled_area : List Place → ℕ
 doubled_area ring = unsigned_abs (area_of (ring_edges ring))
 
--- the same ring the other way round, from the same first point
+-- the ring in the opposite direction, from the same first point
 abbrev pub turned : List Place → List Place
 turned [] = []
 turned (p ∷ ps) = p ∷ reverse ps
@@ -18,15 +18,16 @@ turned (p ∷ ps) = p ∷ reverse ps
 abbrev pub counterclockwise : List Place → List Place
 counterclockwise ring = if int_lt (area_of (ring_edges ring)) (pos 0) then turned ring else ring
 
--- The ring of the points that a text lists. The last one closes it and is dropped. Turning a ring leaves its edges where they
--- are, so what is asked of them is asked of the ring put counterclockwise.
+-- the ring of the points that a text lists, counterclockwise. The last point closes the ring and is dropped.
+-- Reversing a ring leaves its edges in place, so conditions on them can be checked on the counterclockwise
+-- ring.
 abbrev pub ring_of : List Place → List Place
 ring_of listed = counterclockwise (take (length listed - 1) listed)
 
 abbrev pub IsNear : Place → Type 0
 IsNear p = IsCoordinate p.x × IsCoordinate p.y
 
--- what every ring is
+-- the invariant of every outline
 pub record IsOutline (ring : List Place) : Type 0 where
   pub some : 3 ≤ length ring
   pub few : length ring ≤ 200

@@ -34,6 +34,6 @@ path_edges [] = []
 path_edges (p ∷ []) = []
 path_edges (p ∷ q ∷ ps) = record { from = p; to = q } ∷ path_edges (q ∷ ps)
 
--- the edges of a ring, which ends where it begins
+-- the edges of a ring, including that from the last place to the first
 abbrev pub ring_edges : List Place → List Edge
 ring_edges ps = path_edges (ps ++ take 1 ps)

@@ -1,4 +1,4 @@
--- The printed form of a ring
+-- The canonical form of a ring
 use Rattle.std.specs.Prelude.{ℕ, List, [], ◌∷◌, ◌++◌, take, codes}
 use Rattle.std.specs.Fmt.{signed_decimal}
 use Rattle.land_shape.specs.Place.{Place}

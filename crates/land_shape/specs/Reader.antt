@@ -1,4 +1,5 @@
--- What the reader of a text computes, step by step. `Grammar` says what a polygon is; the proofs show that both agree.
+-- The results of the reader of a text, step by step. `Grammar` defines polygons; the proofs show that both
+-- agree.
 use Rattle.std.specs.Prelude.{ℕ, Bool, true, false, List, [], ◌∷◌, ◌++◌, ◌&&◌, if◌then◌else◌, nat_le, length, Option, Some, None, option_and_then}
 use Rattle.std.specs.Option.{option_map}
 use Rattle.land_shape.specs.declared.tokens.Token.{Token}
@@ -10,7 +11,7 @@ use Rattle.land_shape.specs.declared.polygon.WrittenPolygon.{WrittenPolygon}
 use Rattle.land_shape.specs.declared.polygon.WrittenPolygon.TheVariants as code
 use Rattle.land_shape.specs.Grammar.{Words, Points, Rings, Polygon, empty, body, is_keyword, is_tag, is_tagged_keyword, is_empty_word}
 
--- how far a body has been read
+-- the state of reading a body
 pub record Reading : Type 0 where
   pub at : At
   pub rings : Rings
@@ -29,11 +30,11 @@ is_point words = nat_le 2 (length words) && nat_le (length words) 4
 abbrev pub with_word : Reading → List ℕ → Reading
 with_word r w = record r { words = r.words ++ w ∷ [] }
 
--- the point begun is whole
+-- the current point is complete
 abbrev pub with_point : Reading → Reading
 with_point r = record r { points = r.points ++ r.words ∷ []; words = [] }
 
--- the ring begun is whole
+-- the current ring is complete
 abbrev pub with_ring : Reading → Reading
 with_ring r = record r { at = AfterRing; rings = r.rings ++ r.points ∷ []; points = [] }
 
@@ -47,7 +48,7 @@ after_at AfterRing Comma r = Some (record r { at = BeforeRing })
 after_at AfterRing Close r = Some (record r { at = AfterBody })
 after_at _ _ r = None
 
--- one more token; None where a body can not go on with it
+-- the state after one more token; None if a body cannot continue with it
 abbrev pub after : Reading → Token → Option Reading
 after r token = after_at r.at token r
 
@@ -64,7 +65,7 @@ body_of tokens = option_and_then (λ r. rings_at_end r.at r.rings) (after_all no
 
 -- ---- whole texts
 
--- whether a tag stands first, and what is left without it
+-- whether the first token is a tag, and the remainder without it
 abbrev pub after_tag : List Token → Bool × List Token
 after_tag (Word t ∷ ts) = if is_tag t then (true, ts) else (false, Word t ∷ ts)
 after_tag ts = (false, ts)
@@ -84,7 +85,7 @@ polygon_after rest = if is_empty_alone rest.1 then Some empty else option_map (b
 abbrev pub polygon_of : List Token → Option Polygon
 polygon_of tokens = option_and_then polygon_after (after_head tokens)
 
--- the polygon that the reader found
+-- the polygon that the reader returns
 abbrev pub written : WrittenPolygon → Polygon
 written code.Empty = empty
 written (code.Body tagged rings) = body tagged rings.items

@@ -4,7 +4,7 @@ use Rattle.land_shape.specs.declared.plane.Point.{Point}
 use Rattle.land_shape.specs.Place.{Place, area_of, ring_edges}
 use Rattle.land_shape.specs.Segment.{HaveCommonPoint, MeetOnlyAt}
 
--- where a point of the code is
+-- the place of a point of the code
 abbrev pub place_of : Point → Place
 place_of p = record { x = p.x; y = p.y }
 
@@ -14,22 +14,22 @@ places ps = map place_of ps
 abbrev pub place_at : List Place → ℕ → Place
 place_at ps i = slice_index_or ps i (record { x = pos 0; y = pos 0 })
 
--- the place after the one at i, where a ring goes on
+-- the place after the one at i in a ring
 abbrev pub next_at : List Place → ℕ → Place
 next_at ps i = if i + 1 == length ps then place_at ps 0 else place_at ps (i + 1)
 
--- The corner at which the edges from i and from a later j are joined, in a ring of n corners: edges that follow each other,
--- and the last edge and the first, are neighbours.
+-- the corner at which the edges from i and from a later j are joined, in a ring of n corners, if they are
+-- neighbours: consecutive edges, and the last edge and the first
 abbrev pub joint : ℕ → ℕ → ℕ → Option ℕ
 joint n i j = if j == i + 1 then Some j else if i == 0 && j + 1 == n then Some 0 else None
 
--- the edges from i and from a later j have no common point but their joint
+-- the edges from i and from a later j have no common point except their joint
 unfoldable pub MeetRightly : List Place → ℕ → ℕ → Type 0
 MeetRightly ps i j = MatchOption (joint (length ps) i j)
     (¬ HaveCommonPoint (place_at ps i) (next_at ps i) (place_at ps j) (next_at ps j))
     (λ k. MeetOnlyAt (place_at ps k) (place_at ps i) (next_at ps i) (place_at ps j) (next_at ps j))
 
--- no two different edges have a common point but the joint of neighbours
+-- no two different edges have a common point except the joint of neighbours
 abbrev pub AllMeetRightly : List Place → Type 0
 AllMeetRightly ps = (i j : ℕ) → i < j → j < length ps → MeetRightly ps i j
 

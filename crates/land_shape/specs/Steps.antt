@@ -1,4 +1,4 @@
--- What the later steps of the reader answer, each for what it is given
+-- The results of the later steps of the reader
 use Rattle.std.specs.Prelude.{◌≡◌, ◌⊎◌, ℕ, ℤ, Bool, true, false, List, [], ◌∷◌, ◌≤◌, ◌<◌, ◌-◌, length, Result, Ok, Err, Some}
 use Rattle.std.specs.List.{AllByRecursion}
 use Rattle.land_shape.specs.declared.faults.ShapeFault.{ShapeFault}
@@ -12,7 +12,7 @@ use Rattle.land_shape.specs.Outline.{IsNear, IsOutline, ring_of, doubled_area}
 use Rattle.land_shape.specs.Place.{Place}
 use Rattle.land_shape.specs.Simple.{IsSimple, place_of, places, place_at}
 
--- a word's value, or what is wrong with it
+-- the value of a word, or its fault
 abbrev pub ReadsNumber : List ℕ → Result ℤ ShapeFault → Type 0
 ReadsNumber w (Ok z) = (coordinate_of w ≡ Some z) × IsCoordinate z
 ReadsNumber w (Err Number) = IsNoNumber w
@@ -22,19 +22,19 @@ ReadsNumber w _ = ⊥
 abbrev pub HasTwoWords : Words → Type 0
 HasTwoWords words = length words ≡ 2
 
--- the point of two words, or what is wrong with them
+-- the point of two words, or their fault
 abbrev pub ReadsPoint : Words → Result Point ShapeFault → Type 0
 ReadsPoint words (Ok p) = Locate words (place_of p)
 ReadsPoint words (Err Number) = SomeOf IsNoNumber words
 ReadsPoint words (Err Range) = SomeOf IsFar words
 ReadsPoint words _ = ⊥
 
--- the reader finds no body without a ring
+-- a body has at least one ring
 abbrev pub IsFull : Polygon → Type 0
 IsFull empty = Unit {0}
 IsFull (body tagged rings) = IsBody rings
 
--- the only ring of a polygon without a tag, whose points have two words each; or what is wrong with the polygon
+-- the only ring of a polygon without a tag, whose points have two words each; or the fault of the polygon
 abbrev pub PlainRing : Polygon → Result Points ShapeFault → Type 0
 PlainRing polygon (Ok ring) = (polygon ≡ body false (ring ∷ [])) × AllByRecursion HasTwoWords ring
 PlainRing polygon (Err Empty) = polygon ≡ empty
@@ -43,7 +43,7 @@ PlainRing polygon (Err ZOrM) =
     (tagged : Bool) × (ring : Points) × ((polygon ≡ body tagged (ring ∷ [])) × ((tagged ≡ true) ⊎ SomeOf IsLong ring))
 PlainRing polygon _ = ⊥
 
--- the places of a ring's points, or what is wrong with their words
+-- the places of a ring's points, or the fault of their words
 abbrev pub ReadsPoints : Points → Result (List Place) ShapeFault → Type 0
 ReadsPoints points (Ok places) = Lists points places × AllByRecursion IsNear places
 ReadsPoints points (Err Number) = SomeOf (SomeOf IsNoNumber) points
@@ -62,7 +62,7 @@ pub record IsPlainList (text : List ℕ) (places : List Place) : Type 0 where
 abbrev pub IsClosed : List Place → Type 0
 IsClosed listed = place_at listed (length listed - 1) ≡ place_at listed 0
 
--- 4 to 201 places, the last of them the first; or what is wrong with the list
+-- 4 to 201 places, the last equal to the first; or the fault of the list
 abbrev pub Closes : List Place → Result (Unit {0}) ShapeFault → Type 0
 Closes listed (Ok _) = (4 ≤ length listed) × (length listed ≤ 201) × IsClosed listed
 Closes listed (Err FewPoints) = length listed < 4
@@ -70,7 +70,7 @@ Closes listed (Err ManyPoints) = 201 < length listed
 Closes listed (Err NotClosed) = (4 ≤ length listed) × (length listed ≤ 201) × (¬ IsClosed listed)
 Closes listed _ = ⊥
 
--- the ring of listed places, or what is wrong with it
+-- the ring of listed places, or its fault
 abbrev pub Encloses : List Place → Result (List Place) ShapeFault → Type 0
 Encloses listed (Ok ring) = (ring ≡ ring_of listed) × IsOutline ring
 Encloses listed (Err NotSimple) = ¬ IsSimple (ring_of listed)

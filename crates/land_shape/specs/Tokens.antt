@@ -1,4 +1,5 @@
--- The tokens of a text. A text is its bytes in UTF-8; all characters that part words are ASCII, so bytes tell the words.
+-- The tokens of a text. A text is its bytes in UTF-8; all separators are ASCII, so words can be read byte by
+-- byte.
 use Rattle.std.specs.Prelude.{ℕ, Bool, List, [], ◌∷◌, ◌++◌, ◌==◌, ◌||◌, not, if◌then◌else◌}
 use Rattle.land_shape.specs.declared.tokens.Token.{Token}
 use Rattle.land_shape.specs.declared.tokens.Token.TheVariants.{Open, Close, Comma, Word}
@@ -20,7 +21,7 @@ abbrev pub word_of : List ℕ → List Token
 word_of [] = []
 word_of (b ∷ bs) = Word (b ∷ bs) ∷ []
 
--- The tokens of a text whose first bytes belong to a word begun before. A word goes on as long as it can.
+-- the tokens of a text that continues the word `begun`; a word is as long as possible
 abbrev pub tokens_after : List ℕ → List ℕ → List Token
 tokens_after begun [] = word_of begun
 tokens_after begun (b ∷ bs) =

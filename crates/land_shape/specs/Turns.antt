@@ -1,4 +1,4 @@
--- What the test for a common point looks at
+-- The quantities that the test for a common point uses
 use Rattle.std.specs.Prelude.{◌≡◌, ℕ, ◌<◌, ◌≤◌, ℤ, ◌-ℤ◌, ◌≤ℤ◌, List}
 use Rattle.std.specs.Int.{int_min, int_max}
 use Rattle.land_shape.specs.Coordinate.{cross_of}
@@ -10,14 +10,14 @@ pub record Overlap (a b c d : ℤ) : Type 0 where
   pub low : int_min c d ≤ℤ int_max a b
   pub high : int_min a b ≤ℤ int_max c d
 
--- what two numbers lie between
+-- two numbers lie between the same bounds
 pub record AreInside (low high first second : ℤ) : Type 0 where
   pub first_from : low ≤ℤ first
   pub first_to : first ≤ℤ high
   pub second_from : low ≤ℤ second
   pub second_to : second ≤ℤ high
 
--- The cross products of the segments a b and c d, and of the way from a to c with each.
+-- the cross product of the segments a b and c d, and those of the vector from a to c with each
 pub record AreTurns (a b c d : Place) (whole first second : ℤ) : Type 0 where
   pub whole_is : whole ≡ cross_of (b.x -ℤ a.x) (b.y -ℤ a.y) (d.x -ℤ c.x) (d.y -ℤ c.y)
   pub first_is : first ≡ cross_of (c.x -ℤ a.x) (c.y -ℤ a.y) (d.x -ℤ c.x) (d.y -ℤ c.y)
@@ -27,14 +27,14 @@ pub record AreTurns (a b c d : Place) (whole first second : ℤ) : Type 0 where
 abbrev pub BoxesOverlap : Place → Place → Place → Place → Type 0
 BoxesOverlap a b c d = Overlap a.x b.x c.x d.x × Overlap a.y b.y c.y d.y
 
--- the place lies in the box with these corners of least and of greatest coordinates
+-- the place lies in the box with these least and greatest coordinates
 pub record IsInBox (least greatest place : Place) : Type 0 where
   pub left : least.x ≤ℤ place.x
   pub right : place.x ≤ℤ greatest.x
   pub low : least.y ≤ℤ place.y
   pub high : place.y ≤ℤ greatest.y
 
--- both ends of each edge of a ring from the one at start to before the one at end lie in the box
+-- both ends of the edges of a ring with index at least `start` and below `end` lie in the box
 abbrev pub HoldsEdges : List Place → (start end : ℕ) → (least greatest : Place) → Type 0
 HoldsEdges ps start end least greatest =
     (i : ℕ) → start ≤ i → i < end → IsInBox least greatest (place_at ps i) × IsInBox least greatest (next_at ps i)

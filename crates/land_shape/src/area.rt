@@ -6,7 +6,7 @@ ghost use Rattle.land_shape.specs.Place.{area_of, ring_edges};
 
 use crate::plane::Point;
 
-/// Returns twice the area of the ring, below 0 where it runs clockwise.
+/// Returns twice the area of the ring in square millimetres; negative if the ring is clockwise.
 pub(crate) fn signed_area(points: &[Point]) -> i128
     requires some { 0 < length points.now }
     requires few { length points.now ≤ 200 }

@@ -9,7 +9,7 @@ use std::alloc::{AllocError, Global};
 use std::marker::Model;
 use std::mem;
 
-/// The words of a point, which contracts see as that list.
+/// The words of a point. Contracts see it as a list of words.
 #[derive(Drop)]
 pub(crate) struct WrittenPoint<'a> {
     words: Vec<Word<'a>>,
@@ -31,7 +31,7 @@ impl<'a> WrittenPoint<'a> {
     }
 }
 
-/// The points of a ring, which contracts see as that list.
+/// The points of a ring. Contracts see it as a list of points.
 #[derive(Drop)]
 pub(crate) struct WrittenRing<'a> {
     points: Vec<WrittenPoint<'a>>,
@@ -53,7 +53,7 @@ impl<'a> WrittenRing<'a> {
     }
 }
 
-/// Where reading stands.
+/// The position of the reader in a body.
 #[derive(Clone, Copy, PartialEq, Eq)]
 pub(crate) enum At {
     BeforeBody,
@@ -63,7 +63,8 @@ pub(crate) enum At {
     AfterBody,
 }
 
-/// How far a body has been read: the whole rings, the points of the ring begun, the words of the point begun.
+/// The state of reading a body: the complete rings, the points of the current ring, the words of the current
+/// point.
 #[derive(Drop)]
 pub(crate) struct Progress<'a> {
     at: At,
@@ -84,14 +85,14 @@ impl<'a> Progress<'a> {
         }
     }
 
-    /// Whether the words begun are a point.
+    /// Whether the current words are a point.
     fn has_point(&self) -> bool
         ensures { result ≡ is_point (progress_of self.now).words }
     {
         2 <= self.words.len() && self.words.len() <= 4
     }
 
-    /// Ends the point begun.
+    /// Completes the current point.
     fn end_point(&mut self, alloc: Global) -> Result<(), AllocError>
         ensures { OnOk result (progress_of self.new ≡ with_point (progress_of self.old)) }
     {
@@ -100,7 +101,7 @@ impl<'a> Progress<'a> {
         Ok(())
     }
 
-    /// Ends the ring begun.
+    /// Completes the current ring.
     fn end_ring(&mut self, alloc: Global) -> Result<(), AllocError>
         ensures { OnOk result (progress_of self.new ≡ with_ring (progress_of self.old)) }
     {
@@ -110,7 +111,7 @@ impl<'a> Progress<'a> {
         Ok(())
     }
 
-    /// Reads one more token. Answers false where a body can not go on with it.
+    /// Reads one more token. Returns false if a body cannot continue with it.
     fn take(&mut self, alloc: Global, token: &Token<'a>) -> Result<bool, AllocError>
         ensures { IfOk result (λ goes_on. after (progress_of self.old) token.now ≡ (if goes_on then Some (progress_of self.new) else None)) }
     {
@@ -131,7 +132,7 @@ impl<'a> Progress<'a> {
     }
 }
 
-/// Returns the rings of a body, or None where the tokens are no body.
+/// Returns the rings of a body, or `None` if the tokens are not a body.
 pub(crate) fn body_of<'a>(
     alloc: Global,
     tokens: &[Token<'a>],

@@ -59,7 +59,7 @@ impl EdgeBox {
     }
 }
 
-/// Returns the box around the edges from `start` to before `end`.
+/// Returns the box around the edges with index at least `start` and below `end`.
 pub(crate) fn box_of(points: &[Point], start: usize, end: usize) -> EdgeBox
     requires order { start < end }
     requires within { end ≤ length points.now }

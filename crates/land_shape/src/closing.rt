@@ -7,7 +7,7 @@ ghost use Rattle.land_shape.specs.Steps.{Closes, IsClosed};
 use crate::faults::ShapeFault;
 use crate::plane::Point;
 
-/// The least and the greatest number of points that a text may list.
+/// The minimum number of points that a text lists.
 const FEWEST: usize = 4;
 
 const MOST: usize = 201;
@@ -27,7 +27,8 @@ fn is_closed(listed: &[Point]) -> bool
     is_same_place(listed[listed.len() - 1], listed[0])
 }
 
-/// Checks that a list has 4 to 201 points and that its last point is its first.
+/// Checks that a list has 4 to 201 points and that its last point is its first. Errors: 116 `FewPoints`, 117
+/// `ManyPoints`, 118 `NotClosed`.
 pub(crate) fn check_closed(listed: &[Point]) -> Result<(), ShapeFault>
     ensures { Closes (places listed.now) result }
 {

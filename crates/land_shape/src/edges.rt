@@ -8,7 +8,7 @@ ghost use Rattle.land_shape.specs.Simple.{place_of};
 
 use crate::plane::Point;
 
-/// An edge from one point to another. Edges are in order of the points where they begin, and then of those where they end.
+/// An edge from one point to another. Edges are ordered by their start and then by their end.
 #[derive(Clone, Copy, PartialEq, Eq, PartialOrd, Ord)]
 pub(crate) struct Edge {
     pub(crate) from: Point,
@@ -16,7 +16,7 @@ pub(crate) struct Edge {
 }
 
 impl Edge {
-    /// Returns the edge the other way round.
+    /// Returns the reversed edge.
     pub(crate) fn reversed(self) -> Edge
         ensures { edge_of result ≡ reversed (edge_of self) }
     {
@@ -27,7 +27,7 @@ impl Edge {
     }
 }
 
-/// Whether a coordinate lies between two ends, or at one of them.
+/// Whether a coordinate lies between two ends, inclusive.
 fn is_between(a: i64, b: i64, x: i64) -> bool
     ensures { result ≡ is_between a b x }
 {
@@ -65,7 +65,7 @@ fn lies_on(point: Point, edge: Edge) -> bool
     is_on_line(point, edge)
 }
 
-/// Whether a point lies on an edge, and not at its ends.
+/// Whether a point lies on an edge but not at its ends.
 pub(crate) fn lies_inside(point: Point, edge: Edge) -> bool
     ensures { result ≡ lies_inside (place_of point) (edge_of edge) }
 {

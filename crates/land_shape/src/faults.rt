@@ -1,4 +1,4 @@
-//! Why a text is no outline.
+//! Errors of outlines.
 
 ghost use Rattle.std.specs.Prelude.{◌≡◌, Some};
 ghost use Rattle.land_shape.specs.FaultTexts.{number_of, text_of};
@@ -7,10 +7,10 @@ use std::alloc::{AllocError, AllocFailed};
 use std::error::Error;
 use std::fmt;
 
-/// What is wrong with the text of an outline, or that memory ran out.
+/// The error of reading an outline: a fault of the text, or out of memory.
 #[derive(Clone, Copy, PartialEq, Eq, Debug)]
 pub enum ShapeFault {
-    /// 110: the text is no polygon in well-known text.
+    /// 110: the text is not a polygon in well-known text.
     NotPolygon,
     /// 111: the polygon is `EMPTY`.
     Empty,
@@ -18,7 +18,7 @@ pub enum ShapeFault {
     Inner,
     /// 113: there is a tag `Z`, `M` or `ZM`, or a point of three or four numbers.
     ZOrM,
-    /// 114: a word of a point is no whole number of millimetres.
+    /// 114: a word of a point is not a whole number of millimetres.
     Number,
     /// 115: a coordinate is above 10_000_000_000 or below -10_000_000_000.
     Range,
@@ -37,7 +37,7 @@ pub enum ShapeFault {
 }
 
 impl ShapeFault {
-    /// Returns the number of the fault: 110 to 120, or 501.
+    /// Returns the number of the error: 110 to 120, or 501.
     pub fn number(self) -> u16
         ensures { result ≡ number_of self }
     {
@@ -57,7 +57,7 @@ impl ShapeFault {
         }
     }
 
-    /// Returns the fault in the user's words.
+    /// Returns the message of the error.
     pub fn text(self) -> &'static str
         ensures { result.now ≡ text_of self }
     {

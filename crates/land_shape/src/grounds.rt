@@ -11,7 +11,7 @@ use crate::outline::Ring;
 use crate::plane::Point;
 use std::alloc::{AllocError, Global};
 
-/// Returns some edges, and then those of a ring.
+/// Appends the edges of a ring.
 fn with_ring(so_far: Vec<Edge>, points: &[Point]) -> Result<Vec<Edge>, AllocError>
     requires { 0 < length points.now }
     ensures { IfOk result (λ v. edges v.items ≡ edges so_far.items ++ ring_edges (places points.now)) }
@@ -44,7 +44,7 @@ pub(crate) fn edges_of(alloc: Global, rings: &[Ring]) -> Result<Vec<Edge>, Alloc
     Ok(all)
 }
 
-/// Returns some points, and then the corners of some rings.
+/// Appends the corners of some rings.
 fn with_corners(so_far: Vec<Point>, rings: &[Ring]) -> Result<Vec<Point>, AllocError>
     ensures { IfOk result (λ v. places v.items ≡ places so_far.items ++ places_of rings.now) }
 {

@@ -1,34 +1,34 @@
-//! Laws over the definitions alone, each the contract of a function that does nothing.
+//! Laws of the definitions. Calling a function here gives its law as a fact; it does nothing else.
 
 ghost use Rattle.land_shape.specs.Laws.{PrintedLaw, OneAnswerLaw, AnswerLaw};
 ghost use Rattle.land_shape.specs.Matching.{LiesLaw, MatchingLaw, TestLaw};
 
-/// Returns the printed form of a ring stands for that ring and no other.
+/// Proves that the canonical form of a ring denotes that ring and no other.
 pub fn printed_rings()
     ensures { PrintedLaw }
 {}
 
-/// Returns no text has two answers.
+/// Proves that a text does not have two results.
 pub fn one_answer()
     ensures { OneAnswerLaw }
 {}
 
-/// Returns each text has an answer: a ring that it stands for, or a first fault.
+/// Proves that each text has a result: the ring that it denotes, or a first fault.
 pub fn every_text_is_judged()
     ensures { AnswerLaw }
 {}
 
-/// Returns a place lies on an edge where the edge has that point.
+/// Proves that a place lies on an edge if and only if it is a point of the edge.
 pub fn places_on_edges()
     ensures { LiesLaw }
 {}
 
-/// Lists of rings that match have equal sums of doubled areas.
+/// Proves that lists of rings that match have equal sums of doubled areas.
 pub fn matching_chains_have_equal_areas()
     ensures { MatchingLaw }
 {}
 
-/// Whether lists of rings match is told by their pieces alone.
+/// Proves that lists of rings match if and only if the test on their pieces passes.
 pub fn matching_is_told_by_pieces()
     ensures { TestLaw }
 {}

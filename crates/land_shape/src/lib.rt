@@ -1,4 +1,5 @@
-//! Outlines of land parcels: polygons of one ring, read from well-known text, judged, measured and printed.
+//! Outlines of land parcels: polygons of one ring. Reads them from well-known text, validates, measures and
+//! prints them.
 #![tactic(auto)]
 
 mod area;

@@ -13,14 +13,14 @@ use crate::plane::Point;
 use crate::tokens::Word;
 use std::alloc::Global;
 
-/// Whether a word is no number.
+/// Whether a word is not a number.
 fn is_no_number(word: &[u8]) -> bool
     ensures { IsTrue result ↔ IsNoNumber word.now }
 {
     coordinate(word) == Err(ShapeFault::Number)
 }
 
-/// Whether one of a point's words is no number.
+/// Whether any word of a point is not a number.
 fn has_wrong_word(words: &[Word<'_>]) -> bool
     ensures { IsTrue result ↔ SomeOf IsNoNumber words.now }
 {
@@ -32,7 +32,7 @@ fn has_wrong_word(words: &[Word<'_>]) -> bool
     false
 }
 
-/// Whether a point has a word that is no number.
+/// Whether any point has a word that is not a number.
 fn has_wrong_point(points: &[WrittenPoint<'_>]) -> bool
     ensures { IsTrue result ↔ SomeOf (SomeOf IsNoNumber) points.now }
 {
@@ -54,7 +54,8 @@ fn point_of(words: &[Word<'_>]) -> Result<Point, ShapeFault>
     Ok(Point { x, y })
 }
 
-/// Returns the points of a ring. All words are numbers before any of them is too large.
+/// Returns the points of a ring. Errors: `Number` if any word is not a number, else `Range` if any is too
+/// large; `NoMemory`.
 pub(crate) fn listed_points(
     alloc: Global,
     ring: &[WrittenPoint<'_>],

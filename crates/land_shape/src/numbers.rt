@@ -12,10 +12,10 @@ use crate::faults::ShapeFault;
 /// The greatest coordinate, in millimetres.
 const LIMIT: u64 = 10_000_000_000;
 
-/// One more than the limit, which stands for every number above it.
+/// One more than the maximum; represents every number above it.
 const BEYOND: u64 = LIMIT + 1;
 
-/// Returns the number that digits write, or the one beyond the limit where it is greater.
+/// Returns the value of digits, or the one above the maximum if it is greater.
 fn capped_value(digits: &[u8]) -> u64
     requires { are_digits digits.now ≡ true }
     ensures { result ≡ min (digits_value 10 digits.now) 10000000001 }
@@ -27,14 +27,14 @@ fn capped_value(digits: &[u8]) -> u64
     value
 }
 
-/// Whether the bytes are digits alone.
+/// Whether all bytes are digits.
 fn are_digits(bytes: &[u8]) -> bool
     ensures { result ≡ are_digits bytes.now }
 {
     bytes.iter().all(|byte| byte.is_ascii_digit())
 }
 
-/// Whether the bytes are zeros alone.
+/// Whether all bytes are zeros.
 fn are_zeros(bytes: &[u8]) -> bool
     ensures { result ≡ are_zeros bytes.now }
 {
@@ -48,7 +48,7 @@ fn are_few_zeros(bytes: &[u8]) -> bool
     are_zeros(bytes) && bytes.len() <= 20
 }
 
-/// Returns the number that one digit or more write, capped.
+/// Returns the capped value of one digit or more.
 fn digits_of(bytes: &[u8]) -> Option<u64>
     ensures { result ≡ option_map (λ n. min n 10000000001) (digits_of bytes.now) }
 {
@@ -59,14 +59,14 @@ fn digits_of(bytes: &[u8]) -> Option<u64>
     }
 }
 
-/// Where the first point stands, if there is one.
+/// Returns the index of the first decimal point, if any.
 fn find_point(word: &[u8]) -> Option<usize>
     ensures { result ≡ position is_point_byte word.now }
 {
     word.iter().position(|byte| *byte == b'.')
 }
 
-/// Where the first point stands, or the length where there is none.
+/// Returns the index of the first decimal point, or the length if the word has none.
 fn first_point(word: &[u8]) -> usize
     ensures value { result ≡ position_or_len is_point_byte word.now }
     ensures within { result ≤ length word.now }
@@ -74,7 +74,7 @@ fn first_point(word: &[u8]) -> usize
     find_point(word).unwrap_or(word.len())
 }
 
-/// What stands after a point, which is nothing where there is no point.
+/// Returns the bytes after a decimal point; empty if the word has none.
 fn after_point(word: &[u8], point: usize) -> &[u8]
     requires { point ≤ length word.now }
     ensures { result.now ≡ drop (point + 1) word.now }
@@ -86,7 +86,7 @@ fn after_point(word: &[u8], point: usize) -> &[u8]
     }
 }
 
-/// Returns the number of digits with or without a point and zeros, capped.
+/// Returns the capped value of digits with an optional decimal point and zeros.
 fn unsigned_of(word: &[u8]) -> Option<u64>
     ensures { result ≡ option_map (λ n. min n 10000000001) (unsigned_of word.now) }
 {
@@ -98,7 +98,7 @@ fn unsigned_of(word: &[u8]) -> Option<u64>
     }
 }
 
-/// Whether a minus stands first, and what is left without a sign.
+/// Returns whether the first byte is a minus, and the remainder without a sign.
 fn after_sign(word: &[u8]) -> (bool, &[u8])
     ensures negative { result.0 ≡ (after_sign word.now).0 }
     ensures rest { result.1.now ≡ (after_sign word.now).1 }
@@ -110,7 +110,7 @@ fn after_sign(word: &[u8]) -> (bool, &[u8])
     }
 }
 
-/// Returns the coordinate that a word writes, in millimetres.
+/// Returns the coordinate of a word, in millimetres. Errors: 114 `Number`, 115 `Range`.
 pub(crate) fn coordinate(word: &[u8]) -> Result<i64, ShapeFault>
     ensures { ReadsNumber word.now result }
 {

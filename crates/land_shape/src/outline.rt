@@ -19,7 +19,8 @@ use std::marker::Model;
 /// The greatest doubled area, in square millimetres.
 const GREATEST: i128 = 1_000_000_000_000_000_000;
 
-/// The outline of a parcel: a simple ring of 3 to 200 points, counterclockwise from the first point that was given.
+/// The outline of a parcel: a simple ring of 3 to 200 points, counterclockwise, from the first point of its
+/// text.
 ///
 /// Contracts see a ring as the list of its places.
 #[derive(Debug, Drop)]
@@ -42,7 +43,7 @@ impl Model for Ring {
 }
 
 impl Ring {
-    /// Returns the points, without the first one at the end again.
+    /// Returns the points; the first is not repeated at the end.
     pub fn points(&self) -> &[Point]
         ensures points { places result.now ≡ self.now }
         ensures sound { IsOutline self.now }
@@ -59,28 +60,29 @@ impl Ring {
         self.doubled
     }
 
-    /// Returns a ring runs counterclockwise. Nothing is done: it is for callers that are to know it.
+    /// Proves that a ring is counterclockwise. Does nothing else: it is for the proofs of callers.
     pub fn runs_counterclockwise(&self)
         ensures { runs_counterclockwise self.now ≡ true }
     {
         let _points = &self.points;
     }
 
-    /// Returns the ring in well-known text: `POLYGON ((x y, x y, ...))`, closed by the first point again.
+    /// Returns the ring in well-known text: `POLYGON ((x y, x y, ...))`, with the first point repeated at the
+    /// end.
     pub fn write_wkt(&self) -> Result<String, AllocError>
         ensures { IfOk result (λ text. string_bytes text ≡ printed self.now) }
     {
         write_points(*self.points.allocator(), &self.points)
     }
 
-    /// Whether two rings have the same points, from the first one on. The same ring begun at another point is another one.
+    /// Whether two rings have the same points in the same order, from the same first point.
     pub fn is_same(&self, other: &Ring) -> bool
         ensures { result ≡ is_same_ring self.now other.now }
     {
         self.points() == other.points()
     }
 
-    /// Returns the same ring once more.
+    /// Returns a copy of the ring.
     pub fn copy(&self) -> Result<Ring, AllocError>
         ensures { IfOk result (λ ring. ring ≡ self.now) }
     {
@@ -92,7 +94,7 @@ impl Ring {
     }
 }
 
-/// Puts a ring counterclockwise, and answers twice its area.
+/// Makes a ring counterclockwise, and returns twice its area.
 fn put_counterclockwise(points: &mut [Point]) -> i128
     requires some { 0 < length points.old }
     requires few { length points.old ≤ 200 }
@@ -109,7 +111,8 @@ fn put_counterclockwise(points: &mut [Point]) -> i128
     }
 }
 
-/// Returns the ring of listed points, the last of which closes it and is dropped.
+/// Returns the ring of listed points; the last one closes it and is dropped. Errors: 119 `NotSimple`, 120
+/// `AreaTooLarge`.
 pub(crate) fn enclosed(listed: Vec<Point>) -> Result<Ring, ShapeFault>
     requires some { 4 ≤ length listed.items }
     requires few { length listed.items ≤ 201 }

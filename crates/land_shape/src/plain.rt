@@ -21,7 +21,8 @@ fn has_long_point(points: &[WrittenPoint<'_>]) -> bool
     false
 }
 
-/// Returns the only ring of a polygon without a tag, whose points have two words each.
+/// Returns the only ring of a polygon without a tag, whose points have two words each. Errors: 111 `Empty`,
+/// 112 `Inner`, 113 `ZOrM`.
 pub(crate) fn plain_ring<'a>(polygon: WrittenPolygon<'a>) -> Result<WrittenRing<'a>, ShapeFault>
     requires { IsFull (written polygon) }
     ensures { PlainRing (written polygon.entry) result }

@@ -1,12 +1,12 @@
-//! Points of the plane and the ways between them, in whole millimetres.
+//! Points of the plane and the vectors between them, in whole millimetres.
 
 ghost use Rattle.std.specs.Prelude.{◌≡◌, ◌-ℤ◌};
 ghost use Rattle.land_shape.specs.Coordinate.{IsCoordinate, IsDistance, IsTriangle, cross_of, dot_of};
 
 /// A corner of an outline, in whole millimetres.
 ///
-/// Both coordinates lie between -10_000_000_000 and 10_000_000_000. Points are in order from left to right, and from below
-/// where they are as far right.
+/// Both coordinates lie between -10_000_000_000 and 10_000_000_000. Points are ordered from left to right,
+/// then from bottom to top.
 #[derive(Clone, Copy, PartialEq, Eq, PartialOrd, Ord, Debug)]
 pub struct Point {
     pub x: i64,
@@ -15,7 +15,7 @@ pub struct Point {
     ghost y_in_range: { IsCoordinate y },
 }
 
-/// The way from one point to another.
+/// The vector from one point to another.
 #[derive(Clone, Copy)]
 pub(crate) struct Shift {
     x: i128,
@@ -25,7 +25,7 @@ pub(crate) struct Shift {
 }
 
 impl Point {
-    /// Returns the way from this point to another.
+    /// Returns the vector from this point to another.
     pub(crate) fn shift_to(self, end: Point) -> Shift
         ensures x { result.x ≡ end.x -ℤ self.x }
         ensures y { result.y ≡ end.y -ℤ self.y }
@@ -36,7 +36,7 @@ impl Point {
         }
     }
 
-    /// Returns the way from the origin to this point.
+    /// Returns the vector from the origin to this point.
     fn from_origin(self) -> Shift
         ensures x { result.x ≡ self.x }
         ensures y { result.y ≡ self.y }
@@ -47,7 +47,8 @@ impl Point {
         }
     }
 
-    /// Returns twice the area of the triangle from the origin over this point to the other, counterclockwise.
+    /// Returns twice the area of the triangle of the origin, this point and the other; positive if
+    /// counterclockwise.
     pub(crate) fn cross(self, other: Point) -> i128
         ensures value { result ≡ cross_of self.x self.y other.x other.y }
         ensures small { IsTriangle result }
@@ -57,14 +58,15 @@ impl Point {
 }
 
 impl Shift {
-    /// Returns twice the area of the triangle that two ways from one point make, counterclockwise.
+    /// Returns the cross product: twice the area of the triangle of two vectors, positive if
+    /// counterclockwise.
     pub(crate) fn cross(self, other: Shift) -> i128
         ensures { result ≡ cross_of self.x self.y other.x other.y }
     {
         self.x * other.y - self.y * other.x
     }
 
-    /// Returns the length of this way times that of the part of the other that goes along it.
+    /// Returns the dot product.
     pub(crate) fn dot(self, other: Shift) -> i128
         ensures { result ≡ dot_of self.x self.y other.x other.y }
     {

@@ -1,4 +1,4 @@
-//! What a whole text is: a polygon without points, or one with a body.
+//! Polygons: the word EMPTY, or a body.
 
 ghost use Rattle.std.specs.Prelude.{◌≡◌, IfOk, MatchOption, Some, None};
 ghost use Rattle.std.specs.Option.{option_map};
@@ -9,7 +9,7 @@ use crate::tokens::Token;
 use crate::words::{is_empty_word, is_keyword, is_tag, is_tagged_keyword};
 use std::alloc::{AllocError, Global};
 
-/// What follows the head of a polygon.
+/// A polygon after its head.
 #[derive(Drop)]
 pub(crate) enum WrittenPolygon<'a> {
     Empty,
@@ -19,7 +19,7 @@ pub(crate) enum WrittenPolygon<'a> {
     },
 }
 
-/// Takes a tag off, and says whether there was one.
+/// Returns whether the first token is a tag, and the remainder without it.
 fn after_tag<'b, 'a>(tokens: &'b [Token<'a>]) -> (bool, &'b [Token<'a>])
     ensures tagged { result.0 ≡ (after_tag tokens.now).0 }
     ensures rest { result.1.now ≡ (after_tag tokens.now).1 }
@@ -32,7 +32,8 @@ fn after_tag<'b, 'a>(tokens: &'b [Token<'a>]) -> (bool, &'b [Token<'a>])
     (false, tokens)
 }
 
-/// Takes the keyword and a tag off, and says whether there was a tag. None where there is no keyword.
+/// Returns whether the head has a tag, and the tokens after the head. `None` if the first token is not the
+/// keyword.
 fn after_head<'b, 'a>(tokens: &'b [Token<'a>]) -> Option<(bool, &'b [Token<'a>])>
     ensures { MatchOption result (after_head tokens.now ≡ None) (λ r. after_head tokens.now ≡ Some (r.0, r.1.now)) }
 {
@@ -48,7 +49,7 @@ fn after_head<'b, 'a>(tokens: &'b [Token<'a>]) -> Option<(bool, &'b [Token<'a>])
     Some(after_tag(rest))
 }
 
-/// Whether the tokens are the word EMPTY alone.
+/// Whether the tokens are only the word EMPTY.
 fn is_empty_alone(tokens: &[Token<'_>]) -> bool
     ensures { result ≡ is_empty_alone tokens.now }
 {
@@ -58,7 +59,7 @@ fn is_empty_alone(tokens: &[Token<'_>]) -> bool
     false
 }
 
-/// Returns the polygon of a whole text, or None where it is none.
+/// Returns the polygon of a whole text, or `None` if it is not one.
 pub(crate) fn polygon_of<'a>(
     alloc: Global,
     tokens: &[Token<'a>],

@@ -1,4 +1,4 @@
-//! Rings as text.
+//! Writes rings as text.
 
 ghost use Rattle.std.specs.Prelude.{◌≡◌, ◌<◌, ◌++◌, length, OnOk, IfOk, string_bytes};
 ghost use Rattle.land_shape.specs.Printed.{point_text, printed};
@@ -8,7 +8,7 @@ use crate::plane::Point;
 use std::alloc::{AllocError, Global};
 use std::fmt::Write;
 
-/// Adds the two numbers of a point.
+/// Appends the two numbers of a point.
 fn push_point(out: &mut String, point: Point) -> Result<(), AllocError>
     ensures { OnOk result (string_bytes out.new ≡ string_bytes out.old ++ point_text (place_of point)) }
 {
@@ -17,7 +17,7 @@ fn push_point(out: &mut String, point: Point) -> Result<(), AllocError>
     write!(out, "{x} {y}")
 }
 
-/// Returns the printed form of a ring.
+/// Returns the canonical form of a ring.
 pub(crate) fn write_points(alloc: Global, points: &[Point]) -> Result<String, AllocError>
     requires { 0 < length points.now }
     ensures { IfOk result (λ text. string_bytes text ≡ printed (places points.now)) }

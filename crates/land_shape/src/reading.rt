@@ -17,7 +17,7 @@ use crate::polygon::{WrittenPolygon, polygon_of};
 use crate::tokens::tokens_of;
 use std::alloc::Global;
 
-/// Returns the polygon that the whole text is.
+/// Returns the polygon of the whole text. Error: 110 `NotPolygon`, or 501.
 fn find_polygon<'a>(alloc: Global, text: &'a str) -> Result<WrittenPolygon<'a>, ShapeFault>
     ensures polygon { IfOk result (λ polygon. IsPolygon text.entry.now (written polygon)) }
     ensures fault { IfErr result (λ fault. fault ≢ ShapeFault.NoMemory → IsFirst text.entry.now fault) }
@@ -29,7 +29,7 @@ fn find_polygon<'a>(alloc: Global, text: &'a str) -> Result<WrittenPolygon<'a>, 
     }
 }
 
-/// Returns the points that the whole text lists, the last of them included.
+/// Returns the points that the whole text lists, including the last. Errors: 110 to 115, or 501.
 fn find_points(alloc: Global, text: &str) -> Result<Vec<Point>, ShapeFault>
     ensures points { IfOk result (λ points. IsPlainList text.now (places points.items)) }
     ensures fault { IfErr result (λ fault. fault ≢ ShapeFault.NoMemory → IsFirst text.now fault) }
@@ -39,10 +39,11 @@ fn find_points(alloc: Global, text: &str) -> Result<Vec<Point>, ShapeFault>
     listed_points(alloc, ring.points())
 }
 
-/// Reads the outline of a parcel: a polygon of one ring in the well-known text of OGC 06-103r4, in whole millimetres.
+/// Reads the outline of a parcel: a polygon of one ring in the well-known text of OGC 06-103r4, in whole
+/// millimetres.
 ///
-/// It answers a ring exactly where no fault's condition holds of the whole text. Else it answers the first fault that
-/// holds, 110 to 120 in the order of their numbers; or 501 where memory ran out, and then says nothing of the text.
+/// Returns a ring if and only if the text has no fault. Errors: the first fault of the text, 110 to 120 in
+/// the order of their numbers; or 501 if out of memory, which says nothing about the text.
 pub fn read_wkt(alloc: Global, text: &str) -> Result<Ring, ShapeFault>
     ensures ring { IfOk result (StandsFor text.now) }
     ensures fault { IfErr result (λ fault. fault ≢ ShapeFault.NoMemory → IsFirst text.now fault) }

@@ -7,7 +7,7 @@ ghost use Rattle.land_shape.specs.Simple.{place_of};
 
 use crate::plane::Point;
 
-/// How two segments and the way between their starts turn against each other.
+/// The cross products of two segments and of the vector between their starts.
 #[derive(Clone, Copy)]
 struct Turns {
     whole: i128,

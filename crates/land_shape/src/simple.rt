@@ -10,10 +10,10 @@ use crate::corners::{corner, corner_after};
 use crate::plane::Point;
 use crate::segment::have_common_point;
 
-/// How many edges in a row are held against each later edge at once.
+/// The number of consecutive edges that are compared with each later edge by their common box.
 const GROUP: usize = 8;
 
-/// Whether the edges from `i` and from a later `j`, which are no neighbours, have a common point.
+/// Whether the edges from `i` and from a later `j`, which are not neighbours, have a common point.
 fn edges_meet(points: &[Point], i: usize, j: usize) -> bool
     requires i_in { i < length points.now }
     requires j_in { j < length points.now }
@@ -38,7 +38,7 @@ fn meet_at_joint(a: Point, b: Point, c: Point) -> bool
     first.cross(second) != 0 || first.dot(second) >= 0
 }
 
-/// Whether the edges from `i` and from a later `j` have no common point but their joint.
+/// Whether the edges from `i` and from a later `j` have no common point except their joint.
 fn meet_rightly(points: &[Point], i: usize, j: usize) -> bool
     requires order { i < j }
     requires within { j < length points.now }
@@ -62,7 +62,8 @@ fn meet_rightly(points: &[Point], i: usize, j: usize) -> bool
     }
 }
 
-/// Whether those edges from `start` to before `end` that come before `j` meet the edge from `j` rightly.
+/// Whether the edges with index at least `start`, below `end` and below `j` meet the edge from `j` only at
+/// joints.
 fn earlier_meet_rightly(points: &[Point], start: usize, end: usize, j: usize) -> bool
     requires within { j < length points.now }
     requires long { HaveLength (places points.now) }
@@ -76,7 +77,8 @@ fn earlier_meet_rightly(points: &[Point], start: usize, end: usize, j: usize) ->
     true
 }
 
-/// Whether the edges from `start` to before `end` meet each later one rightly. An edge that does not reach their box meets none.
+/// Whether the edges with index at least `start` and below `end` meet each later one only at joints. An edge
+/// outside their box meets none of them, so it is skipped.
 fn group_meets_rightly(points: &[Point], start: usize, end: usize) -> bool
     requires order { start < end }
     requires within { end ≤ length points.now }
@@ -94,7 +96,7 @@ fn group_meets_rightly(points: &[Point], start: usize, end: usize) -> bool
     true
 }
 
-/// Where the group of edges that starts at `start` ends.
+/// Returns the end of the group of edges that starts at `start`.
 fn group_end(count: usize, start: usize) -> usize
     requires { start < count }
     ensures some { start < result }
@@ -107,7 +109,7 @@ fn group_end(count: usize, start: usize) -> usize
     }
 }
 
-/// Whether no two different edges have a common point but the joint of neighbours.
+/// Whether no two different edges have a common point except the joint of neighbours.
 fn all_meet_rightly(points: &[Point]) -> bool
     requires long { HaveLength (places points.now) }
     ensures { IsTrue result ↔ AllMeetRightly (places points.now) }
@@ -135,7 +137,8 @@ fn have_length(points: &[Point]) -> bool
     true
 }
 
-/// Whether each edge has two different ends, and no two edges have a common point but the joint of neighbours.
+/// Whether each edge has two different ends, and no two edges have a common point except the joint of
+/// neighbours.
 pub(crate) fn is_apart(points: &[Point]) -> bool
     ensures { IsTrue result ↔ (HaveLength (places points.now) × AllMeetRightly (places points.now)) }
 {

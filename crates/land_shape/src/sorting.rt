@@ -9,7 +9,7 @@ ghost use Rattle.land_shape.specs.Walks.{HaveSameEdges, IsOneOf, Rises, edge_bef
 use crate::edges::Edge;
 use crate::plane::Point;
 
-/// Returns the points from left to right.
+/// Returns the points sorted from left to right, then from bottom to top.
 pub(crate) fn sorted_points(points: Vec<Point>) -> Vec<Point>
     ensures rise { Rises is_before (places result.items) }
     ensures all { (p : Place) → IsOneOf p (places points.items) → IsOneOf p (places result.items) }
@@ -20,7 +20,7 @@ pub(crate) fn sorted_points(points: Vec<Point>) -> Vec<Point>
     sorted
 }
 
-/// Returns the edges in order.
+/// Returns the edges, sorted.
 fn sorted_edges(list: Vec<Edge>) -> Vec<Edge>
     ensures rise { Rises edge_before (edges result.items) }
     ensures same { HaveSameEdges (edges result.items) (edges list.items) }
@@ -30,7 +30,7 @@ fn sorted_edges(list: Vec<Edge>) -> Vec<Edge>
     sorted
 }
 
-/// Whether two lists have each edge as often.
+/// Whether two lists contain each edge equally often.
 pub(crate) fn have_same_edges(list: Vec<Edge>, other: Vec<Edge>) -> bool
     ensures { IsTrue result ↔ HaveSameEdges (edges list.items) (edges other.items) }
 {

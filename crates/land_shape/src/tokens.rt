@@ -6,7 +6,7 @@ ghost use Rattle.land_shape.specs.Tokens.{is_word_byte, mark_of, word_of, tokens
 use std::alloc::{AllocError, Global};
 use std::marker::Model;
 
-/// A word of a text, which contracts see as its bytes.
+/// A word of a text. Contracts see it as its bytes.
 #[derive(Drop)]
 pub(crate) struct Word<'a> {
     bytes: &'a [u8],
@@ -27,7 +27,7 @@ impl<'a> Word<'a> {
         self.bytes
     }
 
-    /// Returns the same word once more, which takes no memory.
+    /// Returns a copy of the word. Allocates nothing.
     pub(crate) fn copy(&self) -> Word<'a>
         ensures { result ≡ self.now }
     {
@@ -44,14 +44,14 @@ pub(crate) enum Token<'a> {
     Word(Word<'a>),
 }
 
-/// Whether a byte stands in a word: it is no parenthesis, comma or white space.
+/// Whether a byte can be part of a word: not a parenthesis, comma or white space.
 fn is_word_byte(byte: u8) -> bool
     ensures { result ≡ is_word_byte byte }
 {
     !matches!(byte, b'(' | b')' | b',' | b' ' | b'\t' | b'\n' | b'\r')
 }
 
-/// Adds the word, if it is not empty.
+/// Appends the word, if it is not empty.
 fn push_word<'a>(tokens: &mut Vec<Token<'a>>, bytes: &'a [u8]) -> Result<(), AllocError>
     ensures { OnOk result (tokens.new.items ≡ tokens.old.items ++ word_of bytes.now) }
 {
@@ -61,7 +61,7 @@ fn push_word<'a>(tokens: &mut Vec<Token<'a>>, bytes: &'a [u8]) -> Result<(), All
     Ok(())
 }
 
-/// Adds what a byte outside a word stands for.
+/// Appends the token of a byte outside a word, if it is one.
 fn push_mark(tokens: &mut Vec<Token<'_>>, byte: u8) -> Result<(), AllocError>
     ensures { OnOk result (tokens.new.items ≡ tokens.old.items ++ mark_of byte) }
 {

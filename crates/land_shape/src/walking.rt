@@ -18,7 +18,7 @@ fn is_before(a: Point, b: Point) -> bool
     a < b
 }
 
-/// Returns the number of of the corners come before a point.
+/// Returns the number of corners before a point.
 fn count_before(corners: &[Point], point: Point) -> usize
     requires { Rises is_before (places corners.now) }
     ensures within { result ≤ length corners.now }
@@ -40,8 +40,8 @@ fn corners_near(corners: &[Point], edge: Edge) -> &[Point]
     &rest[..end]
 }
 
-/// Returns some edges, and then the pieces of one that leads to a later point: from each corner to the next
-/// that lies inside it.
+/// Appends the pieces of an edge that leads to a later point: from each corner that lies inside it to the
+/// next.
 fn with_walk(so_far: Vec<Edge>, corners: &[Point], edge: Edge) -> Result<Vec<Edge>, AllocError>
     ensures { IfOk result (λ v. edges v.items ≡ edges so_far.items ++ walk (place_of edge.from) (place_of edge.to) (places corners.now)) }
 {
@@ -67,7 +67,7 @@ fn with_walk(so_far: Vec<Edge>, corners: &[Point], edge: Edge) -> Result<Vec<Edg
     Ok(all)
 }
 
-/// Returns some edges, and then the pieces of those of a list that lead to a later point.
+/// Appends the pieces of those edges of a list that lead to a later point.
 fn with_walks(so_far: Vec<Edge>, corners: &[Point], list: &[Edge]) -> Result<Vec<Edge>, AllocError>
     requires { Rises is_before (places corners.now) }
     ensures { IfOk result (λ v. edges v.items ≡ edges so_far.items ++ walks (places corners.now) (edges list.now)) }
@@ -81,7 +81,7 @@ fn with_walks(so_far: Vec<Edge>, corners: &[Point], list: &[Edge]) -> Result<Vec
     Ok(all)
 }
 
-/// Returns the edges the other way round.
+/// Returns the reversed edges.
 fn reversed(alloc: Global, list: &[Edge]) -> Result<Vec<Edge>, AllocError>
     ensures { IfOk result (λ v. edges v.items ≡ map reversed (edges list.now)) }
 {
@@ -92,7 +92,7 @@ fn reversed(alloc: Global, list: &[Edge]) -> Result<Vec<Edge>, AllocError>
     Ok(all)
 }
 
-/// Returns the pieces from left to right of some edges, and of others the other way round.
+/// Returns the pieces of some edges, and of other edges reversed, that lead from left to right.
 pub(crate) fn pieces_one_way(
     alloc: Global,
     corners: &[Point],

@@ -4,7 +4,7 @@ ghost use Rattle.std.specs.Prelude.{◌≡◌};
 ghost use Rattle.std.specs.Str.{str_eq_ignore_ascii_case};
 ghost use Rattle.land_shape.specs.Grammar.{is_keyword, is_tag, is_tagged_keyword, is_empty_word};
 
-/// Whether a word is the other, in any letter case.
+/// Whether two words are equal, ignoring ASCII case.
 fn spells(word: &[u8], other: &[u8]) -> bool
     ensures { result ≡ str_eq_ignore_ascii_case word.now other.now }
 {

@@ -1,4 +1,4 @@
--- Texts that are written one after another, whole or cut short, and counted.
+-- Lemmas on texts that are written in order, whole or truncated, with counted bytes.
 use Rattle.std.proofs.Common.{◌≡◌, ◌≤◌, ◌+◌, ◌<◌, ◌-◌, ℕ, List, [], ◌∷◌, ◌++◌, length, take, drop, Option, sym, ap, subst, ◌∙◌, arith, append-nil, length-append, length-drop, take-add, take-append-drop, get_or}
 use Rattle.std.specs.List.{flat_map}
 use Rattle.std.specs.Io.KnownBytes.{Appends}
@@ -8,7 +8,7 @@ use Rattle.std.proofs.lemmas.List.{take-append-le, take_all, take_more}
 use Rattle.std.proofs.Math.Seq.{take-append-add, take-length}
 use Rattle.land_streams.specs.Writing.{IsFront, IsWhole}
 
--- what the writer takes of the bytes that are left goes out behind those before
+-- the bytes that the writer accepts are appended to those before
 pub send_more : (bytes : List ℕ) (i n : ℕ) (a b c : Option (List ℕ)) → i ≤ length bytes
     → n ≤ length (take (length bytes - i) (drop i bytes)) → Appends a b (take i bytes)
     → Appends b c (take n (take (length bytes - i) (drop i bytes)))
@@ -28,7 +28,7 @@ none_written text before a = (0, omega arith, omega arith, Appends-nil a)
 pub whole_then : (text more : List ℕ) (i j k : ℕ) (a b c : Option (List ℕ)) → IsWhole text i j a b → IsWhole more j k b c → IsWhole (text ++ more) i k a c
 whole_then text more i j k a b c first second = (omega (arith, first.0, second.0, length-append text more), Appends-trans a b c text more first.1 second.1)
 
--- a text and then a front of another one
+-- a text and then a prefix of another one
 pub front_then : (text more : List ℕ) (i j k : ℕ) (a b c : Option (List ℕ)) → IsWhole text i j a b → IsFront more j k b c → IsFront (text ++ more) i k a c
 front_then text more i j k a b c first second = (
   length text + second.0,
@@ -37,11 +37,11 @@ front_then text more i j k a b c first second = (
   rw (take-append-add text more second.0) (Appends-trans a b c text (take second.0 more) first.1 second.3),
 )
 
--- a front of a text is one of the text with more behind it
+-- a prefix of a text is a prefix of a longer text
 pub front_of : (text more : List ℕ) (i j : ℕ) (a b : Option (List ℕ)) → IsFront text i j a b → IsFront (text ++ more) i j a b
 front_of text more i j a b it = (it.0, omega (arith, it.1, length-append text more), it.2, rw (take-append-le it.0 text more it.1) it.3)
 
--- a whole text is a front of it with more behind it
+-- a whole text is a prefix of a longer text
 pub whole_front : (text more : List ℕ) (i j : ℕ) (a b : Option (List ℕ)) → IsWhole text i j a b → IsFront (text ++ more) i j a b
 whole_front text more i j a b it =
     front_of text more i j a b (length text, omega arith, it.0, rw (take-length text) it.1)

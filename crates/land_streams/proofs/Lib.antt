@@ -1,2 +1,2 @@
--- Lemmas of what is written of a text.
+-- Lemmas on written texts.
 pub mod Fronts

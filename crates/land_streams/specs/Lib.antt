@@ -1,2 +1,2 @@
--- Definitions of what is written of a text.
+-- Definitions of written texts.
 pub mod Writing

@@ -1,4 +1,4 @@
-//! The bytes of a stream that were read ahead.
+//! The buffer of the bytes of a stream that are read but not yet consumed.
 ghost use Rattle.std.specs.Prelude.{◌≡◌, ◌≤◌, ◌<◌, ◌+◌, ◌*◌, ◌++◌, ◌⊎◌, ℕ, List, length, drop, vec_len, vec_capacity, IfOk, IfErr, IfSome, true, false};
 ghost use Rattle.std.specs.Io.KnownBytes.{Consumes, IsAtEnd, Keeps, prepend_known};
 
@@ -6,15 +6,17 @@ use crate::counted_reader::CountedReader;
 use crate::stream_fault::StreamFault;
 use std::io::Read;
 
-/// The bytes that one read asks for.
+/// The size of one read, in bytes.
 const PIECE: usize = 1024;
 
-/// The room that the buffer keeps from one item to the next, where what it holds needs no more.
+/// The capacity, in bytes, to which the buffer shrinks after an item, unless it contains more.
 const ROOM_KEPT: usize = 16_384;
 
-/// Asks the reader once for a piece at the end of the buffer. 0 comes at the end of the input alone. Whatever comes, no
-/// byte of the stream is lost. `Read`: the reader failed, or was asked too often. `NoMemory`: there was no room for the
-/// piece, and the reader was not asked.
+/// Reads one chunk and appends it to the buffer. Returns the number of bytes read; 0 only at the end of the
+/// input. No byte of the stream is lost in any case.
+///
+/// Errors: `Read` if the reader failed or the budget of reads is spent; `NoMemory` if the chunk could not be
+/// allocated, in which case the reader was not called.
 pub fn read_more<R: Read>(
     reader: &mut CountedReader<'_, R>,
     buffer: &mut Vec<u8>,
@@ -30,7 +32,8 @@ pub fn read_more<R: Read>(
     ensures end { IfOk result (λ n. n ≡ 0 → IsAtEnd (R.remaining reader.new.reader.now)) }
     ensures same_reference { reader.new.reader.ghost_name ≡ reader.old.reader.ghost_name }
 
-    // `NoMemory` is returned only if there was no room for a piece; `Read` only if the reader was called, or its budget was spent.
+    // `NoMemory` is returned only if the buffer has no capacity for a chunk; `Read` only if the reader was
+    // called or its budget was spent.
     ensures memory { IfErr result (λ e. e ≡ StreamFault.NoMemory → vec_capacity buffer.new < vec_len buffer.new + 1024) }
     ensures failed { IfErr result (λ e. e ≡ StreamFault.Read → ((reader.old.left ≡ 0) × (reader.new.left ≡ 0))
         ⊎ ((reader.old.left ≡ reader.new.left + 1) × (vec_len buffer.new + 1024 ≤ vec_capacity buffer.new))) }
@@ -48,8 +51,8 @@ pub fn read_more<R: Read>(
     Ok(n)
 }
 
-/// Reads on until the buffer has `end` bytes, and asks for no piece more. `false`: the stream ends before. Errors are those
-/// of `read_more`.
+/// Reads until the buffer has at least `end` bytes, without a further chunk. Returns `false` if the stream
+/// ends before. Errors: those of `read_more`.
 pub fn read_to<R: Read>(
     reader: &mut CountedReader<'_, R>,
     buffer: &mut Vec<u8>,
@@ -67,7 +70,8 @@ pub fn read_to<R: Read>(
     ensures cut { IfOk result (λ w. w ≡ false → IfSome (prepend_known buffer.new.items (R.remaining reader.new.reader.now))
         (λ stream. length stream < end)) }
 
-    // `NoMemory` is returned only if there was no room for a piece; `Read` only if the reader was called, or its budget was spent.
+    // `NoMemory` is returned only if the buffer has no capacity for a chunk; `Read` only if the reader was
+    // called or its budget was spent.
     ensures memory { IfErr result (λ e. e ≡ StreamFault.NoMemory → vec_capacity buffer.new < vec_len buffer.new + 1024) }
     ensures failed { IfErr result (λ e. e ≡ StreamFault.Read → (reader.new.left ≡ 0)
         ⊎ ((reader.new.left < reader.old.left) × (vec_len buffer.new + 1024 ≤ vec_capacity buffer.new))) }
@@ -84,7 +88,7 @@ pub fn read_to<R: Read>(
     }
 }
 
-/// Drops the first `n` bytes of the buffer, and gives back the room that a long body took.
+/// Removes the first `n` bytes of the buffer, and frees the capacity that a long body needed.
 pub fn drop_front(buffer: &mut Vec<u8>, n: usize)
     requires { n ≤ length buffer.old.items }
     ensures { buffer.new.items ≡ drop n buffer.old.items }

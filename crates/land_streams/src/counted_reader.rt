@@ -1,4 +1,4 @@
-//! A reader that is asked so often, and no more.
+//! A reader with a limit on the number of reads.
 ghost use Rattle.std.specs.Prelude.{◌≡◌, ◌<◌, ◌-◌, IfOk};
 ghost use Rattle.std.specs.Io.{ReadsAtMost};
 ghost use Rattle.std.specs.Io.KnownBytes.{ReadConsumes};
@@ -6,10 +6,10 @@ ghost use Rattle.std.specs.Io.KnownBytes.{ReadConsumes};
 use crate::stream_fault::StreamFault;
 use std::io::Read;
 
-/// How often the reader of a stream is asked before it counts as failed.
+/// The maximum number of reads of a stream.
 pub const MOST_READS: u64 = 10_000_000;
 
-/// The reader of a stream, which it borrows, with how often it may still be asked.
+/// A borrowed reader, with the number of reads left.
 #[derive(Debug, Drop)]
 pub struct CountedReader<'a, R> {
     reader: &'a mut R,
@@ -17,7 +17,7 @@ pub struct CountedReader<'a, R> {
 }
 
 impl<'a, R> CountedReader<'a, R> {
-    /// Returns a reader that has not been asked yet.
+    /// Returns a reader with the full budget of reads.
     pub fn new(reader: &'a mut R) -> CountedReader<'a, R>
         ensures same { result.reader.now ≡ reader.old }
         ensures left { result.left ≡ 10000000 }
@@ -26,7 +26,7 @@ impl<'a, R> CountedReader<'a, R> {
         CountedReader::with_budget(reader, MOST_READS)
     }
 
-    /// Returns a reader that may be asked so often.
+    /// Returns a reader with this budget of reads.
     pub fn with_budget(reader: &'a mut R, left: u64) -> CountedReader<'a, R>
         ensures same { result.reader.now ≡ reader.old }
         ensures left { result.left ≡ left }
@@ -37,8 +37,8 @@ impl<'a, R> CountedReader<'a, R> {
 }
 
 impl<R: Read> CountedReader<'_, R> {
-    /// Asks the reader once, and counts it. `Read`: the reader failed, or has been asked as often as it may be, and then
-    /// it is not asked.
+    /// Reads once, and counts the read. Error: `Read` if the reader failed, or if the budget is spent, in
+    /// which case the reader is not called.
     pub fn read(&mut self, piece: &mut [u8]) -> Result<usize, StreamFault>
         ensures spends { self.new.left ≡ self.old.left - 1 }
         ensures asked { IfOk result (λ n. 0 < self.old.left) }

@@ -1,6 +1,6 @@
-//! Bytes from a reader and to a writer. A stream is what was read ahead (`buffer`) and what its reader has left, which is asked so often and
-//! no more (`counted_reader`). A text is written whole or cut short (`send`), in pieces whose bytes are counted (`put`), and how many bytes
-//! went out is known in either case.
+//! Byte streams. Input is buffered (`buffer`) from a reader with a limited number of reads
+//! (`counted_reader`). Output is written whole or truncated (`send`), in pieces whose bytes are counted
+//! (`put`); on error, the number of bytes written is known.
 #![tactic(auto)]
 
 pub mod buffer;

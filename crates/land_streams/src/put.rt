@@ -1,12 +1,13 @@
-//! Pieces of a text to a writer.
+//! Writes pieces of a text and counts their bytes.
 ghost use Rattle.std.specs.Prelude.{◌<◌, ◌+◌, length, IfErr, IfOk};
 ghost use Rattle.land_streams.specs.Writing.{IsFront, IsWhole};
 
 use crate::send::send;
 use std::io::Write;
 
-/// Writes a piece after `written` bytes, and returns the number of bytes written then. The error is that number too: the writer failed or
-/// took 0 bytes before the end of the piece. Nothing of a piece is written if 64 bits could not count the bytes.
+/// Writes a piece, and returns `written` plus its length. If the writer fails or accepts 0 bytes, the error
+/// is `written` plus the number of bytes of the piece that were written. If the count would exceed 64 bits,
+/// writes nothing.
 pub fn put<W: Write>(writer: &mut W, written: u64, piece: &[u8]) -> Result<u64, u64>
     ensures ok { IfOk result (λ n. IsWhole piece.now written n (W.contents writer.old) (W.contents writer.new)) }
     ensures err { IfErr result (λ n. IsFront piece.now written n (W.contents writer.old) (W.contents writer.new)) }

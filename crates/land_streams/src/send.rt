@@ -1,10 +1,10 @@
-//! Bytes to a writer.
+//! Writes bytes.
 ghost use Rattle.std.specs.Prelude.{◌<◌, length, take, IfErr, OnOk};
 ghost use Rattle.std.specs.Io.KnownBytes.{Appends};
 
 use std::io::Write;
 
-/// Writes all the bytes. The error says how many of them went out before the writer failed or took 0 bytes.
+/// Writes all bytes. If the writer fails or accepts 0 bytes, the error is the number of bytes written before.
 pub fn send<W: Write>(writer: &mut W, bytes: &[u8]) -> Result<(), usize>
     ensures ok { OnOk result (Appends (W.contents writer.old) (W.contents writer.new) bytes.now) }
     ensures err { IfErr result (λ n. (n < length bytes.now)

@@ -1,10 +1,10 @@
-//! Why a stream could not be read on.
+//! Errors of reading a stream.
 
-/// Why a stream could not be read on.
+/// Errors of reading a stream.
 #[derive(Clone, Copy, Debug, PartialEq, Eq)]
 pub enum StreamFault {
-    /// The reader failed, or has been asked too often.
+    /// The reader failed, or its budget of reads is spent.
     Read,
-    /// There was no memory for what was read.
+    /// Out of memory for the buffer.
     NoMemory,
 }

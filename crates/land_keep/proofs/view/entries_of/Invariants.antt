@@ -5,7 +5,7 @@ use Rattle.land_keep.specs.Sheets.{entries_seen, named_rrr}
 use Rattle.land_rules.specs.Rules.{sees}
 use Rattle.land_keep.proofs.view.entries_of.Given as goal
 
--- the entries so far, and those to come
+-- the entries collected, followed by the remaining ones, are the result
 abbrev pub invariant-loop-number : goal.invariant-loop-number
 invariant-loop-number l =
     l.entries ++ map_list (λ e. named_rrr l.register e.0 e.1) (filter (λ e. nat_eq e.1.unit l.unit && sees l.register l.caller kind.Rrr e.0) l.number-iterator)

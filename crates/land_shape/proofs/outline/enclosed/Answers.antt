@@ -15,7 +15,7 @@ use Rattle.land_shape.specs.Simple.{places, place_of, HaveLength, AllMeetRightly
 use Rattle.land_shape.proofs.OutlineLemmas.{all_written, ring_of-points, outlined}
 use Rattle.land_shape.proofs.outline.enclosed.Goals as goal
 
--- what the calls found of the points that are kept
+-- the results of the checks of the ring's points
 record Found (ring listed : List Point) (area : ℤ) : Type 0 where
   is_ring : places ring ≡ ring_of (places listed)
   outline : IsOutline (places ring)

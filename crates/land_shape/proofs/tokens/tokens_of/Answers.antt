@@ -1,4 +1,4 @@
--- A word byte makes the word begun longer; any other byte ends it.
+-- A word byte extends the current word; any other byte ends it.
 use Rattle.std.proofs.Common.{◌≡◌, ◌+◌, ◌-◌, ◌++◌, true, false, take, drop, get_or, arith, sym, ap, ◌∙◌, List}
 use Rattle.land_shape.specs.declared.tokens.Token.{Token}
 use Rattle.land_shape.specs.Tokens.{is_word_byte}

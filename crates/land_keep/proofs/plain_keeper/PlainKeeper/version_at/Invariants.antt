@@ -4,6 +4,6 @@ use Rattle.std.specs.Option.{option_copied}
 use Rattle.land_keep.specs.Timeline.{version_at}
 use Rattle.land_keep.proofs.plain_keeper.PlainKeeper.version_at.Given as goal
 
--- what was found so far leads, over what is left, to what is found in all
+-- continuing from the version found so far over the remaining ones yields the result
 abbrev pub invariant-loop-version : goal.invariant-loop-version
 invariant-loop-version l = fold (λ found v. if int_le v.stamp l.t then Some v else found) (option_copied l.found) (drop l.version-index l.self) ≡ version_at l.self l.t
