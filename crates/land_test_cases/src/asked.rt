@@ -1,4 +1,4 @@
-//! What rows ask for, and the acts and asks made of it.
+//! Requests as rows of tests write them, and the acts and requests that they denote.
 use crate::lodged::{RowContent, lodging};
 use crate::stop::Stop;
 use land_core::act::{
@@ -34,22 +34,22 @@ pub enum RowAct {
     Revoke(u64, Role),
     /// The agent of a mandate of the caller.
     Mandate(u64),
-    /// The principal and the agent of a mandate that ends.
+    /// The principal and the agent of a mandate to withdraw.
     Withdraw(u64, u64),
-    /// A unit, its shares checked or not, with so many parcels and these rights.
+    /// A unit: whether its shares are checked, its number of parcels, and its rights.
     Register(bool, usize, &'static [Right]),
-    /// A unit under another name than the garden's, its shares checked, with one parcel and these rights.
+    /// A unit with this name instead of the garden's, with checked shares, one parcel and these rights.
     RegisterAs(&'static str, &'static [Right]),
     /// The class of a burden, its unit and its party.
     Burden(BurdenClass, u64, u64),
     Lift(u64),
-    /// A reference, the title of a document, and what is asked for.
+    /// A reference, the title of a document, and the content.
     Lodge(&'static str, &'static str, RowContent),
     Approve(u64),
     Refuse(u64),
 }
 
-/// What a row asks.
+/// A request of a row.
 pub enum RowAsk {
     Do(RowAct),
     View(Kind, u64, Option<i64>),
@@ -62,7 +62,7 @@ pub const OFFICE: Caller = Caller {
     role: Role::StateAdministrator,
 };
 
-/// What is written in a first registration: the unit's name, its document's title, and its parcels' label.
+/// The texts of a registration: the unit's name, its document's title, and its parcels' label.
 #[derive(Drop)]
 pub struct Words<'a> {
     pub name: &'a str,
@@ -98,7 +98,7 @@ fn square(alloc: Global, label: &str) -> Result<NewParcel, Stop> {
     })
 }
 
-/// Returns squares of ten metres, so many of them.
+/// Returns this number of squares of ten metres.
 fn squares(alloc: Global, count: usize, label: &str) -> Result<Sequence<NewParcel>, Stop> {
     let mut parcels = Sequence::new(alloc);
     for _ in 0..count {
@@ -200,7 +200,7 @@ pub fn act(alloc: Global, it: &RowAct) -> Result<Act, Stop> {
     })
 }
 
-/// What a row asks, as it is asked.
+/// Returns the request of a row.
 pub fn ask(alloc: Global, it: &RowAsk) -> Result<Ask, Stop> {
     Ok(match it {
         RowAsk::Do(it) => Ask::Do(act(alloc, it)?),

@@ -1,6 +1,6 @@
-//! Cases: acts and asks as rows of tests have them, objects and replies in one line each, and rows that are run over a new register and
-//! compared with their full replies; the steps that other rows begin with; why a test stops. Nothing here has a contract: it is for tests
-//! alone.
+//! Cases: acts and requests as rows of tests write them; objects and replies in one line each; rows that are
+//! run on a new register and compared with their full replies; the steps with which other rows begin; errors
+//! of tests. Only for tests: nothing here has a contract.
 #![tactic(auto)]
 
 pub mod asked;

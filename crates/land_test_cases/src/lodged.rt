@@ -1,4 +1,4 @@
-//! Mutations: what rows ask for, the lodgings made of it, and what is shown of them in one line.
+//! Mutations: contents as rows write them, the lodgings that they denote, and mutations in one line.
 use crate::asked::text;
 use crate::stop::Stop;
 use land_core::act::{Lodging, NewParcel};
@@ -15,10 +15,10 @@ use std::alloc::{AllocError, Global};
 /// A parcel's label and outline.
 pub struct RowParcel(pub &'static str, pub &'static str);
 
-/// A part's label and outline, and the name of the new unit that it goes to.
+/// A part's label and outline, and the name of its new unit, if any.
 pub struct RowPart(pub &'static str, pub &'static str, pub Option<&'static str>);
 
-/// What a mutation of a row asks for.
+/// The content of a mutation of a row.
 pub enum RowContent {
     /// A unit, a right, a receiver, and the numerator and denominator of a share.
     Transfer(u64, u64, u64, u64, u64),

@@ -1,4 +1,4 @@
-//! Rows: requests that are run in turn over a new register, each with its full reply.
+//! Rows: requests that are run in order on a new register, each with its full reply.
 use crate::asked::{RowAsk, ask};
 use crate::stop::Stop;
 use crate::told::is_told;
@@ -10,10 +10,10 @@ use land_keep::plain_keeper::PlainKeeper;
 use land_keep::reply::Reply;
 use std::alloc::{AllocError, Global};
 
-/// A reading of the clock, who asks what, and the reply in one line.
+/// A reading of the clock, the caller, the request, and the reply in one line.
 pub struct Row(pub i64, pub Caller, pub RowAsk, pub &'static str);
 
-/// A clock that reads the rows' readings in turn, and then 0.
+/// A clock that returns the rows' readings in order, and then 0.
 #[derive(Drop)]
 struct RowClock<'a> {
     rows: &'a [&'a Row],
@@ -40,7 +40,7 @@ fn add_all<'a>(all: &mut Vec<&'a Row>, rows: &'a [Row]) -> Result<(), AllocError
     Ok(())
 }
 
-/// Returns the rows of some parts, in their order.
+/// Returns the rows of these parts, in order.
 fn rows_of<'a>(alloc: Global, parts: &[&'a [Row]]) -> Result<Vec<&'a Row>, AllocError> {
     let mut all = Vec::new(alloc);
     for part in parts {
@@ -49,7 +49,7 @@ fn rows_of<'a>(alloc: Global, parts: &[&'a [Row]]) -> Result<Vec<&'a Row>, Alloc
     Ok(all)
 }
 
-/// Returns the rows that others begin with, and these, in their order.
+/// Returns the rows of the base and then these, in order.
 fn all_of<'a>(
     alloc: Global,
     base: &[&'a [Row]],
@@ -75,7 +75,7 @@ fn requests(alloc: Global, rows: &[&Row]) -> Result<Vec<Request>, Stop> {
     Ok(requests)
 }
 
-/// Returns the replies to requests over a keeper; the rows read the clock.
+/// Returns the replies of a keeper to requests. The rows determine the readings of the clock.
 fn answered_by(
     alloc: Global,
     keeper: &mut PlainKeeper,
@@ -89,13 +89,13 @@ fn answered_by(
     Ok(run(alloc, keeper, &mut clock, requests)?)
 }
 
-/// Returns the replies to requests over a new register; the rows read the clock.
+/// Returns the replies to requests on a new register. The rows determine the readings of the clock.
 pub fn answered(alloc: Global, rows: &[&Row], requests: &[Request]) -> Result<Vec<Reply>, Stop> {
     let mut keeper = PlainKeeper::new(alloc)?;
     answered_by(alloc, &mut keeper, rows, requests)
 }
 
-/// Returns the place of the first row with another reply, if any.
+/// Returns the index of the first row with a different reply, if any.
 fn wrong_row(alloc: Global, rows: &[&Row], replies: &[Reply]) -> Result<Option<usize>, AllocError> {
     if rows.len() != replies.len() {
         return Ok(Some(replies.len()));
@@ -123,7 +123,7 @@ fn wrong_of_all(alloc: Global, base: &[&[Row]], rows: &[Row]) -> Result<Option<u
     wrong_of(alloc, rows.as_slice())
 }
 
-/// Plays rows over a keeper, and compares the replies in full.
+/// Runs rows on a keeper, and checks the replies in full.
 fn play_over(alloc: Global, keeper: &mut PlainKeeper, rows: &[&Row]) -> Result<(), Stop> {
     let requests = requests(alloc, rows)?;
     let replies = answered_by(alloc, keeper, rows, requests.as_slice())?;
@@ -133,21 +133,21 @@ fn play_over(alloc: Global, keeper: &mut PlainKeeper, rows: &[&Row]) -> Result<(
     }
 }
 
-/// Plays the rows of some parts over a keeper, likewise.
+/// Runs the rows of these parts on a keeper, and checks the replies in full.
 fn play_parts(alloc: Global, keeper: &mut PlainKeeper, parts: &[&[Row]]) -> Result<(), Stop> {
     let rows = rows_of(alloc, parts)?;
     play_over(alloc, keeper, rows.as_slice())
 }
 
-/// Plays rows over a new keeper, one after another, compares the replies in full, and gives the keeper as they left it.
+/// Runs rows on a new keeper in order, checks the replies in full, and returns the keeper.
 pub fn keeper_after(alloc: Global, parts: &[&[Row]]) -> Result<PlainKeeper, Stop> {
     let mut keeper = PlainKeeper::new(alloc)?;
     play_parts(alloc, &mut keeper, parts)?;
     Ok(keeper)
 }
 
-/// Plays the rows that these begin with and then these, one after another, over a new register, and compares the replies
-/// in full. The place of a row is counted from the first of them all.
+/// Runs the rows of the base and then these, in order, on a new register, and checks the replies in full. The
+/// index in an error counts from the first row of the base.
 pub fn play_rows(alloc: Global, base: &[&[Row]], rows: &[Row]) -> Result<(), Stop> {
     match wrong_of_all(alloc, base, rows)? {
         Some(place) => Err(Stop::Unlike("row", place)),

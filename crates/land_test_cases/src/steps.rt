@@ -1,4 +1,4 @@
-//! The steps that other rows begin with.
+//! The steps with which other rows begin.
 use crate::asked::RowAct::{Approve, Enrol, Grant, Group, Lodge, Mandate, Register, RegisterAs};
 use crate::asked::RowAsk::Do;
 use crate::asked::{OFFICE, Right, RowAsk, Share};
@@ -26,7 +26,7 @@ pub const BANK: Caller = Caller {
     role: Bank,
 };
 
-/// The bank, looking after its own holdings.
+/// The bank as a citizen, who manages its own holdings.
 pub const BANK_ITSELF: Caller = Caller {
     party: 4,
     role: Citizen,
@@ -76,7 +76,7 @@ const ENROLLED: &[Row] = &[
     ),
 ];
 
-/// The bank has its role, Nora and Sam are enrolled and have theirs, and Anna and Ben become a group.
+/// The bank gets its role, Nora and Sam are enrolled and get theirs, and Anna and Ben become a group.
 const GROUPED: &[Row] = &[
     Row(1000, OFFICE, Do(Grant(4, Bank)), "done 4 made [] at 1003"),
     Row(
@@ -106,7 +106,7 @@ const GROUPED: &[Row] = &[
     ),
 ];
 
-/// Anna a quarter, the group of Anna and Ben the rest, and Sam's lease.
+/// Anna owns a quarter, the group of Anna and Ben the remainder, and Sam has a lease.
 pub const SHARED: &[Right] = &[(2, Ownership, 1, 4), (7, Ownership, 3, 4), (6, Lease, 1, 1)];
 
 /// The garden is registered.
@@ -117,7 +117,8 @@ const REGISTERED: &[Row] = &[Row(
     "done 9 made [8, 9, 10, 11, 12, 13] at 1009",
 )];
 
-/// In place of the garden the field is registered: a unit under another name, of which Anna and the group have a half each.
+/// Instead of the garden, the field is registered: a unit with another name, of which Anna and the group own
+/// a half each.
 const FIELD_REGISTERED: &[Row] = &[Row(
     1000,
     OFFICE,
@@ -137,10 +138,10 @@ const LODGED: &[Row] = &[Row(1000, BANK, LOAN, "done 15 made [14, 15] at 1010")]
 /// The loan is approved.
 const MORTGAGED: &[Row] = &[Row(1000, OFFICE, Do(Approve(15)), "done 15 made [16] at 1011")];
 
-/// Anna's quarter of the garden goes to the group.
+/// Transfers Anna's quarter of the garden to the group.
 pub const QUARTER: RowAsk = Do(Lodge("T1", "Deed 2", Transfer(9, 11, 7, 1, 4)));
 
-/// The group's whole of the garden goes to Ben.
+/// Transfers the group's whole of the garden to Ben.
 pub const WHOLE: RowAsk = Do(Lodge("T2", "Deed 3", Transfer(9, 12, 3, 1, 1)));
 
 /// Ben has bought the garden.
@@ -154,7 +155,7 @@ const SOLD: &[Row] = &[
 /// The steps up to the mortgage on the garden.
 pub const WITH_GARDEN: &[&[Row]] = &[ENROLLED, GROUPED, REGISTERED, LODGED, MORTGAGED];
 
-/// The same steps, with the field in the garden's place.
+/// The same steps, with the field instead of the garden.
 pub const WITH_FIELD: &[&[Row]] = &[ENROLLED, GROUPED, FIELD_REGISTERED, LODGED, MORTGAGED];
 
 /// Ben's mandate to Sam.
@@ -163,37 +164,37 @@ const MANDATED: &[Row] = &[Row(1000, BEN, Do(Mandate(6)), "done 6 made [] at 101
 /// The steps up to the mortgage on the garden, and Ben's mandate to Sam.
 pub const WITH_MANDATE: &[&[Row]] = &[ENROLLED, GROUPED, REGISTERED, LODGED, MORTGAGED, MANDATED];
 
-/// Plays rows over a new register, and compares the replies in full.
+/// Runs rows on a new register, and checks the replies in full.
 pub fn play_anew(alloc: Global, rows: &[Row]) -> Result<(), Stop> {
     play_rows(alloc, &[], rows)
 }
 
-/// Plays rows where Anna, Ben and the bank are enrolled.
+/// Runs rows after the steps that enrol Anna, Ben and the bank.
 pub fn play_with_parties(alloc: Global, rows: &[Row]) -> Result<(), Stop> {
     play_rows(alloc, &[ENROLLED], rows)
 }
 
-/// Plays rows where there is the group of Anna and Ben, too.
+/// Runs rows after the steps up to the group of Anna and Ben.
 pub fn play_with_group(alloc: Global, rows: &[Row]) -> Result<(), Stop> {
     play_rows(alloc, &[ENROLLED, GROUPED], rows)
 }
 
-/// Plays rows where the garden is registered, too.
+/// Runs rows after the steps up to the registration of the garden.
 pub fn play_with_garden(alloc: Global, rows: &[Row]) -> Result<(), Stop> {
     play_rows(alloc, &[ENROLLED, GROUPED, REGISTERED], rows)
 }
 
-/// Plays rows where the loan is lodged, too.
+/// Runs rows after the steps up to the lodging of the loan.
 pub fn play_with_loan(alloc: Global, rows: &[Row]) -> Result<(), Stop> {
     play_rows(alloc, &[ENROLLED, GROUPED, REGISTERED, LODGED], rows)
 }
 
-/// Plays rows where the loan is approved, too.
+/// Runs rows after the steps up to the approval of the loan.
 pub fn play_with_mortgage(alloc: Global, rows: &[Row]) -> Result<(), Stop> {
     play_rows(alloc, WITH_GARDEN, rows)
 }
 
-/// Plays rows where Ben has bought the garden, too.
+/// Runs rows after the steps up to the sale of the garden to Ben.
 pub fn play_with_sale(alloc: Global, rows: &[Row]) -> Result<(), Stop> {
     play_rows(
         alloc,

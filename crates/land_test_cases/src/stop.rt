@@ -1,16 +1,16 @@
-//! Why a test stops.
+//! Errors of tests.
 use land_fraction::FractionFault;
 use land_shape::ShapeFault;
 use std::alloc::{AllocError, AllocFailed};
 
-/// Why a test stops.
+/// Errors of tests.
 #[derive(Clone, Copy, Debug)]
 pub enum Stop {
-    /// There was no memory.
+    /// Out of memory.
     Memory,
-    /// What a row names cannot be made: what it is called.
+    /// A value of a row is invalid: its name.
     Unmade(&'static str),
-    /// Something is not as the test has it: what it is called, and its place.
+    /// A result differs from the expected one: its name and its index.
     Unlike(&'static str, usize),
 }
 
@@ -41,7 +41,7 @@ impl From<ShapeFault> for Stop {
     }
 }
 
-/// Goes on where something is as it should be.
+/// Returns an error if the condition is false.
 pub fn expect(is_well: bool, name: &'static str, place: usize) -> Result<(), Stop> {
     if is_well {
         Ok(())

@@ -12,7 +12,7 @@ use land_keep::reply::Reply;
 use land_keep::view::{NamedRrr, View};
 use std::alloc::{AllocError, Global};
 
-/// Returns the members of a group, each as a number and a share.
+/// Writes the members of a group, each as a number and a share.
 fn write_members(line: &mut String, members: &[Member]) -> Result<(), AllocError> {
     for member in members {
         write!(line, "({} {})", member.party, member.share)?;
@@ -122,7 +122,7 @@ fn write_entries(line: &mut String, entries: &[NamedRrr]) -> Result<(), AllocErr
     Ok(())
 }
 
-/// Returns a title sheet: the unit, its parcels' numbers, and its entries with their parties' names.
+/// Writes a title sheet: the unit, its parcels' numbers, and its entries with their parties' names.
 fn write_sheet(line: &mut String, it: &View) -> Result<(), AllocError> {
     write!(
         line,
@@ -145,7 +145,7 @@ pub fn write_done(line: &mut String, it: &Done) -> Result<(), AllocError> {
     )
 }
 
-/// Returns a reply in one line. A reply of 501 is want of memory.
+/// Writes a reply in one line. Error: out of memory, also if the reply is 501.
 fn write_reply(line: &mut String, reply: &Reply) -> Result<(), AllocError> {
     match reply {
         Reply::Object(object) => write_object(line, object),
@@ -160,7 +160,7 @@ fn write_reply(line: &mut String, reply: &Reply) -> Result<(), AllocError> {
     }
 }
 
-/// Returns a title sheet with all that its parcels and its entries show.
+/// Writes a title sheet with its parcels and its entries in full.
 fn write_whole_sheet(line: &mut String, it: &View) -> Result<(), AllocError> {
     write_unit(line, &it.unit)?;
     write!(line, " at {}", it.at)?;
@@ -181,14 +181,14 @@ fn write_whole(line: &mut String, reply: &Reply) -> Result<(), AllocError> {
     }
 }
 
-/// Returns a reply in words, with all that it tells. A reply of 501 is want of memory.
+/// Returns a reply in one line, in full. Error: out of memory, also if the reply is 501.
 pub fn told_whole(alloc: Global, reply: &Reply) -> Result<String, AllocError> {
     let mut line = String::new(alloc);
     write_whole(&mut line, reply)?;
     Ok(line)
 }
 
-/// Whether a reply is this line. A reply of 501 is want of memory.
+/// Whether a reply is this line. Error: out of memory, also if the reply is 501.
 pub fn is_told(alloc: Global, reply: &Reply, line: &str) -> Result<bool, AllocError> {
     let mut told = String::new(alloc);
     write_reply(&mut told, reply)?;

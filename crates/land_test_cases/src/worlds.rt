@@ -1,4 +1,5 @@
-//! Two worlds that differ in one registration, or in one mandate, and whether a caller is told the same of both.
+//! Noninterference: two registers that differ in one registration or in one mandate, and the callers whose
+//! replies differ.
 use crate::asked::OFFICE;
 use crate::rows::keeper_after;
 use crate::steps::{ANNA, BANK, BEN, NORA, SAM, WITH_FIELD, WITH_GARDEN, WITH_MANDATE};
@@ -12,7 +13,7 @@ use land_keep::keeper::Keeper;
 use land_keep::machine::answer;
 use std::alloc::Global;
 
-/// What is looked at in a world.
+/// A read of a register.
 #[derive(Clone, Copy, PartialEq, Eq)]
 enum Look {
     View(Kind, u64),
@@ -20,7 +21,7 @@ enum Look {
     Sheet(u64),
 }
 
-/// The reading of the clock at each look, which is later than all stamps of both worlds.
+/// The reading of the clock at each read, later than all stamps of both registers.
 const NOW: i64 = 2000;
 
 const KINDS: &[Kind] = &[
@@ -41,7 +42,7 @@ const ROLES: &[Role] = &[
     Role::StateAdministrator,
 ];
 
-/// No moment, now, before the first stamp, and each stamp of the worlds.
+/// No moment, now, a moment before the first stamp, and each stamp of the registers.
 const MOMENTS: &[Option<i64>] = &[
     None,
     Some(NOW),
@@ -61,13 +62,13 @@ const MOMENTS: &[Option<i64>] = &[
     Some(1012),
 ];
 
-/// Who is told that two worlds differ, from which moment on, and the first look whose replies differ.
+/// A caller whose replies differ, the moment from which they do, and the first read with different replies.
 struct Seer(Caller, i64, Look);
 
 const UNIT: Look = Look::View(Kind::Unit, 9);
 
-/// Who sees the unit in which two worlds differ: the office, its owners, its lessee and the notary from its registration on, and the
-/// bank, which is shown nothing of the past, now.
+/// The callers who see the unit in which the registers differ: the registrar, its owners, its lessee and the
+/// notary from its registration on; and the bank, which does not see the past, now.
 const SEERS_OF_THE_UNIT: &[Seer] = &[
     Seer(OFFICE, 1009, UNIT),
     Seer(ANNA, 1009, UNIT),
@@ -77,7 +78,8 @@ const SEERS_OF_THE_UNIT: &[Seer] = &[
     Seer(BANK, NOW, UNIT),
 ];
 
-/// Who sees by Ben's mandate what it did not see before: Sam as a citizen, Ben himself first of all. The unit he sees as its lessee.
+/// The callers who see more by Ben's mandate: Sam as a citizen. The first difference is Ben himself; Sam sees
+/// the unit already as its lessee.
 const SEERS_BY_THE_MANDATE: &[Seer] = &[Seer(SAM, 1012, Look::View(Kind::Party, 3))];
 
 fn ask_of(look: Look, at: Option<i64>) -> Ask {
@@ -88,7 +90,7 @@ fn ask_of(look: Look, at: Option<i64>) -> Ask {
     }
 }
 
-/// Returns all that a keeper tells of a look, in words.
+/// Returns the full reply of a keeper to a read, in one line.
 fn told_by<K: Keeper>(
     alloc: Global,
     keeper: &mut K,
@@ -107,7 +109,7 @@ fn told_by<K: Keeper>(
     Ok(told_whole(alloc, &reply)?)
 }
 
-/// Two registers through time, and who is told that they differ.
+/// Two registers through time, and the callers whose replies differ.
 #[derive(Drop)]
 struct Worlds<'a, K> {
     one: &'a mut K,
@@ -177,8 +179,7 @@ impl<K: Keeper> Worlds<'_, K> {
         Ok(None)
     }
 
-    /// Returns the first look whose replies differ, the views kind by kind before the lists, and these before
-    /// the sheets.
+    /// Returns the first read whose replies differ: views kind by kind, then lists, then sheets.
     fn first_difference(
         &mut self,
         alloc: Global,
@@ -198,7 +199,8 @@ impl<K: Keeper> Worlds<'_, K> {
         self.first_sheet(alloc, caller, at)
     }
 
-    /// At each moment the first difference is that of the caller where it is told of one, and there is none where it is not.
+    /// Checks that at each moment the first difference is the caller's expected one, if any, else that no
+    /// reply differs.
     fn are_told_alike(&mut self, alloc: Global, caller: Caller) -> Result<(), Stop> {
         for (place, at) in MOMENTS.iter().enumerate() {
             let found = self.first_difference(alloc, caller, *at)?;
@@ -209,8 +211,9 @@ impl<K: Keeper> Worlds<'_, K> {
     }
 }
 
-/// Every party, and one that does not stand, in every role, at every moment, is told the same of both worlds in all views, lists and
-/// sheets, but for the seers, of whom each is told its own difference first.
+/// Checks every party, and one that does not exist, in every role, at every moment: all views, lists and
+/// sheets have the same reply in both registers, except for the listed callers, each with its own first
+/// difference.
 fn are_told_alike_to_all<K: Keeper>(
     alloc: Global,
     one: &mut K,
@@ -227,7 +230,7 @@ fn are_told_alike_to_all<K: Keeper>(
     Ok(())
 }
 
-/// Returns the first difference that a caller may be told of.
+/// Returns the first difference that is expected for a caller, if any.
 fn difference_for(seers: &[Seer], caller: Caller, at: Option<i64>) -> Option<Look> {
     let moment = at.unwrap_or(NOW);
     for seer in seers {
@@ -239,7 +242,7 @@ fn difference_for(seers: &[Seer], caller: Caller, at: Option<i64>) -> Option<Loo
     None
 }
 
-/// Returns two worlds that differ in a unit: those who do not see it are told the same of both, and to all
+/// Checks two registers that differ in a unit: callers who do not see it get the same replies, and for all
 /// others it is the first difference.
 pub fn are_alike_to_whom_they_look_alike(alloc: Global) -> Result<(), Stop> {
     let mut one = keeper_after(alloc, WITH_GARDEN)?;
@@ -247,8 +250,8 @@ pub fn are_alike_to_whom_they_look_alike(alloc: Global) -> Result<(), Stop> {
     are_told_alike_to_all(alloc, &mut one, &mut other, SEERS_OF_THE_UNIT)
 }
 
-/// Returns two worlds of which one has a mandate more: its agent alone is told a difference, as a citizen,
-/// from the mandate on.
+/// Checks two registers of which one has an additional mandate: only the agent's replies differ, as a
+/// citizen, from the mandate on.
 pub fn a_mandate_is_told_to_its_agent_alone(alloc: Global) -> Result<(), Stop> {
     let mut one = keeper_after(alloc, WITH_GARDEN)?;
     let mut other = keeper_after(alloc, WITH_MANDATE)?;

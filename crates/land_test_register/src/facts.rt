@@ -1,4 +1,4 @@
-//! Facts: registers and changes as tests have them, put together by hand, record by record.
+//! Facts: registers and changes that tests build record by record.
 
 pub mod changes;
 pub mod facts;

@@ -1,6 +1,6 @@
-//! Trials of registers alone: of whole ones (`records`), and of the policy on them (`policy`), over registers and changes that are put
-//! together by hand (`facts`). A trial is a public function that answers why it stops, if it does; the tests that call them are in
-//! `land_test_run_register`. Nothing here has a contract: it is for tests alone.
+//! Test cases for registers: whole registers (`records`) and the policy on them (`policy`), built from facts
+//! (`facts`). A test case is a public function that returns an error if it fails; the tests that call them
+//! are in `land_test_run_register`. Only for tests: nothing here has a contract.
 #![tactic(auto)]
 
 pub mod facts;

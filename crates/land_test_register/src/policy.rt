@@ -1,5 +1,5 @@
-//! The policy told by hand over a register of two units: what each role is shown of it, and by which rule it is denied
-//! the rest.
+//! The policy on a register of two units: the objects that each role sees, and the rules that deny the
+//! others.
 
 use crate::facts::facts::{Fact, Held, Share};
 use crate::facts::registers::{fault, tell_all};
@@ -53,7 +53,7 @@ const HOUSE: u64 = 11;
 /// The source of everything.
 const DEED: u64 = 14;
 
-/// Where nothing stands.
+/// A number without an object.
 const ABSENT: u64 = 77;
 
 const HALVES: &[Share] = &[(ANNA, 1, 2), (BEN, 1, 2)];
@@ -105,7 +105,7 @@ fn caller(party: u64, role: Role) -> Caller {
     Caller { party, role }
 }
 
-/// What is told by the number of the rule that denies, or by 0 where none does.
+/// Returns the verdict of a rule's number; 0 means that no rule denies.
 fn told(rule: u8) -> Verdict {
     if rule == 0 {
         Verdict::Allowed
@@ -116,7 +116,7 @@ fn told(rule: u8) -> Verdict {
 
 const ALL: &[&[Fact]] = &[PARTIES, ROLES, UNITS];
 
-/// What a caller is told of an ask, where one register stands now and one stood at the asked moment.
+/// Returns the verdict on a request, for the current register and the one at the requested moment.
 fn verdict_on(now: &Register, at: &Register, caller: Caller, ask: Ask, past: bool) -> Verdict {
     verdict(now, at, caller, &ask, past)
 }
@@ -133,15 +133,15 @@ fn tell_parts(
     tell_all(alloc, register, facts)
 }
 
-/// Returns the new register, which is told the facts of all parts and then these.
+/// Returns a new register with the facts of all parts and then these.
 fn register_of(alloc: Global, parts: &[&[Fact]], facts: &[Fact]) -> Result<Register, Stop> {
     let mut register = Register::new(alloc)?;
     tell_parts(alloc, &mut register, parts, facts)?;
     Ok(register)
 }
 
-/// Returns a register with the farm and the house, which is then told these facts. It alone names all parts:
-/// a function is the dearer to prove for each row of a constant that it names.
+/// Returns a register with the farm and the house, and then these facts. Only this function uses all parts,
+/// since each row of a constant adds to the proof of a function that uses it.
 fn farm_and_house_with(alloc: Global, facts: &[Fact]) -> Result<Register, Stop> {
     register_of(alloc, ALL, facts)
 }

@@ -1,4 +1,4 @@
-//! Registers with their faults, the objects that they show, and changes.
+//! Registers with their faults, their objects, and changes.
 
 use self::garden::{GARDEN, LODGED, RECORDS, WITH_ORCHARD, WITHOUT_RIGHTS};
 use crate::facts::facts::{Fact, Share};
@@ -36,8 +36,8 @@ const ANNA_A_THIRD: &[Share] = &[(2, 1, 3), (3, 2, 3)];
 /// The group with its members.
 const GROUP: &[Fact] = &[FAMILY, Fact::Members(5, ANNA_A_THIRD)];
 
-/// Facts that registers begin with. A function is the dearer to prove for each row of a constant that it names, so `facts_of`
-/// alone names these.
+/// Initial facts of registers. Only `facts_of` uses these constants, since each row of a constant adds to the
+/// proof of a function that uses it.
 pub(super) enum Part {
     Persons,
     Family,
@@ -56,7 +56,7 @@ const FAMILY_ALONE: &[Fact] = &[FAMILY];
 
 const NEXT_20: &[Fact] = &[Fact::Next(20)];
 
-/// A group of 64 members, which do not stand yet.
+/// A group of 64 members, which do not exist yet.
 const OF_64: &[Fact] = &[Fact::Party(2, Group, "All"), Fact::Crowd(2, 64)];
 
 const OF_65: &[Fact] = &[Fact::Party(2, Group, "All"), Fact::Crowd(2, 65)];
@@ -80,14 +80,14 @@ pub(super) fn facts_of(part: &Part) -> &'static [Fact] {
     }
 }
 
-/// Returns the new register, which is told the facts of all parts and then these.
+/// Returns a new register with the facts of all parts and then these.
 fn register_of(alloc: Global, parts: &[Part], facts: &[Fact]) -> Result<Register, Stop> {
     let mut register = Register::new(alloc)?;
     tell_parts(alloc, &mut register, parts, facts)?;
     Ok(register)
 }
 
-/// Returns the new register, which is told the facts of all parts.
+/// Returns a new register with the facts of all parts.
 fn register_with(alloc: Global, parts: &[Part]) -> Result<Register, Stop> {
     register_of(alloc, parts, &[])
 }
@@ -104,7 +104,7 @@ fn tell_parts(
     tell_all(alloc, register, facts)
 }
 
-/// What registers begin with, beside the office: nothing, the persons, and so on.
+/// The initial facts of registers in addition to the office: none, the persons, and so on.
 const OFFICE_ALONE: &[Part] = &[];
 
 const WITH_PERSONS: &[Part] = &[Part::Persons];
@@ -119,18 +119,18 @@ const WITH_ALL: &[Part] = &[Part::Persons, Part::Group, Part::Garden, Part::Lodg
 
 const WITH_TWO_UNITS: &[Part] = &[Part::Persons, Part::Garden, Part::Orchard];
 
-/// What a register is told, and the fault that it then has.
+/// Facts of a register, and its expected fault.
 struct Case(&'static [Fact], Option<Unsound>);
 
 const REFERENCE: Option<Unsound> = Some(Unsound::Reference);
 
-/// Returns the fault of a register that is told facts.
+/// Returns the fault of a register with these facts.
 fn fault_of(alloc: Global, base: &[Part], facts: &[Fact]) -> Result<Option<Unsound>, Stop> {
     let register = register_of(alloc, base, facts)?;
     fault(alloc, &register)
 }
 
-/// Compares the faults of registers that begin with the same facts.
+/// Checks the faults of registers with the same initial facts.
 fn expect_faults(alloc: Global, base: &[Part], cases: &[Case]) -> Result<(), Stop> {
     for (place, case) in cases.iter().enumerate() {
         expect(fault_of(alloc, base, case.0)? == case.1, "case", place)?;

@@ -1,4 +1,4 @@
-//! Changes that do what facts say.
+//! Changes that are built from facts.
 use crate::facts::facts::Fact;
 use crate::facts::lodged::mutation;
 use crate::facts::making::{members, parcel, party, rrr, source, unit};
@@ -11,7 +11,7 @@ use land_core::sequence::{NumberList, Sequence};
 use land_test_cases::stop::Stop;
 use std::alloc::Global;
 
-/// Lets a change put a record, where it was made.
+/// Adds a record to a change, if it could be allocated.
 fn add<V: Drop>(
     list: &mut Sequence<(u64, V)>,
     number: u64,
@@ -20,17 +20,17 @@ fn add<V: Drop>(
     Ok(list.push((number, record?))?)
 }
 
-/// Lets a change begin a role of a party.
+/// Adds a role of a party to a change.
 fn begin(roles: &mut Sequence<Grant>, party: u64, role: Role) -> Result<(), Stop> {
     Ok(roles.push(Grant { party, role })?)
 }
 
-/// Lets a change name a mandate, among those that begin or those that end.
+/// Adds a mandate to the given or to the withdrawn ones of a change.
 fn name(mandates: &mut Sequence<Mandate>, principal: u64, agent: u64) -> Result<(), Stop> {
     Ok(mandates.push(Mandate { principal, agent })?)
 }
 
-/// Lets a change put what a fact says.
+/// Adds the record of a fact to a change.
 fn put(alloc: Global, put: &mut Put, fact: &Fact) -> Result<(), Stop> {
     match fact {
         Fact::Party(number, kind, name) => {
@@ -58,18 +58,18 @@ fn put(alloc: Global, put: &mut Put, fact: &Fact) -> Result<(), Stop> {
     }
 }
 
-/// Lets a change end what stands under a number.
+/// Adds a number to the removed ones of a change.
 fn end_number(numbers: &mut NumberList, number: u64) -> Result<(), Stop> {
     Ok(numbers.push(number)?)
 }
 
-/// Lets a change end a group, and its members with it.
+/// Adds a group and its members to the removed ones of a change.
 fn end_group(ended: &mut Ended, number: u64) -> Result<(), Stop> {
     ended.members.push(number)?;
     end_number(&mut ended.parties, number)
 }
 
-/// Lets a change end an object; a party is a group.
+/// Adds an object to the removed ones of a change; a party is a group.
 fn ending(ended: &mut Ended, kind: Kind, number: u64) -> Result<(), Stop> {
     match kind {
         Kind::Party => end_group(ended, number),
@@ -81,7 +81,7 @@ fn ending(ended: &mut Ended, kind: Kind, number: u64) -> Result<(), Stop> {
     }
 }
 
-/// Lets a change do what a fact says.
+/// Adds a fact to a change.
 fn change_by(alloc: Global, change: &mut Change, fact: &Fact) -> Result<(), Stop> {
     match fact {
         Fact::Ended(kind, number) => ending(&mut change.ended, *kind, *number),
@@ -90,7 +90,7 @@ fn change_by(alloc: Global, change: &mut Change, fact: &Fact) -> Result<(), Stop
     }
 }
 
-/// Lets a change do what facts say.
+/// Adds facts to a change.
 pub fn change_all(alloc: Global, change: &mut Change, facts: &[Fact]) -> Result<(), Stop> {
     for fact in facts {
         change_by(alloc, change, fact)?;

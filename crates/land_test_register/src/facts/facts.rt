@@ -1,4 +1,4 @@
-//! What a register or a change is told.
+//! Facts of registers and changes.
 use crate::facts::lodged::Lodged;
 use land_core::kind::{Kind, PartyKind};
 use land_core::role::Role;
@@ -10,7 +10,7 @@ pub type Share = (u64, u64, u64);
 /// A party's number, the type of its right, and the numerator and denominator of its share.
 pub type Right = (u64, RightType, u64, u64);
 
-/// What an entry is.
+/// The class of an entry.
 #[derive(Drop)]
 pub enum Held {
     /// A right with the numerator and denominator of its share.
@@ -21,7 +21,7 @@ pub enum Held {
     Mortgage(u64),
 }
 
-/// One thing that a register is told.
+/// A fact of a register.
 #[derive(Drop)]
 pub enum Fact {
     /// The next number.
@@ -32,22 +32,22 @@ pub enum Fact {
     Revoke(u64, Role),
     /// A group's number and members.
     Members(u64, &'static [Share]),
-    /// A group's number, and how many members with equal shares it has, of the numbers from 20 on.
+    /// A group's number, and its number of members with equal shares, with the numbers from 20 on.
     Crowd(u64, u64),
     Source(u64),
     /// A unit's number and name, and whether its shares are checked.
     Unit(u64, &'static str, bool),
     /// A parcel's number, unit, label and source.
     Parcel(u64, u64, &'static str, u64),
-    /// An entry's number, unit, party and source, and what it is.
+    /// An entry's number, unit, party, source and class.
     Rrr(u64, u64, u64, u64, Held),
     /// A mutation's number, and how it was lodged.
     Mutation(u64, Lodged),
-    /// A mandate that begins, from its principal to its agent.
+    /// A mandate that is given: its principal and its agent.
     Mandate(u64, u64),
-    /// A mandate that ends.
+    /// A mandate that is withdrawn.
     Withdrawn(u64, u64),
-    /// What stands under a number no longer does.
+    /// An object that is removed.
     Ended(Kind, u64),
 }
 

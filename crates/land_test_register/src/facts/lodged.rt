@@ -1,4 +1,4 @@
-//! Mutations that are put together by hand.
+//! Mutations that tests build by hand.
 use crate::facts::making::text;
 use land_core::content::{Content, Discharge, Mortgage, Transfer};
 use land_core::mutation::{MutationRecord, MutationState};
@@ -7,7 +7,7 @@ use land_fraction::{Fraction, FractionFault};
 use land_test_cases::stop::Stop;
 use std::alloc::{AllocError, Global};
 
-/// What a mutation asks for.
+/// The content of a mutation.
 #[derive(Drop)]
 pub enum Asked {
     /// A unit, a right, a receiver, and the numerator and denominator of a share.
@@ -18,7 +18,7 @@ pub enum Asked {
     Discharge(u64, u64),
 }
 
-/// A lodger, its reference, a source, a state, and what is asked for.
+/// A lodger, its reference, a source, a state, and the content.
 #[derive(Drop)]
 pub struct Lodged(
     pub u64,
@@ -28,10 +28,10 @@ pub struct Lodged(
     pub Asked,
 );
 
-/// When all of them were lodged.
+/// The lodging time of all of them.
 pub const MOMENT: i64 = 1000;
 
-/// Returns a transfer, where its share was made.
+/// Returns a transfer, if its share is valid.
 fn transfer(
     unit: u64,
     right: u64,
@@ -46,7 +46,7 @@ fn transfer(
     }))
 }
 
-/// Returns a mortgage, where its currency was made.
+/// Returns a mortgage, if its currency could be allocated.
 fn mortgage(
     unit: u64,
     creditor: u64,
@@ -61,7 +61,7 @@ fn mortgage(
     }))
 }
 
-/// What is asked for, as a mutation has it.
+/// Returns the content of a mutation.
 pub fn content(alloc: Global, it: &Asked) -> Result<Content, Stop> {
     match it {
         Asked::Transfer(unit, right, receiver, n, d) => {
@@ -77,7 +77,7 @@ pub fn content(alloc: Global, it: &Asked) -> Result<Content, Stop> {
     }
 }
 
-/// Returns a mutation that was lodged so.
+/// Returns the mutation of a lodging.
 pub(crate) fn mutation(alloc: Global, it: &Lodged) -> Result<MutationRecord, Stop> {
     Ok(MutationRecord {
         lodger: it.0,
@@ -89,7 +89,7 @@ pub(crate) fn mutation(alloc: Global, it: &Lodged) -> Result<MutationRecord, Sto
     })
 }
 
-/// Whether a transfer is what is asked for.
+/// Whether a transfer is the expected one.
 fn is_transfer(it: &Transfer, asked: &Asked) -> bool {
     match asked {
         Asked::Transfer(unit, right, receiver, n, d) => {
@@ -103,7 +103,7 @@ fn is_transfer(it: &Transfer, asked: &Asked) -> bool {
     }
 }
 
-/// Whether a mortgage is what is asked for.
+/// Whether a mortgage is the expected one.
 fn is_mortgage(it: &Mortgage, asked: &Asked) -> bool {
     match asked {
         Asked::Mortgage(unit, creditor, amount, currency) => {
@@ -116,7 +116,7 @@ fn is_mortgage(it: &Mortgage, asked: &Asked) -> bool {
     }
 }
 
-/// Whether a discharge is what is asked for.
+/// Whether a discharge is the expected one.
 fn is_discharge(it: &Discharge, asked: &Asked) -> bool {
     match asked {
         Asked::Discharge(unit, mortgage) => it.unit == *unit && it.mortgage == *mortgage,
@@ -124,7 +124,7 @@ fn is_discharge(it: &Discharge, asked: &Asked) -> bool {
     }
 }
 
-/// Whether this is asked for.
+/// Whether a content is the expected one.
 pub fn is_asked(content: &Content, asked: &Asked) -> bool {
     match content {
         Content::Transfer(it) => is_transfer(it, asked),

@@ -1,4 +1,4 @@
-//! The records that facts are made of.
+//! Builds the records of facts.
 use crate::facts::facts::{Held, SQUARE, Share};
 use land_core::kind::PartyKind;
 use land_core::member::Members;
@@ -14,7 +14,7 @@ use land_shape::read_wkt;
 use land_test_cases::stop::Stop;
 use std::alloc::{AllocError, Global};
 
-/// Returns a text as records have it.
+/// Returns a text of a record.
 pub fn text(alloc: Global, text: &str) -> Result<Text, AllocError> {
     Ok(Text::new(String::from_str(alloc, text)?))
 }
@@ -36,7 +36,7 @@ pub(crate) fn members(alloc: Global, shares: &[Share]) -> Result<Members, Stop> 
     Ok(members)
 }
 
-/// So many members with equal shares, of the numbers from 20 on.
+/// Returns this number of members with equal shares, with the numbers from 20 on.
 pub(crate) fn crowd(alloc: Global, count: u64) -> Result<Members, Stop> {
     let share = Fraction::new(1, count)?;
     let mut members = Records::new(alloc);
@@ -46,7 +46,7 @@ pub(crate) fn crowd(alloc: Global, count: u64) -> Result<Members, Stop> {
     Ok(members)
 }
 
-/// Returns a document, which is called Deed 1.
+/// Returns a document with the title Deed 1.
 pub(crate) fn source(alloc: Global) -> Result<SourceRecord, Stop> {
     Ok(SourceRecord {
         kind: SourceKind::Administrative,
@@ -54,7 +54,7 @@ pub(crate) fn source(alloc: Global) -> Result<SourceRecord, Stop> {
     })
 }
 
-/// Returns a unit of this name, whose shares are checked or not.
+/// Returns a unit with this name, with checked shares or not.
 pub(crate) fn unit(alloc: Global, name: &str, checked: bool) -> Result<UnitRecord, Stop> {
     Ok(UnitRecord {
         name: text(alloc, name)?,
@@ -77,7 +77,7 @@ pub(crate) fn parcel(
     })
 }
 
-/// What an entry is.
+/// The class of an entry.
 fn class(alloc: Global, held: &Held) -> Result<Class, Stop> {
     Ok(match held {
         Held::Right(right_type, n, d) => Class::Right {

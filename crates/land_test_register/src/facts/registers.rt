@@ -1,4 +1,4 @@
-//! Registers that are told facts.
+//! Registers that are built from facts.
 use crate::facts::facts::Fact;
 use crate::facts::lodged::mutation;
 use crate::facts::making::{crowd, members, parcel, party, rrr, source, unit};
@@ -13,7 +13,8 @@ use land_core::soundness::check::check;
 use land_test_cases::stop::Stop;
 use std::alloc::Global;
 
-/// Puts a record in, where it was made. It takes the answer of what makes it, so that its callers have no exit.
+/// Inserts a record, if it could be allocated. Takes the result of the allocation, so that callers need no
+/// early return.
 fn enter<V: Drop>(
     records: &mut Records<V>,
     number: u64,
@@ -22,35 +23,35 @@ fn enter<V: Drop>(
     Ok(records.insert(number, record?)?)
 }
 
-/// Returns a role of a party begins.
+/// Inserts a role of a party.
 fn grant(roles: &mut Roles, party: u64, role: Role) -> Result<(), Stop> {
     Ok(roles.insert(Grant { party, role })?)
 }
 
-/// Returns a role of a party ends.
+/// Removes a role of a party.
 fn revoke(roles: &mut Roles, party: u64, role: Role) -> Result<(), Stop> {
     roles.remove(Grant { party, role });
     Ok(())
 }
 
-/// Returns a mandate begins.
+/// Inserts a mandate.
 fn give(mandates: &mut Mandates, principal: u64, agent: u64) -> Result<(), Stop> {
     Ok(mandates.insert(Mandate { principal, agent })?)
 }
 
-/// Returns a mandate ends.
+/// Removes a mandate.
 fn withdraw(mandates: &mut Mandates, principal: u64, agent: u64) -> Result<(), Stop> {
     mandates.remove(Mandate { principal, agent });
     Ok(())
 }
 
-/// New numbers begin with this one.
+/// Sets the next number.
 fn go_on_from(register: &mut Register, next: u64) -> Result<(), Stop> {
     register.next = next;
     Ok(())
 }
 
-/// Puts a fact into a register.
+/// Inserts a fact into a register.
 fn tell(alloc: Global, register: &mut Register, fact: &Fact) -> Result<(), Stop> {
     match fact {
         Fact::Next(next) => go_on_from(register, *next),
@@ -84,7 +85,7 @@ fn tell(alloc: Global, register: &mut Register, fact: &Fact) -> Result<(), Stop>
     }
 }
 
-/// Ends a parcel or an entry.
+/// Removes a parcel or an entry.
 fn end(register: &mut Register, kind: Kind, number: u64) -> Result<(), Stop> {
     match kind {
         Kind::Parcel => register.parcels.remove(number),
@@ -94,7 +95,7 @@ fn end(register: &mut Register, kind: Kind, number: u64) -> Result<(), Stop> {
     Ok(())
 }
 
-/// Puts facts into a register, one after another.
+/// Inserts facts into a register, in order.
 pub fn tell_all(alloc: Global, register: &mut Register, facts: &[Fact]) -> Result<(), Stop> {
     for fact in facts {
         tell(alloc, register, fact)?;
@@ -102,7 +103,7 @@ pub fn tell_all(alloc: Global, register: &mut Register, facts: &[Fact]) -> Resul
     Ok(())
 }
 
-/// Returns the fault that a register has, or `None`.
+/// Returns the fault of a register, or `None`.
 pub fn fault(alloc: Global, register: &Register) -> Result<Option<Unsound>, Stop> {
     match check(alloc, register) {
         Ok(()) => Ok(None),

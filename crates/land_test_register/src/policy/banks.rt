@@ -21,7 +21,7 @@ const GROUPED: &[Fact] = &[
     Fact::Next(22),
 ];
 
-/// A member is shown its group as a citizen, and not as a bank.
+/// A member sees its group as a citizen, but not as a bank.
 const VIEWS: &[View] = &[
     View(NORTH, Citizen, Party, BANKS, 0),
     View(NORTH, Bank, Party, BANKS, 17),
@@ -44,7 +44,7 @@ fn expect_lists(alloc: Global, register: &Register, rows: &[Shown]) -> Result<()
     expect(shown == rows.len(), "list", shown)
 }
 
-/// Groups are shown to their members as citizens.
+/// Checks that members see their groups as citizens only.
 pub fn groups_are_shown_to_their_members_as_citizens(alloc: Global) -> Result<(), Stop> {
     let register = farm_and_house_with(alloc, GROUPED)?;
     expect_views(&register, VIEWS)?;

@@ -1,4 +1,4 @@
-//! What each role is shown of the farm and the house.
+//! The objects of the farm and the house that each role sees.
 use super::{ANNA, BEN, FAMILY, LENA, NORA, NORTH, OFFICE, SAM, SOUTH, caller, farm_and_house};
 use land_core::kind::Kind::{self, Parcel, Party, Rrr, Source, Unit};
 use land_core::register::Register;
@@ -9,7 +9,7 @@ use land_rules::rules::seen;
 use land_test_cases::stop::{Stop, expect};
 use std::alloc::{AllocError, Global};
 
-/// Who lists the numbers of which kind, and what it is shown.
+/// A caller, a kind, and the numbers of that kind that the caller sees.
 pub(super) struct Row(pub u64, pub Role, pub Kind, pub &'static [u64]);
 
 fn is_shown(alloc: Global, at: &Register, row: &Row) -> Result<bool, AllocError> {
@@ -17,7 +17,7 @@ fn is_shown(alloc: Global, at: &Register, row: &Row) -> Result<bool, AllocError>
     Ok(numbers.as_slice() == row.3)
 }
 
-/// Returns the number of rows are shown as expected before the first that is not.
+/// Returns the number of rows before the first with an unexpected list.
 pub(super) fn shown_rows(alloc: Global, at: &Register, rows: &[Row]) -> Result<usize, Stop> {
     for (place, row) in rows.iter().enumerate() {
         if !is_shown(alloc, at, row)? {
@@ -27,13 +27,13 @@ pub(super) fn shown_rows(alloc: Global, at: &Register, rows: &[Row]) -> Result<u
     Ok(rows.len())
 }
 
-/// Returns the rows that are shown of the farm and the house.
+/// Returns the number of rows before the first with an unexpected list, for the farm and the house.
 fn rows_of_all(alloc: Global, rows: &[Row]) -> Result<usize, Stop> {
     let at = farm_and_house(alloc)?;
     shown_rows(alloc, &at, rows)
 }
 
-/// Compares what is shown of the farm and the house.
+/// Checks the lists for the farm and the house.
 fn expect_shown(alloc: Global, rows: &[Row]) -> Result<(), Stop> {
     let shown = rows_of_all(alloc, rows)?;
     expect(shown == rows.len(), "row", shown)
@@ -54,7 +54,7 @@ const HOLDERS: &[Row] = &[
     Row(OFFICE, Citizen, Party, &[1]),
 ];
 
-/// Holders see what is in their units.
+/// Checks that holders see the objects of their units.
 pub fn holders_see_what_is_in_their_units(alloc: Global) -> Result<(), Stop> {
     expect_shown(alloc, HOLDERS)
 }
@@ -70,7 +70,7 @@ const CREDITORS: &[Row] = &[
     Row(NORA, Bank, Party, &[5]),
 ];
 
-/// Creditors see what is in the units of their mortgages.
+/// Checks that creditors see the objects of the units of their mortgages.
 pub fn creditors_see_what_is_in_the_units_of_their_mortgages(alloc: Global) -> Result<(), Stop> {
     expect_shown(alloc, CREDITORS)
 }
@@ -87,7 +87,7 @@ const PARCELS: &[Row] = &[
     Row(SAM, CertifiedSurveyor, Party, &[9]),
 ];
 
-/// Parcels are seen by all.
+/// Checks that all callers see parcels.
 pub fn parcels_are_seen_by_all(alloc: Global) -> Result<(), Stop> {
     expect_shown(alloc, PARCELS)
 }
@@ -110,7 +110,7 @@ const EVERYTHING: &[Row] = &[
     Row(OFFICE, StateAdministrator, Source, &[14]),
 ];
 
-/// Notaries and the office see everything.
+/// Checks that notaries and the registrar see everything.
 pub fn notaries_and_the_office_see_everything(alloc: Global) -> Result<(), Stop> {
     expect_shown(alloc, EVERYTHING)
 }
@@ -123,7 +123,7 @@ const NOTHING: &[Row] = &[
     Row(NORA, Notary, Source, &[]),
 ];
 
-/// Returns the rows that are shown before the office began.
+/// Returns the number of rows before the first with an unexpected list, for the empty register.
 fn rows_of_nothing(alloc: Global, rows: &[Row]) -> Result<usize, Stop> {
     let at = Register::nothing(alloc);
     shown_rows(alloc, &at, rows)
@@ -134,7 +134,7 @@ fn expect_nothing(alloc: Global, rows: &[Row]) -> Result<(), Stop> {
     expect(shown == rows.len(), "row", shown)
 }
 
-/// Before the office began there is nothing.
+/// Checks that no object is visible in the empty register.
 pub fn before_the_office_began_there_is_nothing(alloc: Global) -> Result<(), Stop> {
     expect_nothing(alloc, NOTHING)
 }

@@ -1,4 +1,4 @@
-//! Who gives and withdraws mandates, and what an agent sees by them.
+//! Who may give and withdraw mandates, and what agents see.
 use super::lists::{Row as Shown, shown_rows};
 use super::standing::{Row, told_of};
 use super::views::{Row as View, told_of as told_of_views};
@@ -19,7 +19,7 @@ use land_core::soundness::Unsound;
 use land_test_cases::stop::{Stop, expect};
 use std::alloc::Global;
 
-/// Sam looks as Anna and as Nora do, the office as Sam, and the bank North as Lena. Ben had a mandate of Nora.
+/// Sam is agent of Anna and Nora, the office of Sam, and the bank North of Lena. Ben had a mandate of Nora.
 const MANDATES: &[Fact] = &[
     Fact::Mandate(ANNA, SAM),
     Fact::Mandate(NORA, SAM),
@@ -44,7 +44,8 @@ pub fn the_mandates_are_soundly_registered(alloc: Global) -> Result<(), Stop> {
     expect(fault_of_all(alloc)? == None, "the register", 0)
 }
 
-/// Principals of principals are not seen through, nor does a mandate serve in another role than that of a citizen, nor its principal.
+/// Mandates are not transitive, apply only to the role of citizen, and do not extend the sight of the
+/// principal.
 const SEEN: &[Shown] = &[
     Shown(SAM, Citizen, Unit, &[FARM, HOUSE]),
     Shown(SAM, Citizen, Rrr, &[15, 16, 17, 18, 19, 20]),
@@ -73,7 +74,7 @@ fn expect_seen(alloc: Global, rows: &[Shown]) -> Result<(), Stop> {
     expect(shown == rows.len(), "row", shown)
 }
 
-/// Agents see as their principals do.
+/// Checks that agents see as their principals do.
 pub fn agents_see_as_their_principals_do(alloc: Global) -> Result<(), Stop> {
     expect_seen(alloc, SEEN)
 }
@@ -108,7 +109,7 @@ fn expect_views(alloc: Global, rows: &[View]) -> Result<(), Stop> {
     expect(told == rows.len(), "row", told)
 }
 
-/// Agents are denied what none of their circle sees.
+/// Checks that agents are denied objects that no party of their circle sees.
 pub fn agents_are_denied_what_none_of_their_circle_sees(alloc: Global) -> Result<(), Stop> {
     expect_views(alloc, VIEWS)
 }
@@ -142,7 +143,7 @@ const WITHDRAWING: &[Row] = &[
     Row(ABSENT, Citizen, 1),
 ];
 
-/// A mandate that does not stand.
+/// A mandate that does not exist.
 const OF_NOBODY: Ask = Ask::Do(Act::Withdraw(Mandate {
     principal: BEN,
     agent: ABSENT,
@@ -164,7 +165,7 @@ fn expect_acts(alloc: Global, ask: Ask, rows: &[Row]) -> Result<(), Stop> {
     expect(told == rows.len(), "row", told)
 }
 
-/// Citizens give mandates, and withdraw those of which they are principal or agent.
+/// Checks that citizens give mandates, and withdraw those of which they are principal or agent.
 pub fn citizens_give_mandates_and_withdraw_their_own(alloc: Global) -> Result<(), Stop> {
     expect_acts(alloc, TO_BEN, GIVING)?;
     expect_acts(alloc, OF_ANNA, WITHDRAWING)?;

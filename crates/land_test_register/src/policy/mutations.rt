@@ -1,4 +1,4 @@
-//! Who lodges and decides mutations, and who sees them and what they name.
+//! Who may lodge and decide mutations, and who sees them and the objects to which they refer.
 use super::lists::{Row as Shown, shown_rows};
 use super::standing::{Row, told_of};
 use super::{
@@ -20,7 +20,7 @@ use land_core::soundness::Unsound;
 use land_test_cases::stop::{Stop, expect};
 use std::alloc::Global;
 
-/// Lodged by the bank North on the farm (21); by Lena on the house (22), and on the farm, where it is approved (23) and
+/// Lodged by the bank North on the farm (21); by Lena on the house (22), and on the farm, approved (23) and
 /// refused (24); by Nora on no unit (25); and by the office on the house (26).
 const MUTATIONS: &[Fact] = &[
     Fact::Mutation(
@@ -128,7 +128,7 @@ fn expect_seen(alloc: Global, rows: &[Shown]) -> Result<(), Stop> {
     expect(shown == rows.len(), "row", shown)
 }
 
-/// Lodgers and holders see mutations.
+/// Checks that lodgers and holders see mutations.
 pub fn lodgers_and_holders_see_mutations(alloc: Global) -> Result<(), Stop> {
     expect_seen(alloc, SEEN)
 }
@@ -141,8 +141,8 @@ fn lodging(alloc: Global, it: &Asked) -> Result<Ask, Stop> {
     })))
 }
 
-/// Returns the number of callers are told as expected of an ask over the farm and the house with their
-/// mutations.
+/// Returns the number of callers before the first with an unexpected verdict on a request, for the farm and
+/// the house with their mutations.
 fn told_rows(alloc: Global, ask: &Ask, rows: &[Row]) -> Result<usize, Stop> {
     let register = with_mutations(alloc)?;
     Ok(told_of(&register, ask, false, rows))
@@ -153,7 +153,7 @@ fn told_of_lodging(alloc: Global, it: &Asked, rows: &[Row]) -> Result<usize, Sto
     told_rows(alloc, &ask, rows)
 }
 
-/// What is asked for, and who may lodge it.
+/// A content, and the callers who may lodge it.
 struct Lodgers(Asked, &'static [Row]);
 
 const LODGERS: &[Lodgers] = &[
@@ -201,7 +201,7 @@ const LODGERS: &[Lodgers] = &[
     ),
 ];
 
-/// Who lodges what.
+/// Checks which callers may lodge each content.
 pub fn who_lodges_what(alloc: Global) -> Result<(), Stop> {
     for (place, it) in LODGERS.iter().enumerate() {
         let told = told_of_lodging(alloc, &it.0, it.1)?;
@@ -210,7 +210,7 @@ pub fn who_lodges_what(alloc: Global) -> Result<(), Stop> {
     Ok(())
 }
 
-/// A mutation, and who may approve it.
+/// A mutation, and the callers who may approve it.
 struct Deciders(u64, &'static [Row]);
 
 const DECIDERS: &[Deciders] = &[
@@ -232,12 +232,12 @@ const DECIDERS: &[Deciders] = &[
     ),
 ];
 
-/// Returns the number of callers are told as expected of a decision.
+/// Returns the number of callers before the first with an unexpected verdict on a decision.
 fn told_of_deciding(alloc: Global, act: Act, rows: &[Row]) -> Result<usize, Stop> {
     told_rows(alloc, &Ask::Do(act), rows)
 }
 
-/// Whether callers are told as expected of an approval, and of a refusal.
+/// Whether the verdicts on an approval and on a refusal are as expected.
 fn are_told(alloc: Global, it: &Deciders) -> Result<bool, Stop> {
     let decision = Decision { mutation: it.0 };
     let approving = told_of_deciding(alloc, Act::Approve(decision), it.1)?;
@@ -245,7 +245,7 @@ fn are_told(alloc: Global, it: &Deciders) -> Result<bool, Stop> {
     Ok(approving == it.1.len() && refusing == it.1.len())
 }
 
-/// Nobody decides what it lodged.
+/// Checks that no party decides its own mutation.
 pub fn nobody_decides_what_it_lodged(alloc: Global) -> Result<(), Stop> {
     for (place, it) in DECIDERS.iter().enumerate() {
         expect(are_told(alloc, it)?, "mutation", place)?;

@@ -1,4 +1,4 @@
-//! Who lodges subdivisions and mergers, and who sees them and the units that they name.
+//! Who may lodge subdivisions and mergers, and who sees them and their units.
 use super::lists::{Row as Shown, shown_rows};
 use super::standing::{Row, told_of};
 use super::{
@@ -24,9 +24,9 @@ use land_shape::read_wkt;
 use land_test_cases::stop::{Stop, expect};
 use std::alloc::{AllocError, Global};
 
-/// What a surveyor asks for.
+/// A content that a surveyor lodges.
 enum Surveyed {
-    /// A unit and a parcel, which is cut into a part that stays and one that goes to a new unit.
+    /// A unit and a parcel, which is divided into a part that stays and one for a new unit.
     Subdivision(u64, u64),
     /// A unit, other units, and the parcels that become one.
     Merger(u64, &'static [u64], &'static [u64]),
@@ -85,7 +85,7 @@ fn content(alloc: Global, it: &Surveyed) -> Result<Content, Stop> {
     })
 }
 
-// ---- who lodges
+// ---- lodging
 
 fn lodging(alloc: Global, it: &Surveyed) -> Result<Ask, Stop> {
     Ok(Ask::Do(Act::Lodge(Lodging {
@@ -109,7 +109,8 @@ const LODGERS: &[Row] = &[
     Row(SAM, CertifiedSurveyor, 0),
 ];
 
-/// Returns the number of callers are told as expected of an ask over the farm and the house.
+/// Returns the number of callers before the first with an unexpected verdict on a request, for the farm and
+/// the house.
 fn told_rows(alloc: Global, ask: &Ask, rows: &[Row]) -> Result<usize, Stop> {
     let register = farm_and_house(alloc)?;
     Ok(told_of(&register, ask, false, rows))
@@ -128,15 +129,15 @@ fn expect_lodged(alloc: Global, contents: &[Surveyed], rows: &[Row]) -> Result<(
     Ok(())
 }
 
-/// Surveyors lodge subdivisions and mergers.
+/// Checks that surveyors lodge subdivisions and mergers.
 pub fn surveyors_lodge_subdivisions_and_mergers(alloc: Global) -> Result<(), Stop> {
     expect_lodged(alloc, LODGED, LODGERS)
 }
 
-// ---- who sees
+// ---- visibility
 
-/// The house is subdivided (21), merged with the farm (22), and merged with no other unit (23), where the number of a parcel
-/// is that of the farm.
+/// The house is subdivided (21), merged with the farm (22), and merged with no other unit (23); the last has
+/// the farm's number as that of a parcel.
 const SURVEYED: &[(u64, &str, Surveyed)] = &[
     (21, "S1", Surveyed::Subdivision(HOUSE, 13)),
     (22, "S2", Surveyed::Merger(HOUSE, &[FARM], &[12, 13])),
@@ -163,7 +164,7 @@ fn lodge_all(alloc: Global, register: &mut Register) -> Result<(), Stop> {
     Ok(())
 }
 
-/// Returns the farm and the house, with what Sam lodged.
+/// Returns the farm and the house, with Sam's mutations.
 fn farm_and_house_surveyed(alloc: Global) -> Result<Register, Stop> {
     let mut register = farm_and_house_with(alloc, &[Fact::Next(24)])?;
     lodge_all(alloc, &mut register)?;
@@ -175,7 +176,7 @@ fn is_sound(alloc: Global) -> Result<bool, Stop> {
     Ok(fault(alloc, &register)? == None)
 }
 
-/// What is surveyed is soundly registered.
+/// Checks that the register with Sam's mutations is sound.
 pub fn what_is_surveyed_is_soundly_registered(alloc: Global) -> Result<(), Stop> {
     expect(is_sound(alloc)?, "the register", 0)
 }
@@ -206,12 +207,12 @@ fn expect_seen(alloc: Global, rows: &[Shown]) -> Result<(), Stop> {
     expect(shown == rows.len(), "row", shown)
 }
 
-/// Holders in other units see mergers.
+/// Checks that holders in the other units see mergers.
 pub fn holders_in_other_units_see_mergers(alloc: Global) -> Result<(), Stop> {
     expect_seen(alloc, SEEN)
 }
 
-/// A mutation, and who is told it.
+/// A mutation, and the callers who see it.
 const TOLD: &[(u64, &[Row])] = &[
     (
         21,
@@ -244,7 +245,7 @@ fn view(number: u64) -> Ask {
     }
 }
 
-/// Whether callers are told as expected of the view of a mutation.
+/// Whether the verdicts on the view of a mutation are as expected.
 fn are_told(register: &Register, number: u64, rows: &[Row]) -> bool {
     let ask = view(number);
     told_of(register, &ask, false, rows) == rows.len()
@@ -255,7 +256,7 @@ fn all_are_told(alloc: Global) -> Result<bool, Stop> {
     Ok(TOLD.iter().all(|it| are_told(&register, it.0, it.1)))
 }
 
-/// Returns a merger is shown by each unit that it names.
+/// Checks that a merger is visible by each unit to which it refers.
 pub fn a_merger_is_shown_by_each_unit_that_it_names(alloc: Global) -> Result<(), Stop> {
     expect(all_are_told(alloc)?, "mergers", 0)
 }

@@ -1,4 +1,4 @@
-//! Who may ask, whatever is asked.
+//! The rules on callers, for any request.
 use super::{
     ABSENT, ANNA, FARM, LENA, NORA, NORTH, OFFICE, SAM, caller, farm_and_house, told, verdict_on,
 };
@@ -20,11 +20,10 @@ const VIEW: Ask = Ask::View {
     at: Some(1000),
 };
 
-/// Who asks, and the number of the rule that denies it; 0 where none does.
+/// A caller, and the number of the rule that denies it; 0 if none does.
 pub(super) struct Row(pub u64, pub Role, pub u8);
 
-/// Returns the number of callers are told as expected of an ask over one register, before the first that is
-/// not.
+/// Returns the number of callers before the first with an unexpected verdict on a request, for one register.
 pub(super) fn told_of(register: &Register, ask: &Ask, past: bool, rows: &[Row]) -> usize {
     for (place, row) in rows.iter().enumerate() {
         if verdict(register, register, caller(row.0, row.1), ask, past) != told(row.2) {
@@ -34,18 +33,19 @@ pub(super) fn told_of(register: &Register, ask: &Ask, past: bool, rows: &[Row]) 
     rows.len()
 }
 
-/// Returns the number of callers are told as expected of an ask over the farm and the house.
+/// Returns the number of callers before the first with an unexpected verdict on a request, for the farm and
+/// the house.
 fn told_rows(alloc: Global, ask: &Ask, past: bool, rows: &[Row]) -> Result<usize, Stop> {
     let register = farm_and_house(alloc)?;
     Ok(told_of(&register, ask, past, rows))
 }
 
-/// The same, where nothing else needs the ask.
+/// Does the same, and takes the request by value.
 fn told_at_last(alloc: Global, ask: Ask, past: bool, rows: &[Row]) -> Result<usize, Stop> {
     told_rows(alloc, &ask, past, rows)
 }
 
-/// Compares what callers are told of an ask over the farm and the house.
+/// Checks the verdicts on a request, for the farm and the house.
 fn expect_told(alloc: Global, ask: Ask, past: bool, rows: &[Row]) -> Result<(), Stop> {
     let told = told_at_last(alloc, ask, past, rows)?;
     expect(told == rows.len(), "row", told)
@@ -58,7 +58,7 @@ const STRANGERS: &[Row] = &[
     Row(NORA, Notary, 0),
 ];
 
-/// Strangers and missing roles are denied.
+/// Checks that unregistered callers and missing roles are denied.
 pub fn strangers_and_missing_roles_are_denied(alloc: Global) -> Result<(), Stop> {
     expect_told(alloc, VIEW, false, STRANGERS)
 }
@@ -72,7 +72,7 @@ const IN_THE_PAST: &[Row] = &[
     Row(OFFICE, StateAdministrator, 0),
 ];
 
-/// Returns some roles are told of the present alone.
+/// Checks that some roles see only the present.
 pub fn some_roles_are_told_of_the_present_alone(alloc: Global) -> Result<(), Stop> {
     expect_told(alloc, VIEW, true, IN_THE_PAST)
 }
@@ -93,14 +93,14 @@ fn burden(alloc: Global) -> Result<Ask, AllocError> {
     })))
 }
 
-/// Returns the number of callers are told as expected of a burden.
+/// Returns the number of callers before the first with an unexpected verdict on a burden.
 fn told_burden(alloc: Global) -> Result<usize, Stop> {
     told_at_last(alloc, burden(alloc)?, false, OFFICE_ACTS)
 }
 
 const LIFT: Ask = Ask::Do(Act::Lift(Lift { rrr: 17 }));
 
-/// Returns the office alone burdens units and lifts burdens.
+/// Checks that only the registrar burdens units and lifts burdens.
 pub fn the_office_alone_burdens_units_and_lifts_burdens(alloc: Global) -> Result<(), Stop> {
     expect(told_burden(alloc)? == OFFICE_ACTS.len(), "burdens", 0)?;
     expect_told(alloc, LIFT, false, OFFICE_ACTS)
@@ -111,12 +111,12 @@ const FARM_THEN: Ask = Ask::Sheet {
     at: Some(0),
 };
 
-/// Whether Anna is denied by this rule, where a register stands now and another one stood at the asked moment.
+/// Whether this rule denies Anna, for the current register and the one at the requested moment.
 fn is_denied(now: &Register, at: &Register, ask: Ask, rule: u8) -> bool {
     verdict_on(now, at, caller(ANNA, Citizen), ask, true) == told(rule)
 }
 
-/// Whether sight is read at the asked moment and roles now, where one register holds nothing.
+/// Whether sight is read at the requested moment and roles now, if one of the registers is empty.
 fn are_read_apart(register: &Register, nothing: &Register) -> bool {
     is_denied(register, nothing, VIEW, 27)
         && is_denied(register, nothing, FARM_THEN, 11)
@@ -134,7 +134,7 @@ fn is_read_apart(alloc: Global) -> Result<bool, Stop> {
     Ok(is_apart_from_nothing(alloc, &register))
 }
 
-/// Roles are read now and sight at the moment.
+/// Checks that roles are read now and sight at the requested moment.
 pub fn roles_are_read_now_and_sight_at_the_moment(alloc: Global) -> Result<(), Stop> {
     expect(is_read_apart(alloc)?, "the roles", 0)
 }

@@ -1,4 +1,4 @@
-//! What is shown to who has the usufruct of a unit.
+//! The objects that the holder of a usufruct sees.
 use super::lists::{Row as Shown, shown_rows};
 use super::views::{Row as View, told_of};
 use super::{DEED, FARM, SAM, farm_and_house_with};
@@ -16,7 +16,7 @@ const USUFRUCT: &[Fact] = &[
     Fact::Next(22),
 ];
 
-/// He is a holder in it and no owner, so that its mortgages are not shown to him.
+/// He is a holder in it but not an owner, so he does not see its mortgages.
 const VIEWS: &[View] = &[
     View(SAM, Citizen, Unit, FARM, 0),
     View(SAM, Citizen, Rrr, 21, 0),
@@ -40,7 +40,7 @@ fn expect_lists(alloc: Global, register: &Register, rows: &[Shown]) -> Result<()
     expect(shown == rows.len(), "list", shown)
 }
 
-/// Returns a usufruct is no ownership.
+/// Checks that a usufruct is not an ownership.
 pub fn a_usufruct_is_no_ownership(alloc: Global) -> Result<(), Stop> {
     let register = farm_and_house_with(alloc, USUFRUCT)?;
     expect_views(&register, VIEWS)?;

@@ -1,4 +1,4 @@
-//! By which rule each role is denied the view of what it does not see.
+//! The rules that deny each role the view of objects that it does not see.
 use super::{
     ABSENT, ANNA, BEN, DEED, FAMILY, FARM, HOUSE, LENA, NORA, NORTH, OFFICE, SAM, SOUTH, caller,
     farm_and_house, told, verdict_on,
@@ -12,7 +12,7 @@ use land_core::role::Role::{
 use land_test_cases::stop::{Stop, expect};
 use std::alloc::Global;
 
-/// Who views which object, and the number of the rule that denies it; 0 where none does.
+/// A caller, an object, and the number of the rule that denies the view; 0 if none does.
 pub(super) struct Row(pub u64, pub Role, pub Kind, pub u64, pub u8);
 
 fn is_told(register: &Register, row: &Row) -> bool {
@@ -24,7 +24,7 @@ fn is_told(register: &Register, row: &Row) -> bool {
     verdict_on(register, register, caller(row.0, row.1), ask, false) == told(row.4)
 }
 
-/// Returns the number of rows are told as expected before the first that is not.
+/// Returns the number of rows before the first with an unexpected verdict.
 pub(super) fn told_of(register: &Register, rows: &[Row]) -> usize {
     for (place, row) in rows.iter().enumerate() {
         if !is_told(register, row) {
@@ -63,7 +63,7 @@ const CITIZENS: &[Row] = &[
     Row(ANNA, Citizen, Source, ABSENT, 26),
 ];
 
-/// Returns a citizen is denied by rules 11 to 13.
+/// Checks that a citizen is denied by rules 11 to 13.
 pub fn a_citizen_is_denied_by_rules_11_to_13(alloc: Global) -> Result<(), Stop> {
     expect_views(alloc, CITIZENS)
 }
@@ -80,7 +80,7 @@ const BANKS: &[Row] = &[
     Row(NORTH, Bank, Source, DEED, 26),
 ];
 
-/// Returns a bank is denied by rules 15 to 17.
+/// Checks that a bank is denied by rules 15 to 17.
 pub fn a_bank_is_denied_by_rules_15_to_17(alloc: Global) -> Result<(), Stop> {
     expect_views(alloc, BANKS)
 }
@@ -95,7 +95,7 @@ const CONVEYANCERS: &[Row] = &[
     Row(LENA, Conveyancer, Source, DEED, 26),
 ];
 
-/// Returns a conveyancer is denied by rules 19 to 21.
+/// Checks that a conveyancer is denied by rules 19 to 21.
 pub fn a_conveyancer_is_denied_by_rules_19_to_21(alloc: Global) -> Result<(), Stop> {
     expect_views(alloc, CONVEYANCERS)
 }
@@ -110,7 +110,7 @@ const SURVEYORS: &[Row] = &[
     Row(SAM, CertifiedSurveyor, Source, DEED, 26),
 ];
 
-/// Returns a surveyor is denied by rules 23 and 24.
+/// Checks that a surveyor is denied by rules 23 and 24.
 pub fn a_surveyor_is_denied_by_rules_23_and_24(alloc: Global) -> Result<(), Stop> {
     expect_views(alloc, SURVEYORS)
 }
@@ -132,12 +132,12 @@ const ABSENCES: &[Row] = &[
     Row(OFFICE, StateAdministrator, Source, DEED, 0),
 ];
 
-/// What is absent is denied by rule 27.
+/// Checks that the view of an object that does not exist is denied by rule 27.
 pub fn what_is_absent_is_denied_by_rule_27(alloc: Global) -> Result<(), Stop> {
     expect_views(alloc, ABSENCES)
 }
 
-/// Who views the title sheet of which unit, and the number of the rule that denies it.
+/// A caller, a unit, and the number of the rule that denies its title sheet; 0 if none does.
 struct Sheet(u64, Role, u64, u8);
 
 const SHEETS: &[Sheet] = &[
@@ -157,7 +157,7 @@ fn is_told_of(register: &Register, row: &Sheet) -> bool {
     verdict_on(register, register, caller(row.0, row.1), ask, false) == told(row.3)
 }
 
-/// Returns the number of sheets are told as expected before the first that is not.
+/// Returns the number of sheets before the first with an unexpected verdict.
 fn sheets_of(register: &Register, rows: &[Sheet]) -> usize {
     for (place, row) in rows.iter().enumerate() {
         if !is_told_of(register, row) {
@@ -177,7 +177,7 @@ fn expect_sheets(alloc: Global, rows: &[Sheet]) -> Result<(), Stop> {
     expect(told == rows.len(), "row", told)
 }
 
-/// Returns a sheet is judged as its unit.
+/// Checks that a sheet has the verdict of its unit.
 pub fn a_sheet_is_judged_as_its_unit(alloc: Global) -> Result<(), Stop> {
     expect_sheets(alloc, SHEETS)
 }

@@ -1,4 +1,4 @@
-//! Changes, and what a refused allocation leaves of the register that was to be changed.
+//! Changes, and the register after an injected allocation failure.
 use super::copies::fields;
 use super::garden::{
     ALL, ANNA, ANNAS, BEN, BENS, DEED, GARDEN, HEDGE, LAWN, LEASE, LETTER, LOAN, LOAN_LODGED, PATH,
@@ -22,9 +22,9 @@ use std::alloc::{AllocError, Global};
 #[derive(Drop)]
 enum Made {
     AtOnce,
-    /// Memory was refused, the register was as before, and the change was made the second time.
+    /// An allocation failed, the register was unchanged, and the change was made at the second attempt.
     Late,
-    /// Memory was refused, and the register was another one.
+    /// An allocation failed, and the register was changed.
     Broken,
 }
 
@@ -32,7 +32,7 @@ fn is_as_before(alloc: Global, register: &Register, before: &str) -> Result<bool
     Ok(fields(alloc, register)?.as_str() == before)
 }
 
-/// Makes a change the second time.
+/// Makes a change at the second attempt.
 fn make_late(
     alloc: Global,
     register: &mut Register,
@@ -46,7 +46,7 @@ fn make_late(
     Ok(Made::Late)
 }
 
-/// Makes a change of a register whose fields are these.
+/// Makes a change of a register, whose fields are given in one line.
 fn make_from(
     alloc: Global,
     register: &mut Register,
@@ -64,7 +64,7 @@ fn make(alloc: Global, register: &mut Register, change: &Change) -> Result<Made,
     make_from(alloc, register, change, before.as_str())
 }
 
-/// The numbers of all that stands, by kinds: parties, units, parcels, entries and sources.
+/// The numbers of all objects by kind: parties, units, parcels, entries and sources.
 struct Standing(
     &'static [u64],
     &'static [u64],
@@ -94,7 +94,7 @@ fn stands(register: &Register, standing: &Standing) -> bool {
         && have(&register.sources, standing.4)
 }
 
-/// What a register is told, the change that is made of it, the next number, what stands then, and some of its objects.
+/// The facts of a register, a change of it, and the expected next number, numbers and some objects after it.
 struct Changing {
     base: &'static [Part],
     facts: &'static [Fact],
@@ -103,7 +103,7 @@ struct Changing {
     shown: &'static [Shown],
 }
 
-/// Whether what stands in a register and some of its objects are as expected, and the register is sound.
+/// Whether the numbers of a register and some of its objects are as expected, and the register is sound.
 fn is_changed(alloc: Global, register: &Register, it: &Changing) -> Result<bool, Stop> {
     Ok(
         register.next == it.next
@@ -128,8 +128,8 @@ fn change(alloc: Global, register: &mut Register, it: &Changing) -> Result<Made,
     make_by(alloc, register, &mut change, it.facts)
 }
 
-/// Whether a change was made well, where what it left is good or not. One that was made late ends in want of memory, for
-/// memory was refused.
+/// Whether a change was made correctly. One that was made at the second attempt returns out of memory, since
+/// an allocation failed.
 fn is_well_made(made: Made, good: bool) -> Result<bool, Stop> {
     match made {
         Made::AtOnce => Ok(good),
@@ -138,13 +138,13 @@ fn is_well_made(made: Made, good: bool) -> Result<bool, Stop> {
     }
 }
 
-/// Makes a change, and answers whether it leaves what is expected.
+/// Makes a change, and returns whether the result is as expected.
 fn change_well(alloc: Global, register: &mut Register, it: &Changing) -> Result<bool, Stop> {
     let made = change(alloc, register, it)?;
     is_well_made(made, is_changed(alloc, register, it)?)
 }
 
-/// Whether a change leaves what is expected.
+/// Whether the result of a change is as expected.
 fn changes(alloc: Global, it: &Changing) -> Result<bool, Stop> {
     let mut register = register_with(alloc, it.base)?;
     change_well(alloc, &mut register, it)
@@ -166,14 +166,14 @@ const ENTERING: &Changing = &Changing {
     )],
 };
 
-/// Want of memory leaves the changed register.
+/// Checks that running out of memory leaves the register unchanged, or the change made.
 pub fn want_of_memory_leaves_the_changed_register(alloc: Global) -> Result<(), Stop> {
     expect(changes(alloc, ENTERING)?, "the change", 0)
 }
 
 const BENS_AND_SAMS: &[Share] = &[(3, 1, 2), (4, 1, 2)];
 
-/// Gives the group 5 Ben and Sam as its members.
+/// Replaces the members of group 5 by Ben and Sam.
 const REGROUPING: &Changing = &Changing {
     base: WITH_GROUP,
     facts: &[Fact::Members(5, BENS_AND_SAMS)],
@@ -186,7 +186,7 @@ const REGROUPING: &Changing = &Changing {
     )],
 };
 
-/// Returns a group gets other members.
+/// Checks that a change replaces the members of a group.
 pub fn a_group_gets_other_members(alloc: Global) -> Result<(), Stop> {
     expect(changes(alloc, REGROUPING)?, "the change", 0)
 }
@@ -204,7 +204,7 @@ fn members_of(register: &Register) -> Membership {
     )
 }
 
-/// Makes a change, and gives the members after it.
+/// Makes a change, and returns the members after it.
 fn change_members(
     alloc: Global,
     register: &mut Register,
@@ -222,7 +222,7 @@ fn members_after(alloc: Global, it: &Changing) -> Result<Membership, Stop> {
     change_members(alloc, &mut register, it)
 }
 
-/// Leaves the group as it is.
+/// Leaves the group unchanged.
 const KEEPING: &Changing = &Changing {
     base: WITH_GROUP,
     facts: &[],
@@ -245,7 +245,7 @@ pub fn members_are_those_of_the_change(alloc: Global) -> Result<(), Stop> {
     Ok(())
 }
 
-/// Ends the group 5.
+/// Removes group 5.
 const UNGROUPING: &Changing = &Changing {
     base: WITH_GROUP,
     facts: &[Fact::Ended(Kind::Party, 5)],
@@ -254,7 +254,7 @@ const UNGROUPING: &Changing = &Changing {
     shown: &[Shown(Kind::Party, 5, Look::Nothing)],
 };
 
-/// Returns an ended group has no members.
+/// Checks that a removed group has no members.
 pub fn an_ended_group_has_no_members(alloc: Global) -> Result<(), Stop> {
     expect(changes(alloc, UNGROUPING)?, "the change", 0)
 }
@@ -284,7 +284,7 @@ pub fn a_unit_is_entered(alloc: Global) -> Result<(), Stop> {
     expect(changes(alloc, PLANTING)?, "the change", 0)
 }
 
-/// Ends the garden with all that it has, and its source.
+/// Removes the garden with its parcels, its entries and its source.
 const CLEARING: &Changing = &Changing {
     base: WITH_GARDEN,
     facts: &[
@@ -309,7 +309,7 @@ pub fn a_unit_is_ended(alloc: Global) -> Result<(), Stop> {
     expect(changes(alloc, CLEARING)?, "the change", 0)
 }
 
-/// Gives Ben all of the garden, and the pond another label.
+/// Replaces a right, so that Ben owns all of the garden, and the label of the pond.
 const REPLACING: &Changing = &Changing {
     base: WITH_GARDEN,
     facts: &[
@@ -329,7 +329,7 @@ const REPLACING: &Changing = &Changing {
     ],
 };
 
-/// Records are replaced.
+/// Checks that records are replaced.
 pub fn records_are_replaced(alloc: Global) -> Result<(), Stop> {
     expect(changes(alloc, REPLACING)?, "the change", 0)
 }
@@ -349,7 +349,7 @@ const LODGING: Changing = Changing {
     shown: &[Shown(Kind::Mutation, 16, Look::Mutation(SHARE))],
 };
 
-/// Puts another record in the place of the share, and ends what was approved.
+/// Replaces the record of the share, and removes the approved mutation.
 const DECIDING: Changing = Changing {
     base: WITH_LODGED,
     facts: &[
@@ -371,7 +371,7 @@ const DECIDING: Changing = Changing {
     ],
 };
 
-/// Mutations are entered replaced and ended.
+/// Checks that mutations are inserted, replaced and removed.
 pub fn mutations_are_entered_replaced_and_ended(alloc: Global) -> Result<(), Stop> {
     expect(
         changes(alloc, &LODGING)? && changes(alloc, &DECIDING)?,

@@ -1,4 +1,4 @@
-//! The new register, and copies that do not differ from what was copied.
+//! The new register, and copies that equal the original.
 use super::garden::{ANNA, DEED, GARDEN, HEDGE, LEASE, LOAN, PATH, POND};
 use super::objects::{OFFICE, is_shown};
 use super::{WITH_ALL, register_with};
@@ -47,7 +47,7 @@ fn are_new(alloc: Global, register: &Register, copy: &Register) -> Result<bool, 
     Ok(is_new(alloc, register)? && is_new(alloc, copy)?)
 }
 
-/// Whether the register is the new one where it could not be copied. This ends in want of memory.
+/// Whether the register is still the new one after a failed copy. Then returns out of memory.
 fn is_new_still(alloc: Global, register: &Register) -> Result<bool, Stop> {
     if is_new(alloc, register)? {
         Err(AllocError.into())
@@ -69,12 +69,12 @@ fn stays_new(alloc: Global) -> Result<bool, Stop> {
     is_copied_new(alloc, &register)
 }
 
-/// Want of memory leaves the copied register.
+/// Checks that running out of memory leaves the original register unchanged.
 pub fn want_of_memory_leaves_the_copied_register(alloc: Global) -> Result<(), Stop> {
     expect(stays_new(alloc)?, "the register", 0)
 }
 
-/// Whether a copy is printed with the fields of what was copied.
+/// Whether a copy prints the same fields as the original.
 fn is_copied<T: Debug + Duplicate>(alloc: Global, value: &T) -> Result<bool, Stop> {
     let copied = fields(alloc, &value.copy(alloc)?)?;
     Ok(fields(alloc, value)?.as_str() == copied.as_str())

@@ -7,7 +7,7 @@ use land_core::soundness::Unsound;
 use land_test_cases::stop::{Stop, expect};
 use std::alloc::{AllocError, Global};
 
-/// What there is a crowd of.
+/// The kind of object of which a register has many.
 #[derive(Clone, Copy)]
 enum Crowd {
     Parties,
@@ -15,7 +15,7 @@ enum Crowd {
     Entries,
 }
 
-/// One of a crowd: a party, or a parcel or an entry of the garden.
+/// Returns one of many: a party, or a parcel or an entry of the garden.
 fn one(crowd: Crowd, number: u64) -> Fact {
     match crowd {
         Crowd::Parties => Fact::Party(number, NaturalPerson, "Anna"),
@@ -32,14 +32,14 @@ fn add_crowd(facts: &mut Vec<Fact>, crowd: Crowd, count: u64) -> Result<(), Allo
     Ok(())
 }
 
-/// So many of a crowd, under the numbers from 20 on, and 1000 as the next number.
+/// Returns this number of objects, with the numbers from 20 on, and 1000 as the next number.
 fn crowd_of(alloc: Global, crowd: Crowd, count: u64) -> Result<Vec<Fact>, AllocError> {
     let mut facts = Vec::new(alloc);
     add_crowd(&mut facts, crowd, count)?;
     Ok(facts)
 }
 
-/// Returns the fault of a register with so many of a crowd more.
+/// Returns the fault of a register with this number of further objects.
 fn crowded(
     alloc: Global,
     base: &[Part],

@@ -1,4 +1,4 @@
-//! Each fault of parties, their roles and their members, and what lies just beside it.
+//! Each fault of parties, their roles and their members, and the nearest valid cases.
 use super::{
     ANNA_A_THIRD, Case, OFFICE_ALONE, Part, REFERENCE, WITH_GROUP, WITH_PERSONS, expect_faults,
 };
@@ -21,7 +21,7 @@ const NUMBERS: &[Case] = &[
     Case(&[ZERO, Fact::Next(2)], REFERENCE),
 ];
 
-/// Numbers in use lie below the next one.
+/// Checks that numbers in use are below the next one.
 pub fn numbers_in_use_lie_below_the_next_one(alloc: Global) -> Result<(), Stop> {
     expect_faults(alloc, OFFICE_ALONE, NUMBERS)
 }
@@ -42,7 +42,7 @@ const NO_ADMINISTRATOR: &[Case] = &[Case(
     Some(Unsound::Administrator),
 )];
 
-/// Somebody is state administrator.
+/// Checks that a party is state administrator.
 pub fn somebody_is_state_administrator(alloc: Global) -> Result<(), Stop> {
     expect_faults(alloc, OFFICE_ALONE, NO_ADMINISTRATOR)
 }
@@ -87,7 +87,7 @@ pub fn members_are_single_parties_with_all_shares(alloc: Global) -> Result<(), S
 
 const SAMS_MEMBERS: &[Case] = &[Case(&[Fact::Members(4, ANNA_A_THIRD)], REFERENCE)];
 
-/// Only groups have members.
+/// Checks that only groups have members.
 pub fn only_groups_have_members(alloc: Global) -> Result<(), Stop> {
     expect_faults(alloc, WITH_PERSONS, SAMS_MEMBERS)
 }

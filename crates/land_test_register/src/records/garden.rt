@@ -37,7 +37,7 @@ pub(super) const HEDGE: u64 = 14;
 /// A mortgage of Sam.
 pub(super) const LOAN: u64 = 15;
 
-/// The number after all of these: a unit of its own, where there is one.
+/// The number after all of these: another unit, if it exists.
 pub(super) const ORCHARD: u64 = 16;
 
 /// No object has this number.
@@ -62,7 +62,7 @@ pub(super) const RECORDS: &[Fact] = &[
     Fact::Next(16),
 ];
 
-/// A share of Anna's half for Sam, which nobody has decided.
+/// A transfer of a share of Anna's half to Sam, undecided.
 pub(super) const SHARE: Lodged = Lodged(
     SAM,
     "T1",
@@ -71,7 +71,7 @@ pub(super) const SHARE: Lodged = Lodged(
     Asked::Transfer(GARDEN, ANNAS, SAM, 1, 4),
 );
 
-/// Sam's mortgage, as it was lodged.
+/// Sam's mortgage, as lodged.
 pub(super) const LOAN_LODGED: Lodged = Lodged(
     SAM,
     "M1",
@@ -80,7 +80,7 @@ pub(super) const LOAN_LODGED: Lodged = Lodged(
     Asked::Mortgage(GARDEN, SAM, 2_500_000, "EUR"),
 );
 
-/// A letter of Anna, who is no bank.
+/// A mutation of Anna, who is not a bank.
 pub(super) const LETTER: Lodged = Lodged(
     ANNA,
     "T1",
@@ -97,7 +97,7 @@ pub(super) const LODGED: &[Fact] = &[
     Fact::Next(19),
 ];
 
-/// The garden's rights end.
+/// Removes the garden's rights.
 pub(super) const WITHOUT_RIGHTS: &[Fact] = &[
     Fact::Ended(Kind::Rrr, ANNAS),
     Fact::Ended(Kind::Rrr, BENS),

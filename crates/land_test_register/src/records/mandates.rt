@@ -1,4 +1,4 @@
-//! Mandates: between whom they may stand, and how a change gives and ends them.
+//! Mandates: the parties between which they can exist, and changes that give and withdraw them.
 use super::{Case, REFERENCE, WITH_GROUP, WITH_PERSONS, expect_faults, register_with};
 use crate::facts::changes::change_all;
 use crate::facts::facts::Fact;
@@ -9,7 +9,7 @@ use land_core::register::{Register, apply};
 use land_test_cases::stop::{Stop, expect};
 use std::alloc::Global;
 
-/// The group 5 gives and holds no mandate, nor does 9, which is nobody.
+/// Group 5 can neither give nor have a mandate, nor can 9, which does not exist.
 const PAIRS: &[Case] = &[
     Case(&[Fact::Mandate(2, 3)], None),
     Case(&[Fact::Mandate(2, 3), Fact::Mandate(3, 2)], None),
@@ -31,10 +31,10 @@ pub fn a_mandate_is_between_two_single_parties(alloc: Global) -> Result<(), Stop
 /// Anna and Sam give Ben their mandates.
 const GIVING: &[Fact] = &[Fact::Mandate(2, 3), Fact::Mandate(4, 3)];
 
-/// Anna's ends, and Ben gives Sam his.
+/// Anna's is withdrawn, and Ben gives Sam his.
 const CHANGING: &[Fact] = &[Fact::Withdrawn(2, 3), Fact::Mandate(3, 4)];
 
-/// Whether Ben holds Anna's mandate, whether he holds Sam's, and whether Sam holds his.
+/// Whether Ben has Anna's mandate, whether he has Sam's, and whether Sam has Ben's.
 type Held = (bool, bool, bool);
 
 fn holds(register: &Register, principal: u64, agent: u64) -> bool {
@@ -49,21 +49,21 @@ fn held(register: &Register) -> Held {
     )
 }
 
-/// Makes a change, and gives what a copy of the register after it has.
+/// Makes a change, and returns the mandates of a copy of the register after it.
 fn held_after(alloc: Global, register: &mut Register, change: &Change) -> Result<Held, Stop> {
     apply(alloc, register, change)?;
     let copy = register.copy(alloc)?;
     Ok(held(&copy))
 }
 
-/// The same, of the change that does what facts say.
+/// Does the same with the change of these facts.
 fn change_by(alloc: Global, register: &mut Register, facts: &[Fact]) -> Result<Held, Stop> {
     let mut change = Change::nothing(alloc, 6);
     change_all(alloc, &mut change, facts)?;
     held_after(alloc, register, &change)
 }
 
-/// Mandates are those of the change.
+/// Checks that the mandates are those of the change.
 pub fn mandates_are_those_of_the_change(alloc: Global) -> Result<(), Stop> {
     let mut register = register_with(alloc, WITH_PERSONS)?;
     let given = change_by(alloc, &mut register, GIVING)?;

@@ -1,4 +1,4 @@
-//! Each fault of mutations, and what lies just beside it.
+//! Each fault of mutations, and the nearest valid cases.
 use super::garden::{ANNA, ANNAS, BEN, DEED, GARDEN, LAWN, LEASE, LOAN, NOBODY, SAM};
 use super::{Case, Part, REFERENCE, expect_faults};
 use crate::facts::facts::Fact::{self, Mutation};
@@ -35,7 +35,7 @@ const LODGERS: &[Case] = &[
     ),
 ];
 
-/// Returns the lodger of a mutation stands.
+/// Checks that the lodger of a mutation exists.
 pub fn the_lodger_of_a_mutation_stands(alloc: Global) -> Result<(), Stop> {
     expect_faults(alloc, UP_TO_19, LODGERS)
 }
@@ -58,7 +58,7 @@ const SOURCES: &[Case] = &[
     ),
 ];
 
-/// Returns the source of a mutation stands.
+/// Checks that the source of a mutation exists.
 pub fn the_source_of_a_mutation_stands(alloc: Global) -> Result<(), Stop> {
     expect_faults(alloc, UP_TO_19, SOURCES)
 }
@@ -78,12 +78,13 @@ const NUMBERS: &[Case] = &[
     ),
 ];
 
-/// Numbers of mutations lie below the next one.
+/// Checks that numbers of mutations are below the next one.
 pub fn numbers_of_mutations_lie_below_the_next_one(alloc: Global) -> Result<(), Stop> {
     expect_faults(alloc, UP_TO_19, NUMBERS)
 }
 
-/// What a content names need not stand, but has to keep its limits, also where it was decided.
+/// The objects of a content need not exist, but its fields must be within their limits, even after the
+/// decision.
 const CONTENTS: &[Case] = &[
     Case(
         &[Mutation(
@@ -149,7 +150,7 @@ const CONTENTS: &[Case] = &[
     ),
 ];
 
-/// Contents of mutations keep their limits.
+/// Checks that the fields of contents are within their limits.
 pub fn contents_of_mutations_keep_their_limits(alloc: Global) -> Result<(), Stop> {
     expect_faults(alloc, UP_TO_19, CONTENTS)
 }

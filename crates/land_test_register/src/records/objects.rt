@@ -1,4 +1,4 @@
-//! The objects of a register as they are shown.
+//! The objects of a register.
 use super::garden::{
     ANNA, ANNAS, BEN, DEED, GARDEN, HALF, HEDGE, LAWN, LEASE, LETTER, LOAN, LOAN_LODGED, NOBODY,
     PATH, POND, SAM, SHARE,
@@ -23,9 +23,9 @@ use land_fraction::Fraction;
 use land_test_cases::stop::{Stop, expect};
 use std::alloc::{AllocError, Global};
 
-/// What is shown of an object.
+/// The expected data of an object.
 pub(super) enum Look {
-    /// It does not stand.
+    /// It does not exist.
     Nothing,
     /// A party's kind, name, members and roles.
     Party(PartyKind, &'static str, &'static [Share], &'static [Role]),
@@ -33,7 +33,7 @@ pub(super) enum Look {
     Unit(&'static str, bool),
     /// A parcel's unit and label, its doubled area, its source and its outline.
     Parcel(u64, &'static str, u64, u64, &'static str),
-    /// An entry's unit, party and source, and what it is.
+    /// An entry's unit, party, source and class.
     Rrr(u64, u64, u64, Held),
     /// A source's kind and title.
     Source(SourceKind, &'static str),
@@ -41,7 +41,7 @@ pub(super) enum Look {
     Mutation(Lodged),
 }
 
-/// A kind, a number, and what is shown of it.
+/// A kind, a number, and the expected data.
 pub(super) struct Shown(pub Kind, pub u64, pub Look);
 
 fn are_members(members: &[Member], shares: &[Share]) -> bool {
@@ -132,7 +132,7 @@ fn is_mutation(it: &Mutation, lodged: &Lodged) -> bool {
         && is_asked(&it.content, &lodged.4)
 }
 
-/// Whether an object is shown under a number as expected.
+/// Whether an object has this number and the expected data.
 fn looks(object: &Object, number: u64, look: &Look) -> Result<bool, AllocError> {
     match (object, look) {
         (Object::Party(it), Look::Party(kind, name, shares, roles)) => {
@@ -161,7 +161,7 @@ fn looks(object: &Object, number: u64, look: &Look) -> Result<bool, AllocError> 
     }
 }
 
-/// Whether an object of a register is shown as its row says.
+/// Whether an object of a register is as its row expects.
 pub(super) fn is_shown(
     alloc: Global,
     register: &Register,
@@ -173,7 +173,7 @@ pub(super) fn is_shown(
     }
 }
 
-/// Returns the number of rows a register shows before the first that it does not.
+/// Returns the number of rows before the first that a register does not satisfy.
 pub(super) fn shown_rows(
     alloc: Global,
     register: &Register,
@@ -187,7 +187,7 @@ pub(super) fn shown_rows(
     Ok(rows.len())
 }
 
-/// Returns the number of rows a register of these facts shows before the first that it does not.
+/// Returns the number of rows before the first that a register with these facts does not satisfy.
 fn rows_of(alloc: Global, base: &[Part], rows: &[Shown]) -> Result<usize, Stop> {
     let register = register_with(alloc, base)?;
     shown_rows(alloc, &register, rows)
@@ -198,7 +198,7 @@ fn expect_shown(alloc: Global, base: &[Part], rows: &[Shown]) -> Result<(), Stop
     expect(shown == rows.len(), "row", shown)
 }
 
-/// The office, as it begins.
+/// The office of a new register.
 pub(super) const OFFICE: Shown = Shown(
     Kind::Party,
     1,
@@ -259,7 +259,7 @@ const OBJECTS: &[Shown] = &[
     Shown(Kind::Mutation, 18, Look::Mutation(LETTER)),
 ];
 
-/// Objects are shown.
+/// Checks the objects of a register.
 pub fn objects_are_shown(alloc: Global) -> Result<(), Stop> {
     expect_shown(alloc, WITH_ALL, OBJECTS)
 }
@@ -285,7 +285,7 @@ const NOTHING: &[Shown] = &[
     Shown(Kind::Mutation, NOBODY, Look::Nothing),
 ];
 
-/// Nothing is shown where no object of the kind stands.
+/// Checks that an object that does not exist is not returned.
 pub fn nothing_is_shown_where_no_object_of_the_kind_stands(alloc: Global) -> Result<(), Stop> {
     expect_shown(alloc, WITH_GARDEN, NOTHING)
 }

@@ -1,4 +1,4 @@
-//! Each fault of rights and mortgages, and what lies just beside it.
+//! Each fault of rights and mortgages, and the nearest valid cases.
 use super::garden::{ANNA, BEN, DEED, GARDEN, ORCHARD, SAM};
 use super::{Case, Part, WITH_TWO_UNITS, expect_faults, fault_of};
 use crate::facts::facts::{Fact, Held, Right};
@@ -7,7 +7,7 @@ use land_core::soundness::Unsound;
 use land_test_cases::stop::{Stop, expect};
 use std::alloc::{AllocError, Global};
 
-/// Rights of the garden, under the numbers from 16 on, and the next number.
+/// Returns rights of the garden, with the numbers from 16 on, and the next number.
 fn rights_of(alloc: Global, rights: &[Right]) -> Result<Vec<Fact>, AllocError> {
     let mut facts = Vec::new(alloc);
     let mut next = 16;
@@ -29,13 +29,13 @@ const UNCHECKED_BARE: &[Part] = &[
     Part::Unchecked,
 ];
 
-/// Returns the fault of the garden with these rights and no others.
+/// Returns the fault of the garden with only these rights.
 fn held(alloc: Global, base: &[Part], rights: &[Right]) -> Result<Option<Unsound>, Stop> {
     let facts = rights_of(alloc, rights)?;
     fault_of(alloc, base, facts.as_slice())
 }
 
-/// Rights, and the faults of the garden where its shares are checked and where they are not.
+/// Rights, and the faults of the garden if its shares are checked and if they are not.
 struct Holding(&'static [Right], Option<Unsound>, Option<Unsound>);
 
 /// Whether the garden has the faults of its rights, checked and unchecked.
@@ -88,7 +88,7 @@ const WHOLES: &[Holding] = &[
     Holding(OF_TWO_TYPES, SHARES, None),
 ];
 
-/// Shares make a whole in a checked unit.
+/// Checks that the shares in a checked unit sum to 1.
 pub fn shares_make_a_whole_in_a_checked_unit(alloc: Global) -> Result<(), Stop> {
     expect_held(alloc, WHOLES)
 }
@@ -170,7 +170,7 @@ const RANKS: &[Case] = &[
 
 const UP_TO_20: &[Part] = &[Part::Persons, Part::Garden, Part::Orchard, Part::Next20];
 
-/// Mortgages of a unit have ranks of their own.
+/// Checks that the mortgages of a unit have different ranks.
 pub fn mortgages_of_a_unit_have_ranks_of_their_own(alloc: Global) -> Result<(), Stop> {
     expect_faults(alloc, UP_TO_20, RANKS)
 }

@@ -1,4 +1,4 @@
-//! Each fault of units, parcels and sources, and what lies just beside it.
+//! Each fault of units, parcels and sources, and the nearest valid cases.
 use super::garden::{
     ALL, ANNA, ANNAS, BEN, BENS, DEED, GARDEN, LAWN, LEASE, NOBODY, PATH, POND, SAM, WITH_ORCHARD,
 };
@@ -18,7 +18,7 @@ const PARCELS: &[Case] = &[
     Case(&[Fact::Parcel(POND, GARDEN, "12b", GARDEN)], REFERENCE),
 ];
 
-/// Parcels refer to what stands.
+/// Checks that parcels refer to objects that exist.
 pub fn parcels_refer_to_what_stands(alloc: Global) -> Result<(), Stop> {
     expect_faults(alloc, WITH_GARDEN, PARCELS)
 }
@@ -54,7 +54,7 @@ const ENTRIES: &[Case] = &[
     ),
 ];
 
-/// Entries refer to what stands.
+/// Checks that entries refer to objects that exist.
 pub fn entries_refer_to_what_stands(alloc: Global) -> Result<(), Stop> {
     expect_faults(alloc, WITH_GARDEN, ENTRIES)
 }
@@ -110,12 +110,12 @@ const NUMBERS: &[Case] = &[
     Case(&[Fact::Source(0), Fact::Next(16)], REFERENCE),
 ];
 
-/// Numbers of each kind lie below the next one.
+/// Checks that numbers of each kind are below the next one.
 pub fn numbers_of_each_kind_lie_below_the_next_one(alloc: Global) -> Result<(), Stop> {
     expect_faults(alloc, WITH_GARDEN, NUMBERS)
 }
 
-/// The orchard under the number 0.
+/// The orchard with the number 0.
 const UNIT_ZERO: &[Fact] = &[
     Fact::Unit(0, "Orchard", true),
     Fact::Parcel(POND, 0, "12b", DEED),
@@ -127,7 +127,7 @@ const UNITS: &[Case] = &[Case(WITH_ORCHARD, None), Case(UNIT_ZERO, REFERENCE)];
 
 const LATE_UNITS: &[Case] = &[Case(&[], None), Case(&[Fact::Next(16)], REFERENCE)];
 
-/// Numbers of units lie below the next one.
+/// Checks that numbers of units are below the next one.
 pub fn numbers_of_units_lie_below_the_next_one(alloc: Global) -> Result<(), Stop> {
     expect_faults(alloc, WITH_GARDEN, UNITS)?;
     expect_faults(alloc, WITH_TWO_UNITS, LATE_UNITS)
@@ -157,7 +157,7 @@ pub fn a_unit_has_a_parcel_and_an_owner(alloc: Global) -> Result<(), Stop> {
 
 const BESIDE_ANOTHER: &[Case] = &[Case(&[], None), Case(&[LAWN_ENDS], BARE)];
 
-/// Parcels of another unit do not count.
+/// Checks that parcels of another unit do not count.
 pub fn parcels_of_another_unit_do_not_count(alloc: Global) -> Result<(), Stop> {
     expect_faults(alloc, WITH_TWO_UNITS, BESIDE_ANOTHER)
 }
