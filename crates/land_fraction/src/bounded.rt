@@ -13,8 +13,8 @@ use std::marker::Model;
 /// The greatest denominator of a fraction.
 pub const FINEST: u64 = 1_000_000_000;
 
-/// A share of a whole (the Rational of ISO 19152:2012, within this project's bounds): above zero, at most one, in lowest
-/// terms, its denominator at most 1_000_000_000.
+/// A share of a whole (the Rational of ISO 19152:2012, within this project's bounds): above zero, at most
+/// one, in lowest terms, its denominator at most 1_000_000_000.
 ///
 /// Contracts see it as the pair of its numerator and its denominator, so equal fractions are equal values.
 #[derive(Clone, Copy, Debug, PartialEq, Eq)]

@@ -42,7 +42,8 @@ run_more {C} reads from mid to reading (x ∷ xs) q (y ∷ ys) r run rd el =
 run_more {C} reads from mid to reading [] q (y ∷ ys) r run rd el = absurd run
 run_more {C} reads from mid to reading (x ∷ xs) q [] r run rd el = absurd run
 
--- an element of a keeper that showed another timeline than the machine's, since it was closed, is one of the machine's
+-- an element of a keeper that showed another timeline than the machine's, since it was closed, is one of the
+-- machine's
 element_from : (closed closed_after : Bool) (tl shown new shown_after : Timeline) (reading : ℤ) (q : Request) (r : Reply)
     → (closed ≡ false → shown ≡ tl) → Element closed reading q shown r new closed_after → (closed_after ≡ false → shown_after ≡ new)
     → (to : Timeline) × Element closed reading q tl r to closed_after × (closed_after ≡ false → shown_after ≡ to)

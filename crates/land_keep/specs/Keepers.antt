@@ -1,5 +1,6 @@
--- How a keeper with its clock represents a state of the machine. The ghost members of a keeper are one value, `K.Keeper` in contracts.
--- The trait's own contracts cannot use these names, since this file imports the trait.
+-- How a keeper with its clock represents a state of the machine. The ghost members of a keeper are one value,
+-- `K.Keeper` in contracts. The trait's own contracts cannot use these names, since this file imports the
+-- trait.
 use Rattle.land_keep.specs.Keeping.{IsAt}
 use Rattle.land_keep.specs.Machine.{State}
 use Rattle.land_keep.specs.declared.keeper.Keeper.{Ghosts}

@@ -1,5 +1,6 @@
--- Equations and orders of whole numbers that hold by multiplying out. An expression is written down once as data; its
--- upper and lower parts are natural numbers whose difference is its value, and `omega` compares those.
+-- Equations and orders of whole numbers that hold by multiplying out. An expression is written down once as
+-- data; its upper and lower parts are natural numbers whose difference is its value, and `omega` compares
+-- those.
 use Rattle.std.proofs.Common.{◌≡◌, ℕ, ◌+◌, ◌*◌, ◌≤◌, ◌<◌, arith, ap}
 use lib.IntN.{ℤ, pos, ◌+ℤ◌, ◌-ℤ◌, ◌*ℤ◌, neg_ℤ}
 use lib.Signed.{◌≤ℤ◌, ◌<ℤ◌}

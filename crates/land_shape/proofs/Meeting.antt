@@ -170,7 +170,8 @@ crossing ux uy vx vy wx wy hd hs hs' hr hr' =
       same_y = rw (ed, es, er) (by_parts (cross_expr e f c d ⊗ b) (cross_expr a b c d ⊗ f ⊕ cross_expr e f a b ⊗ d) (omega arith));
     }
 
--- On one line, the first running in the positive direction of the x-axis: the start of the second lies on the first,
+-- On one line, the first running in the positive direction of the x-axis: the start of the second lies on the
+-- first,
 start_on : (ux uy vx vy wx wy : ℤ) → pos 0 <ℤ ux → pos 0 ≤ℤ wx → wx ≤ℤ ux → cross_of wx wy ux uy ≡ pos 0 → Meets ux uy vx vy wx wy
 start_on ux uy vx vy wx wy hu hw hw' r0 =
     let eu = nat_of ux (omega (arith, ints)) in

@@ -1,5 +1,5 @@
--- Coordinates: an optional sign, at least one digit, and optionally a point with 0 to 20 zeros after it. Any number of digits
--- is allowed. The value is a whole number of millimetres.
+-- Coordinates: an optional sign, at least one digit, and optionally a point with 0 to 20 zeros after it. Any
+-- number of digits is allowed. The value is a whole number of millimetres.
 use Rattle.std.specs.Prelude.{ℕ, ℤ, Bool, true, false, List, [], ◌∷◌, ◌==◌, ◌&&◌, if◌then◌else◌, Option, Some, None, length, pos, ◌-ℤ◌, nat_le, nat_lt}
 use Rattle.std.specs.List.{before_first, after_first, list_all}
 use Rattle.std.specs.Option.{option_map}

@@ -43,8 +43,8 @@ const SOUTH: u64 = 8;
 
 const SAM: u64 = 9;
 
-/// A unit with parcel 12: owned by Anna and Ben's group (15), leased to Lena (16), with a restriction for the office (17),
-/// mortgages of the banks North (18) and South (19).
+/// A unit with parcel 12: owned by Anna and Ben's group (15), leased to Lena (16), with a restriction for the
+/// office (17), mortgages of the banks North (18) and South (19).
 const FARM: u64 = 10;
 
 /// A unit with parcel 13: owned by Nora (20).
@@ -156,7 +156,7 @@ fn fault_of_all(alloc: Global) -> Result<Option<Unsound>, Stop> {
     fault(alloc, &register)
 }
 
-/// Returns the farm and the house are soundly registered.
+/// Checks that the register with the farm and the house is sound.
 pub fn the_farm_and_the_house_are_soundly_registered(alloc: Global) -> Result<(), Stop> {
     expect(fault_of_all(alloc)? == None, "the register", 0)
 }

@@ -39,7 +39,7 @@ fn fault_of_all(alloc: Global) -> Result<Option<Unsound>, Stop> {
     fault(alloc, &register)
 }
 
-/// Returns the mandates are soundly registered.
+/// Checks that the register with the mandates is sound.
 pub fn the_mandates_are_soundly_registered(alloc: Global) -> Result<(), Stop> {
     expect(fault_of_all(alloc)? == None, "the register", 0)
 }

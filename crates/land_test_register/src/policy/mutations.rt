@@ -113,7 +113,7 @@ fn fault_of_all(alloc: Global) -> Result<Option<Unsound>, Stop> {
     fault(alloc, &register)
 }
 
-/// Returns the mutations are soundly registered.
+/// Checks that the register with the mutations is sound.
 pub fn the_mutations_are_soundly_registered(alloc: Global) -> Result<(), Stop> {
     expect(fault_of_all(alloc)? == None, "the register", 0)
 }

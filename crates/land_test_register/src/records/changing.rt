@@ -191,7 +191,8 @@ pub fn a_group_gets_other_members(alloc: Global) -> Result<(), Stop> {
     expect(changes(alloc, REGROUPING)?, "the change", 0)
 }
 
-/// Whether Anna, Ben and Sam are members of the group 5, whether that is a group, and whether Sam has a member.
+/// Whether Anna, Ben and Sam are members of the group 5, whether that is a group, and whether Sam has a
+/// member.
 type Membership = (bool, bool, bool, bool, bool);
 
 fn members_of(register: &Register) -> Membership {
@@ -237,7 +238,7 @@ const MEMBERS: &[(&Changing, Membership)] = &[
     (UNGROUPING, (false, false, false, false, false)),
 ];
 
-/// Returns members are those of the change.
+/// Checks that members are those of the change.
 pub fn members_are_those_of_the_change(alloc: Global) -> Result<(), Stop> {
     for (place, row) in MEMBERS.iter().enumerate() {
         expect(members_after(alloc, row.0)? == row.1, "row", place)?;
@@ -279,7 +280,7 @@ const PLANTING: &Changing = &Changing {
     shown: &[Shown(Kind::Rrr, 19, Look::Rrr(17, ANNA, 16, ALL))],
 };
 
-/// Returns a unit is entered.
+/// Checks that a unit is inserted.
 pub fn a_unit_is_entered(alloc: Global) -> Result<(), Stop> {
     expect(changes(alloc, PLANTING)?, "the change", 0)
 }
@@ -304,7 +305,7 @@ const CLEARING: &Changing = &Changing {
     shown: &[],
 };
 
-/// Returns a unit is ended.
+/// Checks that a unit is removed.
 pub fn a_unit_is_ended(alloc: Global) -> Result<(), Stop> {
     expect(changes(alloc, CLEARING)?, "the change", 0)
 }

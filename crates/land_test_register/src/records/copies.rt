@@ -38,7 +38,7 @@ fn is_made_new(alloc: Global) -> Result<bool, Stop> {
     is_new(alloc, &register)
 }
 
-/// Returns a new register is sound.
+/// Checks that a new register is sound.
 pub fn a_new_register_is_sound(alloc: Global) -> Result<(), Stop> {
     expect(is_made_new(alloc)?, "a new register", 0)
 }
@@ -113,7 +113,7 @@ fn is_whole_copied(alloc: Global) -> Result<bool, Stop> {
     is_well_copied(alloc, &register)
 }
 
-/// Returns a register and its copy are alike and sound.
+/// Checks that a register and its copy are alike and sound.
 pub fn a_register_and_its_copy_are_alike_and_sound(alloc: Global) -> Result<(), Stop> {
     expect(is_whole_copied(alloc)?, "the copy", 0)
 }
@@ -167,7 +167,7 @@ fn expect_copied(alloc: Global, rows: &[(Kind, u64)]) -> Result<(), Stop> {
     expect(copied == rows.len(), "row", copied)
 }
 
-/// Returns a copied object has all fields.
+/// Checks that a copied object has all fields.
 pub fn a_copied_object_has_all_fields(alloc: Global) -> Result<(), Stop> {
     expect_copied(alloc, OBJECTS)
 }

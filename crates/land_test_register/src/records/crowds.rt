@@ -54,14 +54,14 @@ const OF_64: &[Part] = &[Part::Of64];
 
 const OF_65: &[Part] = &[Part::Of65];
 
-/// Returns a group has at most 64 members.
+/// Checks that a group has at most 64 members.
 pub fn a_group_has_at_most_64_members(alloc: Global) -> Result<(), Stop> {
     let full = crowded(alloc, OF_64, Crowd::Parties, 64)?;
     let beyond = crowded(alloc, OF_65, Crowd::Parties, 65)?;
     expect(full == None && beyond == Some(Unsound::Group), "a crowd", 0)
 }
 
-/// Returns the garden has two parcels and six entries. A unit has at most 256 parcels.
+/// Checks that a unit has at most 256 parcels. The garden has two parcels and six entries.
 pub fn a_unit_has_at_most_256_parcels(alloc: Global) -> Result<(), Stop> {
     let full = crowded(alloc, WITH_GARDEN, Crowd::Parcels, 254)?;
     let beyond = crowded(alloc, WITH_GARDEN, Crowd::Parcels, 255)?;
@@ -72,7 +72,7 @@ pub fn a_unit_has_at_most_256_parcels(alloc: Global) -> Result<(), Stop> {
     )
 }
 
-/// Returns a unit has at most 256 entries.
+/// Checks that a unit has at most 256 entries.
 pub fn a_unit_has_at_most_256_entries(alloc: Global) -> Result<(), Stop> {
     let full = crowded(alloc, WITH_GARDEN, Crowd::Entries, 250)?;
     let beyond = crowded(alloc, WITH_GARDEN, Crowd::Entries, 251)?;

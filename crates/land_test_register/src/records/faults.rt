@@ -32,7 +32,7 @@ const ROLES: &[Case] = &[
     Case(&[Fact::Grant(9, Role::Notary)], REFERENCE),
 ];
 
-/// Returns a role is that of a single party.
+/// Checks that a role is that of a single party.
 pub fn a_role_is_that_of_a_single_party(alloc: Global) -> Result<(), Stop> {
     expect_faults(alloc, WITH_GROUP, ROLES)
 }
@@ -80,7 +80,7 @@ const MEMBERS: &[Case] = &[
 
 const WITH_FAMILY: &[Part] = &[Part::Persons, Part::Family];
 
-/// Returns members are single parties with all shares.
+/// Checks that members are single parties with all shares.
 pub fn members_are_single_parties_with_all_shares(alloc: Global) -> Result<(), Stop> {
     expect_faults(alloc, WITH_FAMILY, MEMBERS)
 }

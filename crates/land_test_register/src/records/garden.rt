@@ -104,7 +104,8 @@ pub(super) const WITHOUT_RIGHTS: &[Fact] = &[
     Fact::Ended(Kind::Rrr, LEASE),
 ];
 
-/// The pond becomes a unit of its own, which Anna owns in place of her half of the garden, and Ben all of that.
+/// The pond becomes a unit of its own, which Anna owns in place of her half of the garden, and Ben all of
+/// that.
 pub(super) const WITH_ORCHARD: &[Fact] = &[
     Fact::Unit(ORCHARD, "Orchard", true),
     Fact::Parcel(POND, ORCHARD, "12b", DEED),

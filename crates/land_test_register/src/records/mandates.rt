@@ -23,7 +23,7 @@ const PAIRS: &[Case] = &[
     Case(&[Fact::Mandate(3, 3), Fact::Withdrawn(3, 3)], None),
 ];
 
-/// Returns a mandate is between two single parties.
+/// Checks that a mandate is between two single parties.
 pub fn a_mandate_is_between_two_single_parties(alloc: Global) -> Result<(), Stop> {
     expect_faults(alloc, WITH_GROUP, PAIRS)
 }

@@ -196,7 +196,7 @@ const REFERENCES: &[Case] = &[
     ),
 ];
 
-/// Returns a lodger has a reference once.
+/// Checks that a lodger has a reference once.
 pub fn a_lodger_has_a_reference_once(alloc: Global) -> Result<(), Stop> {
     expect_faults(alloc, UP_TO_19, REFERENCES)
 }

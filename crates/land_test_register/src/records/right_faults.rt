@@ -123,7 +123,7 @@ const TYPES: &[Holding] = &[
     Holding(ALL_OF_ANNA, None, None),
 ];
 
-/// Returns a party has one right of a type.
+/// Checks that a party has one right of a type.
 pub fn a_party_has_one_right_of_a_type(alloc: Global) -> Result<(), Stop> {
     expect_held(alloc, TYPES)
 }
@@ -136,7 +136,7 @@ const TWO_UNITS: &[Case] = &[Case(
     None,
 )];
 
-/// Returns a party has rights of one type in two units.
+/// Checks that a party has rights of one type in two units.
 pub fn a_party_has_rights_of_one_type_in_two_units(alloc: Global) -> Result<(), Stop> {
     expect_faults(alloc, WITH_TWO_UNITS, TWO_UNITS)
 }

@@ -150,7 +150,7 @@ const LACKING: &[Case] = &[
     ),
 ];
 
-/// Returns a unit has a parcel and an owner.
+/// Checks that a unit has a parcel and an owner.
 pub fn a_unit_has_a_parcel_and_an_owner(alloc: Global) -> Result<(), Stop> {
     expect_faults(alloc, WITH_GARDEN, LACKING)
 }
