@@ -1,5 +1,6 @@
 -- The fraction that a pair equals, or the fault that it has.
-use Rattle.std.specs.Prelude.{◌≡◌, ℕ, ◌*◌, ◌/◌, ◌%◌, ◌<◌, ◌⊎◌, ◌||◌, Bool, nat_eq, nat_lt, Result, Ok, Err, unwrap_or, if◌then◌else◌}
+use Rattle.std.specs.Prelude.{◌≡◌, ℕ, ◌*◌, ◌/◌, ◌%◌, ◌<◌, ◌⊎◌, ◌||◌, Bool, nat_eq, nat_lt, Result, Ok, Err}
+use Rattle.std.specs.Prelude.{unwrap_or, if◌then◌else◌}
 use Rattle.land_fraction.specs.Least.{least_to}
 use Rattle.land_fraction.specs.Ratio.{Ratio, over, MeanSame, IsLeastDenominator, IsProper, IsFraction, finest}
 use Rattle.land_fraction.specs.declared.fault.FractionFault.{FractionFault}
@@ -18,7 +19,8 @@ is_multiple m d = nat_eq (m % d) 0
 
 -- the least denominator above 0 of a pair that means the same as a pair with a denominator above 0
 abbrev pub least_denominator : Ratio → ℕ
-least_denominator p = unwrap_or (least_to p.denominator (λ d. is_multiple (p.numerator * d) p.denominator)) p.denominator
+least_denominator p =
+    unwrap_or (least_to p.denominator (λ d. is_multiple (p.numerator * d) p.denominator)) p.denominator
 
 abbrev pub reduced : Ratio → Ratio
 reduced p = over (p.numerator * least_denominator p / p.denominator) (least_denominator p)

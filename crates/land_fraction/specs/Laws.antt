@@ -5,7 +5,8 @@ use Rattle.std.specs.List.Sorted.{IsPermutation}
 use Rattle.land_fraction.specs.Answer.{IsAnswer, fraction_of}
 use Rattle.land_fraction.specs.Order.{cross_cmp, ratio_cmp}
 use Rattle.land_fraction.specs.Ratio.{Ratio, MeanSame, IsFraction, sum_of, difference_of}
-use Rattle.land_fraction.specs.Wholeness.{IsCommon, IsCommonMultiple, IsWholeness, common_of, parts_of, wholeness}
+use Rattle.land_fraction.specs.Wholeness.{IsCommon, IsCommonMultiple, IsWholeness, common_of, parts_of}
+use Rattle.land_fraction.specs.Wholeness.{wholeness}
 use Rattle.land_fraction.specs.declared.fault.FractionFault.{FractionFault}
 use Rattle.land_fraction.specs.declared.lists.Whole.{Whole}
 use Rattle.land_fraction.specs.declared.lists.Whole.TheVariants.{Yes, TooFine}
@@ -36,7 +37,8 @@ OrderLaw = (f g : Ratio) → IsFraction f → IsFraction g → ratio_cmp f g ≡
 
 -- a without a share, and b with that share, have the sum of a and b
 abbrev pub KeptSumLaw : Type 0
-KeptSumLaw = (a b share left grown : Ratio) → fraction_of (difference_of a share) ≡ Ok left → fraction_of (sum_of b share) ≡ Ok grown
+KeptSumLaw = (a b share left grown : Ratio) → fraction_of (difference_of a share) ≡ Ok left
+    → fraction_of (sum_of b share) ≡ Ok grown
     → MeanSame (sum_of left grown) (sum_of a b)
 
 -- the order of a list does not matter
@@ -45,13 +47,16 @@ PermutedLaw = (shares others : List Ratio) → IsPermutation shares others → w
 
 -- a share of a list is moved from one entry to another: a whole list stays whole, or becomes too fine
 abbrev pub MovedLaw : Type 0
-MovedLaw = (a b share left grown : Ratio) (rest : List Ratio) → fraction_of (difference_of a share) ≡ Ok left → fraction_of (sum_of b share) ≡ Ok grown
-    → wholeness (a ∷ b ∷ rest) ≡ Yes → wholeness (left ∷ grown ∷ rest) ≢ TooFine → wholeness (left ∷ grown ∷ rest) ≡ Yes
+MovedLaw = (a b share left grown : Ratio) (rest : List Ratio) → fraction_of (difference_of a share) ≡ Ok left
+    → fraction_of (sum_of b share) ≡ Ok grown
+    → wholeness (a ∷ b ∷ rest) ≡ Yes → wholeness (left ∷ grown ∷ rest) ≢ TooFine
+    → wholeness (left ∷ grown ∷ rest) ≡ Yes
 
 -- a share of an entry becomes an entry of its own
 abbrev pub SplitLaw : Type 0
 SplitLaw = (a share left : Ratio) (rest : List Ratio) → fraction_of (difference_of a share) ≡ Ok left
-    → wholeness (a ∷ rest) ≡ Yes → wholeness (left ∷ share ∷ rest) ≢ TooFine → wholeness (left ∷ share ∷ rest) ≡ Yes
+    → wholeness (a ∷ rest) ≡ Yes → wholeness (left ∷ share ∷ rest) ≢ TooFine
+    → wholeness (left ∷ share ∷ rest) ≡ Yes
 
 -- an entry is added to another one whole
 abbrev pub JoinedLaw : Type 0
@@ -60,16 +65,19 @@ JoinedLaw = (a b sum : Ratio) (rest : List Ratio) → fraction_of (sum_of a b) �
 
 -- the parts of a sum are those of both fractions, for each number that all three denominators divide
 abbrev pub SumPartsLaw : Type 0
-SumPartsLaw = (m : ℕ) (a b sum : Ratio) → fraction_of (sum_of a b) ≡ Ok sum → 0 < m → a.denominator ∣ m → b.denominator ∣ m → sum.denominator ∣ m
+SumPartsLaw = (m : ℕ) (a b sum : Ratio) → fraction_of (sum_of a b) ≡ Ok sum → 0 < m → a.denominator ∣ m
+    → b.denominator ∣ m → sum.denominator ∣ m
     → parts_of m (a ∷ b ∷ []) ≡ parts_of m (sum ∷ [])
 
 -- the parts of a difference and of its subtrahend are those of the minuend
 abbrev pub DifferencePartsLaw : Type 0
-DifferencePartsLaw = (m : ℕ) (a share left : Ratio) → fraction_of (difference_of a share) ≡ Ok left → 0 < m → a.denominator ∣ m → share.denominator ∣ m → left.denominator ∣ m
+DifferencePartsLaw = (m : ℕ) (a share left : Ratio) → fraction_of (difference_of a share) ≡ Ok left → 0 < m
+    → a.denominator ∣ m → share.denominator ∣ m → left.denominator ∣ m
     → parts_of m (left ∷ share ∷ []) ≡ parts_of m (a ∷ [])
 
 -- if two lists have equal numbers of parts for some common multiple and one is whole, the other is whole or
 -- too fine
 abbrev pub SamePartsLaw : Type 0
-SamePartsLaw = (m : ℕ) (shares others : List Ratio) → IsCommonMultiple m shares → IsCommonMultiple m others → parts_of m shares ≡ parts_of m others
+SamePartsLaw = (m : ℕ) (shares others : List Ratio) → IsCommonMultiple m shares → IsCommonMultiple m others
+    → parts_of m shares ≡ parts_of m others
     → wholeness shares ≡ Yes → wholeness others ≢ TooFine → wholeness others ≡ Yes

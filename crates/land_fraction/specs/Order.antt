@@ -16,4 +16,5 @@ place_of f = f.numerator * 1000000000000000000 / f.denominator
 -- The cross products order fractions, but not all pairs: a denominator of 0 breaks the laws of an order. This
 -- one orders all pairs, and fractions as the cross products do (`laws::order_of_fractions`)
 abbrev pub ratio_cmp : Ratio → Ratio → Ordering
-ratio_cmp = then_cmp (on place_of nat_cmp) (then_cmp (on (λ f. f.numerator) nat_cmp) (on (λ f. f.denominator) nat_cmp))
+ratio_cmp = then_cmp (on place_of nat_cmp)
+    (then_cmp (on (λ f. f.numerator) nat_cmp) (on (λ f. f.denominator) nat_cmp))

@@ -42,4 +42,5 @@ sum_of p q = over (p.numerator * q.denominator + q.numerator * p.denominator) (p
 -- a/b - c/d is (a * d - c * b)/(b * d). The subtraction stops at 0, so the numerator is 0 if the result is
 -- not positive
 abbrev pub difference_of : Ratio → Ratio → Ratio
-difference_of p q = over (p.numerator * q.denominator - q.numerator * p.denominator) (p.denominator * q.denominator)
+difference_of p q = over (p.numerator * q.denominator - q.numerator * p.denominator)
+    (p.denominator * q.denominator)

@@ -1,5 +1,6 @@
 -- Sums of shares.
-use Rattle.std.specs.Prelude.{◌≡◌, ℕ, ◌*◌, ◌/◌, ◌<◌, ◌≤◌, ◌&&◌, Bool, nat_eq, List, sum_by, Option, Some, None, is_some, is_none, if◌then◌else◌, All}
+use Rattle.std.specs.Prelude.{◌≡◌, ℕ, ◌*◌, ◌/◌, ◌<◌, ◌≤◌, ◌&&◌, Bool, nat_eq, List, sum_by, Option, Some}
+use Rattle.std.specs.Prelude.{None, is_some, is_none, if◌then◌else◌, All}
 use Rattle.std.specs.Int.{◌∣◌}
 use Rattle.std.specs.List.{list_all}
 use Rattle.land_fraction.specs.Answer.{is_multiple}
@@ -34,7 +35,8 @@ IsWholeness shares TooFine = IsTooFine shares
 
 -- the least common multiple of the denominators, if it is at most the maximum denominator
 abbrev pub IsCommon : List Ratio → Option ℕ → Type 0
-IsCommon shares (Some m) = (m ≤ finest) × IsCommonMultiple m shares × ((k : ℕ) → IsCommonMultiple k shares → m ≤ k)
+IsCommon shares (Some m) = (m ≤ finest) × IsCommonMultiple m shares
+    × ((k : ℕ) → IsCommonMultiple k shares → m ≤ k)
 IsCommon shares None = IsTooFine shares
 
 abbrev pub is_common_multiple : ℕ → List Ratio → Bool
@@ -48,5 +50,6 @@ common_of shares = least_to finest (λ m. is_common_multiple m shares)
 unfoldable pub wholeness : List Ratio → Whole
 wholeness shares =
     if is_none (common_of shares) then TooFine
-    else if is_some (least_to finest (λ m. is_common_multiple m shares && nat_eq (parts_of m shares) m)) then Yes
+    else if is_some (least_to finest (λ m. is_common_multiple m shares && nat_eq (parts_of m shares) m))
+    then Yes
     else No

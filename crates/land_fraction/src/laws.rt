@@ -1,6 +1,7 @@
 //! Laws of the definitions. Calling a function here gives its law as a fact; it does nothing else.
 
-ghost use Rattle.land_fraction.specs.Laws.{AnswerLaw, CommonLaw, WholenessLaw, OneFractionLaw, SameFractionLaw, OrderLaw};
+ghost use Rattle.land_fraction.specs.Laws.{AnswerLaw, CommonLaw, WholenessLaw, OneFractionLaw};
+ghost use Rattle.land_fraction.specs.Laws.{SameFractionLaw, OrderLaw};
 ghost use Rattle.land_fraction.specs.Laws.{KeptSumLaw, PermutedLaw, MovedLaw, SplitLaw, JoinedLaw};
 ghost use Rattle.land_fraction.specs.Laws.{SumPartsLaw, DifferencePartsLaw, SamePartsLaw};
 

@@ -3,7 +3,8 @@
 ghost use Rattle.std.specs.Prelude.{◌≡◌, ◌*◌, ◌<◌, ◌≤◌, ◌^◌, ◌↔◌, IsTrue};
 ghost use Rattle.land_fraction.specs.Divisor.{IsLeastMultiple};
 ghost use Rattle.land_fraction.specs.Ratio.{finest};
-ghost use Rattle.land_fraction.specs.Wholeness.{IsCommon, IsCommonMultiple, IsWholeness, common_of, parts_of, wholeness};
+ghost use Rattle.land_fraction.specs.Wholeness.{IsCommon, IsCommonMultiple, IsWholeness, common_of, parts_of};
+ghost use Rattle.land_fraction.specs.Wholeness.{wholeness};
 
 use crate::bounded::{FINEST, Fraction};
 use crate::divisor::greatest_divisor;

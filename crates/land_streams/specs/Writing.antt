@@ -8,4 +8,5 @@ IsWhole text before after old new = (after ≡ before + length text) × Appends 
 
 -- a prefix of a text is appended, and `after` counts the bytes written
 abbrev pub IsFront : (text : List ℕ) → (before after : ℕ) → (old new : Option (List ℕ)) → Type 0
-IsFront text before after old new = (n : ℕ) × (n ≤ length text) × (after ≡ before + n) × Appends old new (take n text)
+IsFront text before after old new = (n : ℕ) × (n ≤ length text) × (after ≡ before + n)
+    × Appends old new (take n text)

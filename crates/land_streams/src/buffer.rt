@@ -1,5 +1,6 @@
 //! The buffer of the bytes of a stream that are read but not yet consumed.
-ghost use Rattle.std.specs.Prelude.{◌≡◌, ◌≤◌, ◌<◌, ◌+◌, ◌*◌, ◌++◌, ◌⊎◌, ℕ, List, length, drop, vec_len, vec_capacity, IfOk, IfErr, IfSome, true, false};
+ghost use Rattle.std.specs.Prelude.{◌≡◌, ◌≤◌, ◌<◌, ◌+◌, ◌*◌, ◌++◌, ◌⊎◌, ℕ, List, length, drop, vec_len};
+ghost use Rattle.std.specs.Prelude.{vec_capacity, IfOk, IfErr, IfSome, true, false};
 ghost use Rattle.std.specs.Io.KnownBytes.{Consumes, IsAtEnd, Keeps, prepend_known};
 
 use crate::counted_reader::CountedReader;
@@ -23,7 +24,8 @@ pub fn read_more<R: Read>(
 ) -> Result<usize, StreamFault>
     ensures spends { IfOk result (λ n. reader.old.left ≡ reader.new.left + 1) }
     ensures fewer { reader.new.left ≤ reader.old.left }
-    ensures bound { length buffer.new.items + 1024 * reader.new.left ≤ length buffer.old.items + 1024 * reader.old.left }
+    ensures bound { length buffer.new.items + 1024 * reader.new.left
+        ≤ length buffer.old.items + 1024 * reader.old.left }
     ensures grows { IfOk result (λ n. (piece : List ℕ) × (length piece ≡ n)
         × (buffer.new.items ≡ buffer.old.items ++ piece)
         × Consumes (R.remaining reader.old.reader.now) (R.remaining reader.new.reader.now) piece) }
@@ -34,7 +36,8 @@ pub fn read_more<R: Read>(
 
     // `NoMemory` is returned only if the buffer has no capacity for a chunk; `Read` only if the reader was
     // called or its budget was spent.
-    ensures memory { IfErr result (λ e. e ≡ StreamFault.NoMemory → vec_capacity buffer.new < vec_len buffer.new + 1024) }
+    ensures memory { IfErr result
+        (λ e. e ≡ StreamFault.NoMemory → vec_capacity buffer.new < vec_len buffer.new + 1024) }
     ensures failed { IfErr result (λ e. e ≡ StreamFault.Read → ((reader.old.left ≡ 0) × (reader.new.left ≡ 0))
         ⊎ ((reader.old.left ≡ reader.new.left + 1) × (vec_len buffer.new + 1024 ≤ vec_capacity buffer.new))) }
 {
@@ -58,21 +61,25 @@ pub fn read_to<R: Read>(
     buffer: &mut Vec<u8>,
     end: usize,
 ) -> Result<bool, StreamFault>
-    ensures bound { length buffer.new.items + 1024 * reader.new.left ≤ length buffer.old.items + 1024 * reader.old.left }
+    ensures bound { length buffer.new.items + 1024 * reader.new.left
+        ≤ length buffer.old.items + 1024 * reader.old.left }
     ensures fewer { reader.new.left ≤ reader.old.left }
     ensures stream { Keeps (prepend_known buffer.old.items (R.remaining reader.old.reader.now))
         (prepend_known buffer.new.items (R.remaining reader.new.reader.now)) }
     ensures front { IfOk result (λ w. (more : List ℕ) × (buffer.new.items ≡ buffer.old.items ++ more)) }
     ensures unread { end ≤ length buffer.old.items → reader.new ≡ reader.old }
-    ensures ahead { length buffer.old.items < end + 1024 → IfOk result (λ w. length buffer.new.items < end + 1024) }
+    ensures ahead { length buffer.old.items < end + 1024
+        → IfOk result (λ w. length buffer.new.items < end + 1024) }
     ensures same_reference { reader.new.reader.ghost_name ≡ reader.old.reader.ghost_name }
     ensures whole { IfOk result (λ w. w ≡ true → end ≤ length buffer.new.items) }
-    ensures cut { IfOk result (λ w. w ≡ false → IfSome (prepend_known buffer.new.items (R.remaining reader.new.reader.now))
+    ensures cut { IfOk result
+        (λ w. w ≡ false → IfSome (prepend_known buffer.new.items (R.remaining reader.new.reader.now))
         (λ stream. length stream < end)) }
 
     // `NoMemory` is returned only if the buffer has no capacity for a chunk; `Read` only if the reader was
     // called or its budget was spent.
-    ensures memory { IfErr result (λ e. e ≡ StreamFault.NoMemory → vec_capacity buffer.new < vec_len buffer.new + 1024) }
+    ensures memory { IfErr result
+        (λ e. e ≡ StreamFault.NoMemory → vec_capacity buffer.new < vec_len buffer.new + 1024) }
     ensures failed { IfErr result (λ e. e ≡ StreamFault.Read → (reader.new.left ≡ 0)
         ⊎ ((reader.new.left < reader.old.left) × (vec_len buffer.new + 1024 ≤ vec_capacity buffer.new))) }
 {

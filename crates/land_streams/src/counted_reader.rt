@@ -44,7 +44,8 @@ impl<R: Read> CountedReader<'_, R> {
         ensures asked { IfOk result (λ n. 0 < self.old.left) }
         ensures unasked { self.old.left ≡ 0 → self.new.reader.now ≡ self.old.reader.now }
         ensures bound { ReadsAtMost result piece.new }
-        ensures bytes { ReadConsumes (R.remaining self.old.reader.now) (R.remaining self.new.reader.now) result piece.new }
+        ensures bytes { ReadConsumes (R.remaining self.old.reader.now)
+            (R.remaining self.new.reader.now) result piece.new }
         ensures same_reference { self.new.reader.ghost_name ≡ self.old.reader.ghost_name }
     {
         if self.left == 0 {

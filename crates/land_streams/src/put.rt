@@ -9,8 +9,10 @@ use std::io::Write;
 /// is `written` plus the number of bytes of the piece that were written. If the count would exceed 64 bits,
 /// writes nothing.
 pub fn put<W: Write>(writer: &mut W, written: u64, piece: &[u8]) -> Result<u64, u64>
-    ensures ok { IfOk result (λ n. IsWhole piece.now written n (W.contents writer.old) (W.contents writer.new)) }
-    ensures err { IfErr result (λ n. IsFront piece.now written n (W.contents writer.old) (W.contents writer.new)) }
+    ensures ok { IfOk result
+        (λ n. IsWhole piece.now written n (W.contents writer.old) (W.contents writer.new)) }
+    ensures err { IfErr result
+        (λ n. IsFront piece.now written n (W.contents writer.old) (W.contents writer.new)) }
     ensures short { IfErr result (λ n. n < written + length piece.now) }
 {
     let length = piece.len() as u64;
