@@ -1,7 +1,9 @@
 -- The numbers and the messages of the faults
 use Rattle.std.specs.Prelude.{ℕ, List, codes}
 use Rattle.land_shape.specs.declared.faults.ShapeFault.{ShapeFault}
-use Rattle.land_shape.specs.declared.faults.ShapeFault.TheVariants.{NotPolygon, Empty, Inner, ZOrM, Number, Range, FewPoints, ManyPoints, NotClosed, NotSimple, AreaTooLarge, NoMemory}
+use Rattle.land_shape.specs.declared.faults.ShapeFault.TheVariants.{NotPolygon, Empty, Inner, ZOrM, Number}
+use Rattle.land_shape.specs.declared.faults.ShapeFault.TheVariants.{Range, FewPoints, ManyPoints, NotClosed}
+use Rattle.land_shape.specs.declared.faults.ShapeFault.TheVariants.{NotSimple, AreaTooLarge, NoMemory}
 
 abbrev pub number_of : ShapeFault → ℕ
 number_of NotPolygon = 110

@@ -1,6 +1,7 @@
 -- Polygons in the well-known text of OGC 06-103r4 (section 7.2), in this register's profile: the tokens of a
 -- polygon, independent of the reader.
-use Rattle.std.specs.Prelude.{◌≡◌, ℕ, Bool, true, false, List, [], ◌∷◌, ◌++◌, ◌≤◌, ◌||◌, IsTrue, length, map, codes}
+use Rattle.std.specs.Prelude.{◌≡◌, ℕ, Bool, true, false, List, [], ◌∷◌, ◌++◌, ◌≤◌, ◌||◌, IsTrue, length, map}
+use Rattle.std.specs.Prelude.{codes}
 use Rattle.std.specs.List.{AllByRecursion}
 use Rattle.std.specs.Str.{str_eq_ignore_ascii_case}
 use Rattle.land_shape.specs.declared.tokens.Token.{Token}
@@ -14,7 +15,8 @@ abbrev pub is_keyword : List ℕ → Bool
 is_keyword w = str_eq_ignore_ascii_case w (codes "polygon")
 
 abbrev pub is_tag : List ℕ → Bool
-is_tag w = str_eq_ignore_ascii_case w (codes "z") || str_eq_ignore_ascii_case w (codes "m") || str_eq_ignore_ascii_case w (codes "zm")
+is_tag w = str_eq_ignore_ascii_case w (codes "z") || str_eq_ignore_ascii_case w (codes "m")
+    || str_eq_ignore_ascii_case w (codes "zm")
 
 -- the keyword and a tag joined to it
 abbrev pub is_tagged_keyword : List ℕ → Bool

@@ -13,9 +13,12 @@ pub record PrintedLaw : Type 0 where
 
 -- a text does not have two results: it denotes at most one ring, has at most one first fault, and not both
 pub record OneAnswerLaw : Type 0 where
-  pub one_ring : (text : List ℕ) (ring other : List Place) → StandsFor text ring → StandsFor text other → ring ≡ other
-  pub one_fault : (text : List ℕ) (fault other : ShapeFault) → IsFirst text fault → IsFirst text other → fault ≡ other
-  pub not_both : (text : List ℕ) (ring : List Place) (fault : ShapeFault) → StandsFor text ring → ¬ IsFirst text fault
+  pub one_ring : (text : List ℕ) (ring other : List Place) → StandsFor text ring → StandsFor text other
+      → ring ≡ other
+  pub one_fault : (text : List ℕ) (fault other : ShapeFault) → IsFirst text fault → IsFirst text other
+      → fault ≡ other
+  pub not_both : (text : List ℕ) (ring : List Place) (fault : ShapeFault) → StandsFor text ring
+      → ¬ IsFirst text fault
 
 -- each text has a result: the ring that it denotes, or a first fault
 abbrev pub AnswerLaw : Type 0

@@ -1,5 +1,6 @@
 -- Lists of rings that have the same ground, in terms of signed edges
-use Rattle.std.specs.Prelude.{◌≡◌, ◌↔◌, ℕ, ℤ, Bool, List, [], ◌∷◌, ◌++◌, pos, ◌&&◌, not, if◌then◌else◌, count_by, int_le, int_lt, ◌-ℤ◌, ◌<ℤ◌, sum_by, IsTrue}
+use Rattle.std.specs.Prelude.{◌≡◌, ◌↔◌, ℕ, ℤ, Bool, List, [], ◌∷◌, ◌++◌, pos, ◌&&◌, not, if◌then◌else◌}
+use Rattle.std.specs.Prelude.{count_by, int_le, int_lt, ◌-ℤ◌, ◌<ℤ◌, sum_by, IsTrue}
 use Rattle.std.specs.List.{AllByRecursion, list_all}
 use Rattle.std.specs.Ordering.{int_eq}
 use Rattle.std.specs.Int.{int_min, int_max}
@@ -14,7 +15,10 @@ is_between a b x = int_le (int_min a b) x && int_le x (int_max a b)
 
 -- whether a place lies on the line through an edge
 abbrev pub is_on_line : Place → Edge → Bool
-is_on_line p e = int_eq (cross_of (e.to.x -ℤ e.from.x) (e.to.y -ℤ e.from.y) (p.x -ℤ e.from.x) (p.y -ℤ e.from.y)) (pos 0)
+is_on_line p e =
+    int_eq
+    (cross_of (e.to.x -ℤ e.from.x) (e.to.y -ℤ e.from.y) (p.x -ℤ e.from.x) (p.y -ℤ e.from.y))
+    (pos 0)
 
 -- whether a place lies in the box around an edge
 abbrev pub is_in_box : Place → Edge → Bool
@@ -30,7 +34,9 @@ lies_inside p e = not (is_same_place p e.from) && not (is_same_place p e.to) && 
 
 -- an edge, in two pieces if the place lies inside it
 abbrev pub cut_edge : Place → Edge → List Edge
-cut_edge p e = if lies_inside p e then record { from = e.from; to = p } ∷ record { from = p; to = e.to } ∷ [] else e ∷ []
+cut_edge p e =
+    if lies_inside p e then record { from = e.from; to = p } ∷ record { from = p; to = e.to } ∷ []
+    else e ∷ []
 
 -- each edge that goes through a place cut there
 abbrev pub cut_at : Place → List Edge → List Edge
@@ -105,7 +111,8 @@ IsCounterclockwise ring = pos 0 <ℤ area_of (ring_edges ring)
 
 -- rings that match have equal sums of doubled areas
 abbrev pub MatchingLaw : Type 0
-MatchingLaw = (rings others : List (List Place)) → AllByRecursion IsCounterclockwise rings → AllByRecursion IsCounterclockwise others
+MatchingLaw = (rings others : List (List Place)) → AllByRecursion IsCounterclockwise rings
+    → AllByRecursion IsCounterclockwise others
     → Match rings others → sum_by doubled_area rings ≡ sum_by doubled_area others
 
 -- a place lies on an edge if and only if it is a point of the edge

@@ -1,6 +1,7 @@
 -- Coordinates: an optional sign, at least one digit, and optionally a point with 0 to 20 zeros after it. Any
 -- number of digits is allowed. The value is a whole number of millimetres.
-use Rattle.std.specs.Prelude.{ℕ, ℤ, Bool, true, false, List, [], ◌∷◌, ◌==◌, ◌&&◌, if◌then◌else◌, Option, Some, None, length, pos, ◌-ℤ◌, nat_le, nat_lt}
+use Rattle.std.specs.Prelude.{ℕ, ℤ, Bool, true, false, List, [], ◌∷◌, ◌==◌, ◌&&◌, if◌then◌else◌, Option, Some}
+use Rattle.std.specs.Prelude.{None, length, pos, ◌-ℤ◌, nat_le, nat_lt}
 use Rattle.std.specs.List.{before_first, after_first, list_all}
 use Rattle.std.specs.Option.{option_map}
 use Rattle.std.specs.Char.{is_ascii_digit}
@@ -27,7 +28,9 @@ digits_of bs = if nat_lt 0 (length bs) && are_digits bs then Some (digits_value 
 
 -- digits, and a point with zeros
 abbrev pub unsigned_of : List ℕ → Option ℕ
-unsigned_of w = if are_few_zeros (after_first is_point_byte w) then digits_of (before_first is_point_byte w) else None
+unsigned_of w =
+    if are_few_zeros (after_first is_point_byte w) then digits_of (before_first is_point_byte w)
+    else None
 
 -- whether the first byte is a minus, and the remainder without a sign
 abbrev pub after_sign : List ℕ → Bool × List ℕ

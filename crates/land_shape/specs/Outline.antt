@@ -1,5 +1,6 @@
 -- Outlines: simple rings that run counterclockwise
-use Rattle.std.specs.Prelude.{ℕ, List, [], ◌∷◌, ◌≤◌, ◌-◌, ◌<ℤ◌, length, take, reverse, pos, if◌then◌else◌, int_lt}
+use Rattle.std.specs.Prelude.{ℕ, List, [], ◌∷◌, ◌≤◌, ◌-◌, ◌<ℤ◌, length, take, reverse, pos, if◌then◌else◌}
+use Rattle.std.specs.Prelude.{int_lt}
 use Rattle.std.specs.Int.RustNames.{unsigned_abs}
 use Rattle.std.specs.List.{AllByRecursion}
 use Rattle.land_shape.specs.Coordinate.{IsCoordinate}

@@ -1,15 +1,18 @@
 -- The results of the reader of a text, step by step. `Grammar` defines polygons; the proofs show that both
 -- agree.
-use Rattle.std.specs.Prelude.{ℕ, Bool, true, false, List, [], ◌∷◌, ◌++◌, ◌&&◌, if◌then◌else◌, nat_le, length, Option, Some, None, option_and_then}
+use Rattle.std.specs.Prelude.{ℕ, Bool, true, false, List, [], ◌∷◌, ◌++◌, ◌&&◌, if◌then◌else◌, nat_le, length}
+use Rattle.std.specs.Prelude.{Option, Some, None, option_and_then}
 use Rattle.std.specs.Option.{option_map}
 use Rattle.land_shape.specs.declared.tokens.Token.{Token}
 use Rattle.land_shape.specs.declared.tokens.Token.TheVariants.{Open, Close, Comma, Word}
 use Rattle.land_shape.specs.declared.body.At.{At}
-use Rattle.land_shape.specs.declared.body.At.TheVariants.{BeforeBody, BeforeRing, InPoint, AfterRing, AfterBody}
+use Rattle.land_shape.specs.declared.body.At.TheVariants.{BeforeBody, BeforeRing, InPoint, AfterRing}
+use Rattle.land_shape.specs.declared.body.At.TheVariants.{AfterBody}
 use Rattle.land_shape.specs.declared.body.Progress.{Progress}
 use Rattle.land_shape.specs.declared.polygon.WrittenPolygon.{WrittenPolygon}
 use Rattle.land_shape.specs.declared.polygon.WrittenPolygon.TheVariants as code
-use Rattle.land_shape.specs.Grammar.{Words, Points, Rings, Polygon, empty, body, is_keyword, is_tag, is_tagged_keyword, is_empty_word}
+use Rattle.land_shape.specs.Grammar.{Words, Points, Rings, Polygon, empty, body, is_keyword, is_tag}
+use Rattle.land_shape.specs.Grammar.{is_tagged_keyword, is_empty_word}
 
 -- the state of reading a body
 pub record Reading : Type 0 where

@@ -1,6 +1,7 @@
 -- Simple rings (OGC 06-103r4, section 6.1.7: a linear ring is closed and simple; 6.1.11: it runs
 -- counterclockwise round a polygon)
-use Rattle.std.specs.Prelude.{◌≡◌, ℕ, ◌+◌, ◌<◌, ◌==◌, ◌&&◌, if◌then◌else◌, List, map, length, Option, Some, None, pos, MatchOption, slice_index_or}
+use Rattle.std.specs.Prelude.{◌≡◌, ℕ, ◌+◌, ◌<◌, ◌==◌, ◌&&◌, if◌then◌else◌, List, map, length, Option, Some}
+use Rattle.std.specs.Prelude.{None, pos, MatchOption, slice_index_or}
 use Rattle.land_shape.specs.declared.plane.Point.{Point}
 use Rattle.land_shape.specs.Place.{Place, area_of, ring_edges}
 use Rattle.land_shape.specs.Segment.{HaveCommonPoint, MeetOnlyAt}

@@ -1,8 +1,11 @@
 -- The results of the later steps of the reader
-use Rattle.std.specs.Prelude.{◌≡◌, ◌⊎◌, ℕ, ℤ, Bool, true, false, List, [], ◌∷◌, ◌≤◌, ◌<◌, ◌-◌, length, Result, Ok, Err, Some}
+use Rattle.std.specs.Prelude.{◌≡◌, ◌⊎◌, ℕ, ℤ, Bool, true, false, List, [], ◌∷◌, ◌≤◌, ◌<◌, ◌-◌, length, Result}
+use Rattle.std.specs.Prelude.{Ok, Err, Some}
 use Rattle.std.specs.List.{AllByRecursion}
 use Rattle.land_shape.specs.declared.faults.ShapeFault.{ShapeFault}
-use Rattle.land_shape.specs.declared.faults.ShapeFault.TheVariants.{Empty, Inner, ZOrM, Number, Range, FewPoints, ManyPoints, NotClosed, NotSimple, AreaTooLarge, NoMemory}
+use Rattle.land_shape.specs.declared.faults.ShapeFault.TheVariants.{Empty, Inner, ZOrM, Number, Range}
+use Rattle.land_shape.specs.declared.faults.ShapeFault.TheVariants.{FewPoints, ManyPoints, NotClosed}
+use Rattle.land_shape.specs.declared.faults.ShapeFault.TheVariants.{NotSimple, AreaTooLarge, NoMemory}
 use Rattle.land_shape.specs.declared.plane.Point.{Point}
 use Rattle.land_shape.specs.Coordinate.{IsCoordinate}
 use Rattle.land_shape.specs.Faults.{SomeOf, IsLong, IsNoNumber, IsFar, Locate, Lists}
@@ -38,9 +41,11 @@ IsFull (body tagged rings) = IsBody rings
 abbrev pub PlainRing : Polygon → Result Points ShapeFault → Type 0
 PlainRing polygon (Ok ring) = (polygon ≡ body false (ring ∷ [])) × AllByRecursion HasTwoWords ring
 PlainRing polygon (Err Empty) = polygon ≡ empty
-PlainRing polygon (Err Inner) = (tagged : Bool) × (rings : Rings) × ((polygon ≡ body tagged rings) × (2 ≤ length rings))
+PlainRing polygon (Err Inner) = (tagged : Bool) × (rings : Rings)
+    × ((polygon ≡ body tagged rings) × (2 ≤ length rings))
 PlainRing polygon (Err ZOrM) =
-    (tagged : Bool) × (ring : Points) × ((polygon ≡ body tagged (ring ∷ [])) × ((tagged ≡ true) ⊎ SomeOf IsLong ring))
+    (tagged : Bool) × (ring : Points)
+    × ((polygon ≡ body tagged (ring ∷ [])) × ((tagged ≡ true) ⊎ SomeOf IsLong ring))
 PlainRing polygon _ = ⊥
 
 -- the places of a ring's points, or the fault of their words
@@ -74,5 +79,6 @@ Closes listed _ = ⊥
 abbrev pub Encloses : List Place → Result (List Place) ShapeFault → Type 0
 Encloses listed (Ok ring) = (ring ≡ ring_of listed) × IsOutline ring
 Encloses listed (Err NotSimple) = ¬ IsSimple (ring_of listed)
-Encloses listed (Err AreaTooLarge) = IsSimple (ring_of listed) × (1000000000000000000 < doubled_area (ring_of listed))
+Encloses listed (Err AreaTooLarge) = IsSimple (ring_of listed)
+    × (1000000000000000000 < doubled_area (ring_of listed))
 Encloses listed _ = ⊥

@@ -25,7 +25,8 @@ word_of (b ∷ bs) = Word (b ∷ bs) ∷ []
 abbrev pub tokens_after : List ℕ → List ℕ → List Token
 tokens_after begun [] = word_of begun
 tokens_after begun (b ∷ bs) =
-    if is_word_byte b then tokens_after (begun ++ b ∷ []) bs else word_of begun ++ mark_of b ++ tokens_after [] bs
+    if is_word_byte b then tokens_after (begun ++ b ∷ []) bs
+    else word_of begun ++ mark_of b ++ tokens_after [] bs
 
 abbrev pub tokens_of : List ℕ → List Token
 tokens_of text = tokens_after [] text

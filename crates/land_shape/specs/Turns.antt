@@ -37,4 +37,5 @@ pub record IsInBox (least greatest place : Place) : Type 0 where
 -- both ends of the edges of a ring with index at least `start` and below `end` lie in the box
 abbrev pub HoldsEdges : List Place → (start end : ℕ) → (least greatest : Place) → Type 0
 HoldsEdges ps start end least greatest =
-    (i : ℕ) → start ≤ i → i < end → IsInBox least greatest (place_at ps i) × IsInBox least greatest (next_at ps i)
+    (i : ℕ) → start ≤ i → i < end → IsInBox least greatest (place_at ps i)
+    × IsInBox least greatest (next_at ps i)

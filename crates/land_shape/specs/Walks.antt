@@ -41,7 +41,8 @@ HaveSameEdges es fs = (e : Edge) → count_of e es ≡ count_of e fs
 abbrev pub walk : Place → Place → List Place → List Edge
 walk last end [] = record { from = last; to = end } ∷ []
 walk last end (p ∷ ps) =
-    if lies_inside p (record { from = last; to = end }) then record { from = last; to = p } ∷ walk p end ps else walk last end ps
+    if lies_inside p (record { from = last; to = end }) then record { from = last; to = p } ∷ walk p end ps
+    else walk last end ps
 
 -- the pieces of those edges that lead to a later place
 abbrev pub walks : List Place → List Edge → List Edge

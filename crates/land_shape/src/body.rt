@@ -2,7 +2,8 @@
 
 ghost use Rattle.std.specs.Prelude.{◌≡◌, IfOk, OnOk, if◌then◌else◌};
 ghost use Rattle.std.specs.Option.{option_map};
-ghost use Rattle.land_shape.specs.Reader.{progress_of, after, nothing_read, with_point, with_ring, is_point, body_of};
+ghost use Rattle.land_shape.specs.Reader.{progress_of, after, nothing_read, with_point, with_ring, is_point};
+ghost use Rattle.land_shape.specs.Reader.{body_of};
 
 use crate::tokens::{Token, Word};
 use std::alloc::{AllocError, Global};
@@ -113,7 +114,8 @@ impl<'a> Progress<'a> {
 
     /// Reads one more token. Returns false if a body cannot continue with it.
     fn take(&mut self, alloc: Global, token: &Token<'a>) -> Result<bool, AllocError>
-        ensures { IfOk result (λ goes_on. after (progress_of self.old) token.now ≡ (if goes_on then Some (progress_of self.new) else None)) }
+        ensures { IfOk result (λ goes_on. after (progress_of self.old) token.now
+            ≡ (if goes_on then Some (progress_of self.new) else None)) }
     {
         match (self.at, token) {
             (At::BeforeBody, Token::Open) => self.at = At::BeforeRing,

@@ -43,7 +43,8 @@ impl EdgeBox {
     /// Returns the box stretched to hold a point.
     fn with(self, point: Point) -> EdgeBox
         ensures holds { IsInBox (place_of result.least) (place_of result.greatest) (place_of point) }
-        ensures still { (p : Place) → IsInBox (place_of self.least) (place_of self.greatest) p → IsInBox (place_of result.least) (place_of result.greatest) p }
+        ensures still { (p : Place) → IsInBox (place_of self.least) (place_of self.greatest) p
+            → IsInBox (place_of result.least) (place_of result.greatest) p }
     {
         EdgeBox {
             least: lesser(self.least, point),
@@ -53,7 +54,8 @@ impl EdgeBox {
 
     /// Whether the box overlaps that of the edge from `a` to `b`.
     pub(crate) fn is_reached(self, a: Point, b: Point) -> bool
-        ensures { IsTrue result ↔ BoxesOverlap (place_of self.least) (place_of self.greatest) (place_of a) (place_of b) }
+        ensures { IsTrue result
+            ↔ BoxesOverlap (place_of self.least) (place_of self.greatest) (place_of a) (place_of b) }
     {
         boxes_overlap(self.least, self.greatest, a, b)
     }

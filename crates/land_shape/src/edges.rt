@@ -2,7 +2,8 @@
 
 ghost use Rattle.std.specs.Prelude.{◌≡◌};
 ghost use Rattle.land_shape.specs.Edges.{edge_of};
-ghost use Rattle.land_shape.specs.Matching.{is_between, is_on_line, is_in_box, lies_on, lies_inside, reversed};
+ghost use Rattle.land_shape.specs.Matching.{is_between, is_on_line, is_in_box, lies_on, lies_inside};
+ghost use Rattle.land_shape.specs.Matching.{reversed};
 ghost use Rattle.land_shape.specs.Place.{is_same_place};
 ghost use Rattle.land_shape.specs.Simple.{place_of};
 

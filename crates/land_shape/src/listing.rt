@@ -61,7 +61,8 @@ pub(crate) fn listed_points(
     ring: &[WrittenPoint<'_>],
 ) -> Result<Vec<Point>, ShapeFault>
     requires { AllByRecursion HasTwoWords ring.now }
-    ensures { MatchResult result (λ points. ReadsPoints ring.now (Ok (places points.items))) (λ fault. ReadsPoints ring.now (Err fault)) }
+    ensures { MatchResult result (λ points. ReadsPoints ring.now (Ok (places points.items)))
+        (λ fault. ReadsPoints ring.now (Err fault)) }
 {
     if has_wrong_point(ring) {
         return Err(ShapeFault::Number);

@@ -4,7 +4,8 @@ ghost use Rattle.std.specs.Prelude.{◌≡◌, ◌≤◌, ◌+◌, true, min, le
 ghost use Rattle.std.specs.List.{position, position_or_len};
 ghost use Rattle.std.specs.Option.{option_map};
 ghost use Rattle.std.specs.Str.Parse.{digits_value};
-ghost use Rattle.land_shape.specs.Numbers.{is_point_byte, are_digits, are_zeros, are_few_zeros, digits_of, unsigned_of, after_sign};
+ghost use Rattle.land_shape.specs.Numbers.{is_point_byte, are_digits, are_zeros, are_few_zeros, digits_of};
+ghost use Rattle.land_shape.specs.Numbers.{unsigned_of, after_sign};
 ghost use Rattle.land_shape.specs.Steps.{ReadsNumber};
 
 use crate::faults::ShapeFault;

@@ -35,7 +35,8 @@ fn after_tag<'b, 'a>(tokens: &'b [Token<'a>]) -> (bool, &'b [Token<'a>])
 /// Returns whether the head has a tag, and the tokens after the head. `None` if the first token is not the
 /// keyword.
 fn after_head<'b, 'a>(tokens: &'b [Token<'a>]) -> Option<(bool, &'b [Token<'a>])>
-    ensures { MatchOption result (after_head tokens.now ≡ None) (λ r. after_head tokens.now ≡ Some (r.0, r.1.now)) }
+    ensures { MatchOption result (after_head tokens.now ≡ None)
+        (λ r. after_head tokens.now ≡ Some (r.0, r.1.now)) }
 {
     let Some((Token::Word(word), rest)) = tokens.split_first() else {
         return None;

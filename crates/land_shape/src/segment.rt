@@ -16,7 +16,8 @@ struct Turns {
 }
 
 fn turns_of(a: Point, b: Point, c: Point, d: Point) -> Turns
-    ensures { AreTurns (place_of a) (place_of b) (place_of c) (place_of d) result.whole result.first result.second }
+    ensures { AreTurns (place_of a) (place_of b) (place_of c)
+        (place_of d) result.whole result.first result.second }
 {
     let along_first = a.shift_to(b);
     let along_second = c.shift_to(d);

@@ -1,7 +1,8 @@
 //! Simple rings.
 
 ghost use Rattle.std.specs.Prelude.{◌≡◌, ◌↔◌, ◌<◌, ◌≤◌, ◌+◌, length, IsTrue, ℕ};
-ghost use Rattle.land_shape.specs.Simple.{place_of, places, place_at, next_at, MeetRightly, AllMeetRightly, HaveLength};
+ghost use Rattle.land_shape.specs.Simple.{place_of, places, place_at, next_at, MeetRightly, AllMeetRightly};
+ghost use Rattle.land_shape.specs.Simple.{HaveLength};
 ghost use Rattle.land_shape.specs.Segment.{MeetOnlyAt, HaveCommonPoint};
 
 use crate::boxes::box_of;
@@ -83,7 +84,8 @@ fn group_meets_rightly(points: &[Point], start: usize, end: usize) -> bool
     requires order { start < end }
     requires within { end ≤ length points.now }
     requires long { HaveLength (places points.now) }
-    ensures { IsTrue result ↔ ((i j : ℕ) → start ≤ i → i < end → i < j → j < length points.now → MeetRightly (places points.now) i j) }
+    ensures { IsTrue result ↔ ((i j : ℕ) → start ≤ i → i < end → i < j → j < length points.now
+        → MeetRightly (places points.now) i j) }
 {
     let around = box_of(points, start, end);
     for j in start + 1..points.len() {

@@ -22,8 +22,10 @@ fn is_before(a: Point, b: Point) -> bool
 fn count_before(corners: &[Point], point: Point) -> usize
     requires { Rises is_before (places corners.now) }
     ensures within { result ≤ length corners.now }
-    ensures before { AllByRecursion (λ p. is_before p (place_of point) ≡ true) (take result (places corners.now)) }
-    ensures others { AllByRecursion (λ p. is_before p (place_of point) ≡ false) (drop result (places corners.now)) }
+    ensures before { AllByRecursion (λ p. is_before p (place_of point) ≡ true)
+        (take result (places corners.now)) }
+    ensures others { AllByRecursion (λ p. is_before p (place_of point) ≡ false)
+        (drop result (places corners.now)) }
 {
     corners.partition_point(|corner| is_before(*corner, point))
 }
@@ -32,7 +34,8 @@ fn count_before(corners: &[Point], point: Point) -> usize
 fn corners_near(corners: &[Point], edge: Edge) -> &[Point]
     requires rise { Rises is_before (places corners.now) }
     requires up { IsTrue (is_before (place_of edge.from) (place_of edge.to)) }
-    ensures { walk (place_of edge.from) (place_of edge.to) (places result.now) ≡ walk (place_of edge.from) (place_of edge.to) (places corners.now) }
+    ensures { walk (place_of edge.from) (place_of edge.to) (places result.now)
+        ≡ walk (place_of edge.from) (place_of edge.to) (places corners.now) }
 {
     let start = count_before(corners, edge.from);
     let rest = &corners[start..];
@@ -43,7 +46,8 @@ fn corners_near(corners: &[Point], edge: Edge) -> &[Point]
 /// Appends the pieces of an edge that leads to a later point: from each corner that lies inside it to the
 /// next.
 fn with_walk(so_far: Vec<Edge>, corners: &[Point], edge: Edge) -> Result<Vec<Edge>, AllocError>
-    ensures { IfOk result (λ v. edges v.items ≡ edges so_far.items ++ walk (place_of edge.from) (place_of edge.to) (places corners.now)) }
+    ensures { IfOk result (λ v. edges v.items ≡ edges so_far.items
+        ++ walk (place_of edge.from) (place_of edge.to) (places corners.now)) }
 {
     let mut all = so_far;
     let mut last = edge.from;
@@ -70,7 +74,8 @@ fn with_walk(so_far: Vec<Edge>, corners: &[Point], edge: Edge) -> Result<Vec<Edg
 /// Appends the pieces of those edges of a list that lead to a later point.
 fn with_walks(so_far: Vec<Edge>, corners: &[Point], list: &[Edge]) -> Result<Vec<Edge>, AllocError>
     requires { Rises is_before (places corners.now) }
-    ensures { IfOk result (λ v. edges v.items ≡ edges so_far.items ++ walks (places corners.now) (edges list.now)) }
+    ensures { IfOk result (λ v. edges v.items ≡ edges so_far.items
+        ++ walks (places corners.now) (edges list.now)) }
 {
     let mut all = so_far;
     for edge in list {
@@ -100,7 +105,8 @@ pub(crate) fn pieces_one_way(
     theirs: &[Edge],
 ) -> Result<Vec<Edge>, AllocError>
     requires { Rises is_before (places corners.now) }
-    ensures { IfOk result (λ v. edges v.items ≡ walks (places corners.now) (edges ours.now ++ map reversed (edges theirs.now))) }
+    ensures { IfOk result (λ v. edges v.items ≡ walks (places corners.now)
+        (edges ours.now ++ map reversed (edges theirs.now))) }
 {
     let all = with_walks(Vec::new(alloc), corners, ours)?;
     let back = reversed(alloc, theirs)?;

@@ -150,17 +150,25 @@ fn new_burden(
     })
 }
 
+fn new_party(alloc: Global, kind: PartyKind, name: &str) -> Result<Enrol, AllocError> {
+    Ok(Enrol {
+        kind,
+        name: text(alloc, name)?,
+    })
+}
+
+fn new_group(alloc: Global, name: &str, shares: &[Share]) -> Result<NewGroup, Stop> {
+    Ok(NewGroup {
+        name: text(alloc, name)?,
+        members: members(alloc, shares)?,
+    })
+}
+
 /// Returns the act of a row.
 pub fn act(alloc: Global, it: &RowAct) -> Result<Act, Stop> {
     Ok(match it {
-        RowAct::Enrol(kind, name) => Act::Enrol(Enrol {
-            kind: *kind,
-            name: text(alloc, name)?,
-        }),
-        RowAct::Group(name, shares) => Act::Group(NewGroup {
-            name: text(alloc, name)?,
-            members: members(alloc, shares)?,
-        }),
+        RowAct::Enrol(kind, name) => Act::Enrol(new_party(alloc, *kind, name)?),
+        RowAct::Group(name, shares) => Act::Group(new_group(alloc, name, shares)?),
         RowAct::Regroup(group, shares) => Act::Regroup(Regroup {
             group: *group,
             members: members(alloc, shares)?,
