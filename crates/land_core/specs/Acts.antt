@@ -8,7 +8,9 @@ use Rattle.land_core.specs.Register.{is_single}
 use Rattle.land_core.specs.Texts.{is_name, is_title, are_words, is_label, is_reference}
 use Rattle.land_core.specs.Units.{is_type}
 use Rattle.land_core.specs.declared.act.Act.{Act}
-use Rattle.land_core.specs.declared.act.Act.TheVariants.{Enrol, Group, Regroup, Grant, Revoke, Mandate, Withdraw, Register, Burden as ActBurden, Lift as ActLift, Lodge, Approve, Refuse}
+use Rattle.land_core.specs.declared.act.Act.TheVariants.{Enrol, Group, Regroup, Grant, Revoke, Mandate}
+use Rattle.land_core.specs.declared.act.Act.TheVariants.{Withdraw, Register, Burden as ActBurden}
+use Rattle.land_core.specs.declared.act.Act.TheVariants.{Lift as ActLift, Lodge, Approve, Refuse}
 use Rattle.land_core.specs.declared.act.Burden.{Burden}
 use Rattle.land_core.specs.declared.act.Lodging.{Lodging}
 use Rattle.land_core.specs.declared.act.NewParcel.{NewParcel}

@@ -1,5 +1,6 @@
 -- The parcels and the claims of each unit, as one pass over a register groups them.
-use Rattle.std.specs.Prelude.{ℕ, ◌≡◌, Bool, false, not, ◌&&◌, ◌||◌, nat_eq, nat_lt, List, [], ◌∷◌, ◌++◌, length, Option, Some, None, unwrap_or, if◌then◌else◌}
+use Rattle.std.specs.Prelude.{ℕ, ◌≡◌, Bool, false, not, ◌&&◌, ◌||◌, nat_eq, nat_lt, List, [], ◌∷◌, ◌++◌}
+use Rattle.std.specs.Prelude.{length, Option, Some, None, unwrap_or, if◌then◌else◌}
 use Rattle.std.specs.List.{filter_map, list_any}
 use Rattle.std.specs.Ordering.{nat_cmp}
 use Rattle.std.specs.BTreeMap.{get}
@@ -24,7 +25,8 @@ under groups unit = unwrap_or (get nat_cmp groups.lists unit) []
 
 -- an item is appended to the list of a unit
 abbrev pub IsAdded : {T : Type 0} → (old new : Groups T) → (unit : ℕ) → T → Type 0
-IsAdded old new unit item = (q : ℕ) → under new q ≡ (if nat_eq unit q then under old q ++ item ∷ [] else under old q)
+IsAdded old new unit item = (q : ℕ)
+    → under new q ≡ (if nat_eq unit q then under old q ++ item ∷ [] else under old q)
 
 -- the claim of an entry, from its party and its class
 abbrev pub claim_in : (party : ℕ) → Class → Claim
@@ -92,10 +94,12 @@ pub record IsByUnit (by_unit : ByUnit) (r : Register) : Type 0 where
 
 -- a unit has no parcel or no owner
 abbrev pub is_bare : ByUnit → (unit : ℕ) → Bool
-is_bare by_unit unit = nat_eq (length (under by_unit.parcels unit)) 0 || not (list_any (is_claim_of Ownership) (under by_unit.claims unit))
+is_bare by_unit unit = nat_eq (length (under by_unit.parcels unit)) 0
+    || not (list_any (is_claim_of Ownership) (under by_unit.claims unit))
 
 abbrev pub is_crowded : ByUnit → (unit : ℕ) → Bool
-is_crowded by_unit unit = nat_lt 256 (length (under by_unit.parcels unit)) || nat_lt 256 (length (under by_unit.claims unit))
+is_crowded by_unit unit = nat_lt 256 (length (under by_unit.parcels unit))
+    || nat_lt 256 (length (under by_unit.claims unit))
 
 abbrev pub is_in_parts : ByUnit → (unit : ℕ) → Bool
 is_in_parts by_unit unit = not (are_claims_whole (under by_unit.claims unit))

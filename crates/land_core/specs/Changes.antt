@@ -11,10 +11,30 @@ use Rattle.land_core.specs.declared.register.Register.{Register}
 
 -- no entries to insert
 abbrev pub no_put : Put
-no_put = record { parties = []; roles = []; members = []; units = []; parcels = []; rrrs = []; sources = []; mutations = []; mandates = [] }
+no_put = record {
+  parties = [];
+  roles = [];
+  members = [];
+  units = [];
+  parcels = [];
+  rrrs = [];
+  sources = [];
+  mutations = [];
+  mandates = [];
+}
 
 abbrev pub no_ended : Ended
-no_ended = record { parties = []; roles = []; members = []; units = []; parcels = []; rrrs = []; sources = []; mutations = []; mandates = [] }
+no_ended = record {
+  parties = [];
+  roles = [];
+  members = [];
+  units = [];
+  parcels = [];
+  rrrs = [];
+  sources = [];
+  mutations = [];
+  mandates = [];
+}
 
 -- the empty change
 abbrev pub no_change : (next : ℕ) → Change
@@ -44,5 +64,6 @@ pub record NamesKeysOnce (change : Change) : Type 0 where
   pub parcels : are_distinct nat_eq (map_list (λ e. e.0) change.put.parcels ++ change.ended.parcels) ≡ true
   pub rrrs : are_distinct nat_eq (map_list (λ e. e.0) change.put.rrrs ++ change.ended.rrrs) ≡ true
   pub sources : are_distinct nat_eq (map_list (λ e. e.0) change.put.sources ++ change.ended.sources) ≡ true
-  pub mutations : are_distinct nat_eq (map_list (λ e. e.0) change.put.mutations ++ change.ended.mutations) ≡ true
+  pub mutations : are_distinct nat_eq (map_list (λ e. e.0) change.put.mutations ++ change.ended.mutations)
+      ≡ true
   pub mandates : are_distinct (eq_by_cmp mandate_cmp) (change.put.mandates ++ change.ended.mandates) ≡ true

@@ -51,15 +51,18 @@ is_well_formed_content (content.Discharge it) = is_discharge it
 
 -- fractions are in lowest terms, so the same share has the same numbers
 abbrev pub is_same_share : Ratio → Ratio → Bool
-is_same_share share other = nat_eq share.numerator other.numerator && nat_eq share.denominator other.denominator
+is_same_share share other = nat_eq share.numerator other.numerator
+    && nat_eq share.denominator other.denominator
 
 abbrev pub is_same_transfer : Transfer → Transfer → Bool
 is_same_transfer it other =
-    nat_eq it.unit other.unit && nat_eq it.right other.right && nat_eq it.receiver other.receiver && is_same_share it.share other.share
+    nat_eq it.unit other.unit && nat_eq it.right other.right && nat_eq it.receiver other.receiver
+    && is_same_share it.share other.share
 
 abbrev pub is_same_mortgage : Mortgage → Mortgage → Bool
 is_same_mortgage it other =
-    nat_eq it.unit other.unit && nat_eq it.creditor other.creditor && nat_eq it.amount other.amount && bytes_eq it.currency other.currency
+    nat_eq it.unit other.unit && nat_eq it.creditor other.creditor && nat_eq it.amount other.amount
+    && bytes_eq it.currency other.currency
 
 abbrev pub is_same_discharge : Discharge → Discharge → Bool
 is_same_discharge it other = nat_eq it.unit other.unit && nat_eq it.mortgage other.mortgage

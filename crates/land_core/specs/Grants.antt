@@ -19,7 +19,9 @@ grant_cmp a b = ordering_then (nat_cmp a.party b.party) (role_cmp a.role b.role)
 
 -- a grant is determined by its party's number and its role's position
 abbrev pub coded_grant : Coded Grant
-coded_grant = code_by (ℕ × ℕ) (coded× coded_ℕ coded_ℕ) (λ g. (g.party, place_of g.role)) (λ p. record { party = p.0; role = role_at p.1 }) (λ g. ap (λ r. record { party = g.party; role = r }) (role_at_place g.role))
+coded_grant = code_by (ℕ × ℕ) (coded× coded_ℕ coded_ℕ) (λ g. (g.party, place_of g.role))
+    (λ p. record { party = p.0; role = role_at p.1 })
+    (λ g. ap (λ r. record { party = g.party; role = r }) (role_at_place g.role))
 
 -- a set of keys, as entries
 abbrev pub marks : {K : Type 0} → List K → List (K × Unit {0})

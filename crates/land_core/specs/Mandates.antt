@@ -17,7 +17,8 @@ mandate_cmp a b = ordering_then (nat_cmp a.principal b.principal) (nat_cmp a.age
 
 -- a mandate is determined by its two numbers
 abbrev pub coded_mandate : Coded Mandate
-coded_mandate = code_by (ℕ × ℕ) (coded× coded_ℕ coded_ℕ) (λ m. (m.principal, m.agent)) (λ p. record { principal = p.0; agent = p.1 }) (λ m. refl)
+coded_mandate = code_by (ℕ × ℕ) (coded× coded_ℕ coded_ℕ) (λ m. (m.principal, m.agent))
+    (λ p. record { principal = p.0; agent = p.1 }) (λ m. refl)
 
 -- the set of current mandates
 abbrev pub Mandates : Type 0

@@ -41,4 +41,6 @@ are_same_numbers numbers others = pointwise nat_eq numbers others
 
 abbrev pub is_same_merger : Merger → Merger → Bool
 is_same_merger it other =
-    nat_eq it.unit other.unit && are_same_numbers it.others other.others && are_same_numbers it.parcels other.parcels && bytes_eq it.label other.label && is_same_ring it.outline other.outline
+    nat_eq it.unit other.unit && are_same_numbers it.others other.others
+    && are_same_numbers it.parcels other.parcels && bytes_eq it.label other.label
+    && is_same_ring it.outline other.outline

@@ -98,16 +98,26 @@ roles_of r n = filter (λ role. holds r n role) all_roles
 
 -- the party of a number, if it exists: its record with its number
 abbrev pub party_at : Register → ℕ → Option Party
-party_at r n = option_map (λ p. record { number = n; kind = p.kind; name = p.name; members = members_of r n; roles = roles_of r n }) (map.get r.parties n)
+party_at r n = option_map (λ p. record {
+  number = n;
+  kind = p.kind;
+  name = p.name;
+  members = members_of r n;
+  roles = roles_of r n;
+}) (map.get r.parties n)
 
 abbrev pub unit_at : Register → ℕ → Option UnitShown
 unit_at r n = option_map (λ u. record { number = n; name = u.name; checked = u.checked }) (map.get r.units n)
 
 abbrev pub parcel_at : Register → ℕ → Option Parcel
-parcel_at r n = option_map (λ p. record { number = n; unit = p.unit; label = p.label; outline = p.outline; source = p.source }) (map.get r.parcels n)
+parcel_at r n = option_map
+    (λ p. record { number = n; unit = p.unit; label = p.label; outline = p.outline; source = p.source })
+    (map.get r.parcels n)
 
 abbrev pub rrr_at : Register → ℕ → Option Rrr
-rrr_at r n = option_map (λ e. record { number = n; unit = e.unit; party = e.party; class = e.class; source = e.source }) (map.get r.rrrs n)
+rrr_at r n = option_map
+    (λ e. record { number = n; unit = e.unit; party = e.party; class = e.class; source = e.source })
+    (map.get r.rrrs n)
 
 abbrev pub source_at : Register → ℕ → Option Source
 source_at r n = option_map (λ s. record { number = n; kind = s.kind; title = s.title }) (map.get r.sources n)

@@ -48,11 +48,13 @@ is_same_name (Some name) None = false
 is_same_name (Some name) (Some other) = bytes_eq name other
 
 abbrev pub is_same_part : Part → Part → Bool
-is_same_part it other = bytes_eq it.label other.label && is_same_ring it.outline other.outline && is_same_name it.unit other.unit
+is_same_part it other = bytes_eq it.label other.label && is_same_ring it.outline other.outline
+    && is_same_name it.unit other.unit
 
 abbrev pub are_same_parts : List Part → List Part → Bool
 are_same_parts parts others = pointwise is_same_part parts others
 
 abbrev pub is_same_subdivision : Subdivision → Subdivision → Bool
 is_same_subdivision it other =
-    nat_eq it.unit other.unit && nat_eq it.parcel other.parcel && is_same_parcel it.first other.first && are_same_parts it.rest other.rest
+    nat_eq it.unit other.unit && nat_eq it.parcel other.parcel && is_same_parcel it.first other.first
+    && are_same_parts it.rest other.rest

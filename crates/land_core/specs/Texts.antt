@@ -9,7 +9,8 @@ is_plain byte = nat_le 32 byte && not (nat_eq byte 127)
 
 -- `least` to `most` characters (Unicode scalar values), none of them an ASCII control character
 abbrev pub is_text : (least most : ℕ) → List ℕ → Bool
-is_text least most bytes = nat_le least (length (chars bytes)) && nat_le (length (chars bytes)) most && list_all is_plain bytes
+is_text least most bytes = nat_le least (length (chars bytes)) && nat_le (length (chars bytes)) most
+    && list_all is_plain bytes
 
 -- a name has 1 to 200 characters, as have the title of a document and the wording of a burden
 abbrev pub is_name : List ℕ → Bool

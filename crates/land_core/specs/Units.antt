@@ -1,5 +1,6 @@
 -- Units (LA_BAUnit) with their parcels and their entries.
-use Rattle.std.specs.Prelude.{ℕ, Bool, true, false, ◌&&◌, ◌||◌, nat_eq, List, [], ◌∷◌, Option, Some, None, if◌then◌else◌}
+use Rattle.std.specs.Prelude.{ℕ, Bool, true, false, ◌&&◌, ◌||◌, nat_eq, List, [], ◌∷◌, Option, Some, None}
+use Rattle.std.specs.Prelude.{if◌then◌else◌}
 use Rattle.std.specs.List.{filter_map}
 use Rattle.std.specs.FinMap as map
 use Rattle.land_core.specs.Entries.{some, count_where}
@@ -112,4 +113,5 @@ are_of_one_rank None other = false
 abbrev pub do_clash : RrrRecord → RrrRecord → Bool
 do_clash e f =
     nat_eq e.unit f.unit
-    && (nat_eq e.party f.party && are_of_one_type (type_of e.class) (type_of f.class) || are_of_one_rank (rank_of e.class) (rank_of f.class))
+    && (nat_eq e.party f.party && are_of_one_type (type_of e.class) (type_of f.class)
+    || are_of_one_rank (rank_of e.class) (rank_of f.class))

@@ -1,7 +1,8 @@
 //! The acts that a caller can request.
 ghost use Rattle.std.specs.Prelude.{◌≡◌};
 ghost use Rattle.std.specs.List.{list_all};
-ghost use Rattle.land_core.specs.Acts.{are_members, name_numbers, are_parcels, have_labels, are_rights, have_parties, have_owner};
+ghost use Rattle.land_core.specs.Acts.{are_members, name_numbers, are_parcels, have_labels, are_rights};
+ghost use Rattle.land_core.specs.Acts.{have_parties, have_owner};
 
 use crate::content::Content;
 use crate::kind::PartyKind;

@@ -1,6 +1,8 @@
 //! The contents of mutations.
 ghost use Rattle.std.specs.Prelude.{◌≡◌};
-ghost use Rattle.land_core.specs.Contents.{are_letters, is_amount, is_capital, is_currency, is_discharge, is_mortgage, is_same_discharge, is_same_mortgage, is_same_transfer, is_transfer};
+ghost use Rattle.land_core.specs.Contents.{are_letters, is_amount, is_capital, is_currency, is_discharge};
+ghost use Rattle.land_core.specs.Contents.{is_mortgage, is_same_discharge, is_same_mortgage};
+ghost use Rattle.land_core.specs.Contents.{is_same_transfer, is_transfer};
 
 use crate::duplicate::Duplicate;
 use crate::limits::is_number;

@@ -1,7 +1,8 @@
 //! Mergers: several parcels become one.
 ghost use Rattle.std.specs.Prelude.{◌≡◌};
 ghost use Rattle.std.specs.List.{list_all};
-ghost use Rattle.land_core.specs.Mergers.{are_merged, are_others, are_rising, is_merger, is_same_merger, lists_number, rise_above};
+ghost use Rattle.land_core.specs.Mergers.{are_merged, are_others, are_rising, is_merger, is_same_merger};
+ghost use Rattle.land_core.specs.Mergers.{lists_number, rise_above};
 ghost use Rattle.land_core.specs.Numbers.{is_number};
 
 use crate::duplicate::Duplicate;

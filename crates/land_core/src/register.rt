@@ -1,7 +1,9 @@
 //! The register: all current records.
 ghost use Rattle.std.specs.Prelude.{◌≡◌, IfOk, OnOk, OnErr};
 ghost use Rattle.land_core.specs.Changes.{after};
-ghost use Rattle.land_core.specs.Register.{new_register, nothing, stands, object_at, party_at, unit_at, parcel_at, rrr_at, source_at, mutation_at, holds, has_single_party, has_group, is_member, members_of, roles_of};
+ghost use Rattle.land_core.specs.Register.{new_register, nothing, stands, object_at, party_at, unit_at};
+ghost use Rattle.land_core.specs.Register.{parcel_at, rrr_at, source_at, mutation_at, holds};
+ghost use Rattle.land_core.specs.Register.{has_single_party, has_group, is_member, members_of, roles_of};
 ghost use Rattle.land_core.specs.Soundness.{IsSound};
 
 use crate::change::Change;

@@ -1,6 +1,8 @@
 //! Subdivisions: a parcel is divided into parts.
 ghost use Rattle.std.specs.Prelude.{◌≡◌, IfOk};
-ghost use Rattle.land_core.specs.Subdivisions.{are_same_parts, have_names, is_new_name, is_part, is_rest, is_rest_count, is_same_name, is_same_parcel, is_same_part, is_same_subdivision, is_subdivision};
+ghost use Rattle.land_core.specs.Subdivisions.{are_same_parts, have_names, is_new_name, is_part, is_rest};
+ghost use Rattle.land_core.specs.Subdivisions.{is_rest_count, is_same_name, is_same_parcel, is_same_part};
+ghost use Rattle.land_core.specs.Subdivisions.{is_same_subdivision, is_subdivision};
 
 use crate::act::NewParcel;
 use crate::duplicate::Duplicate;

@@ -1,7 +1,8 @@
 //! The code words of the register (code lists of ISO 19152), as in requests, replies, sheets, extracts and
 //! tables.
 ghost use Rattle.std.specs.Prelude.{◌≡◌};
-ghost use Rattle.land_core.specs.Words.{act_word, class_word, party_word, right_word, role_word, source_word, state_word};
+ghost use Rattle.land_core.specs.Words.{act_word, class_word, party_word, right_word, role_word, source_word};
+ghost use Rattle.land_core.specs.Words.{state_word};
 
 use crate::content::Content;
 use crate::kind::PartyKind;

@@ -1,5 +1,6 @@
 -- Preconditions and faults of a keeper, and replies that are prepared for requests.
-use Rattle.std.specs.Prelude.{◌≡◌, Bool, true, false, List, Option, Some, None, Result, Ok, Err, ℤ, ◌<ℤ◌, ◌≤ℤ◌, MatchOption}
+use Rattle.std.specs.Prelude.{◌≡◌, Bool, true, false, List, Option, Some, None, Result, Ok, Err, ℤ, ◌<ℤ◌}
+use Rattle.std.specs.Prelude.{◌≤ℤ◌, MatchOption}
 use Rattle.land_acts.specs.Laws.{IsAccepted}
 use Rattle.land_acts.specs.Mutations.Planning.{number_of}
 use Rattle.land_acts.specs.declared.mutations.refusal.Planned.{Planned}
@@ -62,7 +63,8 @@ IsPrepared p clock request tl = Leads p (step clock request tl) tl
 
 -- the reply prepared for the outcome of an act
 abbrev pub preparation : Result Planned Refusal → Prepared
-preparation (Ok (New change done)) = record { reply = reply.Done done; writing = Some (record { change = change; stamp = done.stamp }) }
+preparation (Ok (New change done)) =
+    record { reply = reply.Done done; writing = Some (record { change = change; stamp = done.stamp }) }
 preparation (Ok (Repeat done)) = record { reply = reply.Done done; writing = None }
 preparation (Err refusal) = record { reply = reply.Refused (number_of refusal); writing = None }
 
@@ -95,13 +97,16 @@ TellsOf true r closed_after = (r ≡ reply.Store 503) × (closed_after ≡ true)
 TellsOf false r closed_after = closed_after ≡ true → r ≡ reply.Store 502
 
 -- a request is answered by an element, and the keeper then shows the element's timeline, unless it is closed
-abbrev pub IsAnswered : (closed : Bool) → ℤ → Request → Timeline → Reply → (shown : Timeline) → (closed_after : Bool) → Type 0
+abbrev pub IsAnswered : (closed : Bool) → ℤ → Request → Timeline → Reply → (shown : Timeline)
+    → (closed_after : Bool) → Type 0
 IsAnswered closed clock request tl r shown closed_after =
-    (new : Timeline) × Element closed clock request tl r new closed_after × (closed_after ≡ false → shown ≡ new)
+    (new : Timeline) × Element closed clock request tl r new closed_after
+    × (closed_after ≡ false → shown ≡ new)
 
 -- the abstraction relation: closed and clock are the state's, and so is the timeline if the keeper is honest
 -- and open
-abbrev pub IsAt : {C : Type 0} → (honest : Type 0) → (closed : Bool) → (shown : Timeline) → (clock : C) → State C → Type 0
+abbrev pub IsAt : {C : Type 0} → (honest : Type 0) → (closed : Bool) → (shown : Timeline) → (clock : C)
+    → State C → Type 0
 IsAt honest closed shown clock state =
     (state.closed ≡ closed) × (state.clock ≡ clock) × (IsLive honest closed → shown ≡ state.timeline)
 

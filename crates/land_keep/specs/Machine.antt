@@ -1,5 +1,6 @@
 -- The register machine: the reply to a request, and the timeline after it.
-use Rattle.std.specs.Prelude.{◌≡◌, ℕ, Bool, true, false, List, [], ◌∷◌, ◌++◌, Option, Some, None, Result, Ok, Err, ℤ, int_lt, unwrap_or, ◌⊎◌, if◌then◌else◌}
+use Rattle.std.specs.Prelude.{◌≡◌, ℕ, Bool, true, false, List, [], ◌∷◌, ◌++◌, Option, Some, None, Result, Ok}
+use Rattle.std.specs.Prelude.{Err, ℤ, int_lt, unwrap_or, ◌⊎◌, if◌then◌else◌}
 use Rattle.land_acts.specs.Mutations.Planning.{number_of}
 use Rattle.land_acts.specs.Outcome.{outcome_of}
 use Rattle.land_acts.specs.declared.mutations.refusal.Planned.{Planned}
@@ -100,13 +101,15 @@ step clock request tl =
     let now = now_of clock tl in
     let t = moment_of request.ask now in
     if int_lt now t then (reply.Fault 135, tl)
-    else judged (verdict_at tl request.caller request.ask now) (allowed clock request.caller request.ask t tl) tl
+    else judged (verdict_at tl request.caller request.ask now)
+    (allowed clock request.caller request.ask t tl) tl
 
 -- ---- runs, in which the store may fail
 
 -- one request: a step, or a store fault that changes nothing. 502 closes the store, and a closed store
 -- replies only 503
-abbrev pub Element : (closed : Bool) → ℤ → Request → Timeline → Reply → Timeline → (closed_after : Bool) → Type 0
+abbrev pub Element : (closed : Bool) → ℤ → Request → Timeline → Reply → Timeline → (closed_after : Bool)
+    → Type 0
 Element true clock request tl r new closed = (r ≡ reply.Store 503) × (new ≡ tl) × (closed ≡ true)
 Element false clock request tl r new closed =
     ((r ≡ (step clock request tl).0) × (new ≡ (step clock request tl).1) × (closed ≡ false))

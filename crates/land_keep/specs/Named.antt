@@ -12,7 +12,8 @@ use Rattle.land_keep.specs.declared.named.NamedObject.{NamedObject}
 
 -- the list form of an object: a party without its members and roles
 abbrev pub listed : Object → Object
-listed (object.Party it) = object.Party (record { number = it.number; kind = it.kind; name = it.name; members = []; roles = [] })
+listed (object.Party it) =
+    object.Party (record { number = it.number; kind = it.kind; name = it.name; members = []; roles = [] })
 listed (object.Unit it) = object.Unit it
 listed (object.Parcel it) = object.Parcel it
 listed (object.Rrr it) = object.Rrr it

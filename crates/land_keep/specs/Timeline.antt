@@ -1,5 +1,6 @@
 -- The register through time: stamps, each with the register from that moment on (LADM: VersionedObject).
-use Rattle.std.specs.Prelude.{◌≤◌, List, [], ◌∷◌, Option, Some, None, ℤ, pos, ◌<ℤ◌, int_le, fold, unwrap_or, if◌then◌else◌}
+use Rattle.std.specs.Prelude.{◌≤◌, List, [], ◌∷◌, Option, Some, None, ℤ, pos, ◌<ℤ◌, int_le, fold, unwrap_or}
+use Rattle.std.specs.Prelude.{if◌then◌else◌}
 use Rattle.std.specs.Option.{option_map}
 use Rattle.std.specs.List.{AllByRecursion}
 use Rattle.land_core.specs.Register.{nothing, new_register}

@@ -60,7 +60,8 @@ pub trait Keeper {
     ) -> Result<Verdict, StoreFault>
         requires last { IsLive (honest self.old) (closed self.old) → last_stamp (timeline self.old) ≤ℤ now }
         requires asked { moment_of ask.now now ≤ℤ now }
-        ensures value { honest self.new → IfOk result (λ it. it ≡ verdict_at (timeline self.old) caller ask.now now) }
+        ensures value { honest self.new
+            → IfOk result (λ it. it ≡ verdict_at (timeline self.old) caller ask.now now) }
         ensures same { IsLive (honest self.new) (closed self.new) → timeline self.new ≡ timeline self.old }
         ensures was { honest self.new → honest self.old }
         ensures closes { Closes (closed self.old) (closed self.new) result };
@@ -73,7 +74,8 @@ pub trait Keeper {
         kind: Kind,
         at: i64,
     ) -> Result<NumberList, StoreFault>
-        ensures value { honest self.new → IfOk result (λ it. it ≡ seen_of (register_at (timeline self.old) at) caller kind) }
+        ensures value { honest self.new
+            → IfOk result (λ it. it ≡ seen_of (register_at (timeline self.old) at) caller kind) }
         ensures same { IsLive (honest self.new) (closed self.new) → timeline self.new ≡ timeline self.old }
         ensures was { honest self.new → honest self.old }
         ensures closes { Closes (closed self.old) (closed self.new) result };
@@ -86,7 +88,8 @@ pub trait Keeper {
         number: u64,
         at: i64,
     ) -> Result<Option<Object>, StoreFault>
-        ensures value { honest self.new → IfOk result (λ it. it ≡ object_at (register_at (timeline self.old) at) kind number) }
+        ensures value { honest self.new
+            → IfOk result (λ it. it ≡ object_at (register_at (timeline self.old) at) kind number) }
         ensures same { IsLive (honest self.new) (closed self.new) → timeline self.new ≡ timeline self.old }
         ensures was { honest self.new → honest self.old }
         ensures closes { Closes (closed self.old) (closed self.new) result };
@@ -100,7 +103,8 @@ pub trait Keeper {
         numbers: &[u64],
         at: i64,
     ) -> Result<Sequence<NamedObject>, StoreFault>
-        ensures value { honest self.new → IfOk result (λ it. it ≡ objects_at (register_at (timeline self.old) at) kind numbers.now) }
+        ensures value { honest self.new
+            → IfOk result (λ it. it ≡ objects_at (register_at (timeline self.old) at) kind numbers.now) }
         ensures same { IsLive (honest self.new) (closed self.new) → timeline self.new ≡ timeline self.old }
         ensures was { honest self.new → honest self.old }
         ensures closes { Closes (closed self.old) (closed self.new) result };
@@ -114,7 +118,8 @@ pub trait Keeper {
         unit: u64,
         at: i64,
     ) -> Result<Option<View>, StoreFault>
-        ensures value { honest self.new → IfOk result (λ it. it ≡ view_at (register_at (timeline self.old) at) caller unit at) }
+        ensures value { honest self.new
+            → IfOk result (λ it. it ≡ view_at (register_at (timeline self.old) at) caller unit at) }
         ensures moment { IfOk result (λ it. IfSome it (λ view. view.at ≡ at)) }
         ensures same { IsLive (honest self.new) (closed self.new) → timeline self.new ≡ timeline self.old }
         ensures was { honest self.new → honest self.old }
@@ -122,16 +127,20 @@ pub trait Keeper {
 
     /// Returns the slice of the last register that planning an act reads.
     fn slice(&mut self, alloc: Global, caller: Caller, act: &Act) -> Result<Slice, StoreFault>
-        ensures value { honest self.new → IfOk result (λ it. it ≡ slice_of (last_register (timeline self.old)) caller act.now) }
+        ensures value { honest self.new
+            → IfOk result (λ it. it ≡ slice_of (last_register (timeline self.old)) caller act.now) }
         ensures same { IsLive (honest self.new) (closed self.new) → timeline self.new ≡ timeline self.old }
         ensures was { honest self.new → honest self.old }
         ensures closes { Closes (closed self.old) (closed self.new) result };
 
     /// Writes a change that an act makes on the last register, with its stamp.
     fn write(&mut self, alloc: Global, change: &Change, stamp: i64) -> Result<(), StoreFault>
-        requires { IsLive (honest self.old) (closed self.old) → CanWrite (timeline self.old) change.now stamp }
-        ensures ok { IsLive (honest self.new) (closed self.new) → OnOk result (timeline self.new ≡ written (timeline self.old) change.now stamp) }
-        ensures err { IsLive (honest self.new) (closed self.new) → OnErr result (timeline self.new ≡ timeline self.old) }
+        requires { IsLive (honest self.old) (closed self.old)
+            → CanWrite (timeline self.old) change.now stamp }
+        ensures ok { IsLive (honest self.new) (closed self.new)
+            → OnOk result (timeline self.new ≡ written (timeline self.old) change.now stamp) }
+        ensures err { IsLive (honest self.new) (closed self.new)
+            → OnErr result (timeline self.new ≡ timeline self.old) }
         ensures was { honest self.new → honest self.old }
         ensures closes { Closes (closed self.old) (closed self.new) result };
 }

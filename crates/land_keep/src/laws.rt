@@ -1,5 +1,7 @@
 //! Laws, each stated over the definitions alone.
-ghost use Rattle.land_keep.specs.Laws.{ChangesKeepSharesWhole, SharesAreWhole, WritingKeepsSound, PastStays, ChangeStands, OpenKeepersLackMemoryAlone, ReadsLookAtTwoRegisters, RepliesTellNothingUnseen};
+ghost use Rattle.land_keep.specs.Laws.{ChangesKeepSharesWhole, SharesAreWhole, WritingKeepsSound, PastStays};
+ghost use Rattle.land_keep.specs.Laws.{ChangeStands, OpenKeepersLackMemoryAlone, ReadsLookAtTwoRegisters};
+ghost use Rattle.land_keep.specs.Laws.{RepliesTellNothingUnseen};
 
 /// Proves that a timeline stays sound after each change that can be written.
 pub fn writing_keeps_soundness()

@@ -2,7 +2,8 @@
 ghost use Rattle.std.specs.Prelude.{◌≡◌, ◌∷◌, ◌++◌, [], false, ⊤, unwrap_or, IfOk, OnOk, OnErr};
 ghost use Rattle.std.specs.Option.{option_copied, option_map};
 ghost use Rattle.land_core.specs.Register.{nothing};
-ghost use Rattle.land_keep.specs.Timeline.{IsSoundTimeline, new_timeline, version_at, last_version, register_at, last_register};
+ghost use Rattle.land_keep.specs.Timeline.{IsSoundTimeline, new_timeline, version_at, last_version};
+ghost use Rattle.land_keep.specs.Timeline.{register_at, last_register};
 
 use crate::keeper::Keeper;
 use crate::laws::writing_keeps_soundness;

@@ -30,7 +30,8 @@ impl ByUnit {
 }
 
 fn parcels_by_unit(alloc: Global, register: &Register) -> Result<Groups<u64>, AllocError>
-    ensures { IfOk result (λ it. (unit : ℕ) → under it unit ≡ parcels_in (map.entries register.now.parcels) unit) }
+    ensures { IfOk result (λ it. (unit : ℕ) → under it unit
+        ≡ parcels_in (map.entries register.now.parcels) unit) }
 {
     let mut parcels = Groups::new(alloc);
     for (number, parcel) in register.parcels.iter() {
@@ -40,7 +41,8 @@ fn parcels_by_unit(alloc: Global, register: &Register) -> Result<Groups<u64>, Al
 }
 
 fn claims_by_unit(alloc: Global, register: &Register) -> Result<Groups<Claim>, AllocError>
-    ensures { IfOk result (λ it. (unit : ℕ) → under it unit ≡ claims_in (map.entries register.now.rrrs) unit) }
+    ensures { IfOk result (λ it. (unit : ℕ) → under it unit
+        ≡ claims_in (map.entries register.now.rrrs) unit) }
 {
     let mut claims = Groups::new(alloc);
     for (_, entry) in register.rrrs.iter() {

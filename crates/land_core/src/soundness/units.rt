@@ -1,7 +1,8 @@
 //! The conditions of soundness on units.
 ghost use Rattle.std.specs.Prelude.{◌≡◌, ◌≢◌, ◌&&◌, true, false, IfOk, OnOk, IfErr};
 ghost use Rattle.std.specs.List.{list_any};
-ghost use Rattle.land_core.specs.ByUnit.{are_claims_whole, claimed_shares, do_claims_clash, have_clash, is_bare, is_claim_of, is_crowded, is_in_parts, under};
+ghost use Rattle.land_core.specs.ByUnit.{are_claims_whole, claimed_shares, do_claims_clash, have_clash};
+ghost use Rattle.land_core.specs.ByUnit.{is_bare, is_claim_of, is_crowded, is_in_parts, under};
 ghost use Rattle.land_core.specs.Entries.{some};
 ghost use Rattle.land_core.specs.Soundness.{has_fault, has_loose_rank, is_loose_rank};
 ghost use Rattle.land_core.specs.Units.{are_whole_or_none};
@@ -20,7 +21,8 @@ use std::alloc::{AllocError, Global};
 /// Checks the conditions on units. The error is a fault of a unit, or `Memory` if out of memory.
 pub(crate) fn check_units(alloc: Global, register: &Register) -> Result<(), Unsound>
     requires { has_fault Unsound.Reference register.now ≡ false }
-    ensures ok { OnOk result ((has_fault Unsound.Shares register.now ≡ false) × (has_fault Unsound.Bare register.now ≡ false)
+    ensures ok { OnOk result
+        ((has_fault Unsound.Shares register.now ≡ false) × (has_fault Unsound.Bare register.now ≡ false)
         × (has_fault Unsound.Crowded register.now ≡ false) × (has_fault Unsound.Twice register.now ≡ false)
         × (has_fault Unsound.Rank register.now ≡ false)) }
     ensures fault { IfErr result (λ fault. fault ≢ Unsound.Memory → has_fault fault register.now ≡ true) }
@@ -135,7 +137,8 @@ fn has_unit_in_parts(
     register: &Register,
     by_unit: &ByUnit,
 ) -> Result<bool, AllocError>
-    ensures { IfOk result (λ it. it ≡ some (λ n u. u.checked && is_in_parts by_unit.now n) register.now.units) }
+    ensures { IfOk result
+        (λ it. it ≡ some (λ n u. u.checked && is_in_parts by_unit.now n) register.now.units) }
 {
     for (number, unit) in register.units.iter() {
         if unit.checked && !are_whole(alloc, by_unit.claims.under(*number))? {
