@@ -18,6 +18,7 @@ use Rattle.land_core.specs.Laws.{AreOfGroup, EntryRefers, GoTogether, HasOwner, 
 use Rattle.land_core.specs.Mandates.{mandate_of}
 use Rattle.land_core.specs.Members.{are_group_shares, is_group_size, is_yes}
 use Rattle.land_core.specs.Mutations.{share_a_reference}
+use Rattle.land_core.specs.Numbers.{last_next}
 use Rattle.land_core.specs.Register.{has_single_party, holds, shares_of}
 use Rattle.land_core.specs.Role.{is_role, place_of, role_at, role_at_place}
 use Rattle.land_core.specs.Soundness.{IsSound, clashes_later, has_clash, has_reused_reference, is_loose_mandate, is_loose_mutation, is_loose_rank, is_reused_later, is_used}
@@ -338,7 +339,7 @@ module _ (law : WholenessLaw) where
       let numbers = are_used r parts.numbers in
       let administrator = administrator_from r (not-false _ (sound Administrator)) in
       record {
-        room = ltb-false 1000000001 r.next parts.room;
+        room = ltb-false last_next r.next parts.room;
         numbers_of_parties = λ n v is. in_use r n (used_from r r.parties numbers.parties n v is);
         numbers_of_units = λ n v is. in_use r n (used_from r r.units numbers.units n v is);
         numbers_of_parcels = λ n v is. in_use r n (used_from r r.parcels numbers.parcels n v is);
@@ -367,7 +368,7 @@ module _ (law : WholenessLaw) where
   look_ups_to : (r : Register) → IsSoundByLookUps r → IsSound r
   look_ups_to r h Reference =
       refers_back r (record {
-        room = le-ltb 1000000001 r.next h.room;
+        room = le-ltb last_next r.next h.room;
         numbers = are_used_back r (record {
           parties = unused_from r r.parties (λ n v is. used r n (h.numbers_of_parties n v is));
           units = unused_from r r.units (λ n v is. used r n (h.numbers_of_units n v is));

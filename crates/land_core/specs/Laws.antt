@@ -7,6 +7,7 @@ use Rattle.std.specs.Ordering.{nat_cmp}
 use Rattle.land_core.specs.Contents.{is_well_formed_content}
 use Rattle.land_core.specs.Mandates.{has_mandate, mandate_of}
 use Rattle.land_core.specs.Members.{Members}
+use Rattle.land_core.specs.Numbers.{last_next}
 use Rattle.land_core.specs.Register.{has_group, has_single_party, holds, is_single, shares_of}
 use Rattle.land_core.specs.Soundness.{IsSound}
 use Rattle.land_core.specs.Units.{parcel_count, rank_of, rrr_count, type_of, type_shares}
@@ -89,33 +90,43 @@ pub record IsSoundUnit (r : Register) (n : ℕ) (unit : UnitRecord) : Type 0 whe
   pub owner : HasOwner r n
   pub parcels : parcel_count r n ≤ 256
   pub entries : rrr_count r n ≤ 256
-  pub whole : unit.checked ≡ true → (type : RightType) → type_shares r n type ≢ [] → IsWhole (type_shares r n type)
+  pub whole : unit.checked ≡ true → (type : RightType) → type_shares r n type ≢ []
+      → IsWhole (type_shares r n type)
 
 -- two entries of a unit are neither two rights of the same type and party nor two mortgages of the same rank
 pub record GoTogether (e f : RrrRecord) : Type 0 where
-  pub rights : (type : RightType) → e.party ≡ f.party → type_of e.class ≡ Some type → type_of f.class ≢ Some type
+  pub rights : (type : RightType) → e.party ≡ f.party → type_of e.class ≡ Some type
+      → type_of f.class ≢ Some type
   pub ranks : (rank : ℕ) → rank_of e.class ≡ Some rank → rank_of f.class ≢ Some rank
 
 -- the conditions of soundness on the record of each number
 pub record IsSoundByLookUps (r : Register) : Type 0 where
-  pub room : r.next ≤ 1000000001
+  pub room : r.next ≤ last_next
   pub numbers_of_parties : (n : ℕ) (party : PartyRecord) → map.get r.parties n ≡ Some party → IsInUse r n
   pub numbers_of_units : (n : ℕ) (unit : UnitRecord) → map.get r.units n ≡ Some unit → IsInUse r n
   pub numbers_of_parcels : (n : ℕ) (parcel : ParcelRecord) → map.get r.parcels n ≡ Some parcel → IsInUse r n
   pub numbers_of_entries : (n : ℕ) (entry : RrrRecord) → map.get r.rrrs n ≡ Some entry → IsInUse r n
   pub numbers_of_sources : (n : ℕ) (source : SourceRecord) → map.get r.sources n ≡ Some source → IsInUse r n
-  pub numbers_of_mutations : (n : ℕ) (mutation : MutationRecord) → map.get r.mutations n ≡ Some mutation → IsInUse r n
+  pub numbers_of_mutations : (n : ℕ) (mutation : MutationRecord) → map.get r.mutations n ≡ Some mutation
+      → IsInUse r n
   pub roles : (party : ℕ) (role : Role) → holds r party role ≡ true → has_single_party r party ≡ true
-  pub members : (group : ℕ) (members : Members) → map.get r.members group ≡ Some members → GroupRefers r group members
+  pub members : (group : ℕ) (members : Members) → map.get r.members group ≡ Some members
+      → GroupRefers r group members
   pub parcels : (n : ℕ) (parcel : ParcelRecord) → map.get r.parcels n ≡ Some parcel → ParcelRefers r parcel
   pub entries : (n : ℕ) (entry : RrrRecord) → map.get r.rrrs n ≡ Some entry → EntryRefers r entry
-  pub mutations : (n : ℕ) (mutation : MutationRecord) → map.get r.mutations n ≡ Some mutation → MutationRefers r mutation
-  pub mandates : (principal agent : ℕ) → has_mandate r.mandates (mandate_of principal agent) ≡ true → MandateRefers r principal agent
-  pub groups : (n : ℕ) (party : PartyRecord) → map.get r.parties n ≡ Some party → is_single party.kind ≡ false → AreOfGroup (shares_of r n)
+  pub mutations : (n : ℕ) (mutation : MutationRecord) → map.get r.mutations n ≡ Some mutation
+      → MutationRefers r mutation
+  pub mandates : (principal agent : ℕ) → has_mandate r.mandates (mandate_of principal agent) ≡ true
+      → MandateRefers r principal agent
+  pub groups : (n : ℕ) (party : PartyRecord) → map.get r.parties n ≡ Some party
+      → is_single party.kind ≡ false → AreOfGroup (shares_of r n)
   pub units : (n : ℕ) (unit : UnitRecord) → map.get r.units n ≡ Some unit → IsSoundUnit r n unit
-  pub pairs : (m n : ℕ) (e f : RrrRecord) → map.get r.rrrs m ≡ Some e → map.get r.rrrs n ≡ Some f → m ≢ n → e.unit ≡ f.unit → GoTogether e f
-  pub ranks : (n : ℕ) (entry : RrrRecord) (rank : ℕ) → map.get r.rrrs n ≡ Some entry → rank_of entry.class ≡ Some rank → IsInUse r rank
-  pub references : (m n : ℕ) (it other : MutationRecord) → map.get r.mutations m ≡ Some it → map.get r.mutations n ≡ Some other → m ≢ n → it.lodger ≡ other.lodger → it.reference ≢ other.reference
+  pub pairs : (m n : ℕ) (e f : RrrRecord) → map.get r.rrrs m ≡ Some e → map.get r.rrrs n ≡ Some f → m ≢ n
+      → e.unit ≡ f.unit → GoTogether e f
+  pub ranks : (n : ℕ) (entry : RrrRecord) (rank : ℕ) → map.get r.rrrs n ≡ Some entry
+      → rank_of entry.class ≡ Some rank → IsInUse r rank
+  pub references : (m n : ℕ) (it other : MutationRecord) → map.get r.mutations m ≡ Some it
+      → map.get r.mutations n ≡ Some other → m ≢ n → it.lodger ≡ other.lodger → it.reference ≢ other.reference
   pub administrator : (party : ℕ) × (holds r party StateAdministrator ≡ true)
 
 -- a register is sound if and only if the conditions on lookups hold

@@ -10,20 +10,23 @@ use Rattle.land_core.specs.Grants.{grants_in}
 use Rattle.land_core.specs.Mandates.{mandates_in}
 use Rattle.land_core.specs.Members.{Members, are_group_shares}
 use Rattle.land_core.specs.Mutations.{share_a_reference}
+use Rattle.land_core.specs.Numbers.{last_next}
 use Rattle.land_core.specs.Register.{has_single_party, has_group, is_single, shares_of}
 use Rattle.land_core.specs.Role.{is_role}
-use Rattle.land_core.specs.Units.{has_whole_shares, has_parcel, has_owner, parcel_count, rrr_count, do_clash, rank_of}
+use Rattle.land_core.specs.Units.{has_whole_shares, has_parcel, has_owner, parcel_count, rrr_count, do_clash}
+use Rattle.land_core.specs.Units.{rank_of}
 use Rattle.land_core.specs.declared.mandates.Mandate.{Mandate}
 use Rattle.land_core.specs.declared.mutation.MutationRecord.{MutationRecord}
 use Rattle.land_core.specs.declared.register.Register.{Register}
 use Rattle.land_core.specs.declared.role.Role.TheVariants.{StateAdministrator}
 use Rattle.land_core.specs.declared.rrr.RrrRecord.{RrrRecord}
 use Rattle.land_core.specs.declared.soundness.Unsound.{Unsound}
-use Rattle.land_core.specs.declared.soundness.Unsound.TheVariants.{Reference, Shares, Group, Bare, Crowded, Twice, Rank, Administrator, Reused, Memory}
+use Rattle.land_core.specs.declared.soundness.Unsound.TheVariants.{Reference, Shares, Group, Bare, Crowded}
+use Rattle.land_core.specs.declared.soundness.Unsound.TheVariants.{Twice, Rank, Administrator, Reused, Memory}
 
 -- whether the next number is above 1_000_000_001, the one after the last number
 abbrev pub is_past_the_numbers : Register → Bool
-is_past_the_numbers r = nat_lt 1000000001 r.next
+is_past_the_numbers r = nat_lt last_next r.next
 
 -- a number is in use if it is at least 1 and below the next number
 abbrev pub is_used : Register → ℕ → Bool
@@ -34,7 +37,8 @@ abbrev pub has_unused : {V : Type 0} → Register → FinMap nat_cmp V → Bool
 has_unused r records = some (λ n v. not (is_used r n)) records
 
 abbrev pub has_unused_number : Register → Bool
-has_unused_number r = has_unused r r.parties || has_unused r r.units || has_unused r r.parcels || has_unused r r.rrrs || has_unused r r.sources || has_unused r r.mutations
+has_unused_number r = has_unused r r.parties || has_unused r r.units || has_unused r r.parcels
+    || has_unused r r.rrrs || has_unused r r.sources || has_unused r r.mutations
 
 -- whether any role belongs to a party that does not exist or is a group
 abbrev pub has_loose_grant : Register → Bool
@@ -57,19 +61,22 @@ has_loose_parcel r = some (λ n p. not (has r.units p.unit && has r.sources p.so
 
 -- whether the unit, the party or the source of any entry does not exist
 abbrev pub has_loose_rrr : Register → Bool
-has_loose_rrr r = some (λ n e. not (has r.units e.unit && has r.parties e.party && has r.sources e.source)) r.rrrs
+has_loose_rrr r = some
+    (λ n e. not (has r.units e.unit && has r.parties e.party && has r.sources e.source)) r.rrrs
 
 -- whether the lodger or the source of a mutation does not exist, or its content is not within its limits. The
 -- numbers in a content are not references: their objects may have ended, or may never have existed.
 abbrev pub is_loose_mutation : Register → MutationRecord → Bool
-is_loose_mutation r m = not (has r.parties m.lodger && has r.sources m.source && is_well_formed_content m.content)
+is_loose_mutation r m = not (has r.parties m.lodger && has r.sources m.source
+    && is_well_formed_content m.content)
 
 abbrev pub has_loose_mutation : Register → Bool
 has_loose_mutation r = some (λ n m. is_loose_mutation r m) r.mutations
 
 -- whether a mandate is not between two different single parties that exist
 abbrev pub is_loose_mandate : Register → Mandate → Bool
-is_loose_mandate r m = not (has_single_party r m.principal && has_single_party r m.agent && not (nat_eq m.principal m.agent))
+is_loose_mandate r m = not (has_single_party r m.principal && has_single_party r m.agent
+    && not (nat_eq m.principal m.agent))
 
 abbrev pub has_loose_mandate : Register → Bool
 has_loose_mandate r = list_any (λ m. is_loose_mandate r m) (mandates_in r.mandates)
@@ -123,7 +130,8 @@ abbrev pub has_fault : Unsound → Register → Bool
 -- references exist, numbers are in use, only groups have members, members are single parties, groups have no
 -- roles, contents are within their limits, and mandates are between two different single parties
 has_fault Reference r =
-    is_past_the_numbers r || has_unused_number r || has_loose_grant r || has_loose_members r || has_loose_parcel r || has_loose_rrr r || has_loose_mutation r || has_loose_mandate r
+    is_past_the_numbers r || has_unused_number r || has_loose_grant r || has_loose_members r
+    || has_loose_parcel r || has_loose_rrr r || has_loose_mutation r || has_loose_mandate r
 -- in each checked unit, the shares of each type of right that occurs sum to 1
 has_fault Shares r = has_unit_in_parts r
 -- each group has 2 to 64 members whose shares sum to 1

@@ -3,10 +3,14 @@ ghost use Rattle.std.specs.Prelude.{◌≡◌, length};
 ghost use Rattle.std.specs.List.{list_all};
 ghost use Rattle.std.specs.Str.{chars};
 ghost use Rattle.land_core.specs.Numbers.{is_number};
-ghost use Rattle.land_core.specs.Texts.{are_words, is_label, is_reference, is_title, is_text, is_name, is_plain};
+ghost use Rattle.land_core.specs.Texts.{are_words, is_label, is_reference, is_title, is_text, is_name};
+ghost use Rattle.land_core.specs.Texts.{is_plain};
 
 /// The last moment, in Unix milliseconds: the end of the year 2099 UTC.
 pub const LAST_MOMENT: i64 = 4_102_444_799_999;
+
+/// The next number of a register whose numbers, 1 to 1_000_000_000, are all in use.
+pub const LAST_NEXT: u64 = 1_000_000_001;
 
 /// Whether a text is a valid name: 1 to 200 characters, without ASCII control characters.
 pub fn is_name(text: &str) -> bool

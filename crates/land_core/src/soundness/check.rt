@@ -2,9 +2,13 @@
 ghost use Rattle.std.specs.Prelude.{◌≡◌, ◌≢◌, true, IfOk, OnOk, IfErr};
 ghost use Rattle.land_core.specs.Members.{are_group_shares};
 ghost use Rattle.land_core.specs.Register.{shares_of};
-ghost use Rattle.land_core.specs.Soundness.{IsSound, has_fault, has_unused, has_unused_number, has_loose_grant, has_loose_mandate, has_loose_members, has_loose_parcel, has_loose_rrr, is_loose_mandate, are_loose, has_loose_member, has_broken_group, has_administrator, is_used};
+ghost use Rattle.land_core.specs.Soundness.{IsSound, has_fault, has_unused, has_unused_number};
+ghost use Rattle.land_core.specs.Soundness.{has_loose_grant, has_loose_mandate, has_loose_members};
+ghost use Rattle.land_core.specs.Soundness.{has_loose_parcel, has_loose_rrr, is_loose_mandate, are_loose};
+ghost use Rattle.land_core.specs.Soundness.{has_loose_member, has_broken_group, has_administrator, is_used};
 
 use crate::kind::{Kind, PartyKind};
+use crate::limits::LAST_NEXT;
 use crate::mandates::Mandate;
 use crate::member::{Members, shares_of};
 use crate::records::Records;
@@ -39,7 +43,7 @@ pub fn check(alloc: Global, register: &Register) -> Result<(), Unsound>
 fn has_reference_fault(register: &Register) -> bool
     ensures { result ≡ has_fault Unsound.Reference register.now }
 {
-    register.next > 1_000_000_001
+    register.next > LAST_NEXT
         || has_unused_number(register)
         || has_loose_grant(register)
         || has_loose_members(register)
