@@ -3,7 +3,9 @@ ghost use Rattle.std.specs.Prelude.{◌≡◌, ◌≢◌, ℤ, true, false, IfOk
 ghost use Rattle.land_acts.specs.Outcome.{outcome_of};
 ghost use Rattle.land_core.specs.Acts.{is_well_formed, is_well_formed_request};
 ghost use Rattle.land_core.specs.Register.{holds};
-ghost use Rattle.land_keep.specs.Keeping.{Closes, CanFinish, IsAnswered, IsLive, IsPrepared, Leads, RunsTo, ShowsAsked, ShowsAt, TellsOf, preparation, after_writing};
+ghost use Rattle.land_keep.specs.Keepers.{LeavesTimeline, WasHonest, state_of};
+ghost use Rattle.land_keep.specs.Keeping.{Closes, CanFinish, IsAnswered, IsLive, IsPrepared, Leads, RunsTo};
+ghost use Rattle.land_keep.specs.Keeping.{ShowsAsked, ShowsAt, TellsOf, preparation, after_writing};
 ghost use Rattle.land_keep.specs.Machine.{stamp_of, allowed, acted};
 ghost use Rattle.land_keep.specs.Timeline.{last_register};
 
@@ -31,10 +33,11 @@ pub fn prepare<K: Keeper>(
     request: &Request,
 ) -> Result<Prepared, StoreFault>
     requires { is_well_formed_request request.now ≡ true }
-    ensures prepared { K.honest keeper.new → IfOk result (λ it. IsPrepared it clock request.now (K.timeline keeper.old)) }
+    ensures prepared { K.honest keeper.new
+        → IfOk result (λ it. IsPrepared it clock request.now (K.timeline keeper.old)) }
     ensures moment { IfOk result (λ it. ShowsAsked request.now.ask it.reply) }
-    ensures was { K.honest keeper.new → K.honest keeper.old }
-    ensures same { IsLive (K.honest keeper.new) (K.closed keeper.new) → K.timeline keeper.new ≡ K.timeline keeper.old }
+    ensures was { WasHonest K.Keeper keeper.old keeper.new }
+    ensures same { LeavesTimeline K.Keeper keeper.old keeper.new }
     ensures closes { Closes (K.closed keeper.old) (K.closed keeper.new) result }
 {
     if keeper.is_closed() {
@@ -61,11 +64,16 @@ fn prepare_allowed<K: Keeper>(
 ) -> Result<Prepared, StoreFault>
     requires open { K.closed keeper.old ≡ false }
     requires well_formed { is_well_formed_request request.now ≡ true }
-    requires role_held { K.honest keeper.old → holds (last_register (K.timeline keeper.old)) request.now.caller.party request.now.caller.role ≡ true }
-    ensures prepared { K.honest keeper.new → IfOk result (λ it. Leads it (allowed clock request.now.caller request.now.ask at (K.timeline keeper.old)) (K.timeline keeper.old)) }
+    requires role_held { K.honest keeper.old
+        → holds (last_register (K.timeline keeper.old)) request.now.caller.party request.now.caller.role
+        ≡ true }
+    ensures prepared { K.honest keeper.new
+        → IfOk result (λ it. Leads it
+        (allowed clock request.now.caller request.now.ask at (K.timeline keeper.old))
+        (K.timeline keeper.old)) }
     ensures moment { IfOk result (λ it. ShowsAt at it.reply) }
-    ensures was { K.honest keeper.new → K.honest keeper.old }
-    ensures same { IsLive (K.honest keeper.new) (K.closed keeper.new) → K.timeline keeper.new ≡ K.timeline keeper.old }
+    ensures was { WasHonest K.Keeper keeper.old keeper.new }
+    ensures same { LeavesTimeline K.Keeper keeper.old keeper.new }
     ensures closes { Closes (K.closed keeper.old) (K.closed keeper.new) result }
 {
     match &request.ask {
@@ -101,13 +109,15 @@ fn prepare_act<K: Keeper>(
 ) -> Result<Prepared, StoreFault>
     requires open { K.closed keeper.old ≡ false }
     requires well_formed { is_well_formed act.now ≡ true }
-    requires role_held { K.honest keeper.old → holds (last_register (K.timeline keeper.old)) caller.party caller.role ≡ true }
+    requires role_held { K.honest keeper.old
+        → holds (last_register (K.timeline keeper.old)) caller.party caller.role ≡ true }
     ensures prepared { K.honest keeper.new → IfOk result (λ it. Leads it
-        (acted (outcome_of (last_register (K.timeline keeper.old)) caller act.now (stamp_of clock (K.timeline keeper.old))) (K.timeline keeper.old))
+        (acted (outcome_of (last_register (K.timeline keeper.old)) caller act.now
+        (stamp_of clock (K.timeline keeper.old))) (K.timeline keeper.old))
         (K.timeline keeper.old)) }
     ensures moment { IfOk result (λ it. (t : ℤ) → ShowsAt t it.reply) }
-    ensures was { K.honest keeper.new → K.honest keeper.old }
-    ensures same { IsLive (K.honest keeper.new) (K.closed keeper.new) → K.timeline keeper.new ≡ K.timeline keeper.old }
+    ensures was { WasHonest K.Keeper keeper.old keeper.new }
+    ensures same { LeavesTimeline K.Keeper keeper.old keeper.new }
     ensures closes { Closes (K.closed keeper.old) (K.closed keeper.new) result }
 {
     let stamp = stamp_at(clock, keeper.last());
@@ -156,9 +166,11 @@ pub fn finish<K: Keeper>(
     requires open { K.closed keeper.old ≡ false }
     requires can_finish { K.honest keeper.old → CanFinish prepared (K.timeline keeper.old) }
     ensures reply { IfOk result (λ it. it ≡ prepared.reply) }
-    ensures ok { IsLive (K.honest keeper.new) (K.closed keeper.new) → OnOk result (K.timeline keeper.new ≡ after_writing prepared.writing (K.timeline keeper.old)) }
-    ensures was { K.honest keeper.new → K.honest keeper.old }
-    ensures err { IsLive (K.honest keeper.new) (K.closed keeper.new) → OnErr result (K.timeline keeper.new ≡ K.timeline keeper.old) }
+    ensures ok { IsLive (K.honest keeper.new) (K.closed keeper.new)
+        → OnOk result (K.timeline keeper.new ≡ after_writing prepared.writing (K.timeline keeper.old)) }
+    ensures was { WasHonest K.Keeper keeper.old keeper.new }
+    ensures err { IsLive (K.honest keeper.new) (K.closed keeper.new)
+        → OnErr result (K.timeline keeper.new ≡ K.timeline keeper.old) }
     ensures closes { Closes (K.closed keeper.old) (K.closed keeper.new) result }
 {
     let Prepared { reply, writing } = prepared;
@@ -173,8 +185,9 @@ pub fn finish<K: Keeper>(
 pub fn answer<K: Keeper>(alloc: Global, keeper: &mut K, clock: i64, request: &Request) -> Reply
     requires { is_well_formed_request request.now ≡ true }
     ensures answered { K.honest keeper.new
-        → IsAnswered (K.closed keeper.old) clock request.now (K.timeline keeper.old) result (K.timeline keeper.new) (K.closed keeper.new) }
-    ensures was { K.honest keeper.new → K.honest keeper.old }
+        → IsAnswered (K.closed keeper.old) clock request.now (K.timeline keeper.old) result
+        (K.timeline keeper.new) (K.closed keeper.new) }
+    ensures was { WasHonest K.Keeper keeper.old keeper.new }
     ensures tells { TellsOf (K.closed keeper.old) result (K.closed keeper.new) }
 {
     match prepare(alloc, keeper, clock, request) {
@@ -203,10 +216,10 @@ pub fn run<K: Keeper, C: Clock>(
 ) -> Result<Vec<Reply>, AllocError>
     requires { All (λ request. is_well_formed_request request ≡ true) requests.now }
     ensures run { K.honest keeper.new → IfOk result (λ replies. RunsTo C.reads
-        (record { closed = K.closed keeper.old; timeline = K.timeline keeper.old; clock = clock.old })
+        (state_of K.Keeper keeper.old clock.old)
         requests.now replies.items
         (K.honest keeper.new) (K.closed keeper.new) (K.timeline keeper.new) clock.new) }
-    ensures was { K.honest keeper.new → K.honest keeper.old }
+    ensures was { WasHonest K.Keeper keeper.old keeper.new }
     ensures same { OnErr result (K.timeline keeper.new ≡ K.timeline keeper.old) }
     ensures as_open { OnErr result (K.closed keeper.new ≡ K.closed keeper.old) }
     ensures unread { OnErr result (clock.new ≡ clock.old) }
