@@ -1,4 +1,4 @@
-//! Burdening a unit.
+//! The act `burden`: a unit gets a restriction or a responsibility.
 ghost use Rattle.std.specs.Prelude.{◌≡◌, ◌≤◌, IfOk};
 ghost use Rattle.land_acts.specs.Burdening.{burden_refusals, burden_change, burden_done, class_of};
 ghost use Rattle.land_acts.specs.Mutations.Planning.{would_crowd, first_that_holds};
@@ -16,7 +16,7 @@ use land_core::source::SourceKind;
 use land_core::text::Text;
 use std::alloc::{AllocError, Global};
 
-/// The least refusal of a burden whose condition holds.
+/// Returns the first refusal of a burden whose condition holds: 202, 205, 210 or 217.
 pub(crate) fn refusal(slice: &Slice, it: &Burden, stamp: Option<i64>) -> Option<Refusal>
     ensures { result ≡ first_that_holds (burden_refusals slice.now it.now stamp) }
 {
@@ -33,7 +33,7 @@ pub(crate) fn refusal(slice: &Slice, it: &Burden, stamp: Option<i64>) -> Option<
     }
 }
 
-/// The source and the entry, under the next numbers.
+/// Returns the change, with the source and the entry under the next two numbers, and the receipt.
 pub(crate) fn planned(
     alloc: Global,
     slice: &Slice,
@@ -68,7 +68,7 @@ pub(crate) fn planned(
     ))
 }
 
-/// The entry that says the words.
+/// Returns the class of the entry with these words.
 fn class_of(class: BurdenClass, words: Text) -> Class
     ensures { result ≡ class_of class words }
 {

@@ -1,4 +1,4 @@
-//! Making a group of parties.
+//! The act `group`: parties become the members of a new group.
 ghost use Rattle.std.specs.Prelude.{◌≡◌, ◌≤◌, IfOk};
 ghost use Rattle.land_acts.specs.Grouping.{group_refusals, group_change, group_done};
 ghost use Rattle.land_acts.specs.Mutations.Planning.{first_that_holds};
@@ -16,7 +16,8 @@ use land_core::sequence::Sequence;
 use land_fraction::Whole;
 use std::alloc::{AllocError, Global};
 
-/// The least refusal of a new group whose condition holds.
+/// Returns the first refusal of a new group whose condition holds: 205, 207, 210, 213, 217 or 219. The other
+/// error is out of memory.
 pub(crate) fn refusal(
     alloc: Global,
     slice: &Slice,
@@ -45,7 +46,7 @@ pub(crate) fn refusal(
     }
 }
 
-/// The new group with the next number, and its members.
+/// Returns the change, with the group under the next number and its members, and the receipt.
 pub(crate) fn planned(
     alloc: Global,
     slice: &Slice,

@@ -1,4 +1,4 @@
-//! The plan of an act.
+//! The plan of an act: its refusal, or its change and receipt.
 ghost use Rattle.std.specs.Prelude.{◌≡◌, ◌≢◌, true, IfOk};
 ghost use Rattle.land_acts.specs.Mutations.Planning.{first_that_holds};
 ghost use Rattle.land_acts.specs.Outcome.{outcome_of, refusals_of, change_of, done_of, has_room_for, repeated_done, IsUnrefused};
@@ -15,10 +15,11 @@ use land_core::caller::Caller;
 use land_core::change::{Change, Done};
 use std::alloc::{AllocError, Global};
 
-/// What an act leads to, over a slice of a sound register: the least refusal whose condition holds, else the change and
-/// what the caller is told. A lodging that was made before is told again what was told then. `stamp` is the moment of the
-/// change, in milliseconds since 1970 UTC. Over any other records, such as those of a file that somebody else wrote, it
-/// answers too, and no number runs over: where one is past its bound, the act is refused as too many (210).
+/// Plans an act on a slice of a sound register. Returns the first refusal whose condition holds, or else the
+/// change and the receipt; a repeated lodging gets its first receipt again. `stamp` is the Unix time of the
+/// change in milliseconds. Errors are the refusals 201 to 222, and 501 if out of memory. On any other
+/// records, for example those of a corrupted file, it returns as well, and no number overflows: if one is out
+/// of range, the act is refused with 210.
 pub fn plan(
     alloc: Global,
     slice: &Slice,
@@ -45,7 +46,7 @@ pub fn plan(
     Ok(Planned::New(change, done))
 }
 
-/// What was told of an act that this one repeats.
+/// Returns the receipt of an earlier act if this one repeats it.
 fn repeated(
     alloc: Global,
     slice: &Slice,
@@ -60,7 +61,7 @@ fn repeated(
     }
 }
 
-/// The least refusal whose condition holds.
+/// Returns the first refusal whose condition holds.
 fn first_refusal(
     alloc: Global,
     slice: &Slice,
@@ -88,7 +89,7 @@ fn first_refusal(
     }
 }
 
-/// Whether the numbers that the register holds leave room for what an act makes.
+/// Returns whether the numbers and ranks that an act creates stay in range.
 fn has_room(slice: &Slice, act: &Act) -> bool
     ensures { result ≡ has_room_for slice.now act.now }
 {
@@ -98,7 +99,7 @@ fn has_room(slice: &Slice, act: &Act) -> bool
     }
 }
 
-/// What an act that is not refused changes, and what the caller is told.
+/// Returns the change of an act without refusal, and its receipt.
 fn planned(
     alloc: Global,
     slice: &Slice,

@@ -1,4 +1,4 @@
-//! Entering a unit with its first parcels and rights.
+//! The act `register`: a unit is added with its first parcels and rights.
 ghost use Rattle.std.specs.Prelude.{◌≡◌, ◌≤◌, ◌+◌, true, length, map as map_list, IfOk};
 ghost use Rattle.land_acts.specs.Mutations.Numbering.{numbered, numbers_from};
 ghost use Rattle.land_acts.specs.Mutations.Planning.{first_that_holds};
@@ -20,7 +20,8 @@ use land_core::unit::UnitRecord;
 use land_shape::Ring;
 use std::alloc::{AllocError, Global};
 
-/// The least refusal of a registration whose condition holds.
+/// Returns the first refusal of a registration whose condition holds: 205, 207, 210, 213, 217 or 219. The
+/// other error is out of memory.
 pub(crate) fn refusal(
     alloc: Global,
     slice: &Slice,
@@ -48,7 +49,7 @@ pub(crate) fn refusal(
     }
 }
 
-/// How many objects are new: the source, the unit, the parcels and the rights.
+/// Returns the number of new objects: the source, the unit, the parcels and the rights.
 fn new_count(it: &NewUnit) -> u64
     requires { is_new_unit it.now ≡ true }
     ensures { result ≡ new_count it.now }
@@ -56,7 +57,8 @@ fn new_count(it: &NewUnit) -> u64
     2 + it.parcels.as_slice().len() as u64 + it.rights.as_slice().len() as u64
 }
 
-/// The source, the unit, its parcels and its rights, under the next numbers.
+/// Returns the change, with the source, the unit, its parcels and its rights under the next numbers, and the
+/// receipt.
 pub(crate) fn planned(
     alloc: Global,
     slice: &Slice,
@@ -95,7 +97,7 @@ pub(crate) fn planned(
     ))
 }
 
-/// The parcels as the register keeps them, under the numbers from `first` on.
+/// Returns the records of the parcels, numbered from `first`.
 fn placed_parcels(
     alloc: Global,
     parcels: &[NewParcel],
@@ -121,7 +123,7 @@ fn placed_parcels(
     Ok(placed)
 }
 
-/// The rights as the register keeps them, under the numbers from `first` on.
+/// Returns the records of the rights, numbered from `first`.
 fn placed_rights(
     alloc: Global,
     rights: &[NewRight],

@@ -1,4 +1,4 @@
-//! Ending a mandate.
+//! The act `withdraw`: a mandate ends.
 ghost use Rattle.std.specs.Prelude.{◌≡◌, IfOk};
 ghost use Rattle.land_acts.specs.Mutations.Planning.{first_that_holds};
 ghost use Rattle.land_acts.specs.Withdrawing.{withdraw_refusals, withdraw_change, withdraw_done};
@@ -11,7 +11,7 @@ use land_core::mandates::Mandate;
 use land_core::sequence::Sequence;
 use std::alloc::{AllocError, Global};
 
-/// The least refusal of a withdrawal whose condition holds.
+/// Returns the first refusal of a withdrawal whose condition holds: 217 or 222.
 pub(crate) fn refusal(slice: &Slice, it: &Mandate, stamp: Option<i64>) -> Option<Refusal>
     ensures { result ≡ first_that_holds (withdraw_refusals slice.now it.now stamp) }
 {
@@ -24,7 +24,7 @@ pub(crate) fn refusal(slice: &Slice, it: &Mandate, stamp: Option<i64>) -> Option
     }
 }
 
-/// The end of the mandate.
+/// Returns the change, which ends the mandate, and the receipt.
 pub(crate) fn planned(
     alloc: Global,
     slice: &Slice,

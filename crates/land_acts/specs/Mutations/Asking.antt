@@ -1,4 +1,4 @@
--- What a mutation asks for, by its content: when that is refused, what it changes, and what it makes.
+-- The contents of mutations: for each, its refusals, its change, and the numbers that it creates.
 use Rattle.std.specs.Prelude.{ℕ, ◌+◌, ◌≡◌, ◌≤◌, ℤ, Bool, ◌&&◌, List, [], ◌∷◌, Option, Some, None, nat_lt}
 use Rattle.land_acts.specs.Mutations.Discharging.{discharge_refusals, discharge_change}
 use Rattle.land_acts.specs.Mutations.Merging.{merger_refusals, merger_change}
@@ -14,7 +14,7 @@ use Rattle.land_core.specs.declared.content.Content.TheVariants as content
 use Rattle.land_core.specs.declared.content.Transfer.{Transfer}
 use Rattle.land_core.specs.declared.register.Register.{Register}
 
--- the refusals of what a content asks for, each with whether its condition holds, the least number first
+-- the refusals of a content with their conditions, in ascending order
 abbrev pub content_refusals : Register → Content → Option ℤ → List (Refusal × Bool)
 content_refusals r (content.Transfer it) stamp = transfer_refusals r it stamp
 content_refusals r (content.Subdivision it) stamp = subdivision_refusals r it stamp
@@ -22,12 +22,12 @@ content_refusals r (content.Merger it) stamp = merger_refusals r it stamp
 content_refusals r (content.Mortgage it) stamp = mortgage_refusals r it stamp
 content_refusals r (content.Discharge it) stamp = discharge_refusals r it stamp
 
--- what comes of a transfer whose right stands
+-- the change of a transfer from a right, if the right exists
 abbrev pub transfer_change : Register → (source : ℕ) → Transfer → Option Held → Change
 transfer_change r source it None = no_change r.next
 transfer_change r source it (Some from) = move_change r source it from
 
--- what a content changes, where nothing refuses it
+-- the change of a content to which no refusal applies
 abbrev pub content_change : Register → (source : ℕ) → Content → Change
 content_change r source (content.Transfer it) = transfer_change r source it (held_at r it.unit it.right)
 content_change r source (content.Subdivision it) = subdivision_change r source it
@@ -35,12 +35,12 @@ content_change r source (content.Merger it) = merger_change r source it
 content_change r source (content.Mortgage it) = mortgage_change r source it
 content_change r source (content.Discharge it) = discharge_change r it
 
--- the numbers of the objects that a transfer makes, where its right stands
+-- the numbers of the objects that a transfer creates, if its right exists
 abbrev pub transfer_made : Register → Transfer → Option Held → List ℕ
 transfer_made r it None = []
 transfer_made r it (Some from) = new_rights r (grows_at r it from)
 
--- and those of the objects that a content makes
+-- the numbers of the objects that a content creates
 abbrev pub content_made : Register → Content → List ℕ
 content_made r (content.Transfer it) = transfer_made r it (held_at r it.unit it.right)
 content_made r (content.Subdivision it) = subdivision_made r it
@@ -48,7 +48,7 @@ content_made r (content.Merger it) = r.next ∷ []
 content_made r (content.Mortgage it) = r.next ∷ []
 content_made r (content.Discharge it) = []
 
--- what it makes has a number and a rank within their bounds
+-- the numbers and the rank that a content creates are in range
 abbrev pub Fits : Register → Content → Type 0
 Fits r (content.Transfer it) = (from : Held) → held_at r it.unit it.right ≡ Some from → number_after r (grows_at r it from) ≤ 1000000001
 Fits r (content.Subdivision it) = r.next + subdivision_count r it ≤ 1000000001
@@ -56,7 +56,7 @@ Fits r (content.Merger it) = r.next ≤ 1000000000
 Fits r (content.Mortgage it) = (r.next ≤ 1000000000) × (next_rank r it.unit ≤ 1000000000)
 Fits r (content.Discharge it) = Unit
 
--- the numbers that a register holds leave room for what a content makes: those of a sound register always do
+-- the same, decided from the numbers of the register; a sound register always satisfies it
 abbrev pub has_room : Register → Content → Bool
 has_room r (content.Transfer it) = nat_lt r.next 1000000002
 has_room r (content.Subdivision it) = nat_lt r.next 1000000002

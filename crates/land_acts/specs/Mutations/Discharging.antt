@@ -1,4 +1,4 @@
--- Discharging: a mortgage ends.
+-- The content `discharge`: a mortgage ends.
 use Rattle.std.specs.Prelude.{ℕ, ℤ, Bool, false, not, nat_eq, List, [], ◌∷◌, Option, is_none, is_some}
 use Rattle.std.specs.Option.{option_map_or}
 use Rattle.std.specs.FinMap as map
@@ -11,15 +11,15 @@ use Rattle.land_core.specs.declared.change.Change.{Change}
 use Rattle.land_core.specs.declared.content.Discharge.{Discharge}
 use Rattle.land_core.specs.declared.register.Register.{Register}
 
--- whether an entry of a unit stands at a number
+-- whether an entry of this unit exists at a number
 abbrev pub has_entry_in : Register → (unit number : ℕ) → Bool
 has_entry_in r unit n = option_map_or (λ e. nat_eq e.unit unit) (map.get r.rrrs n) false
 
--- whether a mortgage stands at a number
+-- whether a mortgage exists at a number
 abbrev pub has_mortgage : Register → ℕ → Bool
 has_mortgage r n = option_map_or (λ e. is_some (rank_of e.class)) (map.get r.rrrs n) false
 
--- its refusals, each with whether its condition holds, the least number first
+-- the refusals with their conditions, in ascending order
 abbrev pub discharge_refusals : Register → Discharge → Option ℤ → List (Refusal × Bool)
 discharge_refusals r it stamp =
     (NoSuchUnit, not (has r.units it.unit))

@@ -1,4 +1,4 @@
--- What planning reads of a register, and what all plans have in common.
+-- The parts that all plans share.
 use Rattle.std.specs.Prelude.{ℕ, ◌+◌, ℤ, Bool, List, [], ◌∷◌, Option, Some, None, nat_lt, if◌then◌else◌}
 use Rattle.land_acts.specs.declared.mutations.refusal.Refusal.{Refusal}
 use Rattle.land_acts.specs.declared.mutations.refusal.Refusal.TheVariants.{NotLodged, NoSuchUnit, NoSuchParcel, NoSuchRight, NoSuchParty, ShareTooLarge, SharesTooFine, UnitsUnlike, TooMany, NotBank, NotMortgage, SharesNotWhole, ReferenceUsed, RoleHeld, RoleNotHeld, ClockOut, LastAdministrator, SameParty, NotMatched, MandateHeld, NoMandate, NoMemory}
@@ -8,7 +8,7 @@ use Rattle.land_core.specs.declared.register.Register.{Register}
 use Rattle.land_core.specs.declared.source.SourceKind.{SourceKind}
 use Rattle.land_core.specs.declared.source.SourceRecord.{SourceRecord}
 
--- the number that a caller is told for a refusal
+-- the number of a refusal in replies
 abbrev pub number_of : Refusal → ℕ
 number_of NotLodged = 201
 number_of NoSuchUnit = 202
@@ -33,23 +33,23 @@ number_of MandateHeld = 221
 number_of NoMandate = 222
 number_of NoMemory = 501
 
--- whether there are too few numbers left for so many new objects: 1_000_000_000 is the last one
+-- whether `count` new objects would need a number above 1,000,000,000
 abbrev pub lacks_numbers : Register → ℕ → Bool
 lacks_numbers r count = nat_lt 1000000001 (r.next + count)
 
--- whether a unit would have more than 256 entries with so many more
+-- whether a unit would have more than 256 entries with `more` new ones
 abbrev pub would_crowd : Register → (unit more : ℕ) → Bool
 would_crowd r unit more = nat_lt 256 (rrr_count r unit + more)
 
--- the source that a document is, under its number (LA_AdministrativeSource, LA_SpatialSource)
+-- the source that represents a document, under its number (LA_AdministrativeSource, LA_SpatialSource)
 abbrev pub document_source : (number : ℕ) → SourceKind → (document : List ℕ) → List (ℕ × SourceRecord)
 document_source number kind document = (number, record { kind = kind; title = document }) ∷ []
 
--- the reply to an act that was done on an object and made nothing
+-- the receipt of an act that is about an object and created none
 abbrev pub done_on : (number : ℕ) → ℤ → Done
 done_on number stamp = record { number = number; made = []; stamp = stamp }
 
--- of refusals, each with whether its condition holds, the first whose condition holds
+-- the first refusal whose condition holds
 abbrev pub first_that_holds : List (Refusal × Bool) → Option Refusal
 first_that_holds [] = None
 first_that_holds (line ∷ lines) = if line.1 then Some line.0 else first_that_holds lines
