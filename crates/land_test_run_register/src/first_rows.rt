@@ -1,4 +1,4 @@
-//! Enrolments and reads: who may ask, stamps and their end, and the past.
+//! Enrolments and reads: allowed callers, stamps and the last one, and reads of the past.
 use crate::conclusion::conclude;
 use land_core::caller::Caller;
 use land_core::kind::Kind::Party;

@@ -175,7 +175,7 @@ fn another_administrator_may_go_first(rt: HostRuntime) -> Result<(), Fail> {
     conclude(&rt, play_with_group(rt.alloc(), ANOTHER))
 }
 
-/// The first moment that is none.
+/// The first time after the last moment, in Unix milliseconds.
 const END: i64 = 4_102_444_800_000;
 
 const AT_THE_END: &[Row] = &[

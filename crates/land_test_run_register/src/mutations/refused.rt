@@ -1,4 +1,4 @@
-//! Approvals that are refused: what is named does not stand or is of another kind, or no moment is left.
+//! Approvals that are refused: an object does not exist or is of another kind, or no stamp is left.
 use super::QUARTER_LODGED;
 use crate::conclusion::conclude;
 use land_core::kind::Kind::{Mutation, Rrr};
@@ -200,7 +200,7 @@ fn discharges_are_of_mortgages_of_the_unit(rt: HostRuntime) -> Result<(), Fail> 
     conclude(&rt, play_with_mortgage(rt.alloc(), DISCHARGES))
 }
 
-/// The first moment that is none.
+/// The first time after the last moment, in Unix milliseconds.
 const END: i64 = 4_102_444_800_000;
 
 /// A repeat needs no stamp.
