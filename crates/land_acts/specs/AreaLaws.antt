@@ -25,12 +25,19 @@ outlines_put change = map_list (λ e. e.1.outline) change.put.parcels
 
 -- the new parcels of an approved subdivision have in total the area of the old parcel
 abbrev pub SubdivisionsKeepAreas : Type 0
-SubdivisionsKeepAreas = (r : Register) (caller : Caller) (decision : Decision) (m : MutationRecord) (it : Subdivision) (old : ParcelRecord) (stamp : ℤ) (change : Change) (done : Done)
-    → map.get r.mutations decision.mutation ≡ Some m → m.content ≡ content.Subdivision it → map.get r.parcels it.parcel ≡ Some old
-    → outcome_of r caller (Approve decision) (Some stamp) ≡ Ok (New change done) → doubled_areas (outlines_put change) ≡ doubled_area old.outline
+SubdivisionsKeepAreas =
+    (r : Register) (caller : Caller) (decision : Decision) (m : MutationRecord) (it : Subdivision)
+    (old : ParcelRecord) (stamp : ℤ) (change : Change) (done : Done)
+    → map.get r.mutations decision.mutation ≡ Some m → m.content ≡ content.Subdivision it
+    → map.get r.parcels it.parcel ≡ Some old
+    → outcome_of r caller (Approve decision) (Some stamp) ≡ Ok (New change done)
+    → doubled_areas (outlines_put change) ≡ doubled_area old.outline
 
 -- the new parcel of an approved merger has the total area of the listed parcels
 abbrev pub MergersKeepAreas : Type 0
-MergersKeepAreas = (r : Register) (caller : Caller) (decision : Decision) (m : MutationRecord) (it : Merger) (stamp : ℤ) (change : Change) (done : Done)
+MergersKeepAreas =
+    (r : Register) (caller : Caller) (decision : Decision) (m : MutationRecord) (it : Merger) (stamp : ℤ)
+    (change : Change) (done : Done)
     → map.get r.mutations decision.mutation ≡ Some m → m.content ≡ content.Merger it
-    → outcome_of r caller (Approve decision) (Some stamp) ≡ Ok (New change done) → doubled_areas (outlines_put change) ≡ doubled_areas (outlines_at r it.parcels)
+    → outcome_of r caller (Approve decision) (Some stamp) ≡ Ok (New change done)
+    → doubled_areas (outlines_put change) ≡ doubled_areas (outlines_at r it.parcels)

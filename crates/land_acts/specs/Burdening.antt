@@ -2,7 +2,8 @@
 use Rattle.std.specs.Prelude.{ℕ, ◌+◌, ℤ, Bool, not, ◌||◌, List, [], ◌∷◌, Option, is_none}
 use Rattle.land_acts.specs.Mutations.Planning.{document_source, lacks_numbers, would_crowd}
 use Rattle.land_acts.specs.declared.mutations.refusal.Refusal.{Refusal}
-use Rattle.land_acts.specs.declared.mutations.refusal.Refusal.TheVariants.{NoSuchUnit, NoSuchParty, TooMany, ClockOut}
+use Rattle.land_acts.specs.declared.mutations.refusal.Refusal.TheVariants.{NoSuchUnit, NoSuchParty, TooMany}
+use Rattle.land_acts.specs.declared.mutations.refusal.Refusal.TheVariants.{ClockOut}
 use Rattle.land_core.specs.Changes.{no_put, no_ended}
 use Rattle.land_core.specs.Entries.{has}
 use Rattle.land_core.specs.declared.act.Burden.{Burden}
@@ -33,7 +34,9 @@ class_of burden.Responsibility words = class.Responsibility words
 abbrev pub burden_change : Register → Burden → Change
 burden_change r it = record {
   put = record no_put {
-    rrrs = (r.next + 1, record { unit = it.unit; party = it.party; class = class_of it.class it.words; source = r.next }) ∷ [];
+    rrrs =
+        (r.next + 1, record { unit = it.unit; party = it.party; class = class_of it.class it.words; source = r.next })
+        ∷ [];
     sources = document_source r.next Administrative it.document;
   };
   ended = no_ended;

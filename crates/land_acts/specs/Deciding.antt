@@ -25,27 +25,39 @@ decided state m = record m { state = state }
 
 -- a change that also sets the state of a mutation
 abbrev pub with_state : MutationState → (number : ℕ) → MutationRecord → Change → Change
-with_state state number m change = record change { put = record change.put { mutations = (number, decided state m) ∷ [] } }
+with_state state number m change =
+    record change { put = record change.put { mutations = (number, decided state m) ∷ [] } }
 
 -- the refusals with their conditions: first 201, then those of the content in ascending order
 abbrev pub approve_refusals : Register → Decision → Option ℤ → List (Refusal × Bool)
 approve_refusals r it stamp =
-    (NotLodged, not (is_lodged r it.mutation)) ∷ option_map_or (λ m. content_refusals r m.content stamp) (map.get r.mutations it.mutation) []
+    (NotLodged, not (is_lodged r it.mutation))
+    ∷ option_map_or (λ m. content_refusals r m.content stamp) (map.get r.mutations it.mutation) []
 
 abbrev pub refuse_refusals : Register → Decision → Option ℤ → List (Refusal × Bool)
 refuse_refusals r it stamp = (NotLodged, not (is_lodged r it.mutation)) ∷ (ClockOut, is_none stamp) ∷ []
 
 -- the change of the content, with the mutation's source, and the mutation is approved
 abbrev pub approve_change : Register → Decision → Change
-approve_change r it = option_map_or (λ m. with_state Approved it.mutation m (content_change r m.source m.content)) (map.get r.mutations it.mutation) (no_change r.next)
+approve_change r it =
+    option_map_or (λ m. with_state Approved it.mutation m (content_change r m.source m.content))
+    (map.get r.mutations it.mutation) (no_change r.next)
 
 -- the mutation is refused, and nothing else changes
 abbrev pub refuse_change : Register → Decision → Change
-refuse_change r it = option_map_or (λ m. with_state Refused it.mutation m (no_change r.next)) (map.get r.mutations it.mutation) (no_change r.next)
+refuse_change r it =
+    option_map_or (λ m. with_state Refused it.mutation m (no_change r.next)) (map.get r.mutations it.mutation)
+    (no_change r.next)
 
 -- the receipt is about the mutation
 abbrev pub approve_done : Register → Decision → ℤ → Done
-approve_done r it stamp = record { number = it.mutation; made = option_map_or (λ m. content_made r m.content) (map.get r.mutations it.mutation) []; stamp = stamp }
+approve_done r it stamp =
+    record {
+      number = it.mutation;
+      made = option_map_or (λ m. content_made r m.content)
+          (map.get r.mutations it.mutation) [];
+      stamp = stamp;
+    }
 
 -- the numbers and ranks that the content creates stay in range
 abbrev pub approve_has_room : Register → Decision → Bool

@@ -13,7 +13,8 @@ use Rattle.land_core.specs.declared.roles.Grant.{Grant}
 -- the refusals with their conditions, in ascending order
 abbrev pub grant_refusals : Register → Grant → Option ℤ → List (Refusal × Bool)
 grant_refusals r it stamp =
-    (NoSuchParty, not (has_single_party r it.party)) ∷ (RoleHeld, holds r it.party it.role) ∷ (ClockOut, is_none stamp) ∷ []
+    (NoSuchParty, not (has_single_party r it.party)) ∷ (RoleHeld, holds r it.party it.role)
+    ∷ (ClockOut, is_none stamp) ∷ []
 
 -- the role starts
 abbrev pub grant_change : Register → Grant → Change

@@ -21,12 +21,19 @@ use Rattle.land_shape.specs.Matching.{Match}
 
 -- the new parcels of an approved subdivision cover exactly the ground of the old parcel
 abbrev pub SubdivisionsKeepGround : Type 0
-SubdivisionsKeepGround = (r : Register) (caller : Caller) (decision : Decision) (m : MutationRecord) (it : Subdivision) (old : ParcelRecord) (stamp : ℤ) (change : Change) (done : Done)
-    → map.get r.mutations decision.mutation ≡ Some m → m.content ≡ content.Subdivision it → map.get r.parcels it.parcel ≡ Some old
-    → outcome_of r caller (Approve decision) (Some stamp) ≡ Ok (New change done) → Match (old.outline ∷ []) (outlines_put change)
+SubdivisionsKeepGround =
+    (r : Register) (caller : Caller) (decision : Decision) (m : MutationRecord) (it : Subdivision)
+    (old : ParcelRecord) (stamp : ℤ) (change : Change) (done : Done)
+    → map.get r.mutations decision.mutation ≡ Some m → m.content ≡ content.Subdivision it
+    → map.get r.parcels it.parcel ≡ Some old
+    → outcome_of r caller (Approve decision) (Some stamp) ≡ Ok (New change done)
+    → Match (old.outline ∷ []) (outlines_put change)
 
 -- the new parcel of an approved merger covers exactly the ground of the listed parcels
 abbrev pub MergersKeepGround : Type 0
-MergersKeepGround = (r : Register) (caller : Caller) (decision : Decision) (m : MutationRecord) (it : Merger) (stamp : ℤ) (change : Change) (done : Done)
+MergersKeepGround =
+    (r : Register) (caller : Caller) (decision : Decision) (m : MutationRecord) (it : Merger) (stamp : ℤ)
+    (change : Change) (done : Done)
     → map.get r.mutations decision.mutation ≡ Some m → m.content ≡ content.Merger it
-    → outcome_of r caller (Approve decision) (Some stamp) ≡ Ok (New change done) → Match (outlines_at r it.parcels) (outlines_put change)
+    → outcome_of r caller (Approve decision) (Some stamp) ≡ Ok (New change done)
+    → Match (outlines_at r it.parcels) (outlines_put change)

@@ -4,7 +4,9 @@ use Rattle.std.specs.Prelude.{◌+◌, ℤ, Bool, not, List, [], ◌∷◌, Opti
 use Rattle.land_acts.specs.Mutations.Planning.{lacks_numbers}
 use Rattle.land_acts.specs.Sharing.{lists_stranger, are_too_fine, are_whole, lists_twice, members_of_list}
 use Rattle.land_acts.specs.declared.mutations.refusal.Refusal.{Refusal}
-use Rattle.land_acts.specs.declared.mutations.refusal.Refusal.TheVariants.{NoSuchParty, SharesTooFine, TooMany, SharesNotWhole, ClockOut, SameParty}
+use Rattle.land_acts.specs.declared.mutations.refusal.Refusal.TheVariants.{NoSuchParty, SharesTooFine}
+use Rattle.land_acts.specs.declared.mutations.refusal.Refusal.TheVariants.{TooMany, SharesNotWhole, ClockOut}
+use Rattle.land_acts.specs.declared.mutations.refusal.Refusal.TheVariants.{SameParty}
 use Rattle.land_core.specs.Changes.{no_put, no_ended}
 use Rattle.land_core.specs.declared.act.NewGroup.{NewGroup}
 use Rattle.land_core.specs.declared.change.Change.{Change}

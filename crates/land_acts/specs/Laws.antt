@@ -15,7 +15,8 @@ use Rattle.land_core.specs.declared.register.Register.{Register}
 
 -- an act has the same outcome on a register and on its slice: the same refusal, change and receipt
 abbrev pub SlicesSuffice : Type 0
-SlicesSuffice = (r : Register) (caller : Caller) (a : Act) (stamp : Option ℤ) → outcome_of (slice_of r caller a) caller a stamp ≡ outcome_of r caller a stamp
+SlicesSuffice = (r : Register) (caller : Caller) (a : Act) (stamp : Option ℤ)
+    → outcome_of (slice_of r caller a) caller a stamp ≡ outcome_of r caller a stamp
 
 -- a change is accepted if it is the outcome of a well-formed act of a caller that holds its role, with this
 -- stamp
@@ -29,17 +30,21 @@ pub record IsAccepted (r : Register) (change : Change) (stamp : ℤ) : Type 0 wh
 
 -- an accepted act keeps a sound register sound, and never reuses a number
 abbrev pub AcceptedKeepsSound : Type 0
-AcceptedKeepsSound = (r : Register) (change : Change) (stamp : ℤ) → IsSound r → IsAccepted r change stamp → IsSound (after change r) × (r.next ≤ change.next)
+AcceptedKeepsSound = (r : Register) (change : Change) (stamp : ℤ) → IsSound r → IsAccepted r change stamp
+    → IsSound (after change r) × (r.next ≤ change.next)
 
 -- the change of an accepted act of a sound register writes and ends no key twice; in a sound register the
 -- next number is unused
 abbrev pub AcceptedNamesKeysOnce : Type 0
-AcceptedNamesKeysOnce = (r : Register) (change : Change) (stamp : ℤ) → IsSound r → IsAccepted r change stamp → NamesKeysOnce change
+AcceptedNamesKeysOnce = (r : Register) (change : Change) (stamp : ℤ) → IsSound r → IsAccepted r change stamp
+    → NamesKeysOnce change
 
 -- the receipt of an accepted act has the stamp of its change
 abbrev pub AcceptedTellsStamp : Type 0
-AcceptedTellsStamp = (r : Register) (change : Change) (stamp : ℤ) → (h : IsAccepted r change stamp) → h.done.stamp ≡ stamp
+AcceptedTellsStamp =
+    (r : Register) (change : Change) (stamp : ℤ) → (h : IsAccepted r change stamp) → h.done.stamp ≡ stamp
 
 -- without a stamp, no act is accepted
 abbrev pub NothingWithoutStamp : Type 0
-NothingWithoutStamp = (r : Register) (caller : Caller) (a : Act) (change : Change) (done : Done) → outcome_of r caller a None ≢ Ok (New change done)
+NothingWithoutStamp = (r : Register) (caller : Caller) (a : Act) (change : Change) (done : Done)
+    → outcome_of r caller a None ≢ Ok (New change done)

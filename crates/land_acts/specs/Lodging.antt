@@ -1,6 +1,7 @@
 -- The act `lodge`: a mutation is filed with its document, undecided. Lodging does not read the objects to
 -- which the content refers.
-use Rattle.std.specs.Prelude.{ℕ, ◌+◌, ℤ, Bool, false, not, ◌&&◌, nat_lt, List, [], ◌∷◌, Option, Some, None, is_none, if◌then◌else◌}
+use Rattle.std.specs.Prelude.{ℕ, ◌+◌, ℤ, Bool, false, not, ◌&&◌, nat_lt, List, [], ◌∷◌, Option, Some, None}
+use Rattle.std.specs.Prelude.{is_none, if◌then◌else◌}
 use Rattle.std.specs.List.{find}
 use Rattle.std.specs.Option.{option_map_or}
 use Rattle.std.specs.Str.{bytes_eq}
@@ -53,11 +54,14 @@ lodge_repeat r caller it = repeat_of r it (lodged_under r caller.party it.refere
 
 -- whether the caller has lodged another document or content under the reference
 abbrev pub has_lodged_other : Register → Caller → Lodging → Bool
-has_lodged_other r caller it = option_map_or (λ e. not (is_same_lodging r it e.1)) (lodged_under r caller.party it.reference) false
+has_lodged_other r caller it =
+    option_map_or (λ e. not (is_same_lodging r it e.1)) (lodged_under r caller.party it.reference) false
 
 -- the refusals with their conditions, in ascending order
 abbrev pub lodge_refusals : Register → Caller → Lodging → Option ℤ → List (Refusal × Bool)
-lodge_refusals r caller it stamp = (TooMany, lacks_numbers r 2) ∷ (ReferenceUsed, has_lodged_other r caller it) ∷ (ClockOut, is_none stamp) ∷ []
+lodge_refusals r caller it stamp =
+    (TooMany, lacks_numbers r 2) ∷ (ReferenceUsed, has_lodged_other r caller it) ∷ (ClockOut, is_none stamp)
+    ∷ []
 
 -- the document of a subdivision or a merger is a plan, which is a spatial source
 abbrev pub document_kind : Content → SourceKind
@@ -69,7 +73,15 @@ document_kind (content.Discharge it) = Administrative
 
 -- the new mutation, undecided
 abbrev pub lodged_record : Caller → Lodging → (source : ℕ) → ℤ → MutationRecord
-lodged_record caller it source stamp = record { lodger = caller.party; reference = it.reference; source = source; lodged = stamp; state = Lodged; content = it.content }
+lodged_record caller it source stamp =
+    record {
+      lodger = caller.party;
+      reference = it.reference;
+      source = source;
+      lodged = stamp;
+      state = Lodged;
+      content = it.content;
+    }
 
 -- the source gets the next number, and the mutation the one after it
 abbrev pub lodge_change : Register → Caller → Lodging → ℤ → Change

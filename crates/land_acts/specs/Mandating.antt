@@ -2,7 +2,8 @@
 use Rattle.std.specs.Prelude.{ℤ, Bool, not, nat_eq, List, [], ◌∷◌, Option, is_none}
 use Rattle.land_acts.specs.Mutations.Planning.{done_on}
 use Rattle.land_acts.specs.declared.mutations.refusal.Refusal.{Refusal}
-use Rattle.land_acts.specs.declared.mutations.refusal.Refusal.TheVariants.{NoSuchParty, ClockOut, SameParty, MandateHeld}
+use Rattle.land_acts.specs.declared.mutations.refusal.Refusal.TheVariants.{NoSuchParty, ClockOut, SameParty}
+use Rattle.land_acts.specs.declared.mutations.refusal.Refusal.TheVariants.{MandateHeld}
 use Rattle.land_core.specs.Changes.{no_put, no_ended}
 use Rattle.land_core.specs.Mandates.{has_mandate, mandate_of}
 use Rattle.land_core.specs.Register.{has_single_party}

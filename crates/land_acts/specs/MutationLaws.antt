@@ -20,28 +20,39 @@ use Rattle.land_core.specs.declared.mutation.MutationState.{MutationState}
 use Rattle.land_core.specs.declared.register.Register.{Register}
 
 -- a mutation and its document exist, and only the state of the mutation may differ from the lodging
-pub record StandsAsLodged (r : Register) (caller : Caller) (it : Lodging) (source number : ℕ) (stamp : ℤ) : Type 0 where
+pub record StandsAsLodged (r : Register) (caller : Caller) (it : Lodging) (source number : ℕ) (stamp : ℤ)
+    : Type 0 where
   pub state : MutationState
   pub mutation : map.get r.mutations number ≡ Some (decided state (lodged_record caller it source stamp))
-  pub document : map.get r.sources source ≡ Some (record { kind = document_kind it.content; title = it.document })
+  pub document : map.get r.sources source
+      ≡ Some (record { kind = document_kind it.content; title = it.document })
 
 -- after a lodging, the mutation and its document exist under the next two numbers
 abbrev pub LodgingsStand : Type 0
-LodgingsStand = (r : Register) (caller : Caller) (it : Lodging) (stamp : ℤ) (change : Change) (done : Done) → outcome_of r caller (Lodge it) (Some stamp) ≡ Ok (New change done)
+LodgingsStand = (r : Register) (caller : Caller) (it : Lodging) (stamp : ℤ) (change : Change) (done : Done)
+    → outcome_of r caller (Lodge it) (Some stamp) ≡ Ok (New change done)
     → StandsAsLodged (after change r) caller it r.next (r.next + 1) stamp
 
 -- every accepted change preserves them
 abbrev pub LodgingsStay : Type 0
-LodgingsStay = (r : Register) (caller : Caller) (it : Lodging) (source number : ℕ) (lodged stamp : ℤ) (change : Change) → IsSound r → IsAccepted r change stamp
-    → StandsAsLodged r caller it source number lodged → StandsAsLodged (after change r) caller it source number lodged
+LodgingsStay =
+    (r : Register) (caller : Caller) (it : Lodging) (source number : ℕ) (lodged stamp : ℤ) (change : Change)
+    → IsSound r → IsAccepted r change stamp
+    → StandsAsLodged r caller it source number lodged
+    → StandsAsLodged (after change r) caller it source number lodged
 
 -- a repeat gets the first receipt, with or without a stamp, even if a refusal would apply
 abbrev pub RepeatsAreToldTheFirst : Type 0
-RepeatsAreToldTheFirst = (r later : Register) (caller : Caller) (it : Lodging) (stamp : ℤ) (now : Option ℤ) (change : Change) (done : Done)
+RepeatsAreToldTheFirst =
+    (r later : Register) (caller : Caller) (it : Lodging) (stamp : ℤ) (now : Option ℤ) (change : Change)
+    (done : Done)
     → outcome_of r caller (Lodge it) (Some stamp) ≡ Ok (New change done)
-    → IsSound later → StandsAsLodged later caller it r.next (r.next + 1) stamp → outcome_of later caller (Lodge it) now ≡ Ok (Repeat done)
+    → IsSound later → StandsAsLodged later caller it r.next (r.next + 1) stamp
+    → outcome_of later caller (Lodge it) now ≡ Ok (Repeat done)
 
 -- no accepted change modifies a decided mutation
 abbrev pub DecisionsStay : Type 0
-DecisionsStay = (r : Register) (change : Change) (stamp : ℤ) (number : ℕ) (m : MutationRecord) → IsSound r → IsAccepted r change stamp
-    → map.get r.mutations number ≡ Some m → is_undecided m ≡ false → map.get (after change r).mutations number ≡ Some m
+DecisionsStay = (r : Register) (change : Change) (stamp : ℤ) (number : ℕ) (m : MutationRecord) → IsSound r
+    → IsAccepted r change stamp
+    → map.get r.mutations number ≡ Some m → is_undecided m ≡ false
+    → map.get (after change r).mutations number ≡ Some m

@@ -2,7 +2,8 @@
 -- receipt.
 use Rattle.std.specs.Prelude.{◌≡◌, Bool, true, List, Option, Some, None, Result, Ok, Err, ℤ}
 use Rattle.land_acts.specs.Burdening.{burden_refusals, burden_change, burden_done}
-use Rattle.land_acts.specs.Deciding.{approve_refusals, approve_change, approve_done, approve_has_room, refuse_refusals, refuse_change}
+use Rattle.land_acts.specs.Deciding.{approve_refusals, approve_change, approve_done, approve_has_room}
+use Rattle.land_acts.specs.Deciding.{refuse_refusals, refuse_change}
 use Rattle.land_acts.specs.Enrolment.{enrol_refusals, enrol_change, enrol_done}
 use Rattle.land_acts.specs.Granting.{grant_refusals, grant_change, grant_done}
 use Rattle.land_acts.specs.Grouping.{group_refusals, group_change, group_done}
@@ -19,7 +20,9 @@ use Rattle.land_acts.specs.declared.mutations.refusal.Planned.TheVariants.{New, 
 use Rattle.land_acts.specs.declared.mutations.refusal.Refusal.{Refusal}
 use Rattle.land_acts.specs.declared.mutations.refusal.Refusal.TheVariants.{ClockOut}
 use Rattle.land_core.specs.declared.act.Act.{Act}
-use Rattle.land_core.specs.declared.act.Act.TheVariants.{Enrol, Group, Regroup, Grant, Revoke, Mandate, Withdraw, Register as RegisterUnit, Burden, Lift, Lodge, Approve, Refuse}
+use Rattle.land_core.specs.declared.act.Act.TheVariants.{Enrol, Group, Regroup, Grant, Revoke, Mandate}
+use Rattle.land_core.specs.declared.act.Act.TheVariants.{Withdraw, Register as RegisterUnit, Burden, Lift}
+use Rattle.land_core.specs.declared.act.Act.TheVariants.{Lodge, Approve, Refuse}
 use Rattle.land_core.specs.declared.caller.Caller.{Caller}
 use Rattle.land_core.specs.declared.change.Change.{Change}
 use Rattle.land_core.specs.declared.change.Done.{Done}
@@ -107,7 +110,8 @@ repeated_else (Some done) else_planned = Ok (Repeat done)
 abbrev pub outcome_of : Register → Caller → Act → Option ℤ → Result Planned Refusal
 outcome_of r caller a stamp =
     repeated_else (repeated_done r caller a)
-    (refused_else (first_that_holds (refusals_of r caller a stamp)) (stamped (λ at. change_of r caller a at) (λ at. done_of r caller a at) stamp))
+    (refused_else (first_that_holds (refusals_of r caller a stamp))
+    (stamped (λ at. change_of r caller a at) (λ at. done_of r caller a at) stamp))
 
 -- no refusal applies, with some stamp or without one
 pub record IsUnrefused (r : Register) (caller : Caller) (a : Act) : Type 0 where

@@ -1,5 +1,6 @@
 -- The total area of a register: approvals preserve it, and of all acts only registrations add to it.
-use Rattle.std.specs.Prelude.{◌≡◌, ℕ, ◌+◌, ◌≤◌, ℤ, true, false, List, [], ◌∷◌, map as map_list, Some, None, Ok}
+use Rattle.std.specs.Prelude.{◌≡◌, ℕ, ◌+◌, ◌≤◌, ℤ, true, false, List, [], ◌∷◌, map as map_list, Some, None}
+use Rattle.std.specs.Prelude.{Ok}
 use Rattle.std.specs.List.{AllByRecursion}
 use Rattle.std.specs.FinMap as map
 use Rattle.land_acts.specs.AreaLaws.{outlines_put}
@@ -48,26 +49,33 @@ outlines_asked (content.Mortgage it) = []
 outlines_asked (content.Discharge it) = []
 
 -- the effect of a change that replaces the parcels at these numbers by new ones
-pub record HaveTakenPlace (r : Register) (replaced : List ℕ) (outlines : List (List Place)) (change : Change) : Type 0 where
+pub record HaveTakenPlace (r : Register) (replaced : List ℕ) (outlines : List (List Place)) (change : Change)
+    : Type 0 where
   -- the total area is unchanged
   pub area : area_of_all (after change r) ≡ area_of_all r
   -- a parcel existed at each of the numbers, and does not exist any more
-  pub gone : (n : ℕ) → lists_number replaced n ≡ true → (has r.parcels n ≡ true) × (map.get (after change r).parcels n ≡ None)
+  pub gone : (n : ℕ) → lists_number replaced n ≡ true
+      → (has r.parcels n ≡ true) × (map.get (after change r).parcels n ≡ None)
   -- the new parcels have these outlines
   pub outlined : outlines_put change ≡ outlines
   -- they cover exactly the ground of the replaced parcels
   pub ground : Match (outlines_at r replaced) outlines
   -- each new parcel exists, under a new number
-  pub stand : AllByRecursion (λ e. (r.next ≤ e.0) × (map.get (after change r).parcels e.0 ≡ Some e.1)) change.put.parcels
+  pub stand : AllByRecursion
+      (λ e. (r.next ≤ e.0) × (map.get (after change r).parcels e.0 ≡ Some e.1)) change.put.parcels
   -- every other number is unchanged
-  pub others : (n : ℕ) → lists_number replaced n ≡ false → lists_number (map_list (λ e. e.0) change.put.parcels) n ≡ false
+  pub others : (n : ℕ) → lists_number replaced n ≡ false
+      → lists_number (map_list (λ e. e.0) change.put.parcels) n ≡ false
       → map.get (after change r).parcels n ≡ map.get r.parcels n
 
 -- an approval replaces the parcels that the mutation cuts or merges by those that it requests, and preserves
 -- the total area
 abbrev pub ApprovedRegistersKeepTheirArea : Type 0
-ApprovedRegistersKeepTheirArea = (r : Register) (caller : Caller) (decision : Decision) (m : MutationRecord) (stamp : ℤ) (change : Change) (done : Done)
-    → IsSound r → map.get r.mutations decision.mutation ≡ Some m → outcome_of r caller (act.Approve decision) (Some stamp) ≡ Ok (New change done)
+ApprovedRegistersKeepTheirArea =
+    (r : Register) (caller : Caller) (decision : Decision) (m : MutationRecord) (stamp : ℤ) (change : Change)
+    (done : Done)
+    → IsSound r → map.get r.mutations decision.mutation ≡ Some m
+    → outcome_of r caller (act.Approve decision) (Some stamp) ≡ Ok (New change done)
     → HaveTakenPlace r (parcels_replaced m.content) (outlines_asked m.content) change
 
 -- ---- all acts
@@ -90,5 +98,6 @@ area_registered (act.Refuse it) = 0
 
 -- an accepted act adds to the total area exactly the area that it registers
 abbrev pub RegistrationsAloneAddArea : Type 0
-RegistrationsAloneAddArea = (r : Register) (change : Change) (stamp : ℤ) → IsSound r → (h : IsAccepted r change stamp)
+RegistrationsAloneAddArea =
+    (r : Register) (change : Change) (stamp : ℤ) → IsSound r → (h : IsAccepted r change stamp)
     → area_of_all (after change r) ≡ area_of_all r + area_registered h.act

@@ -1,10 +1,13 @@
 -- The act `register`: a unit is added with its first parcels and rights.
-use Rattle.std.specs.Prelude.{ℕ, ◌+◌, ℤ, Bool, not, ◌&&◌, List, [], ◌∷◌, length, map as map_list, Option, is_none}
+use Rattle.std.specs.Prelude.{ℕ, ◌+◌, ℤ, Bool, not, ◌&&◌, List, [], ◌∷◌, length, map as map_list, Option}
+use Rattle.std.specs.Prelude.{is_none}
 use Rattle.land_acts.specs.FirstRights.{lists_absent, are_types_too_fine, are_types_whole, has_right_twice}
 use Rattle.land_acts.specs.Mutations.Numbering.{numbered, numbers_from}
 use Rattle.land_acts.specs.Mutations.Planning.{document_source, lacks_numbers}
 use Rattle.land_acts.specs.declared.mutations.refusal.Refusal.{Refusal}
-use Rattle.land_acts.specs.declared.mutations.refusal.Refusal.TheVariants.{NoSuchParty, SharesTooFine, TooMany, SharesNotWhole, ClockOut, SameParty}
+use Rattle.land_acts.specs.declared.mutations.refusal.Refusal.TheVariants.{NoSuchParty, SharesTooFine}
+use Rattle.land_acts.specs.declared.mutations.refusal.Refusal.TheVariants.{TooMany, SharesNotWhole, ClockOut}
+use Rattle.land_acts.specs.declared.mutations.refusal.Refusal.TheVariants.{SameParty}
 use Rattle.land_core.specs.Changes.{no_put, no_ended}
 use Rattle.land_core.specs.declared.act.NewParcel.{NewParcel}
 use Rattle.land_core.specs.declared.act.NewRight.{NewRight}
@@ -34,10 +37,12 @@ register_refusals r it stamp =
 
 -- the record of a parcel, and of a right
 abbrev pub parcel_of : (unit source : ℕ) → NewParcel → ParcelRecord
-parcel_of unit source parcel = record { unit = unit; label = parcel.label; outline = parcel.outline; source = source }
+parcel_of unit source parcel =
+    record { unit = unit; label = parcel.label; outline = parcel.outline; source = source }
 
 abbrev pub right_of : (unit source : ℕ) → NewRight → RrrRecord
-right_of unit source right = record { unit = unit; party = right.party; class = Right right.right_type right.share; source = source }
+right_of unit source right =
+    record { unit = unit; party = right.party; class = Right right.right_type right.share; source = source }
 
 -- the source gets the next number, then the unit, the parcels and the rights; the source of all is this
 -- document
@@ -55,4 +60,5 @@ register_change r it = record {
 
 -- the receipt is about the unit
 abbrev pub register_done : Register → NewUnit → ℤ → Done
-register_done r it stamp = record { number = r.next + 1; made = numbers_from r.next (new_count it); stamp = stamp }
+register_done r it stamp =
+    record { number = r.next + 1; made = numbers_from r.next (new_count it); stamp = stamp }

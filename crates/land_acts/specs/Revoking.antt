@@ -3,7 +3,8 @@ use Rattle.std.specs.Prelude.{ℕ, ℤ, Bool, not, ◌&&◌, nat_eq, List, [], �
 use Rattle.std.specs.List.{list_any}
 use Rattle.land_acts.specs.Mutations.Planning.{done_on}
 use Rattle.land_acts.specs.declared.mutations.refusal.Refusal.{Refusal}
-use Rattle.land_acts.specs.declared.mutations.refusal.Refusal.TheVariants.{NoSuchParty, RoleNotHeld, ClockOut, LastAdministrator}
+use Rattle.land_acts.specs.declared.mutations.refusal.Refusal.TheVariants.{NoSuchParty, RoleNotHeld, ClockOut}
+use Rattle.land_acts.specs.declared.mutations.refusal.Refusal.TheVariants.{LastAdministrator}
 use Rattle.land_core.specs.Changes.{no_put, no_ended}
 use Rattle.land_core.specs.Grants.{grants_in}
 use Rattle.land_core.specs.Register.{has_single_party, holds}
@@ -16,7 +17,9 @@ use Rattle.land_core.specs.declared.roles.Grant.{Grant}
 
 -- whether another party is state administrator
 abbrev pub has_administrator_beside : Register → ℕ → Bool
-has_administrator_beside r n = list_any (λ grant. is_role grant.role StateAdministrator && not (nat_eq grant.party n)) (grants_in r.roles)
+has_administrator_beside r n =
+    list_any (λ grant. is_role grant.role StateAdministrator && not (nat_eq grant.party n))
+    (grants_in r.roles)
 
 -- the refusals with their conditions, in ascending order
 abbrev pub revoke_refusals : Register → Grant → Option ℤ → List (Refusal × Bool)

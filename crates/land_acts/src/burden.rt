@@ -41,7 +41,8 @@ pub(crate) fn planned(
     stamp: i64,
 ) -> Result<(Change, Done), AllocError>
     requires { slice.now.next ≤ 999_999_999 }
-    ensures { IfOk result (λ planned. (planned.0 ≡ burden_change slice.now it.now) × (planned.1 ≡ burden_done slice.now stamp)) }
+    ensures { IfOk result (λ planned. (planned.0 ≡ burden_change slice.now it.now)
+        × (planned.1 ≡ burden_done slice.now stamp)) }
 {
     let source = slice.next;
     let number = source + 1;

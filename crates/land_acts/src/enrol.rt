@@ -36,7 +36,8 @@ pub(crate) fn planned(
     stamp: i64,
 ) -> Result<(Change, Done), AllocError>
     requires { slice.now.next ≤ 1_000_000_000 }
-    ensures { IfOk result (λ planned. (planned.0 ≡ enrol_change slice.now it.now) × (planned.1 ≡ enrol_done slice.now it.now stamp)) }
+    ensures { IfOk result (λ planned. (planned.0 ≡ enrol_change slice.now it.now)
+        × (planned.1 ≡ enrol_done slice.now it.now stamp)) }
 {
     let number = slice.next;
     let party = PartyRecord {

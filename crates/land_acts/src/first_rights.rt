@@ -1,7 +1,8 @@
 //! Checks of the rights with which a unit is registered.
 ghost use Rattle.std.specs.Prelude.{◌≡◌, IfOk};
 ghost use Rattle.std.specs.List.{list_any};
-ghost use Rattle.land_acts.specs.FirstRights.{are_types_too_fine, are_types_whole, has_right_twice, have_party, is_same_right, listed_of_type, lists_absent};
+ghost use Rattle.land_acts.specs.FirstRights.{are_types_too_fine, are_types_whole, has_right_twice};
+ghost use Rattle.land_acts.specs.FirstRights.{have_party, is_same_right, listed_of_type, lists_absent};
 ghost use Rattle.land_acts.specs.Sharing.{is_too_fine};
 ghost use Rattle.land_core.specs.Entries.{are_distinct};
 ghost use Rattle.land_core.specs.Units.{are_whole_or_none};

@@ -33,7 +33,8 @@ pub(crate) fn planned(
     it: &Grant,
     stamp: i64,
 ) -> Result<(Change, Done), AllocError>
-    ensures { IfOk result (λ planned. (planned.0 ≡ grant_change slice.now it.now) × (planned.1 ≡ grant_done it.now stamp)) }
+    ensures { IfOk result (λ planned. (planned.0 ≡ grant_change slice.now it.now)
+        × (planned.1 ≡ grant_done it.now stamp)) }
 {
     let roles = Sequence::of_one(alloc, *it)?;
     let mut change = Change::nothing(alloc, slice.next);

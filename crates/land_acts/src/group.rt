@@ -54,7 +54,8 @@ pub(crate) fn planned(
     stamp: i64,
 ) -> Result<(Change, Done), AllocError>
     requires { slice.now.next ≤ 1_000_000_000 }
-    ensures { IfOk result (λ planned. (planned.0 ≡ group_change slice.now it.now) × (planned.1 ≡ group_done slice.now stamp)) }
+    ensures { IfOk result (λ planned. (planned.0 ≡ group_change slice.now it.now)
+        × (planned.1 ≡ group_done slice.now stamp)) }
 {
     let number = slice.next;
     let party = PartyRecord {

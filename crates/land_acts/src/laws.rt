@@ -2,8 +2,10 @@
 //! definitions.
 ghost use Rattle.land_acts.specs.AreaLaws.{MergersKeepAreas, SubdivisionsKeepAreas};
 ghost use Rattle.land_acts.specs.GroundLaws.{MergersKeepGround, SubdivisionsKeepGround};
-ghost use Rattle.land_acts.specs.Laws.{SlicesSuffice, AcceptedKeepsSound, AcceptedNamesKeysOnce, AcceptedTellsStamp, NothingWithoutStamp};
-ghost use Rattle.land_acts.specs.MutationLaws.{DecisionsStay, LodgingsStand, LodgingsStay, RepeatsAreToldTheFirst};
+ghost use Rattle.land_acts.specs.Laws.{SlicesSuffice, AcceptedKeepsSound, AcceptedNamesKeysOnce};
+ghost use Rattle.land_acts.specs.Laws.{AcceptedTellsStamp, NothingWithoutStamp};
+ghost use Rattle.land_acts.specs.MutationLaws.{DecisionsStay, LodgingsStand, LodgingsStay};
+ghost use Rattle.land_acts.specs.MutationLaws.{RepeatsAreToldTheFirst};
 ghost use Rattle.land_acts.specs.RegisterAreas.{ApprovedRegistersKeepTheirArea, RegistrationsAloneAddArea};
 
 /// An act has the same outcome on a register and on its slice.

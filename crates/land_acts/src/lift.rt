@@ -52,7 +52,8 @@ pub(crate) fn planned(
     it: &Lift,
     stamp: i64,
 ) -> Result<(Change, Done), AllocError>
-    ensures { IfOk result (λ planned. (planned.0 ≡ lift_change slice.now it.now) × (planned.1 ≡ lift_done it.now stamp)) }
+    ensures { IfOk result (λ planned. (planned.0 ≡ lift_change slice.now it.now)
+        × (planned.1 ≡ lift_done it.now stamp)) }
 {
     let rrrs = Sequence::of_one(alloc, it.rrr)?;
     let mut change = Change::nothing(alloc, slice.next);

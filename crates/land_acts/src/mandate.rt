@@ -53,7 +53,8 @@ pub(crate) fn planned(
     it: &NewMandate,
     stamp: i64,
 ) -> Result<(Change, Done), AllocError>
-    ensures { IfOk result (λ planned. (planned.0 ≡ mandate_change slice.now caller it.now) × (planned.1 ≡ mandate_done it.now stamp)) }
+    ensures { IfOk result (λ planned. (planned.0 ≡ mandate_change slice.now caller it.now)
+        × (planned.1 ≡ mandate_done it.now stamp)) }
 {
     let mandates = Sequence::of_one(alloc, given(caller, it))?;
     let mut change = Change::nothing(alloc, slice.next);

@@ -1,7 +1,8 @@
 //! The plan of an act: its refusal, or its change and receipt.
 ghost use Rattle.std.specs.Prelude.{◌≡◌, ◌≢◌, true, IfOk};
 ghost use Rattle.land_acts.specs.Mutations.Planning.{first_that_holds};
-ghost use Rattle.land_acts.specs.Outcome.{outcome_of, refusals_of, change_of, done_of, has_room_for, repeated_done, IsUnrefused};
+ghost use Rattle.land_acts.specs.Outcome.{outcome_of, refusals_of, change_of, done_of, has_room_for};
+ghost use Rattle.land_acts.specs.Outcome.{repeated_done, IsUnrefused};
 ghost use Rattle.land_acts.specs.Slices.{IsOfSound};
 ghost use Rattle.land_core.specs.Acts.{is_well_formed};
 
@@ -28,7 +29,8 @@ pub fn plan(
     stamp: Option<i64>,
 ) -> Result<Planned, Refusal>
     requires { is_well_formed act.now ≡ true }
-    ensures { IsOfSound slice.now caller act.now → result ≢ Err Refusal.NoMemory → result ≡ outcome_of slice.now caller act.now stamp }
+    ensures { IsOfSound slice.now caller act.now → result ≢ Err Refusal.NoMemory
+        → result ≡ outcome_of slice.now caller act.now stamp }
 {
     if let Some(done) = repeated(alloc, slice, caller, act)? {
         return Ok(Planned::Repeat(done));
@@ -110,7 +112,8 @@ fn planned(
     requires formed { is_well_formed act.now ≡ true }
     requires room { has_room_for slice.now act.now ≡ true }
     requires unrefused { IsUnrefused slice.now caller act.now }
-    ensures { IfOk result (λ it. (it.0 ≡ change_of slice.now caller act.now stamp) × (it.1 ≡ done_of slice.now caller act.now stamp)) }
+    ensures { IfOk result (λ it. (it.0 ≡ change_of slice.now caller act.now stamp)
+        × (it.1 ≡ done_of slice.now caller act.now stamp)) }
 {
     match act {
         Act::Enrol(it) => enrol::planned(alloc, slice, it, stamp),

@@ -2,7 +2,8 @@
 ghost use Rattle.std.specs.Prelude.{◌≡◌, ◌≤◌, ◌+◌, true, length, map as map_list, IfOk};
 ghost use Rattle.land_acts.specs.Mutations.Numbering.{numbered, numbers_from};
 ghost use Rattle.land_acts.specs.Mutations.Planning.{first_that_holds};
-ghost use Rattle.land_acts.specs.Registering.{new_count, parcel_of, register_refusals, register_change, register_done, right_of};
+ghost use Rattle.land_acts.specs.Registering.{new_count, parcel_of, register_refusals, register_change};
+ghost use Rattle.land_acts.specs.Registering.{register_done, right_of};
 ghost use Rattle.land_core.specs.Acts.{is_new_unit};
 
 use crate::first_rights::{are_types_too_fine, are_types_whole, has_right_twice, lists_absent};
@@ -67,7 +68,8 @@ pub(crate) fn planned(
 ) -> Result<(Change, Done), AllocError>
     requires formed { is_new_unit it.now ≡ true }
     requires room { slice.now.next + new_count it.now ≤ 1_000_000_001 }
-    ensures { IfOk result (λ planned. (planned.0 ≡ register_change slice.now it.now) × (planned.1 ≡ register_done slice.now it.now stamp)) }
+    ensures { IfOk result (λ planned. (planned.0 ≡ register_change slice.now it.now)
+        × (planned.1 ≡ register_done slice.now it.now stamp)) }
 {
     let source = slice.next;
     let unit = source + 1;

@@ -48,7 +48,8 @@ pub(crate) fn planned(
     it: &Regroup,
     stamp: i64,
 ) -> Result<(Change, Done), AllocError>
-    ensures { IfOk result (λ planned. (planned.0 ≡ regroup_change slice.now it.now) × (planned.1 ≡ regroup_done it.now stamp)) }
+    ensures { IfOk result (λ planned. (planned.0 ≡ regroup_change slice.now it.now)
+        × (planned.1 ≡ regroup_done it.now stamp)) }
 {
     let members = members_of_list(alloc, it.members.as_slice())?;
     let members = Sequence::of_one(alloc, (it.group, members))?;

@@ -1,6 +1,7 @@
 //! Checks of the members that an act lists.
 ghost use Rattle.std.specs.Prelude.{◌≡◌, IfOk};
-ghost use Rattle.land_acts.specs.Sharing.{listed_shares, lists_party, lists_stranger, lists_twice, members_of_list, same_party};
+ghost use Rattle.land_acts.specs.Sharing.{listed_shares, lists_party, lists_stranger, lists_twice};
+ghost use Rattle.land_acts.specs.Sharing.{members_of_list, same_party};
 ghost use Rattle.land_core.specs.Entries.{are_distinct};
 ghost use Rattle.land_fraction.specs.Wholeness.{wholeness};
 

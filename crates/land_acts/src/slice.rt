@@ -1,6 +1,8 @@
 //! Slices: the records that planning an act may read.
 ghost use Rattle.std.specs.Prelude.{◌≡◌, nat_eq, IfOk};
-ghost use Rattle.land_acts.specs.Slices.{content_names_party, slice_of, is_mandate, looks_at_mutation, looks_at_party, looks_at_rrr, mutations_looked_at, names_mandate, names_party, names_rrr, names_unit};
+ghost use Rattle.land_acts.specs.Slices.{content_names_party, slice_of, is_mandate, looks_at_mutation};
+ghost use Rattle.land_acts.specs.Slices.{looks_at_party, looks_at_rrr, mutations_looked_at, names_mandate};
+ghost use Rattle.land_acts.specs.Slices.{names_party, names_rrr, names_unit};
 ghost use Rattle.land_core.specs.Entries.{only, some};
 
 use crate::first_rights::have_party;
@@ -70,7 +72,8 @@ fn records_looked_at<T: Duplicate>(
 }
 
 fn roles_looked_at(alloc: Global, register: &Register, act: &Act) -> Result<Roles, AllocError>
-    ensures { IfOk result (λ it. it ≡ only (λ grant u. looks_at_party register.now act.now grant.party) register.now.roles) }
+    ensures { IfOk result
+        (λ it. it ≡ only (λ grant u. looks_at_party register.now act.now grant.party) register.now.roles) }
 {
     let mut kept = Roles::new(alloc);
     for grant in register.roles.iter() {
@@ -102,7 +105,8 @@ fn parcels_looked_at(
     register: &Register,
     act: &Act,
 ) -> Result<Records<ParcelRecord>, AllocError>
-    ensures { IfOk result (λ it. it ≡ only (λ n p. names_unit register.now act.now p.unit) register.now.parcels) }
+    ensures { IfOk result
+        (λ it. it ≡ only (λ n p. names_unit register.now act.now p.unit) register.now.parcels) }
 {
     let mut kept = Records::new(alloc);
     for (number, parcel) in register.parcels.iter() {
@@ -152,7 +156,8 @@ fn sources_of(
     register: &Register,
     mutations: &Records<MutationRecord>,
 ) -> Result<Records<SourceRecord>, AllocError>
-    ensures { IfOk result (λ it. it ≡ only (λ n s. some (λ k m. nat_eq m.source n) mutations.now) register.now.sources) }
+    ensures { IfOk result (λ it. it ≡ only (λ n s. some
+        (λ k m. nat_eq m.source n) mutations.now) register.now.sources) }
 {
     let mut kept = Records::new(alloc);
     for (number, source) in register.sources.iter() {
@@ -179,7 +184,8 @@ fn mandates_looked_at(
     caller: Caller,
     act: &Act,
 ) -> Result<Mandates, AllocError>
-    ensures { IfOk result (λ it. it ≡ only (λ mandate u. names_mandate caller act.now mandate) register.now.mandates) }
+    ensures { IfOk result
+        (λ it. it ≡ only (λ mandate u. names_mandate caller act.now mandate) register.now.mandates) }
 {
     let mut kept = Mandates::new(alloc);
     for mandate in register.mandates.iter() {

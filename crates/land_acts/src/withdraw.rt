@@ -31,7 +31,8 @@ pub(crate) fn planned(
     it: &Mandate,
     stamp: i64,
 ) -> Result<(Change, Done), AllocError>
-    ensures { IfOk result (λ planned. (planned.0 ≡ withdraw_change slice.now it.now) × (planned.1 ≡ withdraw_done it.now stamp)) }
+    ensures { IfOk result (λ planned. (planned.0 ≡ withdraw_change slice.now it.now)
+        × (planned.1 ≡ withdraw_done it.now stamp)) }
 {
     let mandates = Sequence::of_one(alloc, *it)?;
     let mut change = Change::nothing(alloc, slice.next);

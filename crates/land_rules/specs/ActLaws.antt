@@ -27,7 +27,8 @@ pub record MayNotDecide (now at : Register) (caller : Caller) (number : ℕ) (pa
 
 -- a party that lodged a mutation may not decide on it, in any role
 abbrev pub LodgersDoNotDecide : Type 0
-LodgersDoNotDecide = (now at : Register) (caller : Caller) (number : ℕ) (past : Bool) → has_lodged now caller.party number ≡ true
+LodgersDoNotDecide = (now at : Register) (caller : Caller) (number : ℕ) (past : Bool)
+    → has_lodged now caller.party number ≡ true
     → MayNotDecide now at caller number past
 
 -- a caller in the role of state administrator, and whether this party exists and holds the role now
@@ -43,10 +44,13 @@ told_of_decision now party number = if has_lodged now party number then Denied 1
 
 -- both decisions have exactly this verdict
 pub record DecisionIsTold (now at : Register) (party number : ℕ) (past : Bool) : Type 0 where
-  pub approval : verdict_of now at (administrator party) (to_approve number) past ≡ told_of_decision now party number
-  pub refusal : verdict_of now at (administrator party) (to_refuse number) past ≡ told_of_decision now party number
+  pub approval : verdict_of now at (administrator party) (to_approve number) past
+      ≡ told_of_decision now party number
+  pub refusal : verdict_of now at (administrator party) (to_refuse number) past
+      ≡ told_of_decision now party number
 
 -- a state administrator may decide on a mutation exactly if another party lodged it
 abbrev pub AdministratorsDecideForOthers : Type 0
-AdministratorsDecideForOthers = (now at : Register) (party number : ℕ) (past : Bool) → is_administrator now party ≡ true
+AdministratorsDecideForOthers =
+    (now at : Register) (party number : ℕ) (past : Bool) → is_administrator now party ≡ true
     → DecisionIsTold now at party number past

@@ -109,4 +109,5 @@ is_discharge_of_another now party (content.Transfer it) = false
 is_discharge_of_another now party (content.Subdivision it) = false
 is_discharge_of_another now party (content.Merger it) = false
 is_discharge_of_another now party (content.Mortgage it) = false
-is_discharge_of_another now party (content.Discharge it) = not (is_rrr_where (is_mortgage_of party) now it.mortgage)
+is_discharge_of_another now party (content.Discharge it) =
+    not (is_rrr_where (is_mortgage_of party) now it.mortgage)

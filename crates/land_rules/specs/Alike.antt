@@ -41,5 +41,6 @@ pub record WorldsLookAlike (now other_now at other_at : Register) (caller : Call
 -- in worlds that look alike to a caller, each view, list and sheet gets the same verdict, with the same
 -- number
 abbrev pub VerdictsTellNothingUnseen : Type 0
-VerdictsTellNothingUnseen = (now other_now at other_at : Register) (caller : Caller) (a : Ask) (past : Bool) → WorldsLookAlike now other_now at other_at caller
+VerdictsTellNothingUnseen = (now other_now at other_at : Register) (caller : Caller) (a : Ask) (past : Bool)
+    → WorldsLookAlike now other_now at other_at caller
     → IsRead a → verdict_of now at caller a past ≡ verdict_of other_now other_at caller a past

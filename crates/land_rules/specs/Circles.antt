@@ -11,7 +11,8 @@ use Rattle.land_rules.specs.Relations.{holds_as, is_holder, is_member_of, is_mor
 
 -- the principals of a party: the parties that gave it a mandate
 abbrev pub principals_of : Register → (party : ℕ) → List ℕ
-principals_of at party = map_list (λ m. m.principal) (filter (λ m. nat_eq m.agent party) (mandates_in at.mandates))
+principals_of at party =
+    map_list (λ m. m.principal) (filter (λ m. nat_eq m.agent party) (mandates_in at.mandates))
 
 -- the circle of a party: the party and its principals, but not their principals
 abbrev pub circle_of : Register → (party : ℕ) → List ℕ
@@ -35,7 +36,8 @@ is_group_of at circle group = list_any (λ p. is_member_of at p group) circle
 -- a circle sees an entry if a member of it is a holder in the entry's unit and, if the entry is a mortgage, a
 -- member is an owner there
 abbrev pub is_told_to_circle : Register → (circle : List ℕ) → RrrRecord → Bool
-is_told_to_circle at circle e = is_held_by at circle e.unit && (not (is_mortgage e.class) || is_owned_by at circle e.unit)
+is_told_to_circle at circle e =
+    is_held_by at circle e.unit && (not (is_mortgage e.class) || is_owned_by at circle e.unit)
 
 -- whether a mutation refers to a unit in which a member of a circle is a holder
 abbrev pub names_held_by : Register → (circle : List ℕ) → MutationRecord → Bool

@@ -14,7 +14,8 @@ use Rattle.land_core.specs.declared.caller.Caller.{Caller}
 use Rattle.land_core.specs.declared.kind.Kind.TheVariants as kind
 use Rattle.land_core.specs.declared.register.Register.{Register}
 use Rattle.land_core.specs.declared.role.Role.{Role}
-use Rattle.land_core.specs.declared.role.Role.TheVariants.{Citizen, Conveyancer, Notary, Bank, CertifiedSurveyor, StateAdministrator}
+use Rattle.land_core.specs.declared.role.Role.TheVariants.{Citizen, Conveyancer, Notary, Bank}
+use Rattle.land_core.specs.declared.role.Role.TheVariants.{CertifiedSurveyor, StateAdministrator}
 use Rattle.land_core.specs.declared.rrr.Class.{Class}
 use Rattle.land_core.specs.declared.rrr.RightType.TheVariants.{Ownership}
 use Rattle.land_core.specs.declared.rrr.RrrRecord.{RrrRecord}
@@ -49,15 +50,18 @@ has_member_among is_one members = some (λ party share. is_one party) members
 
 -- whether a name is one of these parties, or a group of which one of them is a member
 abbrev pub is_name_among : Register → (is_one : ℕ → Bool) → (named : ℕ) → Bool
-is_name_among at is_one named = is_one named || option_map_or (has_member_among is_one) (map.get at.members named) false
+is_name_among at is_one named =
+    is_one named || option_map_or (has_member_among is_one) (map.get at.members named) false
 
 -- the set of the names under which a party has an interest
 abbrev pub AreNames : Interest → Register → (party : ℕ) → BTreeSet ℕ → Type 0
-AreNames interest at party names = (named : ℕ) → has_number names named ≡ has_interest_as interest at party named
+AreNames interest at party names =
+    (named : ℕ) → has_number names named ≡ has_interest_as interest at party named
 
 -- whether a unit exists and an entry under one of these names gives the interest in it
 abbrev pub has_interest_by : Interest → Register → (is_name : ℕ → Bool) → (unit : ℕ) → RrrRecord → Bool
-has_interest_by interest at is_name unit e = stands at kind.Unit unit && (nat_eq e.unit unit && gives_interest interest e.class && is_name e.party)
+has_interest_by interest at is_name unit e =
+    stands at kind.Unit unit && (nat_eq e.unit unit && gives_interest interest e.class && is_name e.party)
 
 -- whether a party has the interest in a unit: a member of its circle is a holder or an owner there, or the
 -- party itself is a creditor
@@ -68,7 +72,8 @@ has_interest Creditor at party unit = is_creditor_on at party unit
 
 -- the set of the units in which a party has the interest
 abbrev pub AreOfInterest : Interest → Register → (party : ℕ) → BTreeSet ℕ → Type 0
-AreOfInterest interest at party units = (unit : ℕ) → has_number units unit ≡ has_interest interest at party unit
+AreOfInterest interest at party units =
+    (unit : ℕ) → has_number units unit ≡ has_interest interest at party unit
 
 -- the set of the units to which the undecided mutations of a party refer
 abbrev pub AreLodgedOn : Register → (party : ℕ) → BTreeSet ℕ → Type 0
@@ -96,7 +101,8 @@ is_its_name StateAdministrator at party number = nat_eq number party
 
 -- whether the role sees the parties of the entries that it sees
 abbrev pub meets_parties : Caller → Bool
-meets_parties caller = is_role caller.role Citizen || is_role caller.role Bank || is_role caller.role Conveyancer
+meets_parties caller =
+    is_role caller.role Citizen || is_role caller.role Bank || is_role caller.role Conveyancer
 
 -- the set of the parties of the entries that a caller sees
 abbrev pub AreMet : Register → Caller → BTreeSet ℕ → Type 0

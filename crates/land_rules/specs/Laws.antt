@@ -1,5 +1,6 @@
 -- Laws on verdicts and lists, stated only over the definitions of the policy.
-use Rattle.std.specs.Prelude.{◌≡◌, ◌⊎◌, ℕ, ◌<◌, ◌↔◌, Bool, true, false, ◌&&◌, ◌||◌, Option, ℤ, nat_eq, if◌then◌else◌}
+use Rattle.std.specs.Prelude.{◌≡◌, ◌⊎◌, ℕ, ◌<◌, ◌↔◌, Bool, true, false, ◌&&◌, ◌||◌, Option, ℤ, nat_eq}
+use Rattle.std.specs.Prelude.{if◌then◌else◌}
 use Rattle.std.specs.List.{list_any}
 use Rattle.land_core.specs.Register.{stands, holds, is_member, nothing}
 use Rattle.land_core.specs.Role.{is_role}
@@ -11,16 +12,19 @@ use Rattle.land_core.specs.declared.kind.Kind.{Kind}
 use Rattle.land_core.specs.declared.kind.Kind.TheVariants as kind
 use Rattle.land_core.specs.declared.register.Register.{Register}
 use Rattle.land_core.specs.declared.role.Role.{Role}
-use Rattle.land_core.specs.declared.role.Role.TheVariants.{Citizen, Conveyancer, Notary, Bank, CertifiedSurveyor, StateAdministrator}
+use Rattle.land_core.specs.declared.role.Role.TheVariants.{Citizen, Conveyancer, Notary, Bank}
+use Rattle.land_core.specs.declared.role.Role.TheVariants.{CertifiedSurveyor, StateAdministrator}
 use Rattle.land_rules.specs.Circles.{circle_of, is_group_of, is_in_circle}
 use Rattle.land_rules.specs.Relations.{is_lodger_on}
-use Rattle.land_rules.specs.Rules.{rules_on, verdict_of, denies, first_denial, rise_above, ascends, sees, seen_of, is_party_in_sight, view_rules}
+use Rattle.land_rules.specs.Rules.{rules_on, verdict_of, denies, first_denial, rise_above, ascends, sees}
+use Rattle.land_rules.specs.Rules.{seen_of, is_party_in_sight, view_rules}
 use Rattle.land_rules.specs.declared.verdict.Verdict.{Verdict}
 use Rattle.land_rules.specs.declared.verdict.Verdict.TheVariants.{Allowed, Denied}
 
 -- the rules on each request are in ascending order
 abbrev pub RulesRise : Type 0
-RulesRise = (now at : Register) (caller : Caller) (a : Ask) (past : Bool) → rise_above 0 (rules_on now at caller a past) ≡ true
+RulesRise = (now at : Register) (caller : Caller) (a : Ask) (past : Bool)
+    → rise_above 0 (rules_on now at caller a past) ≡ true
 
 -- rule k denies, and no rule with a lower number does
 pub record IsLeastDenial (now at : Register) (caller : Caller) (a : Ask) (past : Bool) (k : ℕ) : Type 0 where
@@ -31,10 +35,12 @@ pub record IsLeastDenial (now at : Register) (caller : Caller) (a : Ask) (past :
 -- denies
 pub record VerdictIsLeast (now at : Register) (caller : Caller) (a : Ask) (past : Bool) : Type 0 where
   pub denied : (k : ℕ) → (verdict_of now at caller a past ≡ Denied k) ↔ IsLeastDenial now at caller a past k
-  pub allowed : (verdict_of now at caller a past ≡ Allowed) ↔ ((k : ℕ) → denies k (rules_on now at caller a past) ≡ false)
+  pub allowed : (verdict_of now at caller a past ≡ Allowed)
+      ↔ ((k : ℕ) → denies k (rules_on now at caller a past) ≡ false)
 
 abbrev pub VerdictsAreLeast : Type 0
-VerdictsAreLeast = (now at : Register) (caller : Caller) (a : Ask) (past : Bool) → VerdictIsLeast now at caller a past
+VerdictsAreLeast =
+    (now at : Register) (caller : Caller) (a : Ask) (past : Bool) → VerdictIsLeast now at caller a past
 
 -- a list is ascending without duplicates, and it has a number exactly if no rule denies the view of that
 -- object
@@ -53,15 +59,18 @@ citizen party = record { party = party; role = Citizen }
 -- group at the requested time; denied by rule 13 if neither this holds, nor the group is in the circle, nor
 -- it is the party of a visible entry
 pub record GroupIsSeen (now at : Register) (party group : ℕ) (moment : Option ℤ) (past : Bool) : Type 0 where
-  pub member : (one : ℕ) → is_in_circle at party one ≡ true → is_member at group one ≡ true → stands at kind.Party group ≡ true
+  pub member : (one : ℕ) → is_in_circle at party one ≡ true → is_member at group one ≡ true
+      → stands at kind.Party group ≡ true
       → verdict_of now at (citizen party) (ask.View kind.Party group moment) past ≡ Allowed
-  pub other : is_in_circle at party group ≡ false → is_group_of at (circle_of at party) group ≡ false → is_party_in_sight at (citizen party) group ≡ false
+  pub other : is_in_circle at party group ≡ false → is_group_of at (circle_of at party) group ≡ false
+      → is_party_in_sight at (citizen party) group ≡ false
       → verdict_of now at (citizen party) (ask.View kind.Party group moment) past ≡ Denied 13
 
 -- members at the requested time, and the agents of their mandates then, see their group, and other citizens
 -- do not; of the register now, only the caller and its role are read
 abbrev pub MembersSeeGroups : Type 0
-MembersSeeGroups = (now at : Register) (party group : ℕ) (moment : Option ℤ) (past : Bool) → stands now kind.Party party ≡ true → holds now party Citizen ≡ true
+MembersSeeGroups = (now at : Register) (party group : ℕ) (moment : Option ℤ) (past : Bool)
+    → stands now kind.Party party ≡ true → holds now party Citizen ≡ true
     → GroupIsSeen now at party group moment past
 
 -- the number of the rule that denies a role the view of an object that is not visible
@@ -105,7 +114,8 @@ is_itself caller kind.Mutation number = false
 -- whether a conveyancer views a unit to which its own undecided mutation refers
 abbrev pub is_named_by_itself : (at : Register) → Caller → Kind → ℕ → Bool
 is_named_by_itself at caller kind.Party number = false
-is_named_by_itself at caller kind.Unit number = is_role caller.role Conveyancer && is_lodger_on at caller.party number
+is_named_by_itself at caller kind.Unit number =
+    is_role caller.role Conveyancer && is_lodger_on at caller.party number
 is_named_by_itself at caller kind.Parcel number = false
 is_named_by_itself at caller kind.Rrr number = false
 is_named_by_itself at caller kind.Source number = false
@@ -115,11 +125,14 @@ is_named_by_itself at caller kind.Mutation number = false
 -- but two cases get rule 27: a caller that views itself, and a conveyancer's unit to which its own undecided
 -- mutation refers; neither object exists then
 abbrev pub rule_out_of_sight : (at : Register) → Caller → Kind → ℕ → ℕ
-rule_out_of_sight at caller k number = if is_named_by_itself at caller k number || is_itself caller k number then 27 else rule_of_role caller.role k
+rule_out_of_sight at caller k number =
+    if is_named_by_itself at caller k number || is_itself caller k number then 27
+    else rule_of_role caller.role k
 
 -- a visible object is allowed, and this rule denies every other
 abbrev pub told_by_sight : (at : Register) → Caller → Kind → ℕ → Verdict
-told_by_sight at caller k number = if sees at caller k number then Allowed else Denied (rule_out_of_sight at caller k number)
+told_by_sight at caller k number =
+    if sees at caller k number then Allowed else Denied (rule_out_of_sight at caller k number)
 
 -- a register at a time: sound, or empty if the time is before the first change
 abbrev pub IsSoundOrNothing : Register → Type 0

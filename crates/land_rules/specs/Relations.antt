@@ -36,7 +36,8 @@ is_held_right at party unit e = nat_eq e.unit unit && is_right e.class && holds_
 
 -- whether an entry is an ownership of a unit that the party has
 abbrev pub is_held_ownership : Register → (party unit : ℕ) → RrrRecord → Bool
-is_held_ownership at party unit e = nat_eq e.unit unit && is_right_of Ownership e.class && holds_as at party e.party
+is_held_ownership at party unit e =
+    nat_eq e.unit unit && is_right_of Ownership e.class && holds_as at party e.party
 
 -- whether an entry is a mortgage on a unit of which the party is the creditor
 abbrev pub is_credit : (party unit : ℕ) → RrrRecord → Bool
@@ -88,7 +89,8 @@ is_rrr_where passes at number = option_map_or passes (map.get at.rrrs number) fa
 
 -- a holder sees the entries of the unit that are not mortgages; an owner sees the mortgages too
 abbrev pub is_told_to_holder : Register → (party : ℕ) → RrrRecord → Bool
-is_told_to_holder at party e = is_holder at party e.unit && (not (is_mortgage e.class) || is_owner at party e.unit)
+is_told_to_holder at party e =
+    is_holder at party e.unit && (not (is_mortgage e.class) || is_owner at party e.unit)
 
 -- a creditor sees an entry unless it is the mortgage of another creditor
 abbrev pub is_told_to_creditor : (party : ℕ) → RrrRecord → Bool

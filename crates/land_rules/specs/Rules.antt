@@ -1,6 +1,7 @@
 -- The policy, one line per rule. A rule is a number and whether it denies. Rules are in ascending order, and
 -- the first that denies is the verdict.
-use Rattle.std.specs.Prelude.{ℕ, Bool, true, false, not, ◌&&◌, ◌||◌, List, [], ◌∷◌, ◌++◌, nat_eq, nat_lt, if◌then◌else◌}
+use Rattle.std.specs.Prelude.{ℕ, Bool, true, false, not, ◌&&◌, ◌||◌, List, [], ◌∷◌, ◌++◌, nat_eq, nat_lt}
+use Rattle.std.specs.Prelude.{if◌then◌else◌}
 use Rattle.std.specs.List.{list_any, list_all}
 use Rattle.land_core.specs.Entries.{some, numbers_where}
 use Rattle.land_core.specs.Register.{stands, holds}
@@ -12,11 +13,16 @@ use Rattle.land_core.specs.declared.caller.Caller.{Caller}
 use Rattle.land_core.specs.declared.kind.Kind.{Kind}
 use Rattle.land_core.specs.declared.kind.Kind.TheVariants as kind
 use Rattle.land_core.specs.declared.register.Register.{Register}
-use Rattle.land_core.specs.declared.role.Role.TheVariants.{Citizen, Conveyancer, Notary, Bank, CertifiedSurveyor, StateAdministrator}
+use Rattle.land_core.specs.declared.role.Role.TheVariants.{Citizen, Conveyancer, Notary, Bank}
+use Rattle.land_core.specs.declared.role.Role.TheVariants.{CertifiedSurveyor, StateAdministrator}
 use Rattle.land_core.specs.declared.rrr.RrrRecord.{RrrRecord}
-use Rattle.land_rules.specs.Acts.{decides, is_between_others, is_discharge_of_another, is_mortgage_of_another, is_of_a_mortgage, is_of_mandates, is_of_mortgages, is_of_outlines, is_of_transfers, is_office_act, is_transfer, lodges, withdraws}
-use Rattle.land_rules.specs.Circles.{circle_of, is_group_of, is_held_by, is_in_circle, is_told_to_circle, names_held_by}
-use Rattle.land_rules.specs.Relations.{has_lodged, is_creditor_on, is_lodger_on, is_mutation_where, is_rrr_where, is_told_to_creditor}
+use Rattle.land_rules.specs.Acts.{decides, is_between_others, is_discharge_of_another, is_mortgage_of_another}
+use Rattle.land_rules.specs.Acts.{is_of_a_mortgage, is_of_mandates, is_of_mortgages, is_of_outlines}
+use Rattle.land_rules.specs.Acts.{is_of_transfers, is_office_act, is_transfer, lodges, withdraws}
+use Rattle.land_rules.specs.Circles.{circle_of, is_group_of, is_held_by, is_in_circle, is_told_to_circle}
+use Rattle.land_rules.specs.Circles.{names_held_by}
+use Rattle.land_rules.specs.Relations.{has_lodged, is_creditor_on, is_lodger_on, is_mutation_where}
+use Rattle.land_rules.specs.Relations.{is_rrr_where, is_told_to_creditor}
 use Rattle.land_rules.specs.declared.verdict.Verdict.{Verdict}
 use Rattle.land_rules.specs.declared.verdict.Verdict.TheVariants.{Allowed, Denied}
 
@@ -36,7 +42,8 @@ is_allowed (Denied k) = false
 
 -- whether the role sees only the present
 abbrev pub is_of_the_present : Caller → Bool
-is_of_the_present caller = is_role caller.role Bank || is_role caller.role Conveyancer || is_role caller.role CertifiedSurveyor
+is_of_the_present caller =
+    is_role caller.role Bank || is_role caller.role Conveyancer || is_role caller.role CertifiedSurveyor
 
 abbrev pub caller_rules : (now : Register) → Caller → (past : Bool) → Rules
 caller_rules now caller past =
@@ -109,7 +116,11 @@ abbrev pub rrr_rules : (at : Register) → Caller → (number : ℕ) → Rules
 rrr_rules at caller number =
     -- a citizen sees an entry only if a member of its circle is a holder in the unit, and a mortgage only if
     -- one is an owner
-    (12, is_role caller.role Citizen && not (is_rrr_where (is_told_to_circle at (circle_of at caller.party)) at number))
+    (
+      12,
+      is_role caller.role Citizen
+          && not (is_rrr_where (is_told_to_circle at (circle_of at caller.party)) at number),
+    )
     -- a bank sees an entry only if the unit is visible and the entry is not the mortgage of another creditor
     ∷ (16, is_role caller.role Bank && not (is_rrr_where (is_told_to_bank at caller) at number))
     -- a conveyancer sees an entry only if the unit is visible
@@ -133,7 +144,12 @@ party_rules at caller number =
     let in_sight = is_party_in_sight at caller number in
     -- a citizen sees only its circle, the groups of which a member of it is a member, and the parties of
     -- visible entries
-    (13, is_role caller.role Citizen && not (is_in_circle at caller.party number || is_group_of at (circle_of at caller.party) number || in_sight))
+    (
+      13,
+      is_role caller.role Citizen
+          && not (is_in_circle at caller.party number || is_group_of at (circle_of at caller.party) number
+          || in_sight),
+    )
     -- a bank sees only itself and the parties of visible entries
     ∷ (17, is_role caller.role Bank && not (itself || in_sight))
     -- a conveyancer sees only itself and the parties of visible entries
@@ -166,7 +182,11 @@ abbrev pub mutation_rules : (at : Register) → Caller → (number : ℕ) → Ru
 mutation_rules at caller number =
     let lodged_it = has_lodged at caller.party number in
     -- a citizen sees a mutation only if it refers to a unit in which a member of its circle is a holder
-    (14, is_role caller.role Citizen && not (is_mutation_where (names_held_by at (circle_of at caller.party)) at number))
+    (
+      14,
+      is_role caller.role Citizen
+          && not (is_mutation_where (names_held_by at (circle_of at caller.party)) at number),
+    )
     -- a bank sees only the mutations that it lodged
     ∷ (18, is_role caller.role Bank && not lodged_it)
     -- a conveyancer sees only the mutations that it lodged

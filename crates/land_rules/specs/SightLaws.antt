@@ -27,8 +27,10 @@ abbrev pub is_citizen : (now : Register) → (party : ℕ) → Bool
 is_citizen now party = stands now kind.Party party && holds now party Citizen
 
 -- the verdict on a citizen's view of an object
-abbrev pub citizen_told : (now at : Register) → (party : ℕ) → Kind → (number : ℕ) → Option ℤ → (past : Bool) → Verdict
-citizen_told now at party k number moment past = verdict_of now at (citizen party) (ask.View k number moment) past
+abbrev pub citizen_told : (now at : Register) → (party : ℕ) → Kind → (number : ℕ) → Option ℤ → (past : Bool)
+    → Verdict
+citizen_told now at party k number moment past =
+    verdict_of now at (citizen party) (ask.View k number moment) past
 
 -- entry e exists at a number and is in a unit
 pub record IsEntryOf (at : Register) (unit number : ℕ) (e : RrrRecord) : Type 0 where
@@ -50,40 +52,54 @@ pub record IsOfOthers (at : Register) (party named : ℕ) : Type 0 where
 
 -- every entry of such a class in a unit is under the name of other parties
 abbrev pub HoldsNone : (is_of : Class → Bool) → Register → (party unit : ℕ) → Type 0
-HoldsNone is_of at party unit = (number : ℕ) (e : RrrRecord) → IsEntryOf at unit number e → is_of e.class ≡ true → IsOfOthers at party e.party
+HoldsNone is_of at party unit = (number : ℕ) (e : RrrRecord) → IsEntryOf at unit number e
+    → is_of e.class ≡ true → IsOfOthers at party e.party
 
 -- the same holds for each member of the circle of a party
 abbrev pub CircleHoldsNone : (is_of : Class → Bool) → Register → (party unit : ℕ) → Type 0
-CircleHoldsNone is_of at party unit = (one : ℕ) → is_in_circle at party one ≡ true → HoldsNone is_of at one unit
+CircleHoldsNone is_of at party unit =
+    (one : ℕ) → is_in_circle at party one ≡ true → HoldsNone is_of at one unit
 
 -- party `one` is a holder in the unit, and a party that has it in its circle sees the unit and all its
 -- entries that are not mortgages
-pub record IsToldAsHolder (now at : Register) (one party unit : ℕ) (moment : Option ℤ) (past : Bool) : Type 0 where
+pub record IsToldAsHolder (now at : Register) (one party unit : ℕ) (moment : Option ℤ) (past : Bool)
+    : Type 0 where
   pub holder : is_holder at one unit ≡ true
   pub unit_shown : citizen_told now at party kind.Unit unit moment past ≡ Allowed
-  pub entries_shown : (number : ℕ) (e : RrrRecord) → IsEntryOf at unit number e → is_mortgage e.class ≡ false → citizen_told now at party kind.Rrr number moment past ≡ Allowed
+  pub entries_shown : (number : ℕ) (e : RrrRecord) → IsEntryOf at unit number e → is_mortgage e.class ≡ false
+      → citizen_told now at party kind.Rrr number moment past ≡ Allowed
 
 -- if a group has a right in a unit at the requested time, each of its members then is a holder, and the
 -- member and the agents of its mandates see the unit as holders do
 abbrev pub MembersHold : Type 0
-MembersHold = (now at : Register) (party one group unit : ℕ) (moment : Option ℤ) (past : Bool) → is_citizen now party ≡ true → is_in_circle at party one ≡ true
-    → is_member at group one ≡ true → stands at kind.Unit unit ≡ true → HasEntry is_right at group unit → IsToldAsHolder now at one party unit moment past
+MembersHold = (now at : Register) (party one group unit : ℕ) (moment : Option ℤ) (past : Bool)
+    → is_citizen now party ≡ true → is_in_circle at party one ≡ true
+    → is_member at group one ≡ true → stands at kind.Unit unit ≡ true → HasEntry is_right at group unit
+    → IsToldAsHolder now at one party unit moment past
 
 -- if no member of a citizen's circle has a right in a unit at the requested time, rule 11 denies the unit, in
 -- any state of the register now
 abbrev pub EndedEntriesGiveNoSight : Type 0
-EndedEntriesGiveNoSight = (now at : Register) (party unit : ℕ) (moment : Option ℤ) (past : Bool) → is_citizen now party ≡ true
-    → CircleHoldsNone is_right at party unit → citizen_told now at party kind.Unit unit moment past ≡ Denied 11
+EndedEntriesGiveNoSight =
+    (now at : Register) (party unit : ℕ) (moment : Option ℤ) (past : Bool) → is_citizen now party ≡ true
+    → CircleHoldsNone is_right at party unit
+    → citizen_told now at party kind.Unit unit moment past ≡ Denied 11
 
 -- the verdict on a citizen's view of a mortgage: allowed if a member of its circle is an owner of the unit;
 -- denied by rule 12 if none has an ownership there, for example for a lessee
-pub record MortgageIsTold (now at : Register) (party unit number : ℕ) (moment : Option ℤ) (past : Bool) : Type 0 where
-  pub owner : (one : ℕ) → is_in_circle at party one ≡ true → is_owner at one unit ≡ true → citizen_told now at party kind.Rrr number moment past ≡ Allowed
-  pub other : CircleHoldsNone (is_right_of Ownership) at party unit → citizen_told now at party kind.Rrr number moment past ≡ Denied 12
+pub record MortgageIsTold (now at : Register) (party unit number : ℕ) (moment : Option ℤ) (past : Bool)
+    : Type 0 where
+  pub owner : (one : ℕ) → is_in_circle at party one ≡ true → is_owner at one unit ≡ true
+      → citizen_told now at party kind.Rrr number moment past ≡ Allowed
+  pub other : CircleHoldsNone (is_right_of Ownership) at party unit
+      → citizen_told now at party kind.Rrr number moment past ≡ Denied 12
 
 abbrev pub OwnersAloneSeeMortgages : Type 0
-OwnersAloneSeeMortgages = (now at : Register) (party unit number : ℕ) (e : RrrRecord) (moment : Option ℤ) (past : Bool) → is_citizen now party ≡ true
-    → IsEntryOf at unit number e → is_mortgage e.class ≡ true → MortgageIsTold now at party unit number moment past
+OwnersAloneSeeMortgages =
+    (now at : Register) (party unit number : ℕ) (e : RrrRecord) (moment : Option ℤ) (past : Bool)
+    → is_citizen now party ≡ true
+    → IsEntryOf at unit number e → is_mortgage e.class ≡ true
+    → MortgageIsTold now at party unit number moment past
 
 -- a caller in the role of bank
 abbrev pub bank : ℕ → Caller
@@ -99,7 +115,8 @@ pub record IsOpenToBank (at : Register) (party number : ℕ) : Type 0 where
 -- a bank sees exactly the units that exist and on which it has a mortgage, and their entries except the
 -- mortgages of other creditors
 pub record BankSees (at : Register) (party : ℕ) : Type 0 where
-  pub units : (unit : ℕ) → (sees at (bank party) kind.Unit unit ≡ true) ↔ ((stands at kind.Unit unit ≡ true) × HasEntry is_mortgage at party unit)
+  pub units : (unit : ℕ) → (sees at (bank party) kind.Unit unit ≡ true)
+      ↔ ((stands at kind.Unit unit ≡ true) × HasEntry is_mortgage at party unit)
   pub entries : (number : ℕ) → (sees at (bank party) kind.Rrr number ≡ true) ↔ IsOpenToBank at party number
 
 abbrev pub BanksSeeByTheirMortgages : Type 0
@@ -130,4 +147,5 @@ pub record HasPending (at : Register) (party unit : ℕ) : Type 0 where
 -- a conveyancer sees exactly the units that exist and to which one of its undecided mutations refers
 abbrev pub ConveyancersSeeByTheirLodgings : Type 0
 ConveyancersSeeByTheirLodgings = (at : Register) (party unit : ℕ)
-    → (sees at (conveyancer party) kind.Unit unit ≡ true) ↔ ((stands at kind.Unit unit ≡ true) × HasPending at party unit)
+    → (sees at (conveyancer party) kind.Unit unit ≡ true)
+    ↔ ((stands at kind.Unit unit ≡ true) × HasPending at party unit)

@@ -1,6 +1,7 @@
 -- Laws on callers and acts: which callers may make requests, about which times, and which roles may do which
 -- acts. Each rule has two halves: what it denies, and that it denies nothing else.
-use Rattle.std.specs.Prelude.{◌≡◌, ◌≢◌, ◌⊎◌, ℕ, ◌↔◌, Bool, true, false, not, ◌&&◌, ◌||◌, List, [], ◌∷◌, Some, None}
+use Rattle.std.specs.Prelude.{◌≡◌, ◌≢◌, ◌⊎◌, ℕ, ◌↔◌, Bool, true, false, not, ◌&&◌, ◌||◌, List, [], ◌∷◌, Some}
+use Rattle.std.specs.Prelude.{None}
 use Rattle.std.specs.List.{list_any}
 use Rattle.std.specs.FinMap as map
 use Rattle.land_core.specs.Grants.{grant_of}
@@ -23,7 +24,8 @@ use Rattle.land_core.specs.declared.mandates.Mandate.{Mandate}
 use Rattle.land_core.specs.declared.merger.Merger.{Merger}
 use Rattle.land_core.specs.declared.register.Register.{Register}
 use Rattle.land_core.specs.declared.role.Role.{Role}
-use Rattle.land_core.specs.declared.role.Role.TheVariants.{Citizen, Conveyancer, Notary, Bank, CertifiedSurveyor, StateAdministrator}
+use Rattle.land_core.specs.declared.role.Role.TheVariants.{Citizen, Conveyancer, Notary, Bank}
+use Rattle.land_core.specs.declared.role.Role.TheVariants.{CertifiedSurveyor, StateAdministrator}
 use Rattle.land_core.specs.declared.rrr.RrrRecord.{RrrRecord}
 use Rattle.land_core.specs.declared.subdivision.Subdivision.{Subdivision}
 use Rattle.land_rules.specs.ActLaws.{to_approve, to_refuse}
@@ -76,9 +78,11 @@ pub record AsksForClosedPast (now : Register) (caller : Caller) (past : Bool) : 
 -- roles are denied every request about the past: by rule 3 if they hold their role, and rule 3 denies nothing
 -- else
 pub record PastIsByRole (now at : Register) (caller : Caller) (a : Ask) : Type 0 where
-  pub as_now : asks_in roles_of_the_past caller ≡ true → verdict_of now at caller a true ≡ verdict_of now at caller a false
+  pub as_now : asks_in roles_of_the_past caller ≡ true
+      → verdict_of now at caller a true ≡ verdict_of now at caller a false
   pub allowed : verdict_of now at caller a true ≡ Allowed → asks_in roles_of_the_past caller ≡ true
-  pub denied : (past : Bool) → (verdict_of now at caller a past ≡ Denied 3) ↔ AsksForClosedPast now caller past
+  pub denied : (past : Bool)
+      → (verdict_of now at caller a past ≡ Denied 3) ↔ AsksForClosedPast now caller past
 
 abbrev pub ThePastIsClosedToThreeRoles : Type 0
 ThePastIsClosedToThreeRoles = (now at : Register) (caller : Caller) (a : Ask) → PastIsByRole now at caller a
@@ -90,7 +94,8 @@ abbrev pub may_ask : (now : Register) → Caller → (past : Bool) → Bool
 may_ask now caller past = is_in_role now caller && (not past || asks_in roles_of_the_past caller)
 
 -- a caller that may make requests requests one of these acts, and its role is not one of these
-pub record AsksOutOfRole (these : Ask → Type 0) (roles : List Role) (now : Register) (caller : Caller) (a : Ask) (past : Bool)
+pub record AsksOutOfRole (these : Ask → Type 0) (roles : List Role) (now : Register) (caller : Caller)
+    (a : Ask) (past : Bool)
     : Type 0 where
   pub asker : may_ask now caller past ≡ true
   pub asked : these a
@@ -98,14 +103,17 @@ pub record AsksOutOfRole (these : Ask → Type 0) (roles : List Role) (now : Reg
 
 -- these acts are reserved to these roles: the rule denies them to a caller that may make requests in another
 -- role; it denies nothing else; and none of these acts is ever allowed in another role
-pub record IsLeftTo (roles : List Role) (rule : ℕ) (these : Ask → Type 0) (now at : Register) (caller : Caller) (a : Ask) (past : Bool)
+pub record IsLeftTo (roles : List Role) (rule : ℕ) (these : Ask → Type 0) (now at : Register)
+    (caller : Caller) (a : Ask) (past : Bool)
     : Type 0 where
   pub denied : (verdict_of now at caller a past ≡ Denied rule) ↔ AsksOutOfRole these roles now caller a past
   pub allowed : these a → verdict_of now at caller a past ≡ Allowed → asks_in roles caller ≡ true
 
 -- a caller that may make requests and has one of these roles is allowed each of these acts
-abbrev pub IsGivenTo : (roles : List Role) (these : Ask → Type 0) (now at : Register) → Caller → Ask → (past : Bool) → Type 0
-IsGivenTo roles these now at caller a past = may_ask now caller past ≡ true → asks_in roles caller ≡ true → these a
+abbrev pub IsGivenTo : (roles : List Role) (these : Ask → Type 0) (now at : Register) → Caller → Ask
+    → (past : Bool) → Type 0
+IsGivenTo roles these now at caller a past =
+    may_ask now caller past ≡ true → asks_in roles caller ≡ true → these a
     → verdict_of now at caller a past ≡ Allowed
 
 -- whether an act lodges a mutation
@@ -123,16 +131,19 @@ pub record IsOfTheOffice (a : Ask) : Type 0 where
 -- the request is such an act, and not a decision on a mutation that the party lodged
 pub record IsOfTheOfficeForOthers (now : Register) (party : ℕ) (a : Ask) : Type 0 where
   pub office : IsOfTheOffice a
-  pub others : (number : ℕ) → has_lodged now party number ≡ true → (a ≢ to_approve number) × (a ≢ to_refuse number)
+  pub others : (number : ℕ) → has_lodged now party number ≡ true
+      → (a ≢ to_approve number) × (a ≢ to_refuse number)
 
 -- rule 4: acts of the office are reserved to state administrators, and they are allowed all of them except
 -- decisions on what they lodged
 pub record OfficeActIsReserved (now at : Register) (caller : Caller) (a : Ask) (past : Bool) : Type 0 where
   pub left : IsLeftTo (StateAdministrator ∷ []) 4 IsOfTheOffice now at caller a past
-  pub given : IsGivenTo (StateAdministrator ∷ []) (IsOfTheOfficeForOthers now caller.party) now at caller a past
+  pub given : IsGivenTo (StateAdministrator ∷ [])
+      (IsOfTheOfficeForOthers now caller.party) now at caller a past
 
 abbrev pub ActsOfTheOfficeAreReserved : Type 0
-ActsOfTheOfficeAreReserved = (now at : Register) (caller : Caller) (a : Ask) (past : Bool) → OfficeActIsReserved now at caller a past
+ActsOfTheOfficeAreReserved =
+    (now at : Register) (caller : Caller) (a : Ask) (past : Bool) → OfficeActIsReserved now at caller a past
 
 -- the request lodges this content
 pub record Lodges (c : Content) (a : Ask) : Type 0 where
@@ -150,11 +161,13 @@ pub record TransferIsLeft (now at : Register) (caller : Caller) (a : Ask) (past 
   pub given : IsGivenTo (Conveyancer ∷ Notary ∷ []) LodgesTransfer now at caller a past
 
 abbrev pub ConveyancersAndNotariesLodgeTransfers : Type 0
-ConveyancersAndNotariesLodgeTransfers = (now at : Register) (caller : Caller) (a : Ask) (past : Bool) → TransferIsLeft now at caller a past
+ConveyancersAndNotariesLodgeTransfers =
+    (now at : Register) (caller : Caller) (a : Ask) (past : Bool) → TransferIsLeft now at caller a past
 
 -- the request lodges a subdivision or a merger
 abbrev pub LodgesSubdivisionOrMerger : Ask → Type 0
-LodgesSubdivisionOrMerger a = ((it : Subdivision) × Lodges (content.Subdivision it) a) ⊎ ((it : Merger) × Lodges (content.Merger it) a)
+LodgesSubdivisionOrMerger a =
+    ((it : Subdivision) × Lodges (content.Subdivision it) a) ⊎ ((it : Merger) × Lodges (content.Merger it) a)
 
 -- rule 6: subdivisions and mergers are reserved to certified surveyors, and they are allowed all of them
 pub record OutlinesAreLeft (now at : Register) (caller : Caller) (a : Ask) (past : Bool) : Type 0 where
@@ -162,11 +175,13 @@ pub record OutlinesAreLeft (now at : Register) (caller : Caller) (a : Ask) (past
   pub given : IsGivenTo (CertifiedSurveyor ∷ []) LodgesSubdivisionOrMerger now at caller a past
 
 abbrev pub SurveyorsLodgeSubdivisionsAndMergers : Type 0
-SurveyorsLodgeSubdivisionsAndMergers = (now at : Register) (caller : Caller) (a : Ask) (past : Bool) → OutlinesAreLeft now at caller a past
+SurveyorsLodgeSubdivisionsAndMergers =
+    (now at : Register) (caller : Caller) (a : Ask) (past : Bool) → OutlinesAreLeft now at caller a past
 
 -- the request lodges a mortgage or a discharge
 abbrev pub LodgesMortgageOrDischarge : Ask → Type 0
-LodgesMortgageOrDischarge a = ((it : Mortgage) × Lodges (content.Mortgage it) a) ⊎ ((it : Discharge) × Lodges (content.Discharge it) a)
+LodgesMortgageOrDischarge a =
+    ((it : Mortgage) × Lodges (content.Mortgage it) a) ⊎ ((it : Discharge) × Lodges (content.Discharge it) a)
 
 -- rule 7: mortgages and discharges are reserved to banks and notaries, and notaries are allowed all of them,
 -- for any creditor
@@ -175,7 +190,8 @@ pub record MortgagesAreLeft (now at : Register) (caller : Caller) (a : Ask) (pas
   pub given : IsGivenTo (Notary ∷ []) LodgesMortgageOrDischarge now at caller a past
 
 abbrev pub BanksAndNotariesLodgeMortgages : Type 0
-BanksAndNotariesLodgeMortgages = (now at : Register) (caller : Caller) (a : Ask) (past : Bool) → MortgagesAreLeft now at caller a past
+BanksAndNotariesLodgeMortgages =
+    (now at : Register) (caller : Caller) (a : Ask) (past : Bool) → MortgagesAreLeft now at caller a past
 
 -- ---- rules 8 and 9: banks act only for themselves
 
@@ -199,11 +215,13 @@ pub record LendsForAnother (now : Register) (caller : Caller) (a : Ask) (past : 
 -- rule 8: a bank is allowed the mortgages of which it is the creditor; the rule denies it those of other
 -- creditors, and denies nothing else
 pub record MortgageIsItsOwn (now at : Register) (caller : Caller) (a : Ask) (past : Bool) : Type 0 where
-  pub own : asks_as_bank now caller past ≡ true → LodgesMortgage caller.party a → verdict_of now at caller a past ≡ Allowed
+  pub own : asks_as_bank now caller past ≡ true → LodgesMortgage caller.party a
+      → verdict_of now at caller a past ≡ Allowed
   pub denied : (verdict_of now at caller a past ≡ Denied 8) ↔ LendsForAnother now caller a past
 
 abbrev pub BanksLodgeTheirOwnMortgages : Type 0
-BanksLodgeTheirOwnMortgages = (now at : Register) (caller : Caller) (a : Ask) (past : Bool) → MortgageIsItsOwn now at caller a past
+BanksLodgeTheirOwnMortgages =
+    (now at : Register) (caller : Caller) (a : Ask) (past : Bool) → MortgageIsItsOwn now at caller a past
 
 -- the request lodges the discharge of the mortgage with this number
 pub record LodgesDischarge (number : ℕ) (a : Ask) : Type 0 where
@@ -229,12 +247,14 @@ pub record DischargesWhatIsNotItsOwn (now : Register) (caller : Caller) (a : Ask
 -- rule 9: a bank is allowed the discharges of the mortgages that it has now, on any unit; the rule denies it
 -- every other discharge, and denies nothing else
 pub record DischargeIsItsOwn (now at : Register) (caller : Caller) (a : Ask) (past : Bool) : Type 0 where
-  pub own : (number : ℕ) → asks_as_bank now caller past ≡ true → LodgesDischarge number a → HasMortgage now caller.party number
+  pub own : (number : ℕ) → asks_as_bank now caller past ≡ true → LodgesDischarge number a
+      → HasMortgage now caller.party number
       → verdict_of now at caller a past ≡ Allowed
   pub denied : (verdict_of now at caller a past ≡ Denied 9) ↔ DischargesWhatIsNotItsOwn now caller a past
 
 abbrev pub BanksDischargeTheirOwnMortgages : Type 0
-BanksDischargeTheirOwnMortgages = (now at : Register) (caller : Caller) (a : Ask) (past : Bool) → DischargeIsItsOwn now at caller a past
+BanksDischargeTheirOwnMortgages =
+    (now at : Register) (caller : Caller) (a : Ask) (past : Bool) → DischargeIsItsOwn now at caller a past
 
 -- ---- rules 28 and 29: citizens give mandates, and withdraw those of which they are the principal or the
 -- agent
@@ -274,4 +294,5 @@ pub record MandateIsItsOwn (now at : Register) (caller : Caller) (a : Ask) (past
   pub denied : (verdict_of now at caller a past ≡ Denied 29) ↔ WithdrawsForOthers now caller a past
 
 abbrev pub CitizensGiveMandates : Type 0
-CitizensGiveMandates = (now at : Register) (caller : Caller) (a : Ask) (past : Bool) → MandateIsItsOwn now at caller a past
+CitizensGiveMandates =
+    (now at : Register) (caller : Caller) (a : Ask) (past : Bool) → MandateIsItsOwn now at caller a past

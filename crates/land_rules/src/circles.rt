@@ -3,7 +3,8 @@
 //! register.
 ghost use Rattle.std.specs.Prelude.{◌≡◌, ℕ, nat_eq, IfOk};
 ghost use Rattle.std.specs.List.{list_any};
-ghost use Rattle.land_rules.specs.Circles.{circle_of, is_group_of, is_held_by, is_in_circle, is_owned_by, is_told_to_circle, names_held_by, principals_of};
+ghost use Rattle.land_rules.specs.Circles.{circle_of, is_group_of, is_held_by, is_in_circle, is_owned_by};
+ghost use Rattle.land_rules.specs.Circles.{is_told_to_circle, names_held_by, principals_of};
 ghost use Rattle.land_rules.specs.Holdings.{has_number};
 
 use crate::relations::{is_holder, is_member_of, is_mortgage, is_owner};

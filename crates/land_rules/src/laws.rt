@@ -2,12 +2,20 @@
 //! function with an empty body, and is stated only over the definitions.
 ghost use Rattle.land_rules.specs.ActLaws.{LodgersDoNotDecide, AdministratorsDecideForOthers};
 ghost use Rattle.land_rules.specs.Alike.{VerdictsTellNothingUnseen};
-ghost use Rattle.land_rules.specs.CircleLaws.{AloneWithoutMandates, CirclesAreOfMandates, CirclesSeeTogether, MandatesServeCitizens};
-ghost use Rattle.land_rules.specs.Laws.{RulesRise, VerdictsAreLeast, SeenIsExactly, MembersSeeGroups, DenialsTellSight};
-ghost use Rattle.land_rules.specs.SightLaws.{MembersHold, EndedEntriesGiveNoSight, OwnersAloneSeeMortgages, BanksSeeByTheirMortgages, LodgersSeeTheirMutations, ConveyancersSeeByTheirLodgings};
-ghost use Rattle.land_rules.specs.StandingLaws.{StrangersAreDeniedEverything, RolesAreHeld, ThePastIsClosedToThreeRoles, ActsOfTheOfficeAreReserved};
-ghost use Rattle.land_rules.specs.StandingLaws.{ConveyancersAndNotariesLodgeTransfers, SurveyorsLodgeSubdivisionsAndMergers, BanksAndNotariesLodgeMortgages};
-ghost use Rattle.land_rules.specs.StandingLaws.{BanksLodgeTheirOwnMortgages, BanksDischargeTheirOwnMortgages, CitizensGiveMandates};
+ghost use Rattle.land_rules.specs.CircleLaws.{AloneWithoutMandates, CirclesAreOfMandates, CirclesSeeTogether};
+ghost use Rattle.land_rules.specs.CircleLaws.{MandatesServeCitizens};
+ghost use Rattle.land_rules.specs.Laws.{RulesRise, VerdictsAreLeast, SeenIsExactly, MembersSeeGroups};
+ghost use Rattle.land_rules.specs.Laws.{DenialsTellSight};
+ghost use Rattle.land_rules.specs.SightLaws.{MembersHold, EndedEntriesGiveNoSight, OwnersAloneSeeMortgages};
+ghost use Rattle.land_rules.specs.SightLaws.{BanksSeeByTheirMortgages, LodgersSeeTheirMutations};
+ghost use Rattle.land_rules.specs.SightLaws.{ConveyancersSeeByTheirLodgings};
+ghost use Rattle.land_rules.specs.StandingLaws.{StrangersAreDeniedEverything, RolesAreHeld};
+ghost use Rattle.land_rules.specs.StandingLaws.{ThePastIsClosedToThreeRoles, ActsOfTheOfficeAreReserved};
+ghost use Rattle.land_rules.specs.StandingLaws.{ConveyancersAndNotariesLodgeTransfers};
+ghost use Rattle.land_rules.specs.StandingLaws.{SurveyorsLodgeSubdivisionsAndMergers};
+ghost use Rattle.land_rules.specs.StandingLaws.{BanksAndNotariesLodgeMortgages};
+ghost use Rattle.land_rules.specs.StandingLaws.{BanksLodgeTheirOwnMortgages, BanksDischargeTheirOwnMortgages};
+ghost use Rattle.land_rules.specs.StandingLaws.{CitizensGiveMandates};
 
 /// The rules on each request are in ascending order.
 pub fn rules_rise()

@@ -1,7 +1,10 @@
 //! The relations between a party and the objects of a register: holder, owner, creditor, lodger.
 ghost use Rattle.std.specs.Prelude.{◌≡◌};
 ghost use Rattle.land_core.specs.Entries.{some};
-ghost use Rattle.land_rules.specs.Relations.{has_lodged, holds_as, is_credit, is_creditor_on, is_held_ownership, is_held_right, is_holder, is_lodger_of, is_lodger_on, is_member_of, is_mortgage, is_owner, is_pending_of, is_pending_on, is_right, is_told_to_creditor};
+ghost use Rattle.land_rules.specs.Relations.{has_lodged, holds_as, is_credit, is_creditor_on};
+ghost use Rattle.land_rules.specs.Relations.{is_held_ownership, is_held_right, is_holder, is_lodger_of};
+ghost use Rattle.land_rules.specs.Relations.{is_lodger_on, is_member_of, is_mortgage, is_owner};
+ghost use Rattle.land_rules.specs.Relations.{is_pending_of, is_pending_on, is_right, is_told_to_creditor};
 
 use land_core::kind::Kind;
 use land_core::mutation::MutationRecord;

@@ -14,4 +14,5 @@ doubled_areas (ring ∷ rings) = doubled_area ring + doubled_areas rings
 
 -- the outlines of the parcels that exist at these numbers
 abbrev pub outlines_at : Register → (numbers : List ℕ) → List (List Place)
-outlines_at r numbers = filter_map (λ n. option_map_or (λ p. Some p.outline) (map.get r.parcels n) None) numbers
+outlines_at r numbers =
+    filter_map (λ n. option_map_or (λ p. Some p.outline) (map.get r.parcels n) None) numbers

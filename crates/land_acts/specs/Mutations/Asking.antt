@@ -2,9 +2,12 @@
 use Rattle.std.specs.Prelude.{ℕ, ◌+◌, ◌≡◌, ◌≤◌, ℤ, Bool, ◌&&◌, List, [], ◌∷◌, Option, Some, None, nat_lt}
 use Rattle.land_acts.specs.Mutations.Discharging.{discharge_refusals, discharge_change}
 use Rattle.land_acts.specs.Mutations.Merging.{merger_refusals, merger_change}
-use Rattle.land_acts.specs.Mutations.Mortgaging.{greatest, mortgage_refusals, mortgage_change, next_rank, ranks_in}
-use Rattle.land_acts.specs.Mutations.Subdividing.{subdivision_refusals, subdivision_change, subdivision_count, subdivision_made}
-use Rattle.land_acts.specs.Mutations.Transferring.{transfer_refusals, move_change, grows_at, held_at, new_rights, number_after}
+use Rattle.land_acts.specs.Mutations.Mortgaging.{greatest, mortgage_refusals, mortgage_change, next_rank}
+use Rattle.land_acts.specs.Mutations.Mortgaging.{ranks_in}
+use Rattle.land_acts.specs.Mutations.Subdividing.{subdivision_refusals, subdivision_change, subdivision_count}
+use Rattle.land_acts.specs.Mutations.Subdividing.{subdivision_made}
+use Rattle.land_acts.specs.Mutations.Transferring.{transfer_refusals, move_change, grows_at, held_at}
+use Rattle.land_acts.specs.Mutations.Transferring.{new_rights, number_after}
 use Rattle.land_acts.specs.declared.mutations.refusal.Refusal.{Refusal}
 use Rattle.land_acts.specs.declared.mutations.transfer.Held.{Held}
 use Rattle.land_core.specs.Changes.{no_change}
@@ -50,7 +53,8 @@ content_made r (content.Discharge it) = []
 
 -- the numbers and the rank that a content creates are in range
 abbrev pub Fits : Register → Content → Type 0
-Fits r (content.Transfer it) = (from : Held) → held_at r it.unit it.right ≡ Some from → number_after r (grows_at r it from) ≤ 1000000001
+Fits r (content.Transfer it) =
+    (from : Held) → held_at r it.unit it.right ≡ Some from → number_after r (grows_at r it from) ≤ 1000000001
 Fits r (content.Subdivision it) = r.next + subdivision_count r it ≤ 1000000001
 Fits r (content.Merger it) = r.next ≤ 1000000000
 Fits r (content.Mortgage it) = (r.next ≤ 1000000000) × (next_rank r it.unit ≤ 1000000000)
@@ -61,5 +65,6 @@ abbrev pub has_room : Register → Content → Bool
 has_room r (content.Transfer it) = nat_lt r.next 1000000002
 has_room r (content.Subdivision it) = nat_lt r.next 1000000002
 has_room r (content.Merger it) = nat_lt r.next 1000000002
-has_room r (content.Mortgage it) = nat_lt r.next 1000000002 && nat_lt (greatest (ranks_in r it.unit)) 1000000000
+has_room r (content.Mortgage it) =
+    nat_lt r.next 1000000002 && nat_lt (greatest (ranks_in r it.unit)) 1000000000
 has_room r (content.Discharge it) = nat_lt r.next 1000000002

@@ -3,7 +3,8 @@ use Rattle.std.specs.Prelude.{ℕ, ℤ, Bool, false, not, nat_eq, List, [], ◌�
 use Rattle.std.specs.Option.{option_map_or}
 use Rattle.std.specs.FinMap as map
 use Rattle.land_acts.specs.declared.mutations.refusal.Refusal.{Refusal}
-use Rattle.land_acts.specs.declared.mutations.refusal.Refusal.TheVariants.{NoSuchUnit, NoSuchRight, NotMortgage, ClockOut}
+use Rattle.land_acts.specs.declared.mutations.refusal.Refusal.TheVariants.{NoSuchUnit, NoSuchRight}
+use Rattle.land_acts.specs.declared.mutations.refusal.Refusal.TheVariants.{NotMortgage, ClockOut}
 use Rattle.land_core.specs.Changes.{no_put, no_ended}
 use Rattle.land_core.specs.Entries.{has}
 use Rattle.land_core.specs.Units.{rank_of}

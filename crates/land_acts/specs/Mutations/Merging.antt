@@ -1,6 +1,7 @@
 -- The content `merger`: parcels of a unit, and of other units with the same entries, become one parcel of the
 -- unit; the other units end.
-use Rattle.std.specs.Prelude.{ℕ, ◌+◌, ℤ, Bool, true, false, not, ◌&&◌, ◌||◌, nat_eq, nat_lt, List, [], ◌∷◌, ◌++◌, filter, length, Option, is_none}
+use Rattle.std.specs.Prelude.{ℕ, ◌+◌, ℤ, Bool, true, false, not, ◌&&◌, ◌||◌, nat_eq, nat_lt, List, [], ◌∷◌}
+use Rattle.std.specs.Prelude.{◌++◌, filter, length, Option, is_none}
 use Rattle.std.specs.List.{list_all, list_any}
 use Rattle.std.specs.Option.{option_map_or}
 use Rattle.std.specs.Str.{bytes_eq}
@@ -11,7 +12,9 @@ use Rattle.land_acts.specs.Mutations.Planning.{lacks_numbers}
 use Rattle.land_acts.specs.Mutations.Subdividing.{entries_of, parcels_beside}
 use Rattle.land_acts.specs.Mutations.Transferring.{is_checked}
 use Rattle.land_acts.specs.declared.mutations.refusal.Refusal.{Refusal}
-use Rattle.land_acts.specs.declared.mutations.refusal.Refusal.TheVariants.{NoSuchUnit, NoSuchParcel, UnitsUnlike, TooMany, ClockOut, NotMatched}
+use Rattle.land_acts.specs.declared.mutations.refusal.Refusal.TheVariants.{NoSuchUnit, NoSuchParcel}
+use Rattle.land_acts.specs.declared.mutations.refusal.Refusal.TheVariants.{UnitsUnlike, TooMany, ClockOut}
+use Rattle.land_acts.specs.declared.mutations.refusal.Refusal.TheVariants.{NotMatched}
 use Rattle.land_core.specs.Changes.{no_put, no_ended}
 use Rattle.land_core.specs.Contents.{is_same_share}
 use Rattle.land_core.specs.Entries.{has, numbers_where}
@@ -28,7 +31,8 @@ use Rattle.land_core.specs.declared.rrr.RrrRecord.{RrrRecord}
 
 -- whether two entries are equal, except for number, unit and source
 abbrev pub is_same_class : Class → Class → Bool
-is_same_class (class.Right type share) (class.Right other part) = is_type type other && is_same_share share part
+is_same_class (class.Right type share) (class.Right other part) =
+    is_type type other && is_same_share share part
 is_same_class (class.Right type share) (class.Restriction other) = false
 is_same_class (class.Right type share) (class.Responsibility other) = false
 is_same_class (class.Right type share) (class.Mortgage sum coin place) = false
@@ -43,7 +47,8 @@ is_same_class (class.Responsibility words) (class.Mortgage sum coin place) = fal
 is_same_class (class.Mortgage amount currency rank) (class.Right other part) = false
 is_same_class (class.Mortgage amount currency rank) (class.Restriction other) = false
 is_same_class (class.Mortgage amount currency rank) (class.Responsibility other) = false
-is_same_class (class.Mortgage amount currency rank) (class.Mortgage sum coin place) = nat_eq amount sum && bytes_eq currency coin && nat_eq rank place
+is_same_class (class.Mortgage amount currency rank) (class.Mortgage sum coin place) =
+    nat_eq amount sum && bytes_eq currency coin && nat_eq rank place
 
 abbrev pub is_same_entry : RrrRecord → RrrRecord → Bool
 is_same_entry e f = nat_eq e.party f.party && is_same_class e.class f.class
@@ -54,7 +59,8 @@ times_in entries e = length (filter (is_same_entry e) entries)
 
 -- whether two lists have the same entries, each the same number of times
 abbrev pub are_same_entries : List RrrRecord → List RrrRecord → Bool
-are_same_entries entries others = list_all (λ e. nat_eq (times_in entries e) (times_in others e)) (entries ++ others)
+are_same_entries entries others =
+    list_all (λ e. nat_eq (times_in entries e) (times_in others e)) (entries ++ others)
 
 -- ---- the refusals
 
@@ -118,7 +124,10 @@ entries_of_others r it = numbers_where (λ n e. lists_number it.others e.unit) r
 -- that of the mutation
 abbrev pub merger_change : Register → (source : ℕ) → Merger → Change
 merger_change r source it = record {
-  put = record no_put { parcels = (r.next, record { unit = it.unit; label = it.label; outline = it.outline; source = source }) ∷ [] };
+  put = record no_put {
+    parcels =
+        (r.next, record { unit = it.unit; label = it.label; outline = it.outline; source = source }) ∷ [];
+  };
   ended = record no_ended { units = it.others; parcels = it.parcels; rrrs = entries_of_others r it };
   next = r.next + 1;
 }

@@ -1,10 +1,12 @@
 -- The content `mortgage`: a unit becomes the security of a loan.
-use Rattle.std.specs.Prelude.{ℕ, ◌+◌, ℤ, Bool, not, ◌||◌, nat_eq, nat_lt, List, [], ◌∷◌, Option, None, is_none, if◌then◌else◌}
+use Rattle.std.specs.Prelude.{ℕ, ◌+◌, ℤ, Bool, not, ◌||◌, nat_eq, nat_lt, List, [], ◌∷◌, Option, None}
+use Rattle.std.specs.Prelude.{is_none, if◌then◌else◌}
 use Rattle.std.specs.List.{filter_map}
 use Rattle.std.specs.FinMap as map
 use Rattle.land_acts.specs.Mutations.Planning.{would_crowd, lacks_numbers}
 use Rattle.land_acts.specs.declared.mutations.refusal.Refusal.{Refusal}
-use Rattle.land_acts.specs.declared.mutations.refusal.Refusal.TheVariants.{NoSuchUnit, NoSuchParty, TooMany, NotBank, ClockOut}
+use Rattle.land_acts.specs.declared.mutations.refusal.Refusal.TheVariants.{NoSuchUnit, NoSuchParty, TooMany}
+use Rattle.land_acts.specs.declared.mutations.refusal.Refusal.TheVariants.{NotBank, ClockOut}
 use Rattle.land_core.specs.Changes.{no_put, no_ended}
 use Rattle.land_core.specs.Entries.{has}
 use Rattle.land_core.specs.Register.{holds}
@@ -45,7 +47,14 @@ mortgage_refusals r it stamp =
 
 -- the mortgage as an entry, with the source of the mutation
 abbrev pub mortgage_entry : Register → (source : ℕ) → Mortgage → RrrRecord
-mortgage_entry r source it = record { unit = it.unit; party = it.creditor; class = class.Mortgage it.amount it.currency (next_rank r it.unit); source = source }
+mortgage_entry r source it =
+    record {
+      unit = it.unit;
+      party = it.creditor;
+      class = class.Mortgage it.amount it.currency
+          (next_rank r it.unit);
+      source = source;
+    }
 
 -- the mortgage gets the next number
 abbrev pub mortgage_change : Register → (source : ℕ) → Mortgage → Change

@@ -1,7 +1,16 @@
 -- The parts that all plans share.
 use Rattle.std.specs.Prelude.{ℕ, ◌+◌, ℤ, Bool, List, [], ◌∷◌, Option, Some, None, nat_lt, if◌then◌else◌}
 use Rattle.land_acts.specs.declared.mutations.refusal.Refusal.{Refusal}
-use Rattle.land_acts.specs.declared.mutations.refusal.Refusal.TheVariants.{NotLodged, NoSuchUnit, NoSuchParcel, NoSuchRight, NoSuchParty, ShareTooLarge, SharesTooFine, UnitsUnlike, TooMany, NotBank, NotMortgage, SharesNotWhole, ReferenceUsed, RoleHeld, RoleNotHeld, ClockOut, LastAdministrator, SameParty, NotMatched, MandateHeld, NoMandate, NoMemory}
+use Rattle.land_acts.specs.declared.mutations.refusal.Refusal.TheVariants.{NotLodged, NoSuchUnit}
+use Rattle.land_acts.specs.declared.mutations.refusal.Refusal.TheVariants.{NoSuchParcel, NoSuchRight}
+use Rattle.land_acts.specs.declared.mutations.refusal.Refusal.TheVariants.{NoSuchParty, ShareTooLarge}
+use Rattle.land_acts.specs.declared.mutations.refusal.Refusal.TheVariants.{SharesTooFine, UnitsUnlike}
+use Rattle.land_acts.specs.declared.mutations.refusal.Refusal.TheVariants.{TooMany, NotBank, NotMortgage}
+use Rattle.land_acts.specs.declared.mutations.refusal.Refusal.TheVariants.{SharesNotWhole, ReferenceUsed}
+use Rattle.land_acts.specs.declared.mutations.refusal.Refusal.TheVariants.{RoleHeld, RoleNotHeld, ClockOut}
+use Rattle.land_acts.specs.declared.mutations.refusal.Refusal.TheVariants.{LastAdministrator, SameParty}
+use Rattle.land_acts.specs.declared.mutations.refusal.Refusal.TheVariants.{NotMatched, MandateHeld, NoMandate}
+use Rattle.land_acts.specs.declared.mutations.refusal.Refusal.TheVariants.{NoMemory}
 use Rattle.land_core.specs.Units.{rrr_count}
 use Rattle.land_core.specs.declared.change.Done.{Done}
 use Rattle.land_core.specs.declared.register.Register.{Register}

@@ -1,6 +1,7 @@
 -- The content `subdivision`: a parcel of a unit ends, and its parts replace it. A part stays in the unit, or
 -- becomes the parcel of a new unit that gets copies of all entries of the old one.
-use Rattle.std.specs.Prelude.{ℕ, ◌+◌, ℤ, Bool, false, not, ◌&&◌, ◌||◌, nat_eq, nat_lt, List, [], ◌∷◌, ◌++◌, map as map_list, filter, length, Option, Some, None, is_none}
+use Rattle.std.specs.Prelude.{ℕ, ◌+◌, ℤ, Bool, false, not, ◌&&◌, ◌||◌, nat_eq, nat_lt, List, [], ◌∷◌, ◌++◌}
+use Rattle.std.specs.Prelude.{map as map_list, filter, length, Option, Some, None, is_none}
 use Rattle.std.specs.Option.{option_map_or}
 use Rattle.std.specs.FinMap as map
 use Rattle.land_acts.specs.Mutations.Areas.{outlines_at}
@@ -9,7 +10,8 @@ use Rattle.land_acts.specs.Mutations.Numbering.{numbered, numbers_from}
 use Rattle.land_acts.specs.Mutations.Planning.{lacks_numbers}
 use Rattle.land_acts.specs.Mutations.Transferring.{is_checked}
 use Rattle.land_acts.specs.declared.mutations.refusal.Refusal.{Refusal}
-use Rattle.land_acts.specs.declared.mutations.refusal.Refusal.TheVariants.{NoSuchUnit, NoSuchParcel, TooMany, ClockOut, NotMatched}
+use Rattle.land_acts.specs.declared.mutations.refusal.Refusal.TheVariants.{NoSuchUnit, NoSuchParcel, TooMany}
+use Rattle.land_acts.specs.declared.mutations.refusal.Refusal.TheVariants.{ClockOut, NotMatched}
 use Rattle.land_core.specs.Changes.{no_put, no_ended}
 use Rattle.land_core.specs.Entries.{count_where, has}
 use Rattle.land_core.specs.Mergers.{lists_number}
@@ -37,7 +39,8 @@ pub record Origin : Type 0 where
   pub source : ℕ
 
 abbrev pub origin_of : Register → (source : ℕ) → Subdivision → Origin
-origin_of r source it = record { unit = it.unit; checked = is_checked r it.unit; entries = entries_of r it.unit; source = source }
+origin_of r source it =
+    record { unit = it.unit; checked = is_checked r it.unit; entries = entries_of r it.unit; source = source }
 
 -- a copy of an entry for another unit, with the same party, class and source
 abbrev pub in_unit : (unit : ℕ) → RrrRecord → RrrRecord
@@ -62,7 +65,8 @@ unit_made origin first (Some name) = (first, record { name = name; checked = ori
 
 -- then the parcel in it, with the source of the mutation
 abbrev pub parcel_in : Origin → (unit : ℕ) → Part → ParcelRecord
-parcel_in origin unit part = record { unit = unit; label = part.label; outline = part.outline; source = origin.source }
+parcel_in origin unit part =
+    record { unit = unit; label = part.label; outline = part.outline; source = origin.source }
 
 abbrev pub parcel_made : Origin → (first : ℕ) → Part → (new_unit : Option (List ℕ)) → List (ℕ × ParcelRecord)
 parcel_made origin first part None = (first, parcel_in origin origin.unit part) ∷ []
@@ -81,15 +85,19 @@ next_after origin first (part ∷ parts) = next_after origin (first + numbers_fo
 
 abbrev pub units_made : Origin → (first : ℕ) → List Part → List (ℕ × UnitRecord)
 units_made origin first [] = []
-units_made origin first (part ∷ parts) = unit_made origin first part.unit ++ units_made origin (first + numbers_for origin part.unit) parts
+units_made origin first (part ∷ parts) =
+    unit_made origin first part.unit ++ units_made origin (first + numbers_for origin part.unit) parts
 
 abbrev pub parcels_made : Origin → (first : ℕ) → List Part → List (ℕ × ParcelRecord)
 parcels_made origin first [] = []
-parcels_made origin first (part ∷ parts) = parcel_made origin first part part.unit ++ parcels_made origin (first + numbers_for origin part.unit) parts
+parcels_made origin first (part ∷ parts) =
+    parcel_made origin first part part.unit
+    ++ parcels_made origin (first + numbers_for origin part.unit) parts
 
 abbrev pub copies_made : Origin → (first : ℕ) → List Part → List (ℕ × RrrRecord)
 copies_made origin first [] = []
-copies_made origin first (part ∷ parts) = entries_made origin first part.unit ++ copies_made origin (first + numbers_for origin part.unit) parts
+copies_made origin first (part ∷ parts) =
+    entries_made origin first part.unit ++ copies_made origin (first + numbers_for origin part.unit) parts
 
 -- ---- the change
 

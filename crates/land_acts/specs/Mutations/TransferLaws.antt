@@ -19,10 +19,14 @@ use Rattle.land_fraction.specs.Wholeness.{IsCommonMultiple, parts_of}
 -- before. In a unit that is not checked, the law assumes that the right's share is at most one, which holds
 -- for every fraction; in a checked unit of a sound register it always is
 abbrev pub TransfersKeepSums : Type 0
-TransfersKeepSums = (r : Register) (source : ℕ) (it : Transfer) (from : Held) (stamp : ℤ) (parts : ℕ) → IsSound r → first_that_holds (transfer_refusals r it (Some stamp)) ≡ None
-    → held_at r it.unit it.right ≡ Some from → (is_checked r it.unit ≡ false → from.share.numerator ≤ from.share.denominator)
-    → IsCommonMultiple parts (type_shares r it.unit from.right_type) → IsCommonMultiple parts (type_shares (after (move_change r source it from) r) it.unit from.right_type)
-    → parts_of parts (type_shares (after (move_change r source it from) r) it.unit from.right_type) ≡ parts_of parts (type_shares r it.unit from.right_type)
+TransfersKeepSums = (r : Register) (source : ℕ) (it : Transfer) (from : Held) (stamp : ℤ) (parts : ℕ)
+    → IsSound r → first_that_holds (transfer_refusals r it (Some stamp)) ≡ None
+    → held_at r it.unit it.right ≡ Some from
+    → (is_checked r it.unit ≡ false → from.share.numerator ≤ from.share.denominator)
+    → IsCommonMultiple parts (type_shares r it.unit from.right_type)
+    → IsCommonMultiple parts (type_shares (after (move_change r source it from) r) it.unit from.right_type)
+    → parts_of parts (type_shares (after (move_change r source it from) r) it.unit from.right_type)
+    ≡ parts_of parts (type_shares r it.unit from.right_type)
 
 -- an entry is a right of this type that the party has in the unit
 pub record IsRightOf (unit party : ℕ) (type : RightType) (entry : RrrRecord) : Type 0 where
@@ -36,10 +40,13 @@ pub record HasOneRight (r : Register) (unit party : ℕ) (type : RightType) : Ty
   pub entry : RrrRecord
   pub there : map.get r.rrrs number ≡ Some entry
   pub is_right : IsRightOf unit party type entry
-  pub alone : (n : ℕ) (other : RrrRecord) → map.get r.rrrs n ≡ Some other → IsRightOf unit party type other → n ≡ number
+  pub alone : (n : ℕ) (other : RrrRecord) → map.get r.rrrs n ≡ Some other → IsRightOf unit party type other
+      → n ≡ number
 
 -- after a transfer without refusal, the receiver has exactly one right of the type in the unit, whether it
 -- had one before or not
 abbrev pub ReceiversHaveOneRight : Type 0
-ReceiversHaveOneRight = (r : Register) (source : ℕ) (it : Transfer) (from : Held) (stamp : ℤ) → IsSound r → first_that_holds (transfer_refusals r it (Some stamp)) ≡ None
-    → held_at r it.unit it.right ≡ Some from → HasOneRight (after (move_change r source it from) r) it.unit it.receiver from.right_type
+ReceiversHaveOneRight = (r : Register) (source : ℕ) (it : Transfer) (from : Held) (stamp : ℤ) → IsSound r
+    → first_that_holds (transfer_refusals r it (Some stamp)) ≡ None
+    → held_at r it.unit it.right ≡ Some from
+    → HasOneRight (after (move_change r source it from) r) it.unit it.receiver from.right_type

@@ -1,12 +1,16 @@
 -- The content `transfer`: a share of a right in a unit goes to a receiver, who then has it in a right of the
 -- same type.
-use Rattle.std.specs.Prelude.{ℕ, ◌+◌, ◌*◌, ℤ, Bool, true, false, not, ◌&&◌, ◌||◌, nat_eq, nat_lt, List, [], ◌∷◌, ◌++◌, Option, Some, None, is_none, Result, Ok, Err, if◌then◌else◌}
+use Rattle.std.specs.Prelude.{ℕ, ◌+◌, ◌*◌, ℤ, Bool, true, false, not, ◌&&◌, ◌||◌, nat_eq, nat_lt, List, []}
+use Rattle.std.specs.Prelude.{◌∷◌, ◌++◌, Option, Some, None, is_none, Result, Ok, Err, if◌then◌else◌}
 use Rattle.std.specs.List.{find, filter_map}
 use Rattle.std.specs.Option.{option_map_or}
 use Rattle.std.specs.FinMap as map
 use Rattle.land_acts.specs.Mutations.Planning.{lacks_numbers}
 use Rattle.land_acts.specs.declared.mutations.refusal.Refusal.{Refusal}
-use Rattle.land_acts.specs.declared.mutations.refusal.Refusal.TheVariants.{NoSuchUnit, NoSuchRight, NoSuchParty, ShareTooLarge, SharesTooFine, TooMany, ClockOut, SameParty}
+use Rattle.land_acts.specs.declared.mutations.refusal.Refusal.TheVariants.{NoSuchUnit, NoSuchRight}
+use Rattle.land_acts.specs.declared.mutations.refusal.Refusal.TheVariants.{NoSuchParty, ShareTooLarge}
+use Rattle.land_acts.specs.declared.mutations.refusal.Refusal.TheVariants.{SharesTooFine, TooMany, ClockOut}
+use Rattle.land_acts.specs.declared.mutations.refusal.Refusal.TheVariants.{SameParty}
 use Rattle.land_acts.specs.declared.mutations.transfer.Held.{Held}
 use Rattle.land_core.specs.Changes.{after, no_put, no_ended}
 use Rattle.land_core.specs.Entries.{has}
@@ -28,7 +32,8 @@ use Rattle.land_fraction.specs.declared.fault.FractionFault.TheVariants as fault
 
 -- an entry as a right, if it is one: its number, party, type and share
 abbrev pub held_of : (number party : ℕ) → Class → Option Held
-held_of number party (class.Right type share) = Some (record { number = number; party = party; right_type = type; share = share })
+held_of number party (class.Right type share) =
+    Some (record { number = number; party = party; right_type = type; share = share })
 held_of number party (class.Restriction words) = None
 held_of number party (class.Responsibility words) = None
 held_of number party (class.Mortgage amount currency rank) = None
@@ -46,7 +51,8 @@ is_held_by party type held = nat_eq held.party party && is_type held.right_type 
 
 -- the right of a type that a party has in a unit; there is at most one
 abbrev pub held_by : Register → (unit party : ℕ) → RightType → Option Held
-held_by r unit party type = find (is_held_by party type) (filter_map (λ e. held_in unit e.0 e.1) (map.entries r.rrrs))
+held_by r unit party type =
+    find (is_held_by party type) (filter_map (λ e. held_in unit e.0 e.1) (map.entries r.rrrs))
 
 -- the right of the same type that the receiver already has
 abbrev pub grows_at : Register → Transfer → Held → Option Held
@@ -77,11 +83,13 @@ is_too_fine (Err fault.TooFine) = true
 
 -- a right as an entry, with its source
 abbrev pub right_entry : (unit party : ℕ) → RightType → Ratio → (source : ℕ) → RrrRecord
-right_entry unit party type share source = record { unit = unit; party = party; class = class.Right type share; source = source }
+right_entry unit party type share source =
+    record { unit = unit; party = party; class = class.Right type share; source = source }
 
 -- the giver's right with its remaining share; if nothing remains, the right ends
 abbrev pub kept : (source : ℕ) → Transfer → Held → Result Ratio FractionFault → List (ℕ × RrrRecord)
-kept source it from (Ok share) = (from.number, right_entry it.unit from.party from.right_type share source) ∷ []
+kept source it from (Ok share) =
+    (from.number, right_entry it.unit from.party from.right_type share source) ∷ []
 kept source it from (Err fault) = []
 
 abbrev pub given_up : Held → Result Ratio FractionFault → List ℕ
@@ -94,7 +102,8 @@ grown source it to (Ok share) = (to.number, right_entry it.unit it.receiver to.r
 grown source it to (Err fault) = []
 
 abbrev pub received : Register → (source : ℕ) → Transfer → Held → Option Held → List (ℕ × RrrRecord)
-received r source it from None = (r.next, right_entry it.unit it.receiver from.right_type it.share source) ∷ []
+received r source it from None =
+    (r.next, right_entry it.unit it.receiver from.right_type it.share source) ∷ []
 received r source it from (Some to) = grown source it to (share_grown it to)
 
 -- a new right gets the next number
@@ -108,7 +117,10 @@ number_after r (Some to) = r.next
 
 abbrev pub move_change : Register → (source : ℕ) → Transfer → Held → Change
 move_change r source it from = record {
-  put = record no_put { rrrs = kept source it from (share_left it from) ++ received r source it from (grows_at r it from) };
+  put = record no_put {
+    rrrs = kept source it from (share_left it from)
+        ++ received r source it from (grows_at r it from);
+  };
   ended = record no_ended { rrrs = given_up from (share_left it from) };
   next = number_after r (grows_at r it from);
 }
@@ -120,11 +132,14 @@ is_itself it from = nat_eq from.party it.receiver
 
 -- whether the share is above that of the right
 abbrev pub is_above : Transfer → Held → Bool
-is_above it from = nat_lt (from.share.numerator * it.share.denominator) (it.share.numerator * from.share.denominator)
+is_above it from =
+    nat_lt (from.share.numerator * it.share.denominator) (it.share.numerator * from.share.denominator)
 
 -- whether the share is above that of the right, or another receiver would have more than one
 abbrev pub is_too_large : Register → Transfer → Held → Bool
-is_too_large r it from = is_above it from || not (is_itself it from) && option_map_or (λ to. is_above_one (share_grown it to)) (grows_at r it from) false
+is_too_large r it from =
+    is_above it from || not (is_itself it from)
+    && option_map_or (λ to. is_above_one (share_grown it to)) (grows_at r it from) false
 
 -- whether a unit exists and is checked
 abbrev pub is_checked : Register → (unit : ℕ) → Bool
@@ -132,20 +147,23 @@ is_checked r unit = option_map_or (λ u. u.checked) (map.get r.units unit) false
 
 -- whether the shares of a type in a unit have no common denominator up to 1,000,000,000 after the transfer
 abbrev pub are_too_fine_after : Register → Transfer → Held → Bool
-are_too_fine_after r it from = is_none (common_of (type_shares (after (move_change r 0 it from) r) it.unit from.right_type))
+are_too_fine_after r it from =
+    is_none (common_of (type_shares (after (move_change r 0 it from) r) it.unit from.right_type))
 
 -- whether a changed share is too fine, or the unit is checked and its shares of the type would be
 abbrev pub are_too_fine : Register → Transfer → Held → Bool
 are_too_fine r it from =
     not (is_itself it from)
-    && (is_too_fine (share_left it from) || option_map_or (λ to. is_too_fine (share_grown it to)) (grows_at r it from) false
+    && (is_too_fine (share_left it from)
+    || option_map_or (λ to. is_too_fine (share_grown it to)) (grows_at r it from) false
     || is_checked r it.unit && are_too_fine_after r it from)
 
 -- whether the receiver needs a new right, and either no number is left for it or the unit would have more
 -- than 256 entries
 abbrev pub are_too_many : Register → Transfer → Held → Bool
 are_too_many r it from =
-    is_none (grows_at r it from) && (lacks_numbers r 1 || nat_lt 256 (rrr_count (after (move_change r 0 it from) r) it.unit))
+    is_none (grows_at r it from)
+    && (lacks_numbers r 1 || nat_lt 256 (rrr_count (after (move_change r 0 it from) r) it.unit))
 
 -- whether the right exists and satisfies a condition
 abbrev pub has_right_where : (Held → Bool) → Register → Transfer → Bool

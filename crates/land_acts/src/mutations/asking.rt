@@ -1,6 +1,7 @@
 //! Dispatches on the content of a mutation: its refusals, its change, and the numbers that it creates.
 ghost use Rattle.std.specs.Prelude.{◌≡◌, IfOk};
-ghost use Rattle.land_acts.specs.Mutations.Asking.{Fits, content_change, content_made, content_refusals, has_room};
+ghost use Rattle.land_acts.specs.Mutations.Asking.{Fits, content_change, content_made, content_refusals};
+ghost use Rattle.land_acts.specs.Mutations.Asking.{has_room};
 ghost use Rattle.land_acts.specs.Mutations.Planning.{first_that_holds};
 
 use crate::mutations::planning::{Slice, numbers_from};

@@ -1,6 +1,7 @@
 //! The content `discharge`: a mortgage ends.
 ghost use Rattle.std.specs.Prelude.{◌≡◌, IfOk};
-ghost use Rattle.land_acts.specs.Mutations.Discharging.{discharge_change, discharge_refusals, has_entry_in, has_mortgage};
+ghost use Rattle.land_acts.specs.Mutations.Discharging.{discharge_change, discharge_refusals, has_entry_in};
+ghost use Rattle.land_acts.specs.Mutations.Discharging.{has_mortgage};
 ghost use Rattle.land_acts.specs.Mutations.Planning.{first_that_holds};
 
 use crate::mutations::planning::Slice;

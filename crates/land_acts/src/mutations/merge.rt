@@ -3,7 +3,11 @@ ghost use Rattle.std.specs.Prelude.{◌≡◌, ◌≤◌, ◌∷◌, [], not, na
 ghost use Rattle.std.specs.List.{list_all, list_any};
 ghost use Rattle.land_acts.specs.Mutations.Areas.{outlines_at};
 ghost use Rattle.land_acts.specs.Mutations.Grounds.{are_same_ground};
-ghost use Rattle.land_acts.specs.Mutations.Merging.{are_same_entries, entries_of_others, has_unlike, is_named, is_parcel_named, is_same_class, is_same_entry, is_same_mark, is_unlike, keeps_parcel, lacks_parcel, lacks_unit, merger_change, merger_refusals, times_in, would_have_more_parcels};
+ghost use Rattle.land_acts.specs.Mutations.Merging.{are_same_entries, entries_of_others, has_unlike};
+ghost use Rattle.land_acts.specs.Mutations.Merging.{is_named, is_parcel_named, is_same_class, is_same_entry};
+ghost use Rattle.land_acts.specs.Mutations.Merging.{is_same_mark, is_unlike, keeps_parcel, lacks_parcel};
+ghost use Rattle.land_acts.specs.Mutations.Merging.{lacks_unit, merger_change, merger_refusals, times_in};
+ghost use Rattle.land_acts.specs.Mutations.Merging.{would_have_more_parcels};
 ghost use Rattle.land_acts.specs.Mutations.Planning.{first_that_holds};
 ghost use Rattle.land_acts.specs.Mutations.Subdividing.{entries_of};
 ghost use Rattle.land_core.specs.Contents.{is_same_share};
@@ -96,7 +100,8 @@ fn is_named(it: &Merger, unit: u64) -> bool
 
 /// Returns whether the new outline covers exactly the ground of the parcels. The only error is out of memory.
 fn keeps_ground(alloc: Global, slice: &Slice, it: &Merger) -> Result<bool, AllocError>
-    ensures { IfOk result (λ same. same ≡ are_same_ground (outlines_at slice.now it.now.parcels) (it.now.outline ∷ [])) }
+    ensures { IfOk result (λ same. same ≡ are_same_ground (outlines_at slice.now it.now.parcels)
+        (it.now.outline ∷ [])) }
 {
     let old = outlines_at(alloc, slice, it.parcels.as_slice())?;
     let new = Sequence::of_one(alloc, Ring::copy(&it.outline)?)?;
@@ -146,7 +151,8 @@ fn are_same_entries(slice: &Slice, unit: u64, other: u64) -> bool
 
 /// Returns whether each entry of the unit `listed` occurs the same number of times in `unit` and in `other`.
 fn are_as_often(slice: &Slice, listed: u64, unit: u64, other: u64) -> bool
-    ensures { result ≡ list_all (λ e. nat_eq (times_in (entries_of slice.now unit) e) (times_in (entries_of slice.now other) e)) (entries_of slice.now listed) }
+    ensures { result ≡ list_all (λ e. nat_eq (times_in (entries_of slice.now unit) e)
+        (times_in (entries_of slice.now other) e)) (entries_of slice.now listed) }
 {
     slice
         .rrrs

@@ -1,6 +1,7 @@
 //! The content `mortgage`: a unit becomes the security of a loan.
 ghost use Rattle.std.specs.Prelude.{◌≡◌, ◌≤◌, IfOk};
-ghost use Rattle.land_acts.specs.Mutations.Mortgaging.{greatest, mortgage_change, mortgage_refusals, next_rank, rank_in, ranks_in};
+ghost use Rattle.land_acts.specs.Mutations.Mortgaging.{greatest, mortgage_change, mortgage_refusals};
+ghost use Rattle.land_acts.specs.Mutations.Mortgaging.{next_rank, rank_in, ranks_in};
 ghost use Rattle.land_acts.specs.Mutations.Planning.{would_crowd, first_that_holds};
 
 use crate::mutations::planning::{Slice, lacks_numbers, would_crowd};

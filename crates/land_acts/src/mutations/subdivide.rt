@@ -1,11 +1,16 @@
 //! The content `subdivision`: a parcel is replaced by its parts.
-ghost use Rattle.std.specs.Prelude.{◌≡◌, ◌≤◌, ◌<◌, ◌+◌, ◌^◌, ◌∷◌, ◌++◌, [], length, map as map_list, IfOk, OnOk};
+ghost use Rattle.std.specs.Prelude.{◌≡◌, ◌≤◌, ◌<◌, ◌+◌, ◌^◌, ◌∷◌, ◌++◌, [], length, map as map_list, IfOk};
+ghost use Rattle.std.specs.Prelude.{OnOk};
 ghost use Rattle.std.specs.Option.{option_map_or};
 ghost use Rattle.land_acts.specs.Mutations.Areas.{outlines_at};
 ghost use Rattle.land_acts.specs.Mutations.Grounds.{are_same_ground};
 ghost use Rattle.land_acts.specs.Mutations.Numbering.{numbered};
 ghost use Rattle.land_acts.specs.Mutations.Planning.{first_that_holds};
-ghost use Rattle.land_acts.specs.Mutations.Subdividing.{all_parts, copies_made, entries_of, has_parcel_in, in_unit, origin_of, outlines_of, parcels_beside, parcels_made, staying, subdivision_change, subdivision_count, subdivision_refusals, units_made, would_have_many_parcels};
+ghost use Rattle.land_acts.specs.Mutations.Subdividing.{all_parts, copies_made, entries_of, has_parcel_in};
+ghost use Rattle.land_acts.specs.Mutations.Subdividing.{in_unit, origin_of, outlines_of, parcels_beside};
+ghost use Rattle.land_acts.specs.Mutations.Subdividing.{parcels_made, staying, subdivision_change};
+ghost use Rattle.land_acts.specs.Mutations.Subdividing.{subdivision_count, subdivision_refusals, units_made};
+ghost use Rattle.land_acts.specs.Mutations.Subdividing.{would_have_many_parcels};
 
 use crate::mutations::grounds::{are_same_ground, outlines_at, outlines_of_parts};
 use crate::mutations::planning::{Slice, lacks_numbers};
@@ -63,7 +68,8 @@ fn has_parcel_in(slice: &Slice, unit: u64, number: u64) -> bool
 
 /// Returns whether the parts cover exactly the ground of the parcel. The only error is out of memory.
 fn keeps_ground(alloc: Global, slice: &Slice, it: &Subdivision) -> Result<bool, AllocError>
-    ensures { IfOk result (λ same. same ≡ are_same_ground (outlines_at slice.now (it.now.parcel ∷ [])) (outlines_of (all_parts it.now))) }
+    ensures { IfOk result (λ same. same ≡ are_same_ground (outlines_at slice.now (it.now.parcel ∷ []))
+        (outlines_of (all_parts it.now))) }
 {
     let old = outlines_at(alloc, slice, &[it.parcel])?;
     let new = outlines_of_parts(alloc, it)?;
@@ -150,7 +156,8 @@ fn units_made(
     it: &Subdivision,
 ) -> Result<Sequence<(u64, UnitRecord)>, AllocError>
     requires { slice.now.next + subdivision_count slice.now it.now ≤ 1_000_000_001 }
-    ensures { IfOk result (λ units. units ≡ units_made (origin_of slice.now 0 it.now) slice.now.next (all_parts it.now)) }
+    ensures { IfOk result (λ units. units ≡ units_made (origin_of slice.now 0 it.now) slice.now.next
+        (all_parts it.now)) }
 {
     let checked = is_checked(slice, it.unit);
     let copies = rrr_count(slice, it.unit) as u128;
@@ -174,7 +181,8 @@ fn parcels_made(
     it: &Subdivision,
 ) -> Result<Sequence<(u64, ParcelRecord)>, AllocError>
     requires { slice.now.next + subdivision_count slice.now it.now ≤ 1_000_000_001 }
-    ensures { IfOk result (λ parcels. parcels ≡ parcels_made (origin_of slice.now source it.now) slice.now.next (all_parts it.now)) }
+    ensures { IfOk result (λ parcels. parcels
+        ≡ parcels_made (origin_of slice.now source it.now) slice.now.next (all_parts it.now)) }
 {
     let copies = rrr_count(slice, it.unit) as u128;
     let first = parcel_in(alloc, it.unit, source, &it.first.label, &it.first.outline)?;
@@ -200,7 +208,8 @@ fn parcel_in(
     label: &Text,
     outline: &Ring,
 ) -> Result<ParcelRecord, AllocError>
-    ensures { IfOk result (λ parcel. parcel ≡ record { unit = unit; label = label.now; outline = outline.now; source = source }) }
+    ensures { IfOk result (λ parcel. parcel
+        ≡ record { unit = unit; label = label.now; outline = outline.now; source = source }) }
 {
     Ok(ParcelRecord {
         unit,
@@ -217,7 +226,8 @@ fn copies_made(
     it: &Subdivision,
 ) -> Result<Sequence<(u64, RrrRecord)>, AllocError>
     requires { slice.now.next + subdivision_count slice.now it.now ≤ 1_000_000_001 }
-    ensures { IfOk result (λ copies. copies ≡ copies_made (origin_of slice.now 0 it.now) slice.now.next (all_parts it.now)) }
+    ensures { IfOk result (λ copies. copies
+        ≡ copies_made (origin_of slice.now 0 it.now) slice.now.next (all_parts it.now)) }
 {
     let copies = rrr_count(slice, it.unit) as u128;
     let mut rrrs = Sequence::new(alloc);
@@ -241,7 +251,8 @@ fn push_copies(
     new_unit: u64,
 ) -> Result<(), AllocError>
     requires { new_unit + 2 + length (entries_of slice.now unit) ≤ 1_000_000_001 }
-    ensures { OnOk result (rrrs.new ≡ rrrs.old ++ numbered (new_unit + 2) (map_list (in_unit new_unit) (entries_of slice.now unit))) }
+    ensures { OnOk result (rrrs.new ≡ rrrs.old
+        ++ numbered (new_unit + 2) (map_list (in_unit new_unit) (entries_of slice.now unit))) }
 {
     let mut number = new_unit + 2;
     for (_, entry) in slice.rrrs.iter() {

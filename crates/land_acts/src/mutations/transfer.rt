@@ -2,7 +2,13 @@
 ghost use Rattle.std.specs.Prelude.{◌≡◌, ◌≤◌, ◌++◌, ◌∷◌, [], nat_lt, false, is_none, IfOk, OnOk};
 ghost use Rattle.std.specs.Option.{option_map_or};
 ghost use Rattle.land_acts.specs.Mutations.Planning.{first_that_holds};
-ghost use Rattle.land_acts.specs.Mutations.Transferring.{are_too_fine, are_too_fine_after, are_too_many, given_up, grows_at, held_at, held_by, held_in, held_of, is_above, is_above_one, is_checked, is_held_by, is_itself, is_too_fine, is_too_large, kept, move_change, new_rights, number_after, received, right_entry, share_grown, share_left, transfer_refusals};
+ghost use Rattle.land_acts.specs.Mutations.Transferring.{are_too_fine, are_too_fine_after, are_too_many};
+ghost use Rattle.land_acts.specs.Mutations.Transferring.{given_up, grows_at, held_at, held_by, held_in};
+ghost use Rattle.land_acts.specs.Mutations.Transferring.{held_of, is_above, is_above_one, is_checked};
+ghost use Rattle.land_acts.specs.Mutations.Transferring.{is_held_by, is_itself, is_too_fine, is_too_large};
+ghost use Rattle.land_acts.specs.Mutations.Transferring.{kept, move_change, new_rights, number_after};
+ghost use Rattle.land_acts.specs.Mutations.Transferring.{received, right_entry, share_grown, share_left};
+ghost use Rattle.land_acts.specs.Mutations.Transferring.{transfer_refusals};
 ghost use Rattle.land_acts.specs.declared.mutations.refusal.Refusal.TheVariants.{ClockOut, SameParty};
 ghost use Rattle.land_core.specs.Changes.{after};
 ghost use Rattle.land_core.specs.Units.{rrr_count, type_shares};
@@ -66,7 +72,8 @@ pub(crate) fn refusal(
 
 /// Returns the refusals after 210: 217 or 219.
 fn last_refusal(it: &Transfer, from: &Held, stamp: Option<i64>) -> Option<Refusal>
-    ensures { result ≡ first_that_holds ((ClockOut, is_none stamp) ∷ (SameParty, is_itself it.now from.now) ∷ []) }
+    ensures { result ≡ first_that_holds ((ClockOut, is_none stamp) ∷ (SameParty, is_itself it.now from.now)
+        ∷ []) }
 {
     if stamp.is_none() {
         Some(Refusal::ClockOut)
@@ -170,7 +177,8 @@ fn is_above(it: &Transfer, from: &Held) -> bool
 
 /// Returns whether the receiver would have more than one.
 fn grows_above_one(slice: &Slice, it: &Transfer, from: &Held) -> bool
-    ensures { result ≡ option_map_or (λ to. is_above_one (share_grown it.now to)) (grows_at slice.now it.now from.now) false }
+    ensures { result ≡ option_map_or (λ to. is_above_one (share_grown it.now to))
+        (grows_at slice.now it.now from.now) false }
 {
     match grows_at(slice, it, from) {
         Some(to) => is_above_one(to.share.plus(it.share)),
@@ -200,7 +208,8 @@ fn is_too_fine(share: Result<Fraction, FractionFault>) -> bool
 
 /// Returns whether the denominator of the receiver's new share is above 1,000,000,000.
 fn grows_too_fine(slice: &Slice, it: &Transfer, from: &Held) -> bool
-    ensures { result ≡ option_map_or (λ to. is_too_fine (share_grown it.now to)) (grows_at slice.now it.now from.now) false }
+    ensures { result ≡ option_map_or (λ to. is_too_fine (share_grown it.now to))
+        (grows_at slice.now it.now from.now) false }
 {
     match grows_at(slice, it, from) {
         Some(to) => is_too_fine(to.share.plus(it.share)),
@@ -255,7 +264,8 @@ fn are_too_fine_after(
 
 /// Returns the slice after the transfer, except for its next number. The only error is out of memory.
 fn after_move(alloc: Global, slice: &Slice, it: &Transfer, from: &Held) -> Result<Slice, AllocError>
-    ensures { IfOk result (λ changed. changed ≡ after (record (move_change slice.now 0 it.now from.now) { next = slice.now.next }) slice.now) }
+    ensures { IfOk result (λ changed. changed
+        ≡ after (record (move_change slice.now 0 it.now from.now) { next = slice.now.next }) slice.now) }
 {
     let change = change_of_entries(alloc, slice, 0, it, from)?;
     slice.changed(alloc, &change)
@@ -300,7 +310,8 @@ fn is_crowded_after(
     it: &Transfer,
     from: &Held,
 ) -> Result<bool, AllocError>
-    ensures { IfOk result (λ is_crowded. is_crowded ≡ nat_lt 256 (rrr_count (after (move_change slice.now 0 it.now from.now) slice.now) it.now.unit)) }
+    ensures { IfOk result (λ is_crowded. is_crowded
+        ≡ nat_lt 256 (rrr_count (after (move_change slice.now 0 it.now from.now) slice.now) it.now.unit)) }
 {
     let changed = after_move(alloc, slice, it, from)?;
     Ok(256 < rrr_count(&changed, it.unit))
@@ -334,7 +345,8 @@ fn change_of_entries(
     it: &Transfer,
     from: &Held,
 ) -> Result<Change, AllocError>
-    ensures { IfOk result (λ change. change ≡ record (move_change slice.now source it.now from.now) { next = slice.now.next }) }
+    ensures { IfOk result (λ change. change
+        ≡ record (move_change slice.now source it.now from.now) { next = slice.now.next }) }
 {
     let ended = given_up(alloc, it, from)?;
     let mut rrrs = kept(alloc, source, it, from)?;
@@ -381,7 +393,8 @@ fn receive(
     it: &Transfer,
     from: &Held,
 ) -> Result<(), AllocError>
-    ensures { OnOk result (rrrs.new ≡ rrrs.old ++ received slice.now source it.now from.now (grows_at slice.now it.now from.now)) }
+    ensures { OnOk result (rrrs.new ≡ rrrs.old
+        ++ received slice.now source it.now from.now (grows_at slice.now it.now from.now)) }
 {
     let Some(to) = grows_at(slice, it, from) else {
         let entry = right_entry(it.unit, it.receiver, from.right_type, it.share, source);

@@ -19,10 +19,12 @@ use Rattle.land_core.specs.declared.rrr.RightType.TheVariants.{Ownership}
 use Rattle.land_core.specs.declared.rrr.RrrRecord.{RrrRecord}
 use Rattle.land_rules.specs.Circles.{circle_of, is_name_of}
 use Rattle.land_rules.specs.Laws.{IsSoundOrNothing}
-use Rattle.land_rules.specs.Relations.{is_mortgage, is_mutation_where, is_right, is_rrr_where, is_told_to_creditor}
+use Rattle.land_rules.specs.Relations.{is_mortgage, is_mutation_where, is_right, is_rrr_where}
+use Rattle.land_rules.specs.Relations.{is_told_to_creditor}
 use Rattle.land_rules.specs.Rules.{sees}
 use Rattle.land_rules.specs.declared.denials.interests.Interest.{Interest}
-use Rattle.land_rules.specs.declared.denials.interests.Interest.TheVariants.{Stranger, Holder, Owner, Creditor}
+use Rattle.land_rules.specs.declared.denials.interests.Interest.TheVariants.{Stranger, Holder, Owner}
+use Rattle.land_rules.specs.declared.denials.interests.Interest.TheVariants.{Creditor}
 
 -- ---- the interest, from the entries of a unit
 
@@ -48,7 +50,8 @@ is_mortgage_for party e = is_mortgage e.class && nat_eq e.party party
 -- ownership, it is an owner
 abbrev pub interest_of_citizen : (is_name : ℕ → Bool) → Entries → Interest
 interest_of_citizen is_name entries =
-    if some (λ n e. is_right_in is_name e) entries then (if some (λ n e. is_ownership_in is_name e) entries then Owner else Holder) else Stranger
+    if some (λ n e. is_right_in is_name e) entries
+    then (if some (λ n e. is_ownership_in is_name e) entries then Owner else Holder) else Stranger
 
 -- a bank that has a mortgage on a unit is a creditor
 abbrev pub interest_of_bank : (party : ℕ) → Entries → Interest
@@ -56,7 +59,9 @@ interest_of_bank party entries = if some (λ n e. is_mortgage_for party e) entri
 
 -- the interest of a caller; roles other than citizen and bank have no such interest
 abbrev pub interest_of : (is_name : ℕ → Bool) → Caller → Entries → Interest
-interest_of is_name caller entries = if is_role caller.role Citizen then interest_of_citizen is_name entries else (if is_role caller.role Bank then interest_of_bank caller.party entries else Stranger)
+interest_of is_name caller entries =
+    if is_role caller.role Citizen then interest_of_citizen is_name entries
+    else (if is_role caller.role Bank then interest_of_bank caller.party entries else Stranger)
 
 -- ---- the objects that an interest makes visible
 
@@ -80,7 +85,8 @@ shows_entry Creditor party e = is_told_to_creditor party e
 -- the interest of a caller in a unit; the names of a citizen are the members of its circle and the groups of
 -- which one of them is a member
 abbrev pub interest_at : Register → Caller → (unit : ℕ) → Interest
-interest_at at caller unit = interest_of (is_name_of at (circle_of at caller.party)) caller (entries_of at unit)
+interest_at at caller unit =
+    interest_of (is_name_of at (circle_of at caller.party)) caller (entries_of at unit)
 
 -- whether a mutation refers to a unit that the caller's interest makes visible
 abbrev pub names_shown : Register → Caller → MutationRecord → Bool
@@ -92,7 +98,8 @@ abbrev pub is_shown_by_interest : Register → Caller → Kind → (number : ℕ
 is_shown_by_interest at caller kind.Party number = false
 is_shown_by_interest at caller kind.Unit number = shows_unit (interest_at at caller number)
 is_shown_by_interest at caller kind.Parcel number = false
-is_shown_by_interest at caller kind.Rrr number = is_rrr_where (λ e. shows_entry (interest_at at caller e.unit) caller.party e) at number
+is_shown_by_interest at caller kind.Rrr number =
+    is_rrr_where (λ e. shows_entry (interest_at at caller e.unit) caller.party e) at number
 is_shown_by_interest at caller kind.Source number = false
 is_shown_by_interest at caller kind.Mutation number = is_mutation_where (names_shown at caller) at number
 
@@ -108,7 +115,8 @@ sees_by_interest role kind.Mutation = is_role role Citizen
 -- in a register that is sound or empty, these roles see an object of these kinds exactly if an interest makes
 -- it visible
 abbrev pub InterestsTellSight : Type 0
-InterestsTellSight = (at : Register) → IsSoundOrNothing at → (caller : Caller) (k : Kind) (number : ℕ) → sees_by_interest caller.role k ≡ true
+InterestsTellSight = (at : Register) → IsSoundOrNothing at → (caller : Caller) (k : Kind) (number : ℕ)
+    → sees_by_interest caller.role k ≡ true
     → sees at caller k number ≡ is_shown_by_interest at caller k number
 
 -- ---- the names
@@ -116,9 +124,12 @@ InterestsTellSight = (at : Register) → IsSoundOrNothing at → (caller : Calle
 -- these are exactly the names under which a citizen has rights; for callers in other roles any list is
 -- correct
 abbrev pub AreNamesOf : Register → Caller → (names : List ℕ) → Type 0
-AreNamesOf at caller names = is_role caller.role Citizen ≡ true → (named : ℕ) → Contains names named ↔ (is_name_of at (circle_of at caller.party) named ≡ true)
+AreNamesOf at caller names = is_role caller.role Citizen ≡ true → (named : ℕ)
+    → Contains names named ↔ (is_name_of at (circle_of at caller.party) named ≡ true)
 
 -- the interest of a caller follows from such a list of names and the entries of the unit
 abbrev pub NamesTellInterests : Type 0
-NamesTellInterests = (at : Register) (caller : Caller) (names : List ℕ) → AreNamesOf at caller names → (entries : Entries)
-    → interest_of (λ named. list_any (nat_eq named) names) caller entries ≡ interest_of (is_name_of at (circle_of at caller.party)) caller entries
+NamesTellInterests =
+    (at : Register) (caller : Caller) (names : List ℕ) → AreNamesOf at caller names → (entries : Entries)
+    → interest_of (λ named. list_any (nat_eq named) names) caller entries
+    ≡ interest_of (is_name_of at (circle_of at caller.party)) caller entries

@@ -7,7 +7,8 @@ use Rattle.land_core.specs.declared.kind.Kind.{Kind}
 use Rattle.land_core.specs.declared.kind.Kind.TheVariants as kind
 use Rattle.land_core.specs.declared.register.Register.{Register}
 use Rattle.land_core.specs.declared.role.Role.{Role}
-use Rattle.land_core.specs.declared.role.Role.TheVariants.{Bank, CertifiedSurveyor, Conveyancer, Notary, StateAdministrator}
+use Rattle.land_core.specs.declared.role.Role.TheVariants.{Bank, CertifiedSurveyor, Conveyancer, Notary}
+use Rattle.land_core.specs.declared.role.Role.TheVariants.{StateAdministrator}
 use Rattle.land_rules.specs.Laws.{IsSoundOrNothing, is_itself, rule_of_role}
 use Rattle.land_rules.specs.Relations.{has_lodged, is_lodger_on, is_rrr_where}
 use Rattle.land_rules.specs.Rules.{first_denial, sees, view_rules}
@@ -28,12 +29,14 @@ is_unit_of_conveyancer role kind.Mutation = false
 -- refers
 abbrev pub told_by : (in_sight awaited : Bool) → Caller → Kind → (number : ℕ) → Verdict
 told_by in_sight awaited caller k number = if in_sight then Allowed
-    else Denied (if is_unit_of_conveyancer caller.role k && awaited || is_itself caller k number then 27 else rule_of_role caller.role k)
+    else Denied (if is_unit_of_conveyancer caller.role k && awaited || is_itself caller k number then 27
+    else rule_of_role caller.role k)
 
 -- in a register that is sound or empty, the verdict on a view follows from the visibility of the object
 abbrev pub SightTellsVerdicts : Type 0
 SightTellsVerdicts = (at : Register) → IsSoundOrNothing at → (caller : Caller) (k : Kind) (number : ℕ)
-    → first_denial (view_rules at caller k number) ≡ told_by (sees at caller k number) (is_lodger_on at caller.party number) caller k number
+    → first_denial (view_rules at caller k number)
+    ≡ told_by (sees at caller k number) (is_lodger_on at caller.party number) caller k number
 
 -- all roles see all parcels, and notaries and state administrators see all objects of all kinds
 abbrev pub sees_all : Role → Kind → Bool
@@ -46,7 +49,8 @@ sees_all role kind.Mutation = is_role role Notary || is_role role StateAdministr
 
 -- a role that sees all objects of a kind sees exactly the objects that exist
 abbrev pub AllThatStandsIsSeen : Type 0
-AllThatStandsIsSeen = (at : Register) (caller : Caller) (k : Kind) (number : ℕ) → sees_all caller.role k ≡ true → sees at caller k number ≡ stands at k number
+AllThatStandsIsSeen = (at : Register) (caller : Caller) (k : Kind) (number : ℕ)
+    → sees_all caller.role k ≡ true → sees at caller k number ≡ stands at k number
 
 -- banks, conveyancers and certified surveyors see the mutations that they lodged
 abbrev pub sees_own_lodgings : Role → Kind → Bool
@@ -55,11 +59,13 @@ sees_own_lodgings role kind.Unit = false
 sees_own_lodgings role kind.Parcel = false
 sees_own_lodgings role kind.Rrr = false
 sees_own_lodgings role kind.Source = false
-sees_own_lodgings role kind.Mutation = is_role role Bank || is_role role Conveyancer || is_role role CertifiedSurveyor
+sees_own_lodgings role kind.Mutation =
+    is_role role Bank || is_role role Conveyancer || is_role role CertifiedSurveyor
 
 -- such a caller sees a mutation exactly if it exists and the caller lodged it, decided or not
 abbrev pub LodgersSeeTheirOwn : Type 0
-LodgersSeeTheirOwn = (at : Register) (caller : Caller) (k : Kind) (number : ℕ) → sees_own_lodgings caller.role k ≡ true
+LodgersSeeTheirOwn =
+    (at : Register) (caller : Caller) (k : Kind) (number : ℕ) → sees_own_lodgings caller.role k ≡ true
     → sees at caller k number ≡ has_lodged at caller.party number
 
 -- conveyancers see units and entries by their undecided mutations
@@ -83,5 +89,6 @@ is_awaited at caller kind.Mutation number = false
 
 -- in a register that is sound or empty, a conveyancer sees exactly these units and entries
 abbrev pub WhatIsAwaitedIsSeen : Type 0
-WhatIsAwaitedIsSeen = (at : Register) → IsSoundOrNothing at → (caller : Caller) (k : Kind) (number : ℕ) → sees_by_awaiting caller.role k ≡ true
+WhatIsAwaitedIsSeen = (at : Register) → IsSoundOrNothing at → (caller : Caller) (k : Kind) (number : ℕ)
+    → sees_by_awaiting caller.role k ≡ true
     → sees at caller k number ≡ is_awaited at caller k number

@@ -82,7 +82,8 @@ pub record IsEnough (evidence now : Register) (caller : Caller) (a : Ask) : Type
 
 -- from sufficient evidence, the first standing rule that denies is the same as from the whole register
 abbrev pub EvidenceIsEnough : Type 0
-EvidenceIsEnough = (evidence now : Register) (caller : Caller) (a : Ask) (past : Bool) → IsEnough evidence now caller a
+EvidenceIsEnough =
+    (evidence now : Register) (caller : Caller) (a : Ask) (past : Bool) → IsEnough evidence now caller a
     → first_denial (standing_rules evidence caller a past) ≡ first_denial (standing_rules now caller a past)
 
 -- a map that has at most one record, under its number
@@ -92,7 +93,8 @@ one_at (Some n) None = map.empty
 one_at (Some n) (Some value) = map.insert map.empty n value
 
 -- the evidence that consists of exactly these records
-abbrev pub evidence_of : Caller → Ask → Option PartyRecord → Grants → Option RrrRecord → Option MutationRecord → Register
+abbrev pub evidence_of : Caller → Ask → Option PartyRecord → Grants → Option RrrRecord → Option MutationRecord
+    → Register
 evidence_of caller a party roles entry mutation = record nothing {
   parties = one_at (Some caller.party) party;
   roles = roles;
@@ -102,7 +104,8 @@ evidence_of caller a party roles entry mutation = record nothing {
 
 -- the records are the register's: the caller with its roles, and the entry and the mutation to which the
 -- request refers
-pub record AreLookedUp (now : Register) (caller : Caller) (a : Ask) (party : Option PartyRecord) (roles : Grants) (entry : Option RrrRecord) (mutation : Option MutationRecord) : Type 0 where
+pub record AreLookedUp (now : Register) (caller : Caller) (a : Ask) (party : Option PartyRecord)
+    (roles : Grants) (entry : Option RrrRecord) (mutation : Option MutationRecord) : Type 0 where
   pub party_is : party ≡ map.get now.parties caller.party
   pub roles_are : roles ≡ only (λ grant u. nat_eq grant.party caller.party) now.roles
   pub entry_is : IfSome (discharged a) (λ n. entry ≡ map.get now.rrrs n)
@@ -110,5 +113,8 @@ pub record AreLookedUp (now : Register) (caller : Caller) (a : Ask) (party : Opt
 
 -- evidence from such records is sufficient
 abbrev pub LookedUpIsEnough : Type 0
-LookedUpIsEnough = (now : Register) (caller : Caller) (a : Ask) (party : Option PartyRecord) (roles : Grants) (entry : Option RrrRecord) (mutation : Option MutationRecord)
-    → AreLookedUp now caller a party roles entry mutation → IsEnough (evidence_of caller a party roles entry mutation) now caller a
+LookedUpIsEnough =
+    (now : Register) (caller : Caller) (a : Ask) (party : Option PartyRecord) (roles : Grants)
+    (entry : Option RrrRecord) (mutation : Option MutationRecord)
+    → AreLookedUp now caller a party roles entry mutation
+    → IsEnough (evidence_of caller a party roles entry mutation) now caller a

@@ -4,7 +4,9 @@
 ghost use Rattle.std.specs.List.{list_any};
 ghost use Rattle.std.specs.Prelude.{◌≡◌, nat_eq};
 ghost use Rattle.land_core.specs.Entries.{some};
-ghost use Rattle.land_rules.specs.Denials.Interests.{interest_of, interest_of_bank, interest_of_citizen, is_mortgage_for, is_ownership_in, is_right_in, sees_by_interest};
+ghost use Rattle.land_rules.specs.Denials.Interests.{interest_of, interest_of_bank, interest_of_citizen};
+ghost use Rattle.land_rules.specs.Denials.Interests.{is_mortgage_for, is_ownership_in, is_right_in};
+ghost use Rattle.land_rules.specs.Denials.Interests.{sees_by_interest};
 ghost use Rattle.land_rules.specs.Relations.{is_mortgage, is_told_to_creditor};
 
 use land_core::caller::Caller;
@@ -107,7 +109,8 @@ fn has_right(names: &[u64], entries: &Records<RrrRecord>) -> bool
 }
 
 fn has_ownership(names: &[u64], entries: &Records<RrrRecord>) -> bool
-    ensures { result ≡ some (λ n e. is_ownership_in (λ named. list_any (nat_eq named) names.now) e) entries.now }
+    ensures { result ≡ some (λ n e. is_ownership_in
+        (λ named. list_any (nat_eq named) names.now) e) entries.now }
 {
     entries
         .iter()

@@ -1,6 +1,7 @@
 //! Laws on verdicts from few records. Each is stated only over the definitions.
 ghost use Rattle.land_rules.specs.Denials.Interests.{InterestsTellSight, NamesTellInterests};
-ghost use Rattle.land_rules.specs.Denials.Sight.{AllThatStandsIsSeen, LodgersSeeTheirOwn, SightTellsVerdicts, WhatIsAwaitedIsSeen};
+ghost use Rattle.land_rules.specs.Denials.Sight.{AllThatStandsIsSeen, LodgersSeeTheirOwn, SightTellsVerdicts};
+ghost use Rattle.land_rules.specs.Denials.Sight.{WhatIsAwaitedIsSeen};
 ghost use Rattle.land_rules.specs.Denials.Standing.{EvidenceIsEnough, LookedUpIsEnough};
 
 use crate::laws::denials_tell_sight;

@@ -1,7 +1,8 @@
 //! The verdict on the view of an object, given whether the object is visible.
 ghost use Rattle.std.specs.Prelude.{◌≡◌};
 ghost use Rattle.land_core.specs.declared.role.Role.TheVariants as roles;
-ghost use Rattle.land_rules.specs.Denials.Sight.{is_unit_of_conveyancer, sees_all, sees_by_awaiting, sees_own_lodgings, told_by};
+ghost use Rattle.land_rules.specs.Denials.Sight.{is_unit_of_conveyancer, sees_all, sees_by_awaiting};
+ghost use Rattle.land_rules.specs.Denials.Sight.{sees_own_lodgings, told_by};
 ghost use Rattle.land_rules.specs.Laws.{is_itself, rule_of_role};
 
 use crate::verdict::Verdict;

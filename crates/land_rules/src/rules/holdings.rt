@@ -3,7 +3,9 @@
 ghost use Rattle.std.specs.Prelude.{◌≡◌, ℕ, ◌||◌, nat_eq, IfOk, OnOk};
 ghost use Rattle.land_core.specs.Contents.{names_unit};
 ghost use Rattle.land_core.specs.Mergers.{lists_number};
-ghost use Rattle.land_rules.specs.Holdings.{AreHoldings, AreLodgedOn, AreNames, AreOfInterest, gives_interest, has_interest_by, has_member_among, has_number, is_name_among};
+ghost use Rattle.land_rules.specs.Holdings.{AreHoldings, AreLodgedOn, AreNames, AreOfInterest};
+ghost use Rattle.land_rules.specs.Holdings.{gives_interest, has_interest_by, has_member_among, has_number};
+ghost use Rattle.land_rules.specs.Holdings.{is_name_among};
 ghost use Rattle.land_rules.specs.declared.rules.holdings.Interest.TheVariants as interests;
 
 use crate::circles::circle_of;
@@ -85,7 +87,8 @@ fn names_of_citizen(alloc: Global, at: &Register, party: u64) -> Result<BTreeSet
 
 /// Returns some parties, and the groups of which one of them is a member.
 fn names_of(at: &Register, parties: &BTreeSet<u64>) -> Result<BTreeSet<u64>, AllocError>
-    ensures { IfOk result (λ it. (named : ℕ) → has_number it named ≡ is_name_among at.now (has_number parties.now) named) }
+    ensures { IfOk result (λ it. (named : ℕ)
+        → has_number it named ≡ is_name_among at.now (has_number parties.now) named) }
 {
     let mut names = parties.clone()?;
     for (group, members) in at.members.iter() {
@@ -119,7 +122,8 @@ fn units_of_interest(
     names: &BTreeSet<u64>,
     interest: Interest,
 ) -> Result<BTreeSet<u64>, AllocError>
-    ensures { IfOk result (λ it. (party : ℕ) → AreNames interest at.now party names.now → AreOfInterest interest at.now party it) }
+    ensures { IfOk result (λ it. (party : ℕ) → AreNames interest at.now party names.now
+        → AreOfInterest interest at.now party it) }
 {
     let mut units = BTreeSet::new(alloc);
     for (_, entry) in at.rrrs.iter() {
@@ -170,7 +174,8 @@ fn lodged_units(alloc: Global, at: &Register, party: u64) -> Result<BTreeSet<u64
 
 /// Inserts the units to which a content refers.
 fn insert_named(units: &mut BTreeSet<u64>, content: &Content) -> Result<(), AllocError>
-    ensures { OnOk result ((unit : ℕ) → has_number units.new unit ≡ (has_number units.old unit || names_unit unit content.now)) }
+    ensures { OnOk result ((unit : ℕ) → has_number units.new unit
+        ≡ (has_number units.old unit || names_unit unit content.now)) }
 {
     match content {
         Content::Transfer(it) => insert_unit(units, it.unit),
@@ -186,7 +191,8 @@ fn insert_named(units: &mut BTreeSet<u64>, content: &Content) -> Result<(), Allo
 
 /// Inserts a unit.
 fn insert_unit(units: &mut BTreeSet<u64>, unit: u64) -> Result<(), AllocError>
-    ensures { OnOk result ((other : ℕ) → has_number units.new other ≡ (has_number units.old other || nat_eq unit other)) }
+    ensures { OnOk result ((other : ℕ) → has_number units.new other
+        ≡ (has_number units.old other || nat_eq unit other)) }
 {
     units.insert(unit)?;
     Ok(())
@@ -194,7 +200,8 @@ fn insert_unit(units: &mut BTreeSet<u64>, unit: u64) -> Result<(), AllocError>
 
 /// Inserts these units.
 fn insert_units(units: &mut BTreeSet<u64>, more: &[u64]) -> Result<(), AllocError>
-    ensures { OnOk result ((unit : ℕ) → has_number units.new unit ≡ (has_number units.old unit || lists_number more.now unit)) }
+    ensures { OnOk result ((unit : ℕ) → has_number units.new unit
+        ≡ (has_number units.old unit || lists_number more.now unit)) }
 {
     for unit in more {
         insert_unit(units, *unit)?;

@@ -2,7 +2,8 @@
 ghost use Rattle.std.specs.Prelude.{◌≡◌};
 ghost use Rattle.land_rules.specs.Circles.{circle_of, is_told_to_circle};
 ghost use Rattle.land_rules.specs.Relations.{is_rrr_where};
-ghost use Rattle.land_rules.specs.Rules.{first_denial, is_rrr_in_sight, is_told_to_bank, is_told_to_conveyancer, rrr_rules};
+ghost use Rattle.land_rules.specs.Rules.{first_denial, is_rrr_in_sight, is_told_to_bank};
+ghost use Rattle.land_rules.specs.Rules.{is_told_to_conveyancer, rrr_rules};
 
 use super::unit;
 use crate::circles::is_told_to_circle;

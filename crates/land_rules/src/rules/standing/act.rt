@@ -1,6 +1,9 @@
 //! Standing rules on acts, by the register now: 4 to 10, 28 and 29.
 ghost use Rattle.std.specs.Prelude.{◌≡◌};
-ghost use Rattle.land_rules.specs.Acts.{decides, is_between_others, is_discharge_of_another, is_mortgage_of, is_mortgage_of_another, is_of_a_mortgage, is_of_mandates, is_of_mortgages, is_of_outlines, is_of_transfers, is_office_act, is_transfer, lodges, withdraws};
+ghost use Rattle.land_rules.specs.Acts.{decides, is_between_others, is_discharge_of_another, is_mortgage_of};
+ghost use Rattle.land_rules.specs.Acts.{is_mortgage_of_another, is_of_a_mortgage, is_of_mandates};
+ghost use Rattle.land_rules.specs.Acts.{is_of_mortgages, is_of_outlines, is_of_transfers, is_office_act};
+ghost use Rattle.land_rules.specs.Acts.{is_transfer, lodges, withdraws};
 ghost use Rattle.land_rules.specs.Relations.{has_lodged, is_rrr_where};
 ghost use Rattle.land_rules.specs.Rules.{first_denial, act_rules};
 
