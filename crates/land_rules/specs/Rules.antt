@@ -114,13 +114,10 @@ is_told_to_conveyancer at caller e = is_unit_in_sight at caller e.unit
 
 abbrev pub rrr_rules : (at : Register) → Caller → (number : ℕ) → Rules
 rrr_rules at caller number =
+    let circle = circle_of at caller.party in
     -- a citizen sees an entry only if a member of its circle is a holder in the unit, and a mortgage only if
     -- one is an owner
-    (
-      12,
-      is_role caller.role Citizen
-          && not (is_rrr_where (is_told_to_circle at (circle_of at caller.party)) at number),
-    )
+    (12, is_role caller.role Citizen && not (is_rrr_where (is_told_to_circle at circle) at number))
     -- a bank sees an entry only if the unit is visible and the entry is not the mortgage of another creditor
     ∷ (16, is_role caller.role Bank && not (is_rrr_where (is_told_to_bank at caller) at number))
     -- a conveyancer sees an entry only if the unit is visible
@@ -141,15 +138,12 @@ is_party_in_sight at caller party = some (λ n e. nat_eq e.party party && is_rrr
 abbrev pub party_rules : (at : Register) → Caller → (number : ℕ) → Rules
 party_rules at caller number =
     let itself = nat_eq number caller.party in
+    let of_circle = is_in_circle at caller.party number in
+    let of_group = is_group_of at (circle_of at caller.party) number in
     let in_sight = is_party_in_sight at caller number in
     -- a citizen sees only its circle, the groups of which a member of it is a member, and the parties of
     -- visible entries
-    (
-      13,
-      is_role caller.role Citizen
-          && not (is_in_circle at caller.party number || is_group_of at (circle_of at caller.party) number
-          || in_sight),
-    )
+    (13, is_role caller.role Citizen && not (of_circle || of_group || in_sight))
     -- a bank sees only itself and the parties of visible entries
     ∷ (17, is_role caller.role Bank && not (itself || in_sight))
     -- a conveyancer sees only itself and the parties of visible entries
@@ -180,13 +174,10 @@ source_rules at caller number =
 
 abbrev pub mutation_rules : (at : Register) → Caller → (number : ℕ) → Rules
 mutation_rules at caller number =
+    let circle = circle_of at caller.party in
     let lodged_it = has_lodged at caller.party number in
     -- a citizen sees a mutation only if it refers to a unit in which a member of its circle is a holder
-    (
-      14,
-      is_role caller.role Citizen
-          && not (is_mutation_where (names_held_by at (circle_of at caller.party)) at number),
-    )
+    (14, is_role caller.role Citizen && not (is_mutation_where (names_held_by at circle) at number))
     -- a bank sees only the mutations that it lodged
     ∷ (18, is_role caller.role Bank && not lodged_it)
     -- a conveyancer sees only the mutations that it lodged
