@@ -1,7 +1,7 @@
 //! The act `burden`: a unit gets a restriction or a responsibility.
 ghost use Rattle.std.specs.Prelude.{◌≡◌, ◌≤◌, IfOk};
 ghost use Rattle.land_acts.specs.Burdening.{burden_refusals, burden_change, burden_done, class_of};
-ghost use Rattle.land_acts.specs.Mutations.Planning.{would_crowd, first_that_holds};
+ghost use Rattle.land_acts.specs.Mutations.Planning.{IsPlanOf, first_that_holds, would_crowd};
 
 use crate::mutations::planning::{document_source, lacks_numbers, would_crowd};
 use crate::mutations::refusal::Refusal;
@@ -41,8 +41,7 @@ pub(crate) fn planned(
     stamp: i64,
 ) -> Result<(Change, Done), AllocError>
     requires { slice.now.next ≤ 999_999_999 }
-    ensures { IfOk result (λ planned. (planned.0 ≡ burden_change slice.now it.now)
-        × (planned.1 ≡ burden_done slice.now stamp)) }
+    ensures { IfOk result (IsPlanOf (burden_change slice.now it.now) (burden_done slice.now stamp)) }
 {
     let source = slice.next;
     let number = source + 1;

@@ -4,7 +4,7 @@ ghost use Rattle.std.specs.FinMap as map;
 ghost use Rattle.land_acts.specs.Deciding.{approve_change, approve_done, approve_has_room, approve_refusals};
 ghost use Rattle.land_acts.specs.Deciding.{decided, is_lodged, refuse_change, refuse_refusals};
 ghost use Rattle.land_acts.specs.Mutations.Asking.{Fits};
-ghost use Rattle.land_acts.specs.Mutations.Planning.{done_on, first_that_holds};
+ghost use Rattle.land_acts.specs.Mutations.Planning.{IsPlanOf, done_on, first_that_holds};
 
 use crate::mutations::asking;
 use crate::mutations::planning::done_on;
@@ -77,8 +77,7 @@ pub(crate) fn approved(
 ) -> Result<(Change, Done), AllocError>
     requires { (mutation : MutationRecord) → map.get slice.now.mutations it.mutation ≡ Some mutation
         → Fits slice.now mutation.content }
-    ensures { IfOk result (λ planned. (planned.0 ≡ approve_change slice.now it)
-        × (planned.1 ≡ approve_done slice.now it stamp)) }
+    ensures { IfOk result (IsPlanOf (approve_change slice.now it) (approve_done slice.now it stamp)) }
 {
     let Some(mutation) = slice.mutations.get(it.mutation) else {
         return Ok((
@@ -107,8 +106,7 @@ pub(crate) fn refused(
     it: Decision,
     stamp: i64,
 ) -> Result<(Change, Done), AllocError>
-    ensures { IfOk result (λ planned. (planned.0 ≡ refuse_change slice.now it)
-        × (planned.1 ≡ done_on it.mutation stamp)) }
+    ensures { IfOk result (IsPlanOf (refuse_change slice.now it) (done_on it.mutation stamp)) }
 {
     let Some(mutation) = slice.mutations.get(it.mutation) else {
         return Ok((

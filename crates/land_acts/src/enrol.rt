@@ -1,7 +1,7 @@
 //! The act `enrol`: a party is added to the register.
 ghost use Rattle.std.specs.Prelude.{◌≡◌, ◌≤◌, ◌+◌, IfOk};
 ghost use Rattle.land_acts.specs.Enrolment.{enrol_refusals, enrol_change, enrol_done};
-ghost use Rattle.land_acts.specs.Mutations.Planning.{first_that_holds};
+ghost use Rattle.land_acts.specs.Mutations.Planning.{IsPlanOf, first_that_holds};
 
 use crate::mutations::planning::lacks_numbers;
 use crate::mutations::refusal::Refusal;
@@ -36,8 +36,7 @@ pub(crate) fn planned(
     stamp: i64,
 ) -> Result<(Change, Done), AllocError>
     requires { slice.now.next ≤ 1_000_000_000 }
-    ensures { IfOk result (λ planned. (planned.0 ≡ enrol_change slice.now it.now)
-        × (planned.1 ≡ enrol_done slice.now it.now stamp)) }
+    ensures { IfOk result (IsPlanOf (enrol_change slice.now it.now) (enrol_done slice.now it.now stamp)) }
 {
     let number = slice.next;
     let party = PartyRecord {

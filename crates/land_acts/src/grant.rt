@@ -1,7 +1,7 @@
 //! The act `grant`: a party gets a role.
 ghost use Rattle.std.specs.Prelude.{◌≡◌, IfOk};
 ghost use Rattle.land_acts.specs.Granting.{grant_refusals, grant_change, grant_done};
-ghost use Rattle.land_acts.specs.Mutations.Planning.{first_that_holds};
+ghost use Rattle.land_acts.specs.Mutations.Planning.{IsPlanOf, first_that_holds};
 
 use crate::mutations::planning::done_on;
 use crate::mutations::refusal::Refusal;
@@ -33,8 +33,7 @@ pub(crate) fn planned(
     it: &Grant,
     stamp: i64,
 ) -> Result<(Change, Done), AllocError>
-    ensures { IfOk result (λ planned. (planned.0 ≡ grant_change slice.now it.now)
-        × (planned.1 ≡ grant_done it.now stamp)) }
+    ensures { IfOk result (IsPlanOf (grant_change slice.now it.now) (grant_done it.now stamp)) }
 {
     let roles = Sequence::of_one(alloc, *it)?;
     let mut change = Change::nothing(alloc, slice.next);

@@ -1,7 +1,7 @@
 //! The act `group`: parties become the members of a new group.
 ghost use Rattle.std.specs.Prelude.{◌≡◌, ◌≤◌, IfOk};
 ghost use Rattle.land_acts.specs.Grouping.{group_refusals, group_change, group_done};
-ghost use Rattle.land_acts.specs.Mutations.Planning.{first_that_holds};
+ghost use Rattle.land_acts.specs.Mutations.Planning.{IsPlanOf, first_that_holds};
 
 use crate::mutations::planning::lacks_numbers;
 use crate::mutations::refusal::Refusal;
@@ -54,8 +54,7 @@ pub(crate) fn planned(
     stamp: i64,
 ) -> Result<(Change, Done), AllocError>
     requires { slice.now.next ≤ 1_000_000_000 }
-    ensures { IfOk result (λ planned. (planned.0 ≡ group_change slice.now it.now)
-        × (planned.1 ≡ group_done slice.now stamp)) }
+    ensures { IfOk result (IsPlanOf (group_change slice.now it.now) (group_done slice.now stamp)) }
 {
     let number = slice.next;
     let party = PartyRecord {

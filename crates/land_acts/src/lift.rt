@@ -1,7 +1,7 @@
 //! The act `lift`: a restriction or a responsibility ends.
 ghost use Rattle.std.specs.Prelude.{◌≡◌, IfOk};
 ghost use Rattle.land_acts.specs.Lifting.{has_burden, is_burden, lift_refusals, lift_change, lift_done};
-ghost use Rattle.land_acts.specs.Mutations.Planning.{first_that_holds};
+ghost use Rattle.land_acts.specs.Mutations.Planning.{IsPlanOf, first_that_holds};
 
 use crate::mutations::planning::done_on;
 use crate::mutations::refusal::Refusal;
@@ -52,8 +52,7 @@ pub(crate) fn planned(
     it: &Lift,
     stamp: i64,
 ) -> Result<(Change, Done), AllocError>
-    ensures { IfOk result (λ planned. (planned.0 ≡ lift_change slice.now it.now)
-        × (planned.1 ≡ lift_done it.now stamp)) }
+    ensures { IfOk result (IsPlanOf (lift_change slice.now it.now) (lift_done it.now stamp)) }
 {
     let rrrs = Sequence::of_one(alloc, it.rrr)?;
     let mut change = Change::nothing(alloc, slice.next);

@@ -3,7 +3,7 @@ ghost use Rattle.std.specs.Prelude.{◌≡◌, ◌≤◌, ◌∷◌, [], IfOk};
 ghost use Rattle.land_acts.specs.Lodging.{document_kind, has_lodged_other, has_title, in_order};
 ghost use Rattle.land_acts.specs.Lodging.{is_same_lodging, lodge_change, lodge_done, lodge_refusals};
 ghost use Rattle.land_acts.specs.Lodging.{lodge_repeat, lodged_record, lodged_told};
-ghost use Rattle.land_acts.specs.Mutations.Planning.{first_that_holds};
+ghost use Rattle.land_acts.specs.Mutations.Planning.{IsPlanOf, first_that_holds};
 
 use crate::mutations::planning::{document_source, lacks_numbers};
 use crate::mutations::refusal::Refusal;
@@ -128,8 +128,8 @@ pub(crate) fn planned(
     stamp: i64,
 ) -> Result<(Change, Done), AllocError>
     requires { slice.now.next ≤ 999_999_999 }
-    ensures { IfOk result (λ planned. (planned.0 ≡ lodge_change slice.now caller it.now stamp)
-        × (planned.1 ≡ lodge_done slice.now stamp)) }
+    ensures { IfOk result (IsPlanOf (lodge_change slice.now caller it.now stamp)
+        (lodge_done slice.now stamp)) }
 {
     let source = slice.next;
     let number = source + 1;

@@ -1,7 +1,7 @@
 //! The act `mandate`: the caller lets another party see what it sees.
 ghost use Rattle.std.specs.Prelude.{◌≡◌, IfOk};
 ghost use Rattle.land_acts.specs.Mandating.{given, mandate_refusals, mandate_change, mandate_done};
-ghost use Rattle.land_acts.specs.Mutations.Planning.{first_that_holds};
+ghost use Rattle.land_acts.specs.Mutations.Planning.{IsPlanOf, first_that_holds};
 
 use crate::mutations::planning::done_on;
 use crate::mutations::refusal::Refusal;
@@ -53,8 +53,7 @@ pub(crate) fn planned(
     it: &NewMandate,
     stamp: i64,
 ) -> Result<(Change, Done), AllocError>
-    ensures { IfOk result (λ planned. (planned.0 ≡ mandate_change slice.now caller it.now)
-        × (planned.1 ≡ mandate_done it.now stamp)) }
+    ensures { IfOk result (IsPlanOf (mandate_change slice.now caller it.now) (mandate_done it.now stamp)) }
 {
     let mandates = Sequence::of_one(alloc, given(caller, it))?;
     let mut change = Change::nothing(alloc, slice.next);

@@ -1,6 +1,6 @@
 //! The plan of an act: its refusal, or its change and receipt.
 ghost use Rattle.std.specs.Prelude.{◌≡◌, ◌≢◌, true, IfOk};
-ghost use Rattle.land_acts.specs.Mutations.Planning.{first_that_holds};
+ghost use Rattle.land_acts.specs.Mutations.Planning.{IsPlanOf, first_that_holds};
 ghost use Rattle.land_acts.specs.Outcome.{outcome_of, refusals_of, change_of, done_of, has_room_for};
 ghost use Rattle.land_acts.specs.Outcome.{repeated_done, IsUnrefused};
 ghost use Rattle.land_acts.specs.Slices.{IsOfSound};
@@ -112,8 +112,8 @@ fn planned(
     requires formed { is_well_formed act.now ≡ true }
     requires room { has_room_for slice.now act.now ≡ true }
     requires unrefused { IsUnrefused slice.now caller act.now }
-    ensures { IfOk result (λ it. (it.0 ≡ change_of slice.now caller act.now stamp)
-        × (it.1 ≡ done_of slice.now caller act.now stamp)) }
+    ensures { IfOk result (IsPlanOf (change_of slice.now caller act.now stamp)
+        (done_of slice.now caller act.now stamp)) }
 {
     match act {
         Act::Enrol(it) => enrol::planned(alloc, slice, it, stamp),

@@ -1,7 +1,7 @@
 //! The act `register`: a unit is added with its first parcels and rights.
 ghost use Rattle.std.specs.Prelude.{◌≡◌, ◌≤◌, ◌+◌, true, length, map as map_list, IfOk};
 ghost use Rattle.land_acts.specs.Mutations.Numbering.{numbered, numbers_from};
-ghost use Rattle.land_acts.specs.Mutations.Planning.{first_that_holds};
+ghost use Rattle.land_acts.specs.Mutations.Planning.{IsPlanOf, first_that_holds, numbers_end};
 ghost use Rattle.land_acts.specs.Registering.{new_count, parcel_of, register_refusals, register_change};
 ghost use Rattle.land_acts.specs.Registering.{register_done, right_of};
 ghost use Rattle.land_core.specs.Acts.{is_new_unit};
@@ -67,9 +67,9 @@ pub(crate) fn planned(
     stamp: i64,
 ) -> Result<(Change, Done), AllocError>
     requires formed { is_new_unit it.now ≡ true }
-    requires room { slice.now.next + new_count it.now ≤ 1_000_000_001 }
-    ensures { IfOk result (λ planned. (planned.0 ≡ register_change slice.now it.now)
-        × (planned.1 ≡ register_done slice.now it.now stamp)) }
+    requires room { slice.now.next + new_count it.now ≤ numbers_end }
+    ensures { IfOk result (IsPlanOf (register_change slice.now it.now)
+        (register_done slice.now it.now stamp)) }
 {
     let source = slice.next;
     let unit = source + 1;
@@ -107,7 +107,7 @@ fn placed_parcels(
     source: u64,
     first: u64,
 ) -> Result<Sequence<(u64, ParcelRecord)>, AllocError>
-    requires { first + length parcels.now ≤ 1_000_000_001 }
+    requires { first + length parcels.now ≤ numbers_end }
     ensures { IfOk result (λ it. it ≡ numbered first (map_list (parcel_of unit source) parcels.now)) }
 {
     let mut placed = Sequence::new(alloc);
@@ -133,7 +133,7 @@ fn placed_rights(
     source: u64,
     first: u64,
 ) -> Result<Sequence<(u64, RrrRecord)>, AllocError>
-    requires { first + length rights.now ≤ 1_000_000_001 }
+    requires { first + length rights.now ≤ numbers_end }
     ensures { IfOk result (λ it. it ≡ numbered first (map_list (right_of unit source) rights.now)) }
 {
     let mut placed = Sequence::new(alloc);

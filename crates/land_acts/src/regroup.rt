@@ -1,6 +1,6 @@
 //! The act `regroup`: a group gets other members.
 ghost use Rattle.std.specs.Prelude.{◌≡◌, IfOk};
-ghost use Rattle.land_acts.specs.Mutations.Planning.{first_that_holds};
+ghost use Rattle.land_acts.specs.Mutations.Planning.{IsPlanOf, first_that_holds};
 ghost use Rattle.land_acts.specs.Regrouping.{regroup_refusals, regroup_change, regroup_done};
 
 use crate::mutations::planning::done_on;
@@ -48,8 +48,7 @@ pub(crate) fn planned(
     it: &Regroup,
     stamp: i64,
 ) -> Result<(Change, Done), AllocError>
-    ensures { IfOk result (λ planned. (planned.0 ≡ regroup_change slice.now it.now)
-        × (planned.1 ≡ regroup_done it.now stamp)) }
+    ensures { IfOk result (IsPlanOf (regroup_change slice.now it.now) (regroup_done it.now stamp)) }
 {
     let members = members_of_list(alloc, it.members.as_slice())?;
     let members = Sequence::of_one(alloc, (it.group, members))?;

@@ -1,6 +1,6 @@
 //! The act `revoke`: a role of a party ends.
 ghost use Rattle.std.specs.Prelude.{◌≡◌, IfOk};
-ghost use Rattle.land_acts.specs.Mutations.Planning.{first_that_holds};
+ghost use Rattle.land_acts.specs.Mutations.Planning.{IsPlanOf, first_that_holds};
 ghost use Rattle.land_acts.specs.Revoking.{revoke_refusals, revoke_change, revoke_done};
 ghost use Rattle.land_acts.specs.Revoking.{has_administrator_beside};
 
@@ -44,8 +44,7 @@ pub(crate) fn planned(
     it: &Grant,
     stamp: i64,
 ) -> Result<(Change, Done), AllocError>
-    ensures { IfOk result (λ planned. (planned.0 ≡ revoke_change slice.now it.now)
-        × (planned.1 ≡ revoke_done it.now stamp)) }
+    ensures { IfOk result (IsPlanOf (revoke_change slice.now it.now) (revoke_done it.now stamp)) }
 {
     let roles = Sequence::of_one(alloc, *it)?;
     let mut change = Change::nothing(alloc, slice.next);

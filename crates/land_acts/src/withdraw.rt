@@ -1,6 +1,6 @@
 //! The act `withdraw`: a mandate ends.
 ghost use Rattle.std.specs.Prelude.{◌≡◌, IfOk};
-ghost use Rattle.land_acts.specs.Mutations.Planning.{first_that_holds};
+ghost use Rattle.land_acts.specs.Mutations.Planning.{IsPlanOf, first_that_holds};
 ghost use Rattle.land_acts.specs.Withdrawing.{withdraw_refusals, withdraw_change, withdraw_done};
 
 use crate::mutations::planning::done_on;
@@ -31,8 +31,7 @@ pub(crate) fn planned(
     it: &Mandate,
     stamp: i64,
 ) -> Result<(Change, Done), AllocError>
-    ensures { IfOk result (λ planned. (planned.0 ≡ withdraw_change slice.now it.now)
-        × (planned.1 ≡ withdraw_done it.now stamp)) }
+    ensures { IfOk result (IsPlanOf (withdraw_change slice.now it.now) (withdraw_done it.now stamp)) }
 {
     let mandates = Sequence::of_one(alloc, *it)?;
     let mut change = Change::nothing(alloc, slice.next);

@@ -16,6 +16,7 @@ use Rattle.land_core.specs.declared.content.Content.{Content}
 use Rattle.land_core.specs.declared.content.Content.TheVariants as content
 use Rattle.land_core.specs.declared.content.Transfer.{Transfer}
 use Rattle.land_core.specs.declared.register.Register.{Register}
+use Rattle.land_acts.specs.Mutations.Planning.{numbers_end}
 
 -- the refusals of a content with their conditions, in ascending order
 abbrev pub content_refusals : Register → Content → Option ℤ → List (Refusal × Bool)
@@ -54,8 +55,8 @@ content_made r (content.Discharge it) = []
 -- the numbers and the rank that a content creates are in range
 abbrev pub Fits : Register → Content → Type 0
 Fits r (content.Transfer it) =
-    (from : Held) → held_at r it.unit it.right ≡ Some from → number_after r (grows_at r it from) ≤ 1000000001
-Fits r (content.Subdivision it) = r.next + subdivision_count r it ≤ 1000000001
+    (from : Held) → held_at r it.unit it.right ≡ Some from → number_after r (grows_at r it from) ≤ numbers_end
+Fits r (content.Subdivision it) = r.next + subdivision_count r it ≤ numbers_end
 Fits r (content.Merger it) = r.next ≤ 1000000000
 Fits r (content.Mortgage it) = (r.next ≤ 1000000000) × (next_rank r it.unit ≤ 1000000000)
 Fits r (content.Discharge it) = Unit

@@ -1,5 +1,6 @@
 -- The parts that all plans share.
-use Rattle.std.specs.Prelude.{ℕ, ◌+◌, ℤ, Bool, List, [], ◌∷◌, Option, Some, None, nat_lt, if◌then◌else◌}
+use Rattle.std.specs.Prelude.{◌≡◌, ℕ, ◌+◌, ℤ, Bool, List, [], ◌∷◌, Option, Some, None, nat_lt}
+use Rattle.std.specs.Prelude.{if◌then◌else◌}
 use Rattle.land_acts.specs.declared.mutations.refusal.Refusal.{Refusal}
 use Rattle.land_acts.specs.declared.mutations.refusal.Refusal.TheVariants.{NotLodged, NoSuchUnit}
 use Rattle.land_acts.specs.declared.mutations.refusal.Refusal.TheVariants.{NoSuchParcel, NoSuchRight}
@@ -12,6 +13,7 @@ use Rattle.land_acts.specs.declared.mutations.refusal.Refusal.TheVariants.{LastA
 use Rattle.land_acts.specs.declared.mutations.refusal.Refusal.TheVariants.{NotMatched, MandateHeld, NoMandate}
 use Rattle.land_acts.specs.declared.mutations.refusal.Refusal.TheVariants.{NoMemory}
 use Rattle.land_core.specs.Units.{rrr_count}
+use Rattle.land_core.specs.declared.change.Change.{Change}
 use Rattle.land_core.specs.declared.change.Done.{Done}
 use Rattle.land_core.specs.declared.register.Register.{Register}
 use Rattle.land_core.specs.declared.source.SourceKind.{SourceKind}
@@ -42,9 +44,17 @@ number_of MandateHeld = 221
 number_of NoMandate = 222
 number_of NoMemory = 501
 
--- whether `count` new objects would need a number above 1,000,000,000
+-- a plan is this change with this receipt
+abbrev pub IsPlanOf : Change → Done → Change × Done → Type 0
+IsPlanOf change done plan = (plan.0 ≡ change) × (plan.1 ≡ done)
+
+-- objects have numbers below this one
+abbrev pub numbers_end : ℕ
+numbers_end = 1000000001
+
+-- whether `count` new objects would need more numbers
 abbrev pub lacks_numbers : Register → ℕ → Bool
-lacks_numbers r count = nat_lt 1000000001 (r.next + count)
+lacks_numbers r count = nat_lt numbers_end (r.next + count)
 
 -- whether a unit would have more than 256 entries with `more` new ones
 abbrev pub would_crowd : Register → (unit more : ℕ) → Bool

@@ -1,7 +1,8 @@
 //! The parts that all plans share.
 ghost use Rattle.std.specs.Prelude.{◌≡◌, ◌≤◌, ◌+◌, IfOk};
 ghost use Rattle.land_acts.specs.Mutations.Numbering.{numbers_from};
-ghost use Rattle.land_acts.specs.Mutations.Planning.{document_source, done_on, lacks_numbers, would_crowd};
+ghost use Rattle.land_acts.specs.Mutations.Planning.{document_source, done_on, lacks_numbers, numbers_end};
+ghost use Rattle.land_acts.specs.Mutations.Planning.{would_crowd};
 
 use land_core::change::Done;
 use land_core::contents::rrr_count;
@@ -31,7 +32,7 @@ pub fn would_crowd(slice: &Slice, unit: u64) -> bool
 
 /// Returns `count` numbers, starting at `first`. The only error is out of memory.
 pub fn numbers_from(alloc: Global, first: u64, count: u64) -> Result<NumberList, AllocError>
-    requires { first + count ≤ 1_000_000_001 }
+    requires { first + count ≤ numbers_end }
     ensures { IfOk result (λ it. it ≡ numbers_from first count) }
 {
     let numbers = (first..first + count).collect::<Vec<u64>>(alloc)?;

@@ -5,7 +5,7 @@ ghost use Rattle.std.specs.Option.{option_map_or};
 ghost use Rattle.land_acts.specs.Mutations.Areas.{outlines_at};
 ghost use Rattle.land_acts.specs.Mutations.Grounds.{are_same_ground};
 ghost use Rattle.land_acts.specs.Mutations.Numbering.{numbered};
-ghost use Rattle.land_acts.specs.Mutations.Planning.{first_that_holds};
+ghost use Rattle.land_acts.specs.Mutations.Planning.{first_that_holds, numbers_end};
 ghost use Rattle.land_acts.specs.Mutations.Subdividing.{all_parts, copies_made, entries_of, has_parcel_in};
 ghost use Rattle.land_acts.specs.Mutations.Subdividing.{in_unit, origin_of, outlines_of, parcels_beside};
 ghost use Rattle.land_acts.specs.Mutations.Subdividing.{parcels_made, staying, subdivision_change};
@@ -134,7 +134,7 @@ pub(crate) fn change(
     source: u64,
     it: &Subdivision,
 ) -> Result<Change, AllocError>
-    requires { slice.now.next + subdivision_count slice.now it.now ≤ 1_000_000_001 }
+    requires { slice.now.next + subdivision_count slice.now it.now ≤ numbers_end }
     ensures { IfOk result (λ change. change ≡ subdivision_change slice.now source it.now) }
 {
     let units = units_made(alloc, slice, it)?;
@@ -155,7 +155,7 @@ fn units_made(
     slice: &Slice,
     it: &Subdivision,
 ) -> Result<Sequence<(u64, UnitRecord)>, AllocError>
-    requires { slice.now.next + subdivision_count slice.now it.now ≤ 1_000_000_001 }
+    requires { slice.now.next + subdivision_count slice.now it.now ≤ numbers_end }
     ensures { IfOk result (λ units. units ≡ units_made (origin_of slice.now 0 it.now) slice.now.next
         (all_parts it.now)) }
 {
@@ -180,7 +180,7 @@ fn parcels_made(
     source: u64,
     it: &Subdivision,
 ) -> Result<Sequence<(u64, ParcelRecord)>, AllocError>
-    requires { slice.now.next + subdivision_count slice.now it.now ≤ 1_000_000_001 }
+    requires { slice.now.next + subdivision_count slice.now it.now ≤ numbers_end }
     ensures { IfOk result (λ parcels. parcels
         ≡ parcels_made (origin_of slice.now source it.now) slice.now.next (all_parts it.now)) }
 {
@@ -225,7 +225,7 @@ fn copies_made(
     slice: &Slice,
     it: &Subdivision,
 ) -> Result<Sequence<(u64, RrrRecord)>, AllocError>
-    requires { slice.now.next + subdivision_count slice.now it.now ≤ 1_000_000_001 }
+    requires { slice.now.next + subdivision_count slice.now it.now ≤ numbers_end }
     ensures { IfOk result (λ copies. copies
         ≡ copies_made (origin_of slice.now 0 it.now) slice.now.next (all_parts it.now)) }
 {
@@ -250,7 +250,7 @@ fn push_copies(
     unit: u64,
     new_unit: u64,
 ) -> Result<(), AllocError>
-    requires { new_unit + 2 + length (entries_of slice.now unit) ≤ 1_000_000_001 }
+    requires { new_unit + 2 + length (entries_of slice.now unit) ≤ numbers_end }
     ensures { OnOk result (rrrs.new ≡ rrrs.old
         ++ numbered (new_unit + 2) (map_list (in_unit new_unit) (entries_of slice.now unit))) }
 {

@@ -1,7 +1,7 @@
 //! The content `transfer`: a share of a right goes to another party.
 ghost use Rattle.std.specs.Prelude.{◌≡◌, ◌≤◌, ◌++◌, ◌∷◌, [], nat_lt, false, is_none, IfOk, OnOk};
 ghost use Rattle.std.specs.Option.{option_map_or};
-ghost use Rattle.land_acts.specs.Mutations.Planning.{first_that_holds};
+ghost use Rattle.land_acts.specs.Mutations.Planning.{first_that_holds, numbers_end};
 ghost use Rattle.land_acts.specs.Mutations.Transferring.{are_too_fine, are_too_fine_after, are_too_many};
 ghost use Rattle.land_acts.specs.Mutations.Transferring.{given_up, grows_at, held_at, held_by, held_in};
 ghost use Rattle.land_acts.specs.Mutations.Transferring.{held_of, is_above, is_above_one, is_checked};
@@ -327,7 +327,7 @@ pub(crate) fn change(
     it: &Transfer,
     from: &Held,
 ) -> Result<Change, AllocError>
-    requires { number_after slice.now (grows_at slice.now it.now from.now) ≤ 1_000_000_001 }
+    requires { number_after slice.now (grows_at slice.now it.now from.now) ≤ numbers_end }
     ensures { IfOk result (λ change. change ≡ move_change slice.now source it.now from.now) }
 {
     let mut change = change_of_entries(alloc, slice, source, it, from)?;
