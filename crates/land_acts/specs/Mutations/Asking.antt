@@ -61,11 +61,14 @@ Fits r (content.Merger it) = r.next ≤ 1000000000
 Fits r (content.Mortgage it) = (r.next ≤ 1000000000) × (next_rank r it.unit ≤ 1000000000)
 Fits r (content.Discharge it) = Unit
 
--- the same, decided from the numbers of the register; a sound register always satisfies it
+-- whether the next number is one of an object, or the first one after them
+abbrev pub is_next_in_range : Register → Bool
+is_next_in_range r = nat_lt r.next 1000000002
+
+-- whether they are, decided from the numbers of the register; a sound register always satisfies it
 abbrev pub has_room : Register → Content → Bool
-has_room r (content.Transfer it) = nat_lt r.next 1000000002
-has_room r (content.Subdivision it) = nat_lt r.next 1000000002
-has_room r (content.Merger it) = nat_lt r.next 1000000002
-has_room r (content.Mortgage it) =
-    nat_lt r.next 1000000002 && nat_lt (greatest (ranks_in r it.unit)) 1000000000
-has_room r (content.Discharge it) = nat_lt r.next 1000000002
+has_room r (content.Transfer it) = is_next_in_range r
+has_room r (content.Subdivision it) = is_next_in_range r
+has_room r (content.Merger it) = is_next_in_range r
+has_room r (content.Mortgage it) = is_next_in_range r && nat_lt (greatest (ranks_in r it.unit)) 1000000000
+has_room r (content.Discharge it) = is_next_in_range r

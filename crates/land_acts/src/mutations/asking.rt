@@ -4,7 +4,7 @@ ghost use Rattle.land_acts.specs.Mutations.Asking.{Fits, content_change, content
 ghost use Rattle.land_acts.specs.Mutations.Asking.{has_room};
 ghost use Rattle.land_acts.specs.Mutations.Planning.{first_that_holds};
 
-use crate::mutations::planning::{Slice, numbers_from};
+use crate::mutations::planning::{NUMBERS_END, Slice, numbers_from};
 use crate::mutations::refusal::Refusal;
 use crate::mutations::{discharge, merge, mortgage, subdivide, transfer};
 use land_core::change::Change;
@@ -78,7 +78,7 @@ pub fn made(alloc: Global, slice: &Slice, content: &Content) -> Result<NumberLis
 pub fn has_room(slice: &Slice, content: &Content) -> bool
     ensures { result ≡ has_room slice.now content.now }
 {
-    slice.next <= 1_000_000_001
+    slice.next <= NUMBERS_END
         && match content {
             Content::Mortgage(it) => mortgage::greatest_rank(slice, it.unit) < 1_000_000_000,
             _ => true,

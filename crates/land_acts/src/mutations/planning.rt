@@ -13,14 +13,17 @@ use land_core::source::{SourceKind, SourceRecord};
 use land_core::text::Text;
 use std::alloc::{AllocError, Global};
 
+/// Objects have numbers below this one.
+pub(crate) const NUMBERS_END: u64 = 1_000_000_001;
+
 /// The records of a register that planning an act may read.
 pub type Slice = Register;
 
-/// Returns whether `count` new objects would need a number above 1,000,000,000.
+/// Returns whether `count` new objects would need more numbers.
 pub fn lacks_numbers(slice: &Slice, count: u128) -> bool
     ensures { result ≡ lacks_numbers slice.now count }
 {
-    1_000_000_001 < u128::from(slice.next).saturating_add(count)
+    u128::from(NUMBERS_END) < u128::from(slice.next).saturating_add(count)
 }
 
 /// Returns whether a unit would have more than 256 entries with one more.
