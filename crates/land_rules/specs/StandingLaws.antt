@@ -95,8 +95,7 @@ may_ask now caller past = is_in_role now caller && (not past || asks_in roles_of
 
 -- a caller that may make requests requests one of these acts, and its role is not one of these
 pub record AsksOutOfRole (these : Ask → Type 0) (roles : List Role) (now : Register) (caller : Caller)
-    (a : Ask) (past : Bool)
-    : Type 0 where
+    (a : Ask) (past : Bool) : Type 0 where
   pub asker : may_ask now caller past ≡ true
   pub asked : these a
   pub other : asks_in roles caller ≡ false
@@ -104,8 +103,7 @@ pub record AsksOutOfRole (these : Ask → Type 0) (roles : List Role) (now : Reg
 -- these acts are reserved to these roles: the rule denies them to a caller that may make requests in another
 -- role; it denies nothing else; and none of these acts is ever allowed in another role
 pub record IsLeftTo (roles : List Role) (rule : ℕ) (these : Ask → Type 0) (now at : Register)
-    (caller : Caller) (a : Ask) (past : Bool)
-    : Type 0 where
+    (caller : Caller) (a : Ask) (past : Bool) : Type 0 where
   pub denied : (verdict_of now at caller a past ≡ Denied rule) ↔ AsksOutOfRole these roles now caller a past
   pub allowed : these a → verdict_of now at caller a past ≡ Allowed → asks_in roles caller ≡ true
 

@@ -1,6 +1,8 @@
 //! Reads long after the last change, and rules on visibility that are easily confused.
 use crate::conclusion::conclude;
+use crate::end_of_time::END;
 use land_core::kind::Kind::{Party, Rrr, Unit};
+use land_core::limits::LAST_MOMENT;
 use land_core::rrr::RightType::{Ownership, Usufruct};
 use land_test_cases::asked::RowAct::{Approve, Group, RegisterAs};
 use land_test_cases::asked::RowAsk::{Do, List, Sheet, View};
@@ -22,16 +24,11 @@ const LATE: &[Row] = &[
         Sheet(9, None),
         "sheet 9 Garden at 2000: parcel 10 rrr 11 Anna rrr 12 Anna and Ben rrr 13 Sam rrr 16 Bank, \"North\"",
     ),
+    Row(END, OFFICE, View(Unit, 9, Some(END)), "fault 135"),
     Row(
-        4_102_444_800_000,
+        END,
         OFFICE,
-        View(Unit, 9, Some(4_102_444_800_000)),
-        "fault 135",
-    ),
-    Row(
-        4_102_444_800_000,
-        OFFICE,
-        View(Unit, 9, Some(4_102_444_799_999)),
+        View(Unit, 9, Some(LAST_MOMENT)),
         "unit 9 Garden true",
     ),
 ];

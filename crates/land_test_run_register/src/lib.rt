@@ -22,6 +22,8 @@ mod core_acts;
 #[cfg(test)]
 mod core_types;
 #[cfg(test)]
+mod end_of_time;
+#[cfg(test)]
 mod first_rows;
 #[cfg(test)]
 mod fraction;

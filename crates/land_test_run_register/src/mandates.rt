@@ -1,5 +1,6 @@
 //! Mandates: given and withdrawn, and what citizens see by them at each time.
 use crate::conclusion::conclude;
+use crate::end_of_time::END;
 use land_core::kind::Kind::{Party, Rrr, Unit};
 use land_core::role::Role::{Citizen, Notary};
 use land_test_cases::asked::RowAct::{Grant, Mandate, Revoke, Withdraw};
@@ -69,9 +70,6 @@ const REFUSED: &[Row] = &[
     Row(1000, ANNA, Do(Mandate(3)), "done 3 made [] at 1013"),
     Row(END, ANNA, Do(Mandate(3)), "refused 217"),
 ];
-
-/// The first time after the last moment, in Unix milliseconds.
-const END: i64 = 4_102_444_800_000;
 
 #[test]
 fn a_mandate_is_given_once_and_withdrawn_once(rt: HostRuntime) -> Result<(), Fail> {
