@@ -2,16 +2,7 @@
 use Rattle.std.specs.Prelude.{◌≡◌, ℕ, ◌+◌, ℤ, Bool, List, [], ◌∷◌, Option, Some, None, nat_lt}
 use Rattle.std.specs.Prelude.{if◌then◌else◌}
 use Rattle.land_acts.specs.declared.mutations.refusal.Refusal.{Refusal}
-use Rattle.land_acts.specs.declared.mutations.refusal.Refusal.TheVariants.{NotLodged, NoSuchUnit}
-use Rattle.land_acts.specs.declared.mutations.refusal.Refusal.TheVariants.{NoSuchParcel, NoSuchRight}
-use Rattle.land_acts.specs.declared.mutations.refusal.Refusal.TheVariants.{NoSuchParty, ShareTooLarge}
-use Rattle.land_acts.specs.declared.mutations.refusal.Refusal.TheVariants.{SharesTooFine, UnitsUnlike}
-use Rattle.land_acts.specs.declared.mutations.refusal.Refusal.TheVariants.{TooMany, NotBank, NotMortgage}
-use Rattle.land_acts.specs.declared.mutations.refusal.Refusal.TheVariants.{SharesNotWhole, ReferenceUsed}
-use Rattle.land_acts.specs.declared.mutations.refusal.Refusal.TheVariants.{RoleHeld, RoleNotHeld, ClockOut}
-use Rattle.land_acts.specs.declared.mutations.refusal.Refusal.TheVariants.{LastAdministrator, SameParty}
-use Rattle.land_acts.specs.declared.mutations.refusal.Refusal.TheVariants.{NotMatched, MandateHeld, NoMandate}
-use Rattle.land_acts.specs.declared.mutations.refusal.Refusal.TheVariants.{NoMemory}
+use Rattle.land_acts.specs.declared.mutations.refusal.Refusal.TheVariants as refusal
 use Rattle.land_core.specs.Units.{rrr_count}
 use Rattle.land_core.specs.declared.change.Change.{Change}
 use Rattle.land_core.specs.declared.change.Done.{Done}
@@ -21,28 +12,28 @@ use Rattle.land_core.specs.declared.source.SourceRecord.{SourceRecord}
 
 -- the number of a refusal in replies
 abbrev pub number_of : Refusal → ℕ
-number_of NotLodged = 201
-number_of NoSuchUnit = 202
-number_of NoSuchParcel = 203
-number_of NoSuchRight = 204
-number_of NoSuchParty = 205
-number_of ShareTooLarge = 206
-number_of SharesTooFine = 207
-number_of UnitsUnlike = 209
-number_of TooMany = 210
-number_of NotBank = 211
-number_of NotMortgage = 212
-number_of SharesNotWhole = 213
-number_of ReferenceUsed = 214
-number_of RoleHeld = 215
-number_of RoleNotHeld = 216
-number_of ClockOut = 217
-number_of LastAdministrator = 218
-number_of SameParty = 219
-number_of NotMatched = 220
-number_of MandateHeld = 221
-number_of NoMandate = 222
-number_of NoMemory = 501
+number_of refusal.NotLodged = 201
+number_of refusal.NoSuchUnit = 202
+number_of refusal.NoSuchParcel = 203
+number_of refusal.NoSuchRight = 204
+number_of refusal.NoSuchParty = 205
+number_of refusal.ShareTooLarge = 206
+number_of refusal.SharesTooFine = 207
+number_of refusal.UnitsUnlike = 209
+number_of refusal.TooMany = 210
+number_of refusal.NotBank = 211
+number_of refusal.NotMortgage = 212
+number_of refusal.SharesNotWhole = 213
+number_of refusal.ReferenceUsed = 214
+number_of refusal.RoleHeld = 215
+number_of refusal.RoleNotHeld = 216
+number_of refusal.ClockOut = 217
+number_of refusal.LastAdministrator = 218
+number_of refusal.SameParty = 219
+number_of refusal.NotMatched = 220
+number_of refusal.MandateHeld = 221
+number_of refusal.NoMandate = 222
+number_of refusal.NoMemory = 501
 
 -- a plan is this change with this receipt
 abbrev pub IsPlanOf : Change → Done → Change × Done → Type 0
