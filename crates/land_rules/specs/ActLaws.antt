@@ -13,10 +13,11 @@ use Rattle.land_rules.specs.Rules.{is_allowed, verdict_of}
 use Rattle.land_rules.specs.declared.verdict.Verdict.{Verdict}
 use Rattle.land_rules.specs.declared.verdict.Verdict.TheVariants.{Allowed, Denied}
 
--- the requests to approve a mutation and to refuse it
+-- the request to approve a mutation
 abbrev pub to_approve : ℕ → Ask
 to_approve number = ask.Do (Approve (record { mutation = number }))
 
+-- the request to refuse a mutation
 abbrev pub to_refuse : ℕ → Ask
 to_refuse number = ask.Do (Refuse (record { mutation = number }))
 
@@ -31,10 +32,11 @@ LodgersDoNotDecide = (now at : Register) (caller : Caller) (number : ℕ) (past 
     → has_lodged now caller.party number ≡ true
     → MayNotDecide now at caller number past
 
--- a caller in the role of state administrator, and whether this party exists and holds the role now
+-- a caller in the role of state administrator
 abbrev pub administrator : ℕ → Caller
 administrator party = record { party = party; role = StateAdministrator }
 
+-- whether a party exists and holds this role now
 abbrev pub is_administrator : (now : Register) → (party : ℕ) → Bool
 is_administrator now party = stands now kind.Party party && holds now party StateAdministrator
 

@@ -36,6 +36,7 @@ pub record SeesTogether (at : Register) (party : ℕ) (k : Kind) (number : ℕ) 
       ≡ list_any (λ p. list_any (nat_eq number) (seen_of (without_mandates at) (citizen p) k))
       (circle_of at party)
 
+-- this holds for every object
 abbrev pub CirclesSeeTogether : Type 0
 CirclesSeeTogether = (at : Register) (party : ℕ) (k : Kind) (number : ℕ) → SeesTogether at party k number
 

@@ -22,10 +22,11 @@ circle_of at party = party ∷ principals_of at party
 abbrev pub is_in_circle : Register → (party number : ℕ) → Bool
 is_in_circle at party number = list_any (nat_eq number) (circle_of at party)
 
--- whether a member of a circle is a holder in a unit, and whether one is an owner there
+-- whether a member of a circle is a holder in a unit
 abbrev pub is_held_by : Register → (circle : List ℕ) → (unit : ℕ) → Bool
 is_held_by at circle unit = list_any (λ p. is_holder at p unit) circle
 
+-- whether a member of a circle is an owner in a unit
 abbrev pub is_owned_by : Register → (circle : List ℕ) → (unit : ℕ) → Bool
 is_owned_by at circle unit = list_any (λ p. is_owner at p unit) circle
 

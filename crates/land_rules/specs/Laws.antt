@@ -38,6 +38,7 @@ pub record VerdictIsLeast (now at : Register) (caller : Caller) (a : Ask) (past 
   pub allowed : (verdict_of now at caller a past ≡ Allowed)
       ↔ ((k : ℕ) → denies k (rules_on now at caller a past) ≡ false)
 
+-- every verdict is of this kind
 abbrev pub VerdictsAreLeast : Type 0
 VerdictsAreLeast =
     (now at : Register) (caller : Caller) (a : Ask) (past : Bool) → VerdictIsLeast now at caller a past
@@ -48,6 +49,7 @@ pub record SeenIsExact (at : Register) (caller : Caller) (k : Kind) : Type 0 whe
   pub ascending : ascends (seen_of at caller k) ≡ true
   pub exact : (n : ℕ) → list_any (nat_eq n) (seen_of at caller k) ≡ sees at caller k n
 
+-- every list is of this kind
 abbrev pub SeenIsExactly : Type 0
 SeenIsExactly = (at : Register) (caller : Caller) (k : Kind) → SeenIsExact at caller k
 

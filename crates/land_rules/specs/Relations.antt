@@ -14,10 +14,11 @@ use Rattle.land_core.specs.declared.rrr.Class.{Class}
 use Rattle.land_core.specs.declared.rrr.RightType.TheVariants.{Ownership}
 use Rattle.land_core.specs.declared.rrr.RrrRecord.{RrrRecord}
 
--- whether the class is a right, and whether it is a mortgage
+-- whether the class is a right
 abbrev pub is_right : Class → Bool
 is_right class = is_some (type_of class)
 
+-- whether the class is a mortgage
 abbrev pub is_mortgage : Class → Bool
 is_mortgage class = is_some (rank_of class)
 

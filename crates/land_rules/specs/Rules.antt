@@ -26,6 +26,7 @@ use Rattle.land_rules.specs.Relations.{is_rrr_where, is_told_to_creditor}
 use Rattle.land_rules.specs.declared.verdict.Verdict.{Verdict}
 use Rattle.land_rules.specs.declared.verdict.Verdict.TheVariants.{Allowed, Denied}
 
+-- a list of rules
 abbrev pub Rules : Type 0
 Rules = List (ℕ × Bool)
 
@@ -34,6 +35,7 @@ abbrev pub first_denial : Rules → Verdict
 first_denial [] = Allowed
 first_denial (rule ∷ rules) = if rule.1 then Denied rule.0 else first_denial rules
 
+-- whether a verdict allows
 abbrev pub is_allowed : Verdict → Bool
 is_allowed Allowed = true
 is_allowed (Denied k) = false
@@ -45,6 +47,7 @@ abbrev pub is_of_the_present : Caller → Bool
 is_of_the_present caller =
     is_role caller.role Bank || is_role caller.role Conveyancer || is_role caller.role CertifiedSurveyor
 
+-- rules on callers: 1 to 3
 abbrev pub caller_rules : (now : Register) → Caller → (past : Bool) → Rules
 caller_rules now caller past =
     -- the caller is not a party of the register now
@@ -55,6 +58,7 @@ caller_rules now caller past =
     ∷ (3, past && is_of_the_present caller)
     ∷ []
 
+-- rules on acts: 4 to 10, 28 and 29
 abbrev pub act_rules : (now : Register) → Caller → Act → Rules
 act_rules now caller a =
     -- an act of the office is for state administrators only
@@ -79,6 +83,7 @@ act_rules now caller a =
     ∷ (29, withdraws (is_between_others caller.party) a)
     ∷ []
 
+-- the standing rules on a request; acts have rules of their own
 abbrev pub standing_rules : (now : Register) → Caller → Ask → (past : Bool) → Rules
 standing_rules now caller (ask.View k number at) past = caller_rules now caller past
 standing_rules now caller (ask.List k at) past = caller_rules now caller past
@@ -87,6 +92,7 @@ standing_rules now caller (ask.Do it) past = caller_rules now caller past ++ act
 
 -- ---- sight rules: rules on visibility, which read the register at the requested time
 
+-- rules on the view of a unit
 abbrev pub unit_rules : (at : Register) → Caller → (number : ℕ) → Rules
 unit_rules at caller number =
     -- a citizen sees a unit only if a member of its circle is a holder in it
@@ -101,6 +107,7 @@ unit_rules at caller number =
     ∷ (27, not (stands at kind.Unit number))
     ∷ []
 
+-- whether a unit is visible
 abbrev pub is_unit_in_sight : (at : Register) → Caller → (number : ℕ) → Bool
 is_unit_in_sight at caller number = is_allowed (first_denial (unit_rules at caller number))
 
@@ -112,6 +119,7 @@ is_told_to_bank at caller e = is_unit_in_sight at caller e.unit && is_told_to_cr
 abbrev pub is_told_to_conveyancer : (at : Register) → Caller → RrrRecord → Bool
 is_told_to_conveyancer at caller e = is_unit_in_sight at caller e.unit
 
+-- rules on the view of an entry
 abbrev pub rrr_rules : (at : Register) → Caller → (number : ℕ) → Rules
 rrr_rules at caller number =
     let circle = circle_of at caller.party in
@@ -128,6 +136,7 @@ rrr_rules at caller number =
     ∷ (27, not (stands at kind.Rrr number))
     ∷ []
 
+-- whether an entry is visible
 abbrev pub is_rrr_in_sight : (at : Register) → Caller → (number : ℕ) → Bool
 is_rrr_in_sight at caller number = is_allowed (first_denial (rrr_rules at caller number))
 
@@ -135,6 +144,7 @@ is_rrr_in_sight at caller number = is_allowed (first_denial (rrr_rules at caller
 abbrev pub is_party_in_sight : (at : Register) → Caller → (party : ℕ) → Bool
 is_party_in_sight at caller party = some (λ n e. nat_eq e.party party && is_rrr_in_sight at caller n) at.rrrs
 
+-- rules on the view of a party
 abbrev pub party_rules : (at : Register) → Caller → (number : ℕ) → Rules
 party_rules at caller number =
     let itself = nat_eq number caller.party in
@@ -154,6 +164,7 @@ party_rules at caller number =
     ∷ (27, not (stands at kind.Party number))
     ∷ []
 
+-- rules on the view of a parcel
 abbrev pub parcel_rules : (at : Register) → (number : ℕ) → Rules
 parcel_rules at number =
     -- the parcel does not exist; every caller sees all others
@@ -164,6 +175,7 @@ parcel_rules at number =
 abbrev pub is_told_sources : Caller → Bool
 is_told_sources caller = is_role caller.role Notary || is_role caller.role StateAdministrator
 
+-- rules on the view of a source
 abbrev pub source_rules : (at : Register) → Caller → (number : ℕ) → Rules
 source_rules at caller number =
     -- only notaries and state administrators see sources
@@ -172,6 +184,7 @@ source_rules at caller number =
     ∷ (27, not (stands at kind.Source number))
     ∷ []
 
+-- rules on the view of a mutation
 abbrev pub mutation_rules : (at : Register) → Caller → (number : ℕ) → Rules
 mutation_rules at caller number =
     let circle = circle_of at caller.party in
@@ -188,6 +201,7 @@ mutation_rules at caller number =
     ∷ (27, not (stands at kind.Mutation number))
     ∷ []
 
+-- rules on the view of an object, by its kind
 abbrev pub view_rules : (at : Register) → Caller → Kind → (number : ℕ) → Rules
 view_rules at caller kind.Party number = party_rules at caller number
 view_rules at caller kind.Unit number = unit_rules at caller number
@@ -209,6 +223,7 @@ sight_rules at caller (ask.Do it) = []
 abbrev pub rules_on : (now at : Register) → Caller → Ask → (past : Bool) → Rules
 rules_on now at caller a past = standing_rules now caller a past ++ sight_rules at caller a
 
+-- the verdict on a request
 abbrev pub verdict_of : (now at : Register) → Caller → Ask → (past : Bool) → Verdict
 verdict_of now at caller a past = first_denial (rules_on now at caller a past)
 

@@ -94,6 +94,7 @@ pub record MortgageIsTold (now at : Register) (party unit number : ℕ) (moment 
   pub other : CircleHoldsNone (is_right_of Ownership) at party unit
       → citizen_told now at party kind.Rrr number moment past ≡ Denied 12
 
+-- every mortgage has this verdict
 abbrev pub OwnersAloneSeeMortgages : Type 0
 OwnersAloneSeeMortgages =
     (now at : Register) (party unit number : ℕ) (e : RrrRecord) (moment : Option ℤ) (past : Bool)
@@ -119,6 +120,7 @@ pub record BankSees (at : Register) (party : ℕ) : Type 0 where
       ↔ ((stands at kind.Unit unit ≡ true) × HasEntry is_mortgage at party unit)
   pub entries : (number : ℕ) → (sees at (bank party) kind.Rrr number ≡ true) ↔ IsOpenToBank at party number
 
+-- every bank sees exactly this
 abbrev pub BanksSeeByTheirMortgages : Type 0
 BanksSeeByTheirMortgages = (at : Register) (party : ℕ) → BankSees at party
 

@@ -57,6 +57,7 @@ pub record RoleIsHeld (now at : Register) (caller : Caller) (a : Ask) (past : Bo
   pub denied : (verdict_of now at caller a past ≡ Denied 2) ↔ LacksItsRole now caller
   pub allowed : verdict_of now at caller a past ≡ Allowed → is_in_role now caller ≡ true
 
+-- the law on rule 2
 abbrev pub RolesAreHeld : Type 0
 RolesAreHeld = (now at : Register) (caller : Caller) (a : Ask) (past : Bool) → RoleIsHeld now at caller a past
 
@@ -84,6 +85,7 @@ pub record PastIsByRole (now at : Register) (caller : Caller) (a : Ask) : Type 0
   pub denied : (past : Bool)
       → (verdict_of now at caller a past ≡ Denied 3) ↔ AsksForClosedPast now caller past
 
+-- the law on rule 3
 abbrev pub ThePastIsClosedToThreeRoles : Type 0
 ThePastIsClosedToThreeRoles = (now at : Register) (caller : Caller) (a : Ask) → PastIsByRole now at caller a
 
@@ -139,6 +141,7 @@ pub record OfficeActIsReserved (now at : Register) (caller : Caller) (a : Ask) (
   pub given : IsGivenTo (StateAdministrator ∷ [])
       (IsOfTheOfficeForOthers now caller.party) now at caller a past
 
+-- the law on rule 4
 abbrev pub ActsOfTheOfficeAreReserved : Type 0
 ActsOfTheOfficeAreReserved =
     (now at : Register) (caller : Caller) (a : Ask) (past : Bool) → OfficeActIsReserved now at caller a past
@@ -158,6 +161,7 @@ pub record TransferIsLeft (now at : Register) (caller : Caller) (a : Ask) (past 
   pub left : IsLeftTo (Conveyancer ∷ Notary ∷ []) 5 LodgesTransfer now at caller a past
   pub given : IsGivenTo (Conveyancer ∷ Notary ∷ []) LodgesTransfer now at caller a past
 
+-- the law on rule 5
 abbrev pub ConveyancersAndNotariesLodgeTransfers : Type 0
 ConveyancersAndNotariesLodgeTransfers =
     (now at : Register) (caller : Caller) (a : Ask) (past : Bool) → TransferIsLeft now at caller a past
@@ -172,6 +176,7 @@ pub record OutlinesAreLeft (now at : Register) (caller : Caller) (a : Ask) (past
   pub left : IsLeftTo (CertifiedSurveyor ∷ []) 6 LodgesSubdivisionOrMerger now at caller a past
   pub given : IsGivenTo (CertifiedSurveyor ∷ []) LodgesSubdivisionOrMerger now at caller a past
 
+-- the law on rule 6
 abbrev pub SurveyorsLodgeSubdivisionsAndMergers : Type 0
 SurveyorsLodgeSubdivisionsAndMergers =
     (now at : Register) (caller : Caller) (a : Ask) (past : Bool) → OutlinesAreLeft now at caller a past
@@ -187,6 +192,7 @@ pub record MortgagesAreLeft (now at : Register) (caller : Caller) (a : Ask) (pas
   pub left : IsLeftTo (Bank ∷ Notary ∷ []) 7 LodgesMortgageOrDischarge now at caller a past
   pub given : IsGivenTo (Notary ∷ []) LodgesMortgageOrDischarge now at caller a past
 
+-- the law on rule 7
 abbrev pub BanksAndNotariesLodgeMortgages : Type 0
 BanksAndNotariesLodgeMortgages =
     (now at : Register) (caller : Caller) (a : Ask) (past : Bool) → MortgagesAreLeft now at caller a past
@@ -217,6 +223,7 @@ pub record MortgageIsItsOwn (now at : Register) (caller : Caller) (a : Ask) (pas
       → verdict_of now at caller a past ≡ Allowed
   pub denied : (verdict_of now at caller a past ≡ Denied 8) ↔ LendsForAnother now caller a past
 
+-- the law on rule 8
 abbrev pub BanksLodgeTheirOwnMortgages : Type 0
 BanksLodgeTheirOwnMortgages =
     (now at : Register) (caller : Caller) (a : Ask) (past : Bool) → MortgageIsItsOwn now at caller a past
@@ -250,6 +257,7 @@ pub record DischargeIsItsOwn (now at : Register) (caller : Caller) (a : Ask) (pa
       → verdict_of now at caller a past ≡ Allowed
   pub denied : (verdict_of now at caller a past ≡ Denied 9) ↔ DischargesWhatIsNotItsOwn now caller a past
 
+-- the law on rule 9
 abbrev pub BanksDischargeTheirOwnMortgages : Type 0
 BanksDischargeTheirOwnMortgages =
     (now at : Register) (caller : Caller) (a : Ask) (past : Bool) → DischargeIsItsOwn now at caller a past
@@ -257,13 +265,15 @@ BanksDischargeTheirOwnMortgages =
 -- ---- rules 28 and 29: citizens give mandates, and withdraw those of which they are the principal or the
 -- agent
 
--- the request gives a mandate, withdraws this mandate, or does one of both
+-- the request gives a mandate
 abbrev pub GivesMandate : Ask → Type 0
 GivesMandate a = (it : NewMandate) × (a ≡ ask.Do (act.Mandate it))
 
+-- the request withdraws this mandate
 abbrev pub WithdrawsMandate : Mandate → Ask → Type 0
 WithdrawsMandate it a = a ≡ ask.Do (act.Withdraw it)
 
+-- the request gives or withdraws a mandate
 abbrev pub IsOnMandate : Ask → Type 0
 IsOnMandate a = GivesMandate a ⊎ ((it : Mandate) × WithdrawsMandate it a)
 
@@ -291,6 +301,7 @@ pub record MandateIsItsOwn (now at : Register) (caller : Caller) (a : Ask) (past
   pub given : IsGivenTo (Citizen ∷ []) (IsOnItsMandate caller.party) now at caller a past
   pub denied : (verdict_of now at caller a past ≡ Denied 29) ↔ WithdrawsForOthers now caller a past
 
+-- the law on rules 28 and 29
 abbrev pub CitizensGiveMandates : Type 0
 CitizensGiveMandates =
     (now at : Register) (caller : Caller) (a : Ask) (past : Bool) → MandateIsItsOwn now at caller a past

@@ -60,8 +60,8 @@ pub fn seen(
     }
 }
 
-/// Returns those numbers of a map that the caller sees, ascending. Only for kinds and roles whose rules search
-/// no entries.
+/// Returns those numbers of a map that the caller sees, ascending. Only for kinds and roles whose rules
+/// search no entries.
 fn seen_among<V>(
     alloc: Global,
     records: &Records<V>,

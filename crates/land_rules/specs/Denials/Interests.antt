@@ -28,21 +28,23 @@ use Rattle.land_rules.specs.declared.denials.interests.Interest.TheVariants.{Cre
 
 -- ---- the interest, from the entries of a unit
 
--- a map of entries by number, and the entries of a unit
+-- a map of entries by number
 abbrev pub Entries : Type 0
 Entries = FinMap nat_cmp RrrRecord
 
+-- the entries of a unit
 abbrev pub entries_of : Register → (unit : ℕ) → Entries
 entries_of at unit = only (λ n e. nat_eq e.unit unit) at.rrrs
 
--- whether an entry is a right, or an ownership, under one of these names; and whether it is a mortgage of
--- which a party is the creditor
+-- whether an entry is a right under one of these names
 abbrev pub is_right_in : (is_name : ℕ → Bool) → RrrRecord → Bool
 is_right_in is_name e = is_right e.class && is_name e.party
 
+-- whether an entry is an ownership under one of these names
 abbrev pub is_ownership_in : (is_name : ℕ → Bool) → RrrRecord → Bool
 is_ownership_in is_name e = is_right_of Ownership e.class && is_name e.party
 
+-- whether an entry is a mortgage of which the party is the creditor
 abbrev pub is_mortgage_for : (party : ℕ) → RrrRecord → Bool
 is_mortgage_for party e = is_mortgage e.class && nat_eq e.party party
 

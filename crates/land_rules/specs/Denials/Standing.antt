@@ -28,6 +28,7 @@ entry_of_content (content.Merger it) = None
 entry_of_content (content.Mortgage it) = None
 entry_of_content (content.Discharge it) = Some it.mortgage
 
+-- the same for an act
 abbrev pub entry_of_act : Act → Option ℕ
 entry_of_act (act.Enrol it) = None
 entry_of_act (act.Group it) = None
@@ -59,13 +60,14 @@ mutation_of_act (act.Lodge it) = None
 mutation_of_act (act.Approve it) = Some it.mutation
 mutation_of_act (act.Refuse it) = Some it.mutation
 
--- the same for a request; a request that only reads refers to neither
+-- the entry that a request would discharge; a request that only reads has none
 abbrev pub discharged : Ask → Option ℕ
 discharged (ask.View k number moment) = None
 discharged (ask.List k moment) = None
 discharged (ask.Sheet unit moment) = None
 discharged (ask.Do it) = entry_of_act it
 
+-- the mutation that a request would decide; a request that only reads has none
 abbrev pub decided : Ask → Option ℕ
 decided (ask.View k number moment) = None
 decided (ask.List k moment) = None
