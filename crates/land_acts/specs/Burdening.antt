@@ -34,9 +34,15 @@ class_of burden.Responsibility words = class.Responsibility words
 abbrev pub burden_change : Register → Burden → Change
 burden_change r it = record {
   put = record no_put {
-    rrrs =
-        (r.next + 1, record { unit = it.unit; party = it.party; class = class_of it.class it.words; source = r.next })
-        ∷ [];
+    rrrs = (
+      r.next + 1,
+      record {
+        unit = it.unit;
+        party = it.party;
+        class = class_of it.class it.words;
+        source = r.next;
+      },
+    ) ∷ [];
     sources = document_source r.next Administrative it.document;
   };
   ended = no_ended;

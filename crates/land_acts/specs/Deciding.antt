@@ -34,6 +34,7 @@ approve_refusals r it stamp =
     (NotLodged, not (is_lodged r it.mutation))
     ∷ option_map_or (λ m. content_refusals r m.content stamp) (map.get r.mutations it.mutation) []
 
+-- the refusals of a refusal with their conditions, in ascending order
 abbrev pub refuse_refusals : Register → Decision → Option ℤ → List (Refusal × Bool)
 refuse_refusals r it stamp = (NotLodged, not (is_lodged r it.mutation)) ∷ (ClockOut, is_none stamp) ∷ []
 

@@ -44,11 +44,12 @@ in_order m n = if nat_lt n m then n ∷ m ∷ [] else m ∷ n ∷ []
 abbrev pub lodged_told : ℕ × MutationRecord → Done
 lodged_told e = record { number = e.0; made = in_order e.1.source e.0; stamp = e.1.lodged }
 
--- a lodging that repeats an earlier one gets the earlier receipt
+-- the receipt of an earlier lodging, if this one repeats it
 abbrev pub repeat_of : Register → Lodging → Option (ℕ × MutationRecord) → Option Done
 repeat_of r it None = None
 repeat_of r it (Some e) = if is_same_lodging r it e.1 then Some (lodged_told e) else None
 
+-- the same, with the lodging under the reference
 abbrev pub lodge_repeat : Register → Caller → Lodging → Option Done
 lodge_repeat r caller it = repeat_of r it (lodged_under r caller.party it.reference)
 

@@ -76,6 +76,7 @@ done_of r caller (Lodge it) stamp = lodge_done r stamp
 done_of r caller (Approve it) stamp = approve_done r it stamp
 done_of r caller (Refuse it) stamp = done_on it.mutation stamp
 
+-- a refusal, or else the plan
 abbrev pub refused_else : Option Refusal → Result Planned Refusal → Result Planned Refusal
 refused_else None else_planned = else_planned
 refused_else (Some refusal) else_planned = Err refusal

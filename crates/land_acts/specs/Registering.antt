@@ -35,11 +35,12 @@ register_refusals r it stamp =
     ∷ (SameParty, has_right_twice it.rights)
     ∷ []
 
--- the record of a parcel, and of a right
+-- the record of a parcel
 abbrev pub parcel_of : (unit source : ℕ) → NewParcel → ParcelRecord
 parcel_of unit source parcel =
     record { unit = unit; label = parcel.label; outline = parcel.outline; source = source }
 
+-- the record of a right
 abbrev pub right_of : (unit source : ℕ) → NewRight → RrrRecord
 right_of unit source right =
     record { unit = unit; party = right.party; class = Right right.right_type right.share; source = source }

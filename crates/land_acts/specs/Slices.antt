@@ -120,6 +120,7 @@ names_mandate caller (act.Lodge it) m = false
 names_mandate caller (act.Approve it) m = false
 names_mandate caller (act.Refuse it) m = false
 
+-- the mutations in the slice
 abbrev pub mutations_looked_at : Register → Caller → Act → FinMap nat_cmp MutationRecord
 mutations_looked_at r caller a = only (λ n m. looks_at_mutation caller a n m) r.mutations
 

@@ -29,7 +29,7 @@ use Rattle.land_core.specs.declared.rrr.RrrRecord.{RrrRecord}
 
 -- ---- units that can be merged
 
--- whether two entries are equal, except for number, unit and source
+-- whether two classes are equal
 abbrev pub is_same_class : Class → Class → Bool
 is_same_class (class.Right type share) (class.Right other part) =
     is_type type other && is_same_share share part
@@ -50,6 +50,7 @@ is_same_class (class.Mortgage amount currency rank) (class.Responsibility other)
 is_same_class (class.Mortgage amount currency rank) (class.Mortgage sum coin place) =
     nat_eq amount sum && bytes_eq currency coin && nat_eq rank place
 
+-- whether two entries are equal, except for number, unit and source
 abbrev pub is_same_entry : RrrRecord → RrrRecord → Bool
 is_same_entry e f = nat_eq e.party f.party && is_same_class e.class f.class
 
@@ -76,6 +77,7 @@ is_named it n = nat_eq n it.unit || lists_number it.others n
 abbrev pub is_parcel_named : Register → Merger → (number : ℕ) → Bool
 is_parcel_named r it n = option_map_or (λ p. is_named it p.unit) (map.get r.parcels n) false
 
+-- whether a listed number is not a parcel of these units
 abbrev pub lacks_parcel : Register → Merger → Bool
 lacks_parcel r it = list_any (λ n. not (is_parcel_named r it n)) it.parcels
 
@@ -96,6 +98,7 @@ is_unlike r it other =
     || not (is_same_mark (is_checked r other) (is_checked r it.unit))
     || not (are_same_entries (entries_of r other) (entries_of r it.unit))
 
+-- whether one of the other units cannot be merged with the unit
 abbrev pub has_unlike : Register → Merger → Bool
 has_unlike r it = list_any (λ other. is_unlike r it other) it.others
 

@@ -38,6 +38,7 @@ pub record Origin : Type 0 where
   pub entries : List RrrRecord
   pub source : ℕ
 
+-- this data of the unit of a subdivision
 abbrev pub origin_of : Register → (source : ℕ) → Subdivision → Origin
 origin_of r source it =
     record { unit = it.unit; checked = is_checked r it.unit; entries = entries_of r it.unit; source = source }
@@ -63,11 +64,12 @@ abbrev pub unit_made : Origin → (first : ℕ) → (new_unit : Option (List ℕ
 unit_made origin first None = []
 unit_made origin first (Some name) = (first, record { name = name; checked = origin.checked }) ∷ []
 
--- then the parcel in it, with the source of the mutation
+-- then the parcel, with the source of the mutation
 abbrev pub parcel_in : Origin → (unit : ℕ) → Part → ParcelRecord
 parcel_in origin unit part =
     record { unit = unit; label = part.label; outline = part.outline; source = origin.source }
 
+-- the parcel of a part, under its number
 abbrev pub parcel_made : Origin → (first : ℕ) → Part → (new_unit : Option (List ℕ)) → List (ℕ × ParcelRecord)
 parcel_made origin first part None = (first, parcel_in origin origin.unit part) ∷ []
 parcel_made origin first part (Some name) = (first + 1, parcel_in origin first part) ∷ []
@@ -79,21 +81,25 @@ entries_made origin first (Some name) = numbered (first + 2) (map_list (in_unit 
 
 -- ---- the objects of all parts, in their order
 
+-- the next number after these parts
 abbrev pub next_after : Origin → (first : ℕ) → List Part → ℕ
 next_after origin first [] = first
 next_after origin first (part ∷ parts) = next_after origin (first + numbers_for origin part.unit) parts
 
+-- the new units
 abbrev pub units_made : Origin → (first : ℕ) → List Part → List (ℕ × UnitRecord)
 units_made origin first [] = []
 units_made origin first (part ∷ parts) =
     unit_made origin first part.unit ++ units_made origin (first + numbers_for origin part.unit) parts
 
+-- the parcels of the parts
 abbrev pub parcels_made : Origin → (first : ℕ) → List Part → List (ℕ × ParcelRecord)
 parcels_made origin first [] = []
 parcels_made origin first (part ∷ parts) =
     parcel_made origin first part part.unit
     ++ parcels_made origin (first + numbers_for origin part.unit) parts
 
+-- the entries of the new units
 abbrev pub copies_made : Origin → (first : ℕ) → List Part → List (ℕ × RrrRecord)
 copies_made origin first [] = []
 copies_made origin first (part ∷ parts) =
@@ -101,6 +107,7 @@ copies_made origin first (part ∷ parts) =
 
 -- ---- the change
 
+-- the change, from the data of the unit
 abbrev pub cut_change : Register → Subdivision → Origin → Change
 cut_change r it origin = record {
   put = record no_put {
@@ -112,17 +119,20 @@ cut_change r it origin = record {
   next = next_after origin r.next (all_parts it);
 }
 
+-- the change of a subdivision
 abbrev pub subdivision_change : Register → (source : ℕ) → Subdivision → Change
 subdivision_change r source it = cut_change r it (origin_of r source it)
 
--- the number of new objects
+-- the number of new objects of these parts
 abbrev pub count_for : Origin → List Part → ℕ
 count_for origin [] = 0
 count_for origin (part ∷ parts) = numbers_for origin part.unit + count_for origin parts
 
+-- the number of new objects of a subdivision
 abbrev pub subdivision_count : Register → Subdivision → ℕ
 subdivision_count r it = count_for (origin_of r 0 it) (all_parts it)
 
+-- the numbers of the new objects
 abbrev pub subdivision_made : Register → Subdivision → List ℕ
 subdivision_made r it = numbers_from r.next (subdivision_count r it)
 
@@ -132,6 +142,7 @@ subdivision_made r it = numbers_from r.next (subdivision_count r it)
 abbrev pub has_parcel_in : Register → (unit number : ℕ) → Bool
 has_parcel_in r unit n = option_map_or (λ p. nat_eq p.unit unit) (map.get r.parcels n) false
 
+-- the outlines of these parts
 abbrev pub outlines_of : List Part → List (List Place)
 outlines_of parts = map_list (λ part. part.outline) parts
 

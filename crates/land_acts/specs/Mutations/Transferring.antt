@@ -38,6 +38,7 @@ held_of number party (class.Restriction words) = None
 held_of number party (class.Responsibility words) = None
 held_of number party (class.Mortgage amount currency rank) = None
 
+-- the same, if the entry is in the unit
 abbrev pub held_in : (unit number : ℕ) → RrrRecord → Option Held
 held_in unit number e = if nat_eq e.unit unit then held_of number e.party e.class else None
 
@@ -60,10 +61,11 @@ grows_at r it from = held_by r it.unit it.receiver from.right_type
 
 -- ---- the shares after the transfer
 
--- the remaining share of the giver's right, and the increased share of the receiver's right
+-- the remaining share of the giver's right
 abbrev pub share_left : Transfer → Held → Result Ratio FractionFault
 share_left it from = fraction_of (difference_of from.share it.share)
 
+-- the increased share of the receiver's right
 abbrev pub share_grown : Transfer → Held → Result Ratio FractionFault
 share_grown it to = fraction_of (sum_of to.share it.share)
 
@@ -75,6 +77,7 @@ is_above_one (Err fault.Zero) = true
 is_above_one (Err fault.AboveOne) = true
 is_above_one (Err fault.TooFine) = false
 
+-- whether the denominator of a changed share is above 1,000,000,000
 abbrev pub is_too_fine : Result Ratio FractionFault → Bool
 is_too_fine (Ok share) = false
 is_too_fine (Err fault.Zero) = false
@@ -86,21 +89,23 @@ abbrev pub right_entry : (unit party : ℕ) → RightType → Ratio → (source 
 right_entry unit party type share source =
     record { unit = unit; party = party; class = class.Right type share; source = source }
 
--- the giver's right with its remaining share; if nothing remains, the right ends
+-- the giver's right with its remaining share, if there is one
 abbrev pub kept : (source : ℕ) → Transfer → Held → Result Ratio FractionFault → List (ℕ × RrrRecord)
 kept source it from (Ok share) =
     (from.number, right_entry it.unit from.party from.right_type share source) ∷ []
 kept source it from (Err fault) = []
 
+-- the giver's right ends if no share remains
 abbrev pub given_up : Held → Result Ratio FractionFault → List ℕ
 given_up from (Ok share) = []
 given_up from (Err fault) = from.number ∷ []
 
--- the receiver's right with its increased share, or a new right
+-- the receiver's right with its increased share
 abbrev pub grown : (source : ℕ) → Transfer → Held → Result Ratio FractionFault → List (ℕ × RrrRecord)
 grown source it to (Ok share) = (to.number, right_entry it.unit it.receiver to.right_type share source) ∷ []
 grown source it to (Err fault) = []
 
+-- the receiver's right with its increased share, or a new right
 abbrev pub received : Register → (source : ℕ) → Transfer → Held → Option Held → List (ℕ × RrrRecord)
 received r source it from None =
     (r.next, right_entry it.unit it.receiver from.right_type it.share source) ∷ []
@@ -111,10 +116,12 @@ abbrev pub new_rights : Register → Option Held → List ℕ
 new_rights r None = r.next ∷ []
 new_rights r (Some to) = []
 
+-- the next number after the transfer
 abbrev pub number_after : Register → Option Held → ℕ
 number_after r None = r.next + 1
 number_after r (Some to) = r.next
 
+-- the change of a transfer from a right
 abbrev pub move_change : Register → (source : ℕ) → Transfer → Held → Change
 move_change r source it from = record {
   put = record no_put {
@@ -127,6 +134,7 @@ move_change r source it from = record {
 
 -- ---- the refusals
 
+-- whether the receiver is the party that gives
 abbrev pub is_itself : Transfer → Held → Bool
 is_itself it from = nat_eq from.party it.receiver
 
