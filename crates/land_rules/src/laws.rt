@@ -94,10 +94,10 @@ pub fn conveyancers_see_by_their_lodgings()
 
 // ---- denials reveal nothing unseen
 
-/// The denial of a view reveals only that the object is not visible. In a sound register, and before the
-/// first one, visible objects are allowed, and the number of a denial follows from the caller's role and the
-/// kind, with two exceptions, which get rule 27: a caller that does not exist and views itself, and a
-/// conveyancer's view of a unit that does not exist and to which its own undecided mutation refers.
+/// The denial of a view reveals only that the object is not visible. In a sound register, and in the empty
+/// one before the first change, a visible object is allowed, and the number of a denial follows from the
+/// caller's role and the kind. Two cases get rule 27 instead: a caller that does not exist and views itself,
+/// and a conveyancer's view of a unit that does not exist and to which its own undecided mutation refers.
 pub fn denials_tell_sight()
     ensures { policy.DenialsTellSight }
 {}
