@@ -1,4 +1,4 @@
--- Accepted acts keep a register sound, and name no key twice.
+-- Accepted acts keep a register sound, and write or end no key twice.
 use Rattle.std.proofs.Common.{◌≡◌, ◌≤◌, true, false, ◌&&◌, not, Some, None, Ok, [], ◌∷◌, length, refl, subst, arith}
 use Rattle.std.specs.Prelude.{ℤ, ◌||◌, ◌+◌, nat_eq, map as map_list}
 use Rattle.std.specs.FinMap as map
@@ -50,7 +50,7 @@ use Rattle.land_core.specs.declared.register.Register.{Register}
 use Rattle.land_core.specs.declared.role.Role.TheVariants.{StateAdministrator}
 use Rattle.land_fraction.specs.Laws.{WholenessLaw}
 
--- ---- each act, where none of its refusals holds
+-- ---- each act to which no refusal applies
 
 sound_after : (law : WholenessLaw) (r : Register) (caller : Caller) (a : Act) (stamp : ℤ) → IsSound r → is_well_formed a ≡ true → holds r caller.party caller.role ≡ true → repeated_done r caller a ≡ None
     → first_that_holds (refusals_of r caller a (Some stamp)) ≡ None → IsSound (after (change_of r caller a stamp) r)
@@ -151,7 +151,7 @@ names_once r caller (act.Revoke it) stamp sound none = record { parties = refl; 
 names_once r caller (act.Mandate it) stamp sound none = record { parties = refl; roles = refl; members = refl; units = refl; parcels = refl; rrrs = refl; sources = refl; mutations = refl; mandates = refl }
 names_once r caller (act.Withdraw it) stamp sound none = record { parties = refl; roles = refl; members = refl; units = refl; parcels = refl; rrrs = refl; sources = refl; mutations = refl; mandates = refl }
 
--- the stamp is told with the change
+-- the receipt has the stamp
 stamp_told : (r : Register) (caller : Caller) (a : Act) (stamp : ℤ) → (done_of r caller a stamp).stamp ≡ stamp
 stamp_told r caller (act.Enrol it) stamp = refl
 stamp_told r caller (act.Group it) stamp = refl

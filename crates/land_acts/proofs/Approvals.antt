@@ -1,4 +1,4 @@
--- What a decision leaves sound, and which keys its change names.
+-- Decisions keep a register sound, and their changes have each key once.
 use Rattle.std.proofs.Common.{◌≡◌, ℕ, ◌≤◌, true, ◌&&◌, Option, Some, None, [], refl, sym, ap, subst, arith}
 use Rattle.std.specs.Prelude.{ℤ, is_some}
 use Rattle.std.specs.Option.{option_map_or}
@@ -41,7 +41,7 @@ use Rattle.land_core.specs.declared.register.Register.{Register}
 use Rattle.land_core.specs.declared.soundness.Unsound.TheVariants.{Reference}
 use Rattle.land_fraction.specs.Laws.{WholenessLaw}
 
--- who holds a role stands
+-- a party that holds a role exists
 pub caller_is_single : (r : Register) (caller : Caller) → IsSound r → holds r caller.party caller.role ≡ true → has_single_party r caller.party ≡ true
 caller_is_single r caller sound held =
     single_from r (refers r (sound Reference)).grants (grant_of caller.party caller.role) (granted (map.get r.roles (grant_of caller.party caller.role)) held)
@@ -53,7 +53,7 @@ caller_is_single r caller sound held =
 pub caller_stands : (r : Register) (caller : Caller) → IsSound r → holds r caller.party caller.role ≡ true → has r.parties caller.party ≡ true
 caller_stands r caller sound held = let it = stands_from r caller.party (caller_is_single r caller sound held) in ap is_some it.there
 
--- the source of a mutation stands
+-- the source of a mutation exists
 source_stands : (r : Register) → IsSound r → (n : ℕ) (m : MutationRecord) → map.get r.mutations n ≡ Some m → has r.sources m.source ≡ true
 source_stands r sound n m is =
     let all = not-false _ (none_at nat_cmp_total nat_cmp-IsAntisymmetric (λ n m. is_loose_mutation r m) r.mutations n m (refers r (sound Reference)).mutations is) in

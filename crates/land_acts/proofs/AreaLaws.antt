@@ -1,4 +1,4 @@
--- What an approval puts in the place of parcels is their ground, and has together their area.
+-- The parcels that an approval writes cover the ground of those that end, and so have their area.
 use Rattle.std.proofs.Common.{◌≡◌, not, Some, None, List, [], ◌∷◌, sym, ap, ◌∙◌, arith, subst}
 use Rattle.std.specs.Prelude.{ℤ, Ok}
 use Rattle.std.specs.Option.{option_map_or}
@@ -30,7 +30,7 @@ use Rattle.land_core.specs.declared.register.Register.{Register}
 use Rattle.land_shape.specs.Matching.{Match}
 use Rattle.land_shape.specs.Place.{Place}
 
--- what is approved makes the change of its content, which is not refused, and so puts its parcels
+-- an approval has the change of its content, to which no refusal applies, and so writes its parcels
 pub record IsApproved (r : Register) (decision : Decision) (m : MutationRecord) (c : Content) (stamp : ℤ) (change : Change) : Type 0 where
   pub unrefused : first_that_holds (content_refusals r c (Some stamp)) ≡ None
   pub same : with_state Approved decision.mutation m (content_change r m.source c) ≡ change

@@ -1,4 +1,4 @@
--- A unit is burdened: the register stays sound.
+-- A burden on a unit keeps the register sound.
 use Rattle.std.proofs.Common.{◌≡◌, ℕ, ◌+◌, ◌<◌, true, false, Some, None, List, refl, ap, ◌∙◌, arith}
 use Rattle.std.specs.Prelude.{is_some}
 use Rattle.std.specs.Ordering.{nat_cmp}
@@ -23,7 +23,7 @@ use Rattle.land_core.specs.declared.soundness.Unsound.TheVariants.{Reference}
 use Rattle.land_core.specs.declared.source.SourceKind.TheVariants.{Administrative}
 use Rattle.land_core.specs.declared.source.SourceRecord.{SourceRecord}
 
--- a burden is no right and no mortgage
+-- a burden is neither a right nor a mortgage
 no_type : (class : BurdenClass) (words : List ℕ) → type_of (class_of class words) ≡ None
 no_type burden.Restriction words = refl
 no_type burden.Responsibility words = refl

@@ -1,4 +1,4 @@
--- The state of a mutation changes, and nothing that soundness looks at.
+-- A decision changes only the state of a mutation, which soundness does not read.
 use Rattle.std.proofs.Common.{◌≡◌, ℕ, true, false, ◌&&◌, cond, Some, refl, sym, ap, ◌∙◌, subst}
 use Rattle.std.specs.Prelude.{nat_lt}
 use Rattle.std.specs.Ordering.{nat_cmp, eq_by_cmp}
@@ -20,7 +20,7 @@ module _ (r : Register) (number : ℕ) (m : MutationRecord) (state : MutationSta
   abbrev new : Register
   new = record r { mutations = map.insert r.mutations number (decided state m) }
 
-  -- what a mutation was before: it had the same lodger, reference, source and content
+  -- the mutation before the change: it had the same lodger, reference, source and content
   record Was (n : ℕ) (x : MutationRecord) : Type 0 where
     old : MutationRecord
     there : map.get r.mutations n ≡ Some old

@@ -1,4 +1,4 @@
--- What discharging reads of a slice is what it reads of the register.
+-- A discharge has the same refusals and the same change on the slice as on the register.
 use Rattle.std.proofs.Common.{◌≡◌, ℕ, Bool, true, false, cond, not, ◌&&◌, Option, Some, None, List, [], ◌∷◌, refl, sym, ap, ◌∙◌}
 use Rattle.std.specs.Prelude.{ℤ, is_none, is_some, nat_eq}
 use Rattle.std.specs.Option.{option_map_or}
@@ -16,7 +16,7 @@ use Rattle.land_core.specs.declared.content.Discharge.{Discharge}
 use Rattle.land_core.specs.declared.register.Register.{Register}
 use Rattle.land_core.specs.declared.rrr.RrrRecord.{RrrRecord}
 
--- whether a mortgage of a unit stands at a number
+-- whether a mortgage of the unit exists at a number
 abbrev has_mortgage_in : Register → (unit number : ℕ) → Bool
 has_mortgage_in r unit n = option_map_or (λ e. nat_eq e.unit unit && is_some (rank_of e.class)) (map.get r.rrrs n) false
 
@@ -27,7 +27,7 @@ mortgage_in r unit n = of (map.get r.rrrs n)
     of None = refl
     of (Some e) = refl
 
--- a line after another one is read only where the other one does not hold
+-- a refusal after another is read only if the condition of the other one is false
 second_line : (first second : Refusal) (lines : List (Refusal × Bool)) (b c d : Bool) → (b && c) ≡ (b && d)
     → first_that_holds ((first, not b) ∷ (second, not c) ∷ lines) ≡ first_that_holds ((first, not b) ∷ (second, not d) ∷ lines)
 second_line first second lines true c d same = ap (λ x. first_that_holds ((second, not x) ∷ lines)) same
@@ -45,7 +45,8 @@ module _ (s r : Register) (it : Discharge) (agree : AgreeOnUnit s r it.unit) whe
       ∙ at_kept r.rrrs agree.kept (λ e. nat_eq e.unit it.unit && is_some (rank_of e.class)) it.mortgage
       (λ e passes. agree.keeps it.mortgage e (and_parts (nat_eq e.unit it.unit) (is_some (rank_of e.class)) passes).0)
 
-  -- the entry may be one of another unit, and then be no mortgage in the one and a mortgage in the other; but then it is refused before
+  -- the entry may belong to another unit, and then be in only one of the two registers; an earlier refusal
+  -- applies then
   pub discharge_refusal_agrees : (stamp : Option ℤ) → first_that_holds (discharge_refusals s it stamp) ≡ first_that_holds (discharge_refusals r it stamp)
   discharge_refusal_agrees stamp =
       ap (λ b. first_that_holds ((NoSuchUnit, not b) ∷ (NoSuchRight, not (has_entry_in s it.unit it.mortgage)) ∷ (NotMortgage, not (has_mortgage s it.mortgage)) ∷ last)) agree.stands

@@ -1,4 +1,4 @@
--- Discharging keeps a register sound: a mortgage ends.
+-- A discharge keeps a register sound: a mortgage ends.
 use Rattle.std.proofs.Common.{◌≡◌, true, false, None, refl, sym, ap, ◌∙◌}
 use Rattle.std.specs.Prelude.{is_some}
 use Rattle.std.specs.Option.{option_map_or}
@@ -13,7 +13,7 @@ use Rattle.land_core.specs.declared.register.Register.{Register}
 use Rattle.land_core.specs.declared.rrr.Class.{Class}
 use Rattle.land_core.specs.declared.rrr.Class.TheVariants.{Right, Restriction, Responsibility, Mortgage}
 
--- a mortgage is no right
+-- a mortgage is not a right
 mortgage_no_right : (class : Class) → is_some (rank_of class) ≡ true → type_of class ≡ None
 mortgage_no_right (Right type share) h = absurd (false≢true h)
 mortgage_no_right (Restriction words) h = refl

@@ -1,4 +1,4 @@
--- An entry that is no right ends: the register stays sound.
+-- An entry that is not a right ends, and the register stays sound.
 use Rattle.std.proofs.Common.{◌≡◌, ℕ, ◌≤◌, Bool, true, false, cond, ◌&&◌, ◌||◌, not, Option, Some, None, List, [], ◌∷◌, length, refl, sym, ap, ◌∙◌, subst, arith}
 use Rattle.std.specs.Prelude.{filter, nat_eq, nat_lt}
 use Rattle.std.specs.List.{filter_map, cons_option, AllByRecursion}
@@ -25,7 +25,7 @@ use Rattle.land_core.specs.declared.rrr.RightType.TheVariants.{Ownership, Lease,
 use Rattle.land_core.specs.declared.rrr.RrrRecord.{RrrRecord}
 use Rattle.land_core.specs.declared.soundness.Unsound.TheVariants.{Reference, Shares, Group, Bare, Crowded, Twice, Rank, Administrator, Reused, Memory}
 
--- ---- what is left when a key is removed
+-- ---- the entries without a key
 
 module _ {V : Type 0} (m : FinMap nat_cmp V) (k : ℕ) where
   pub removed_before : (n : ℕ) (v : V) → map.get (map.remove m k) n ≡ Some v → map.get m n ≡ Some v
@@ -38,7 +38,7 @@ module _ {V : Type 0} (m : FinMap nat_cmp V) (k : ℕ) where
   pub removed_stays : (n : ℕ) (v : V) → eq_by_cmp nat_cmp n k ≡ false → map.get m n ≡ Some v → map.get (map.remove m k) n ≡ Some v
   removed_stays n v apart is = map.get-remove nat_cmp_total m k n ∙ ap (λ b. cond b None (map.get m n)) apart ∙ is
 
-  -- the other entries stay in their order
+  -- the other entries keep their order
   pub entries_removed : map.entries (map.remove m k) ≡ filter (λ e. not (eq_by_cmp nat_cmp k e.0)) (map.entries m)
   entries_removed =
       let sorted = is_sorted-where_key nat_cmp (λ x. not (eq_by_cmp nat_cmp k x)) (map.entries m) (map.entries_sorted m) in
@@ -56,7 +56,7 @@ module _ {V : Type 0} (m : FinMap nat_cmp V) (k : ℕ) where
           ap (λ b. cond b None (map.get m q)) ((eq_by_cmp_equiv nat_cmp_total).symm q k)
           ∙ elim (eq_by_cmp nat_cmp k q) as (λ b. cond b None (map.get m q) ≡ cond (not b) (map.get m q) None) [ true ↦ refl | false ↦ refl ]
 
--- what is taken of the items that are kept, where nothing is taken of the others
+-- values taken only from the remaining items
 pub filter_map-kept : {X Y : Type 0} (h : X → Option Y) (kept : X → Bool) (xs : List X) → AllByRecursion (λ x. kept x ≡ false → h x ≡ None) xs
     → filter_map h (filter kept xs) ≡ filter_map h xs
 filter_map-kept h kept [] all = refl
@@ -67,7 +67,7 @@ filter_map-kept {X} {Y} h kept (x ∷ xs) all =
       | false ↦ λ ends. rest ∙ sym (ap (λ (o : Option Y). cons_option o (filter_map h xs)) (all.0 ends))
     ] refl
 
--- of what passes a test among what another test keeps, nothing is lost where the one implies the other
+-- items that satisfy a condition remain, if the condition implies that they remain
 pub filter_within : {X : Type 0} (p q : X → Bool) → ((x : X) → p x ≡ true → q x ≡ true) → (xs : List X) → filter p (filter q xs) ≡ filter p xs
 filter_within p q implies [] = refl
 filter_within {X} p q implies (x ∷ xs) =
@@ -79,7 +79,7 @@ filter_within {X} p q implies (x ∷ xs) =
     not_passed : q x ≡ false → p x ≡ false
     not_passed lost = elim (p x) as (λ b. p x ≡ b → b ≡ false) [ true ↦ λ passed. absurd (false≢true (sym lost ∙ implies x passed)) | false ↦ λ failed. refl ] refl
 
--- no more pass a test among those that another test keeps
+-- no more of the remaining items satisfy a condition than of all
 pub fewer : {X : Type 0} (p q : X → Bool) (xs : List X) → length (filter p (filter q xs)) ≤ length (filter p xs)
 fewer p q [] = omega arith
 fewer {X} p q (x ∷ xs) =
@@ -89,7 +89,7 @@ fewer {X} p q (x ∷ xs) =
       | false ↦ elim (p x) as (λ c. length (filter p (filter q xs)) ≤ length (cond c (x ∷ filter p xs) (filter p xs))) [ true ↦ omega (arith, rest) | false ↦ rest ]
     ]
 
--- ---- an entry that is no right
+-- ---- an entry that is not a right
 
 pub no_share : (type : RightType) (class : Class) → type_of class ≡ None → share_of type class ≡ None
 no_share type (Right other share) h = absurd (none_is_not_some (sym h))
@@ -107,7 +107,7 @@ module _ (r : Register) (number : ℕ) (no_type : (e : RrrRecord) → map.get r.
   abbrev left : Register
   left = record r { rrrs = map.remove r.rrrs number }
 
-  -- the entry that ends is no right
+  -- the entry that ends is not a right
   ends_none : (n : ℕ) (e : RrrRecord) → eq_by_cmp nat_cmp n number ≡ true → map.get r.rrrs n ≡ Some e → type_of e.class ≡ None
   ends_none n e at is = no_type e (sym (ap (map.get r.rrrs) (one_number n number at)) ∙ is)
 

@@ -1,4 +1,4 @@
--- A unit gets one more entry that is no right: the register stays sound.
+-- A unit gets a new entry that is not a right, and the register stays sound.
 use Rattle.std.proofs.Common.{◌≡◌, ℕ, ◌+◌, ◌<◌, ◌≤◌, true, false, cond, ◌&&◌, ◌||◌, not, Option, Some, None, List, [], ◌∷◌, ◌++◌, length, length-append, refl, sym, ap, ◌∙◌, subst, append-nil, arith}
 use Rattle.std.specs.Prelude.{filter, nat_eq, nat_lt}
 use Rattle.std.specs.List.{filter_map, cons_option}
@@ -28,7 +28,7 @@ use Rattle.land_core.specs.declared.soundness.Unsound.TheVariants.{Reference, Sh
 use Rattle.land_core.specs.declared.source.SourceRecord.{SourceRecord}
 use Rattle.land_fraction.specs.Ratio.{Ratio}
 
--- ---- a record that is put under a number above all others
+-- ---- a record under a number above all others
 
 module _ {V : Type 0} (m : FinMap nat_cmp V) (k : ℕ) (v : V) where
   pub here : map.get (map.insert m k v) k ≡ Some v
@@ -37,7 +37,7 @@ module _ {V : Type 0} (m : FinMap nat_cmp V) (k : ℕ) (v : V) where
   pub there : (n : ℕ) (w : V) → n < k → map.get m n ≡ Some w → map.get (map.insert m k v) n ≡ Some w
   there n w less is = map.get-insert nat_cmp_total m k v n ∙ ap (λ b. cond b (Some v) (map.get m n)) (lesser_apart n k less) ∙ is
 
-  -- each record is the new one or stood before
+  -- each record is the new one or existed before
   pub each_record : (P : ℕ → V → Type 0) → P k v → ((n : ℕ) (w : V) → map.get m n ≡ Some w → P n w) → (n : ℕ) (w : V) → map.get (map.insert m k v) n ≡ Some w → P n w
   each_record P new old n w is =
       elim (eq_by_cmp nat_cmp n k) as (λ b. eq_by_cmp nat_cmp n k ≡ b → cond b (Some v) (map.get m n) ≡ Some w → P n w) [
@@ -48,14 +48,14 @@ module _ {V : Type 0} (m : FinMap nat_cmp V) (k : ℕ) (v : V) where
       same : Some v ≡ Some w → v ≡ w
       same e = cc
 
--- ---- a new entry that is no right
+-- ---- a new entry that is not a right
 
 -- a register with a new entry and new sources
 abbrev pub entered : Register → (number : ℕ) → RrrRecord → (sources : FinMap nat_cmp SourceRecord) → (next : ℕ) → Register
 entered r number entry sources next = record r { rrrs = map.insert r.rrrs number entry; sources = sources; next = next }
 
--- what the new entry has to be: it comes after all others, what it refers to stands, its unit has room for it, and it is no right; where
--- it is a mortgage, no other one on its unit has its rank
+-- the conditions on the new entry: its number is above all others, its references exist, its unit has space
+-- for it, and it is not a right; if it is a mortgage, no other one on the unit has its rank
 pub record Enters (r : Register) (number : ℕ) (entry : RrrRecord) (sources : FinMap nat_cmp SourceRecord) (next : ℕ) : Type 0 where
   pub room : is_past_the_numbers (entered r number entry sources next) ≡ false
   pub last : r.next ≤ number
@@ -118,7 +118,7 @@ module _ (r : Register) (sound : IsSound r) (number : ℕ) (entry : RrrRecord) (
       some_at nat_cmp_total nat_cmp-IsAntisymmetric (λ n e. is_right_in unit Ownership e) more.rrrs one.key one.value
       (there r.rrrs number entry one.key one.value (rrr_below one.key one.value one.there) one.there) one.passes
 
-  -- the unit has one entry more, and no other has
+  -- the unit has one more entry, and every other unit has as many as before
   count_more : (unit : ℕ) → nat_lt 256 (rrr_count r unit) ≡ false → nat_lt 256 (rrr_count more unit) ≡ false
   count_more unit before =
       ap (nat_lt 256) counted

@@ -1,4 +1,4 @@
--- How many entries of a list pass a test, where the list is what others pass.
+-- The number of items of a filtered list that satisfy a condition.
 use Rattle.std.proofs.Common.{◌≡◌, Bool, List, [], ◌∷◌, length, ◌&&◌, refl, arith}
 use Rattle.std.specs.Prelude.{filter, map as map_list}
 

@@ -1,5 +1,5 @@
--- What an approval makes has its numbers and its rank within their bounds, where it is not refused and there is room: as
--- there is in a sound register.
+-- The numbers and ranks that an approval creates are in range if no refusal applies and the numbers of the
+-- register are small enough, as in a sound register.
 use Rattle.std.proofs.Common.{◌≡◌, ℕ, ◌+◌, ◌<◌, ◌≤◌, true, false, ◌||◌, ◌&&◌, not, Option, Some, None, [], refl, sym, ap, ◌∙◌, subst, arith}
 use Rattle.std.specs.Prelude.{ℤ, is_none, nat_lt}
 use Rattle.std.specs.Option.{option_map_or}
@@ -36,7 +36,7 @@ use Rattle.land_core.specs.declared.soundness.Unsound.TheVariants.{Reference}
 one_left : (s : Register) → lacks_numbers s 1 ≡ false → s.next ≤ 1000000000
 one_left s h = let most : s.next + 1 ≤ 1000000001 = ltb-false 1000000001 (s.next + 1) h in omega (arith, most)
 
--- an approval that nothing refuses refuses nothing of its content
+-- if no refusal applies to an approval, none applies to its content
 content_unrefused : (s : Register) (it : Decision) (stamp : Option ℤ) (m : MutationRecord) → map.get s.mutations it.mutation ≡ Some m
     → first_that_holds (approve_refusals s it stamp) ≡ None → first_that_holds (content_refusals s m.content stamp) ≡ None
 content_unrefused s it stamp m is none =
@@ -53,7 +53,7 @@ room_next s (content.Merger it) room = next_bound s room
 room_next s (content.Mortgage it) room = next_bound s (and_parts (nat_lt s.next 1000000002) (nat_lt (greatest (ranks_in s it.unit)) 1000000000) room).0
 room_next s (content.Discharge it) room = next_bound s room
 
--- ---- what fits where there is room
+-- ---- the range, from the numbers of the register
 
 counted : (s : Register) (o to : Option Held) → s.next ≤ 1000000001 → o ≡ to → (is_none to ≡ true → lacks_numbers s 1 ≡ false) → number_after s to ≤ 1000000001
 counted s o None most e h = let few = one_left s (h refl) in omega (arith, few)
@@ -82,7 +82,7 @@ contents_fit s caller it room unrefused m is =
     let here : has_room s m.content ≡ true = sym (ap (λ o. option_map_or (λ m. has_room s m.content) o true) is) ∙ room in
     content_fits s unrefused.stamp m.content here (content_unrefused s it unrefused.stamp m is unrefused.none_holds)
 
--- ---- a sound register has room
+-- ---- the numbers of a sound register
 
 module _ (s : Register) (caller : Caller) (it : Decision) (slice : IsOfSound s caller (act.Approve it)) where
   next_same : s.next ≡ slice.register.next
@@ -116,7 +116,7 @@ module _ (s : Register) (caller : Caller) (it : Decision) (slice : IsOfSound s c
   approval_room None is unrefused = refl
   approval_room (Some m) is unrefused = content_room unrefused.stamp m.content (content_unrefused s it unrefused.stamp m is unrefused.none_holds)
 
--- so an act over a slice of a sound register always has room
+-- so they are always small enough in a slice of a sound register
 pub sound_has_room : (s : Register) (caller : Caller) (a : Act) → IsOfSound s caller a → IsUnrefused s caller a → has_room_for s a ≡ true
 sound_has_room s caller (act.Enrol it) sound unrefused = refl
 sound_has_room s caller (act.Group it) sound unrefused = refl

@@ -1,4 +1,4 @@
--- Enrolling, grouping and regrouping keep a register sound.
+-- The acts `enrol`, `group` and `regroup` keep a register sound.
 use Rattle.std.proofs.Common.{◌≡◌, ℕ, true, false, cond, not, Some, [], length, refl, sym, ap, ◌∙◌, subst, arith}
 use Rattle.std.specs.Option.{option_map_or}
 use Rattle.std.specs.Ordering.{nat_cmp, eq_by_cmp}
@@ -34,7 +34,7 @@ use Rattle.land_core.specs.declared.role.Role.TheVariants.{Citizen}
 use Rattle.land_core.specs.declared.roles.Grant.{Grant}
 use Rattle.land_core.specs.declared.soundness.Unsound.TheVariants.{Reference, Shares, Group, Bare, Crowded, Twice, Rank, Administrator, Reused, Memory}
 
--- ---- members that are put at a number
+-- ---- the members at a number
 
 module _ (new : Register) (before : FinMap nat_cmp Members) (number : ℕ) (members : Members) (put : new.members ≡ map.insert before number members) where
   put_at : (n : ℕ) → map.get new.members n ≡ cond (eq_by_cmp nat_cmp n number) (Some members) (map.get before n)

@@ -1,4 +1,4 @@
--- Numbers that are in use stay so when the next number grows, and so do the ranks of mortgages.
+-- Used numbers stay valid when the next number increases, and so do the ranks of mortgages.
 use Rattle.std.proofs.Common.{◌≡◌, ℕ, ◌≤◌, true, false, ◌&&◌, not, Option, Some, None, refl, ap, ◌∙◌, arith}
 use Rattle.std.specs.Prelude.{is_some, nat_lt}
 use Rattle.std.specs.Ordering.{nat_cmp}
@@ -31,13 +31,13 @@ module _ (r new : Register) (grows : r.next ≤ new.next) where
   rank_grows None h = refl
   rank_grows (Some rank) h = ap not (used_grows rank (not-false _ h))
 
-  -- the ranks of these entries stay within their bounds
+  -- the ranks of these entries stay in range
   pub ranks_grow : (rrrs : FinMap nat_cmp RrrRecord) → some (λ n e. is_loose_rank r (rank_of e.class)) rrrs ≡ false → some (λ n e. is_loose_rank new (rank_of e.class)) rrrs ≡ false
   ranks_grow rrrs none =
       none_passes nat_cmp_total nat_cmp-IsAntisymmetric (λ n e. is_loose_rank new (rank_of e.class)) rrrs
       (λ n e is. rank_grows (rank_of e.class) (none_at nat_cmp_total nat_cmp-IsAntisymmetric (λ n e. is_loose_rank r (rank_of e.class)) rrrs n e none is))
 
--- what stands in a map stands in another one, which has all its entries
+-- a key of a map is a key of a map with more entries
 pub has_stays : {V : Type 0} (old new : FinMap nat_cmp V) → ((n : ℕ) (v : V) → map.get old n ≡ Some v → map.get new n ≡ Some v) → (n : ℕ) → has old n ≡ true → has new n ≡ true
 has_stays {V} old new stay n h = found (map.get old n) refl h
   where
@@ -45,7 +45,7 @@ has_stays {V} old new stay n h = found (map.get old n) refl h
     found None e h = absurd (false≢true h)
     found (Some v) e h = ap is_some (stay n v e)
 
--- what an entry refers to
+-- the references of an entry
 pub record AreAnchored (r : Register) (e : RrrRecord) : Type 0 where
   pub unit : has r.units e.unit ≡ true
   pub party : has r.parties e.party ≡ true
@@ -65,7 +65,7 @@ anchored_back r h =
     let one = h n e is in
     ap (λ b. not (b && has r.parties e.party && has r.sources e.source)) one.unit ∙ ap (λ b. not (b && has r.sources e.source)) one.party ∙ ap not one.source)
 
--- where a parcel lies and what it comes from
+-- the unit and the source of a parcel
 pub placed : (r : Register) → has_loose_parcel r ≡ false → (n : ℕ) (p : ParcelRecord) → map.get r.parcels n ≡ Some p → (has r.units p.unit ≡ true) × (has r.sources p.source ≡ true)
 placed r none n p is =
     and_parts (has r.units p.unit) (has r.sources p.source)
@@ -76,7 +76,7 @@ placed_back r h =
     none_passes nat_cmp_total nat_cmp-IsAntisymmetric (λ n p. not (has r.units p.unit && has r.sources p.source)) r.parcels
     (λ n p is. let one = h n p is in ap (λ b. not (b && has r.sources p.source)) one.0 ∙ ap not one.1)
 
--- mutations stay where they are, and what they refer to stands as before
+-- mutations are unchanged, and their references exist as before
 pub mutations_stay : (r new : Register) → new.mutations ≡ r.mutations → ((n : ℕ) → has r.parties n ≡ true → has new.parties n ≡ true) → ((n : ℕ) → has r.sources n ≡ true → has new.sources n ≡ true)
     → has_loose_mutation r ≡ false → has_loose_mutation new ≡ false
 mutations_stay r new same parties sources none =

@@ -1,4 +1,4 @@
--- A map from which only some entries are kept: what stands at a number, and what comes of it when entries are put and ended.
+-- A filtered map: the value at a key, and the effect of writing and ending entries.
 use Rattle.std.proofs.Common.{◌≡◌, ℕ, Bool, true, false, cond, Option, Some, None, List, [], ◌∷◌, refl, sym, ap, ◌∙◌, subst}
 use Rattle.std.specs.Prelude.{filter}
 use Rattle.std.specs.List.{AllByRecursion}
@@ -14,13 +14,13 @@ use Rattle.land_core.proofs.Orders.{less_apart}
 use Rattle.land_core.proofs.Reflection.{entries-only}
 use Rattle.land_core.specs.Entries.{only, updated, with_entries, without}
 
--- what is kept of what stands at a number
+-- the value at a key, if it satisfies the condition
 abbrev pub kept_at : {V : Type 0} → (ℕ → V → Bool) → ℕ → Option V → Option V
 kept_at p q None = None
 kept_at p q (Some v) = cond (p q v) (Some v) None
 
 module _ {V : Type 0} (p : ℕ → V → Bool) where
-  -- nothing stands at a number before all others
+  -- there is no value below all keys
   absent : (k : ℕ) (es : List (ℕ × V)) → below_all nat_cmp k es ≡ true → find nat_cmp k (filter (λ e. p e.0 e.1) es) ≡ None
   absent k [] h = refl
   absent k (e ∷ es) h =
@@ -88,6 +88,6 @@ module _ {V : Type 0} (p : ℕ → V → Bool) where
   with_entries-kept m [] h = refl
   with_entries-kept m (e ∷ es) h = ap (λ it. with_entries it es) (insert-kept m e.0 e.1 h.0) ∙ with_entries-kept (map.insert m e.0 e.1) es h.1
 
-  -- where all that is put is kept, the same is put and ends
+  -- if all written entries satisfy the condition, filtering commutes with the change
   pub updated-kept : (m : FinMap nat_cmp V) (put : List (ℕ × V)) (ended : List ℕ) → AllByRecursion (λ e. p e.0 e.1 ≡ true) put → updated (only p m) put ended ≡ only p (updated m put ended)
   updated-kept m put ended h = ap (λ it. with_entries it put) (without-kept m ended) ∙ with_entries-kept (without m ended) put h

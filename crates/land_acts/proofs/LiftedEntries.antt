@@ -1,4 +1,4 @@
--- A burden is lifted: the register stays sound.
+-- A lift keeps the register sound.
 use Rattle.std.proofs.Common.{◌≡◌, true, false, None, refl, sym, ap, ◌∙◌}
 use Rattle.std.specs.Option.{option_map_or}
 use Rattle.std.proofs.lemmas.Bool.{false≢true}
@@ -12,7 +12,7 @@ use Rattle.land_core.specs.declared.register.Register.{Register}
 use Rattle.land_core.specs.declared.rrr.Class.{Class}
 use Rattle.land_core.specs.declared.rrr.Class.TheVariants.{Right, Restriction, Responsibility, Mortgage}
 
--- a burden is no right
+-- a burden is not a right
 burden_no_right : (class : Class) → is_burden class ≡ true → type_of class ≡ None
 burden_no_right (Right type share) h = absurd (false≢true h)
 burden_no_right (Restriction words) h = refl

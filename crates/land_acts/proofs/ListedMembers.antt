@@ -1,4 +1,4 @@
--- The members that an act lists, once they are a group's: none is lost and none is added, where no party is listed twice.
+-- The members of a list, as the members of a group: the same ones, if no party is listed twice.
 use Rattle.std.proofs.Common.{◌≡◌, ℕ, true, false, cond, ◌&&◌, Some, None, List, [], ◌∷◌, ◌++◌, length, refl, sym, ap, ◌∙◌, subst, append-nil}
 use Rattle.std.specs.Prelude.{is_some, map as map_list}
 use Rattle.std.specs.List.{list_any, AllByRecursion}
@@ -27,7 +27,7 @@ use Rattle.land_fraction.specs.Wholeness.{wholeness}
 abbrev entry : Member → ℕ × Ratio
 entry member = (member.party, member.share)
 
--- ---- an entry whose key is new is one more
+-- ---- an entry with a new key is one more entry
 
 put_new : (k : ℕ) (v : Ratio) (es : List (ℕ × Ratio)) → list_any (eq_by_cmp nat_cmp k) (map_list (λ e. e.0) es) ≡ false → IsPermutation ((k, v) ∷ es) (put nat_cmp k v es)
 put_new k v [] h = IsPermutation-refl _
@@ -47,7 +47,7 @@ insert_new m k v none =
     subst (IsPermutation ((k, v) ∷ map.entries m)) (sym (map.entries-insert nat_cmp_total m k v))
     (put_new k v (map.entries m) (sym (map.contains_key-keys m k) ∙ ap is_some none))
 
--- ---- so is each of a list of members
+-- ---- the same for each of a list of members
 
 abbrev AreNew : Members → List Member → Type 0
 AreNew m members = AllByRecursion (λ member. map.get m member.party ≡ None) members
@@ -103,7 +103,7 @@ group_shares members once size whole =
     ∙ ap is_yes (sym (wholeness-permuted _ _ same))
     ∙ whole
 
--- ---- members that are listed without a stranger are single parties
+-- ---- if each listed number is a single party, so is each member
 
 single_among : (r : Register) (members : List Member) → lists_stranger r members ≡ false → (m : Members)
     → ((n : ℕ) (share : Ratio) → map.get m n ≡ Some share → has_single_party r n ≡ true)

@@ -1,4 +1,4 @@
--- A lodging leaves a sound register sound: its source and its mutation are new, and its reference is.
+-- A lodging keeps a register sound: its source, its mutation and its reference are new.
 use Rattle.std.proofs.Common.{◌≡◌, ℕ, ◌+◌, ◌<◌, ◌≤◌, Bool, true, false, ◌||◌, ◌&&◌, not, cond, List, [], ◌∷◌, Option, Some, None, refl, sym, ap, ◌∙◌, arith}
 use Rattle.std.specs.Prelude.{ℤ, nat_lt, is_some}
 use Rattle.std.specs.List.{find, list_any}
@@ -27,7 +27,7 @@ use Rattle.land_core.specs.declared.register.Register.{Register}
 use Rattle.land_core.specs.declared.soundness.Unsound.TheVariants.{Reference, Shares, Group, Bare, Crowded, Twice, Rank, Administrator, Reused, Memory}
 use Rattle.land_core.specs.declared.source.SourceRecord.{SourceRecord}
 
--- where nothing is found, nothing passes
+-- if nothing is found, no item satisfies the condition
 pub none_found : {X : Type 0} (p : X → Bool) (xs : List X) → find p xs ≡ None → list_any p xs ≡ false
 none_found p [] h = refl
 none_found {X} p (x ∷ xs) h =
@@ -36,7 +36,7 @@ none_found {X} p (x ∷ xs) h =
     some_none : Some x ≡ None → ⊥
     some_none e = cc
 
--- a lodging that repeats none and meets no other one has a new reference
+-- a lodging that is not a repeat, and has no other one under its reference, has a new reference
 pub fresh : (r : Register) (caller : Caller) (it : Lodging) → lodge_repeat r caller it ≡ None → has_lodged_other r caller it ≡ false → lodged_under r caller.party it.reference ≡ None
 fresh r caller it no_repeat no_other = by_case (lodged_under r caller.party it.reference) refl no_repeat no_other
   where
@@ -74,7 +74,7 @@ module _ (r : Register) (caller : Caller) (it : Lodging) (stamp : ℤ) (sound : 
   sources_stay : (n : ℕ) → has r.sources n ≡ true → has more.sources n ≡ true
   sources_stay = has_stays r.sources more.sources (λ n s is. there r.sources r.next document n s (source_below n s is) is)
 
-  -- the mutations that stood before, in the register after
+  -- the earlier mutations, in the register afterwards
   old_ones : (n : ℕ) (m : MutationRecord) → map.get r.mutations n ≡ Some m → is_loose_mutation more m ≡ false
   old_ones n m is =
       none_at nat_cmp_total nat_cmp-IsAntisymmetric (λ n m. is_loose_mutation more m) r.mutations n m

@@ -1,4 +1,4 @@
--- Giving and withdrawing a mandate keep a register sound.
+-- The acts `mandate` and `withdraw` keep a register sound.
 use Rattle.std.proofs.Common.{◌≡◌, Bool, true, false, cond, ◌&&◌, not, Some, None, refl, sym, ap, ◌∙◌, subst}
 use Rattle.std.specs.Prelude.{nat_eq}
 use Rattle.std.specs.Ordering.{eq_by_cmp}

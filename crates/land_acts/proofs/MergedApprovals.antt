@@ -1,4 +1,4 @@
--- What the approval of a merger leaves sound, and which keys its change names.
+-- The approval of a merger keeps a register sound, and its change has each key once.
 use Rattle.std.proofs.Common.{◌≡◌, ◌≤◌, ◌+◌, ℕ, true, ◌&&◌, Option, Some, None, refl, arith}
 use Rattle.std.specs.Prelude.{ℤ}
 use Rattle.std.specs.FinMap as map
@@ -25,7 +25,7 @@ use Rattle.land_core.specs.declared.mutation.MutationState.TheVariants.{Approved
 use Rattle.land_core.specs.declared.register.Register.{Register}
 use Rattle.land_core.specs.declared.soundness.Unsound.TheVariants.{Reference}
 
--- what a mutation of a sound register comes from stands, and its content is within its limits
+-- in a sound register, the source of a mutation exists, and its content is within its limits
 pub record IsTight (r : Register) (m : MutationRecord) : Type 0 where
   pub source : has r.sources m.source ≡ true
   pub formed : is_well_formed_content m.content ≡ true
@@ -50,7 +50,7 @@ module _ (r : Register) (it : Merger) (stamp : Option ℤ) (none : first_that_ho
       let once = merger_names_once r m.source it sound formed (unrefused_merger r it stamp none).parcels in
       record { parties = once.parties; roles = once.roles; members = once.members; units = once.units; parcels = once.parcels; rrrs = once.rrrs; sources = once.sources; mutations = refl; mandates = refl }
 
-  -- its new parcel has a number
+  -- its new parcel has a valid number
   pub merger_fits : Fits r (content.Merger it)
   merger_fits =
       let most : r.next + 1 ≤ 1000000001 = ltb-false 1000000001 (r.next + 1) (unrefused_merger r it stamp none).room in

@@ -1,4 +1,4 @@
--- What is left of a map where the entries at listed numbers end, and where those end that pass a test.
+-- The remaining entries of a map when the entries at listed numbers end, or those that satisfy a condition.
 use Rattle.std.proofs.Common.{◌≡◌, ◌≤◌, ℕ, Bool, true, false, cond, ◌&&◌, ◌||◌, not, Option, Some, None, List, [], ◌∷◌, length, suc, refl, sym, ap, ◌∙◌, subst, arith}
 use Rattle.std.specs.Prelude.{filter, nat_eq, nat_lt}
 use Rattle.std.specs.List.{list_any}
@@ -17,9 +17,9 @@ use Rattle.land_core.proofs.Reflection.{list_any-map}
 use Rattle.land_core.specs.Entries.{numbers_where, only, without}
 use Rattle.land_core.specs.Mergers.{lists_number}
 
--- ---- lists of which only some items are kept
+-- ---- filtered lists
 
--- some item that is kept passes a test, where some item passes both
+-- an item that remains satisfies a condition exactly if an item satisfies both
 any-filter : {X : Type 0} (t p : X → Bool) (xs : List X) → list_any t (filter p xs) ≡ list_any (λ x. p x && t x) xs
 any-filter t p [] = refl
 any-filter t p (x ∷ xs) =
@@ -29,7 +29,7 @@ any-filter t p (x ∷ xs) =
       | false ↦ rest
     ]
 
--- what passes a test of what is kept passes both tests
+-- an item of the filtered list satisfies both conditions
 pub filter-filter : {X : Type 0} (p q : X → Bool) (xs : List X) → filter p (filter q xs) ≡ filter (λ x. p x && q x) xs
 filter-filter p q [] = refl
 filter-filter {X} p q (x ∷ xs) =
@@ -42,7 +42,7 @@ filter-filter {X} p q (x ∷ xs) =
       | false ↦ elim (p x) as (λ c. filter p (filter q xs) ≡ cond (c && false) (x ∷ filter (λ x. p x && q x) xs) (filter (λ x. p x && q x) xs)) [ true ↦ rest | false ↦ rest ]
     ]
 
--- no more items pass both tests than pass the first
+-- no more items satisfy both conditions than the first one
 pub fewer_pass_both : {X : Type 0} (p q : X → Bool) (xs : List X) → length (filter (λ x. p x && q x) xs) ≤ length (filter p xs)
 fewer_pass_both p q [] = omega arith
 fewer_pass_both {X} p q (x ∷ xs) =
@@ -52,7 +52,7 @@ fewer_pass_both {X} p q (x ∷ xs) =
       | false ↦ rest
     ]
 
--- where none is counted, none passes
+-- if the count is zero, no item satisfies the condition
 pub none_counted : {X : Type 0} (p : X → Bool) (xs : List X) → nat_lt 0 (length (filter p xs)) ≡ false → list_any p xs ≡ false
 none_counted p [] h = refl
 none_counted {X} p (x ∷ xs) h =
@@ -64,10 +64,10 @@ none_counted {X} p (x ∷ xs) h =
     some_counted : (n : ℕ) → nat_lt 0 (suc n) ≡ false → ⊥
     some_counted n h = grind (arith, nat_tests)
 
--- ---- what is left
+-- ---- the remaining entries
 
 module _ {V : Type 0} where
-  -- at a listed number nothing is left
+  -- there is no entry at a listed number
   pub get-without : (m : FinMap nat_cmp V) (ks : List ℕ) (n : ℕ) → map.get (without m ks) n ≡ cond (lists_number ks n) None (map.get m n)
   get-without m [] n = refl
   get-without m (k ∷ ks) n =
@@ -91,7 +91,7 @@ module _ {V : Type 0} where
       left true (Some v) q is = sym (ap (λ b. cond (not b) (Some v) None) is)
       left false (Some v) q is = sym (ap (λ b. cond (not b) (Some v) None) is)
 
-  -- the number of an entry that passes a test is among their numbers
+  -- the number of an entry that satisfies a condition is among their numbers
   pub lists_where : (m : FinMap nat_cmp V) (test : V → Bool) (n : ℕ) → lists_number (numbers_where (λ k v. test v) m) n ≡ option_map_or test (map.get m n) false
   lists_where m test n =
       list_any-map (λ it. nat_eq it n) (λ e. e.0) (filter (λ e. test e.1) (map.entries m))
@@ -103,7 +103,7 @@ module _ {V : Type 0} where
       swapped [] = refl
       swapped (e ∷ es) = ap (λ b. b || list_any (λ e. test e.1 && nat_eq e.0 n) es) (and_turned (test e.1) (nat_eq e.0 n)) ∙ ap (λ b. (nat_eq e.0 n && test e.1) || b) (swapped es)
 
-  -- where all that pass a test end, the others are left
+  -- if all entries that satisfy a condition end, the others remain
   pub without_where : (m : FinMap nat_cmp V) (test : V → Bool) → without m (numbers_where (λ k v. test v) m) ≡ only (λ k v. not (test v)) m
   without_where m test = map.same_map nat_cmp_total nat_cmp-IsAntisymmetric (without m (numbers_where (λ k v. test v) m)) (only (λ k v. not (test v)) m) (λ q.
       get-without m (numbers_where (λ k v. test v) m) q ∙ ap (λ b. cond b None (map.get m q)) (lists_where m test q) ∙ left q (map.get m q) ∙ sym (get-kept (λ k v. not (test v)) m q))
@@ -112,7 +112,7 @@ module _ {V : Type 0} where
       left q None = refl
       left q (Some v) = elim (test v) as (λ b. cond b None (Some v) ≡ cond (not b) (Some v) None) [ true ↦ refl | false ↦ refl ]
 
--- what is kept passes the test, and stood before
+-- an entry that remains satisfies the condition, and existed before
 pub record IsKept {V : Type 0} (p : ℕ → V → Bool) (m : FinMap nat_cmp V) (n : ℕ) (v : V) : Type 0 where
   pub before : map.get m n ≡ Some v
   pub passes : p n v ≡ true
@@ -131,6 +131,6 @@ kept_from {V} p m n v is = found (map.get m n) refl (sym (get-kept p m n) ∙ is
     found None there e = absurd (none_is_not_some e)
     found (Some w) there e = passed (p n w) w refl e there
 
--- and what stood and passes the test is kept
+-- and an entry that existed and satisfies the condition remains
 pub kept_to : {V : Type 0} (p : ℕ → V → Bool) (m : FinMap nat_cmp V) (n : ℕ) (v : V) → map.get m n ≡ Some v → p n v ≡ true → map.get (only p m) n ≡ Some v
 kept_to p m n v there passes = get-kept p m n ∙ ap (kept_at p n) there ∙ ap (λ b. cond b (Some v) None) passes

@@ -1,4 +1,4 @@
--- What holds where a merger is not refused: its ground and its area are kept, and its change names no key twice.
+-- If no refusal applies to a merger, it preserves ground and area, and its change has each key once.
 use Rattle.std.proofs.Common.{◌≡◌, ◌+◌, ◌<◌, ◌≤◌, ℕ, Bool, true, false, cond, ◌&&◌, ◌||◌, not, Option, Some, None, List, [], ◌∷◌, refl, sym, ap, ◌∙◌, arith}
 use Rattle.std.specs.Prelude.{ℤ, filter, is_none, nat_eq, nat_lt, map as map_list}
 use Rattle.std.specs.List.{list_all, list_any}
@@ -36,7 +36,7 @@ use Rattle.land_core.specs.declared.soundness.Unsound.TheVariants.{Reference}
 use Rattle.land_shape.specs.Matching.{Match}
 use Rattle.land_shape.specs.Outline.{doubled_area}
 
--- ---- what holds where a merger is not refused
+-- ---- if no refusal applies to a merger
 
 pub record IsUnrefusedMerger (r : Register) (it : Merger) : Type 0 where
   pub units : lacks_unit r it ≡ false
@@ -59,7 +59,7 @@ unrefused_merger r it stamp none =
     let many = or_parts (lacks_numbers r 1) (would_have_more_parcels r it) number in
     record { units = unit; parcels = parcel; alike = unlike; room = many.0; few = many.1; ground = not-false _ ground }
 
--- the new parcel is the ground of those that it takes the place of, and has together their area
+-- the new parcel covers the ground of those that it replaces, and has their total area
 pub merged_ground : (r : Register) (it : Merger) (stamp : Option ℤ) → first_that_holds (content_refusals r (content.Merger it) stamp) ≡ None → Match (outlines_at r it.parcels) (it.outline ∷ [])
 merged_ground r it stamp none = same_match (outlines_at r it.parcels) (it.outline ∷ []) (unrefused_merger r it stamp none).ground
 
@@ -73,7 +73,7 @@ merged_area r it stamp none =
 
 -- ---- its keys
 
--- numbers that rise are above what they rise from, and each stands once
+-- ascending numbers are above their lower bound, and distinct
 none_rising : (k last : ℕ) → k ≤ last → (ns : List ℕ) → rise_above last ns ≡ true → list_any (nat_eq k) ns ≡ false
 none_rising k last le [] h = refl
 none_rising k last le (n ∷ ns) h =
@@ -91,7 +91,7 @@ rising_once last (n ∷ ns) h =
 pub numbers_once : (ns : List ℕ) → are_rising ns ≡ true → are_distinct nat_eq ns ≡ true
 numbers_once ns h = rising_once 0 ns (and_parts (rise_above 0 ns) (list_all is_number ns) h).0
 
--- the numbers of some entries of a map stand once each
+-- the numbers of some entries of a map are distinct
 module _ {V : Type 0} (p : ℕ × V → Bool) where
   none_below : (k : ℕ) (es : List (ℕ × V)) → below_all nat_cmp k es ≡ true → list_any (nat_eq k) (map_list (λ e. e.0) (filter p es)) ≡ false
   none_below k [] h = refl
@@ -114,7 +114,7 @@ module _ {V : Type 0} (p : ℕ × V → Bool) where
       ]
 
 module _ (r : Register) (source : ℕ) (it : Merger) (sound : IsSound r) where
-  -- what stands is below the next number
+  -- a used number is below the next one
   parcel_below : (n : ℕ) → is_parcel_named r it n ≡ true → nat_eq r.next n ≡ false
   parcel_below n named = found (map.get r.parcels n) refl named
     where

@@ -1,4 +1,4 @@
--- The parcels of units that are merged: all those of the other units end, and no other unit loses one.
+-- The parcels of merged units: those of the other units end, and every other unit keeps its parcels.
 use Rattle.std.proofs.Common.{◌≡◌, ◌+◌, ◌≤◌, ℕ, Bool, true, false, cond, ◌&&◌, ◌||◌, not, Some, None, List, [], ◌∷◌, length, length-append, refl, sym, ap, ◌∙◌, subst, arith}
 use Rattle.std.specs.Prelude.{filter, is_some, nat_eq, nat_le, nat_lt}
 use Rattle.std.specs.List.{list_any}
@@ -35,7 +35,7 @@ use Rattle.land_core.specs.declared.register.Register.{Register}
 use Rattle.land_core.specs.declared.soundness.Unsound.TheVariants.{Reference}
 use Rattle.land_core.specs.declared.unit.UnitRecord.{UnitRecord}
 
--- what holds of a merger that asks for what it may, and is not refused
+-- the conditions on a merger that is within its limits and to which no refusal applies
 pub record Merges (r : Register) (source : ℕ) (it : Merger) : Type 0 where
   pub comes_from : has r.sources source ≡ true
   pub formed : is_well_formed_content (content.Merger it) ≡ true
@@ -45,7 +45,7 @@ pub record Merges (r : Register) (source : ℕ) (it : Merger) : Type 0 where
   pub room : lacks_numbers r 1 ≡ false
   pub few : would_have_more_parcels r it ≡ false
 
--- ---- what the limits of a merger say
+-- ---- the limits of a merger
 
 pub record IsMerger (it : Merger) : Type 0 where
   pub others : are_rising it.others ≡ true
@@ -66,7 +66,7 @@ merger_limits it formed =
 
 -- ---- listed numbers
 
--- where no listed number passes a test, none that is listed does
+-- if no listed number satisfies a condition, the condition is false for each of them
 pub listed_fails : (test : ℕ → Bool) (ns : List ℕ) (n : ℕ) → list_any test ns ≡ false → lists_number ns n ≡ true → test n ≡ false
 listed_fails test [] n none listed = absurd (false≢true listed)
 listed_fails test (k ∷ ks) n none listed =
@@ -88,7 +88,7 @@ module _ (r : Register) (sound : IsSound r) (source : ℕ) (it : Merger) (h : Me
   pub unit_stays : (n : ℕ) → lists_number it.others n ≡ false → has r.units n ≡ true → has merged.units n ≡ true
   unit_stays n apart stands = ap is_some (get-without r.units it.others n ∙ ap (λ b. cond b None (map.get r.units n)) apart) ∙ stands
 
-  -- the unit stays, since it is not among the others
+  -- the unit stays, because it is not among the others
   pub unit_itself : has merged.units it.unit ≡ true
   unit_itself = unit_stays it.unit (merger_limits it h.formed).apart (not-false _ (or_parts (not (has r.units it.unit)) (list_any (λ n. not (has r.units n)) it.others) h.units).0)
 
@@ -103,7 +103,7 @@ module _ (r : Register) (sound : IsSound r) (source : ℕ) (it : Merger) (h : Me
 
   -- ---- parcels
 
-  -- a parcel of one of the others ends
+  -- a parcel of one of the other units ends
   pub ends_with_unit : (n : ℕ) (p : ParcelRecord) → map.get r.parcels n ≡ Some p → lists_number it.others p.unit ≡ true → lists_number it.parcels n ≡ true
   ends_with_unit n p is other =
       let unlike = listed_fails (is_unlike r it) it.others p.unit h.alike other in
@@ -112,13 +112,13 @@ module _ (r : Register) (sound : IsSound r) (source : ℕ) (it : Merger) (h : Me
       let here = none_at nat_cmp_total nat_cmp-IsAntisymmetric (λ k q. nat_eq q.unit p.unit && not (lists_number it.parcels k)) r.parcels n p none is in
       not-false _ (sym (ap (λ b. b && not (lists_number it.parcels n)) (nat_eq_equiv.refl p.unit)) ∙ here)
 
-  -- a parcel that ends is of a unit that is named
+  -- a parcel that ends belongs to one of the units of the merger
   pub ends_in_named : (n : ℕ) (p : ParcelRecord) → map.get r.parcels n ≡ Some p → lists_number it.parcels n ≡ true → is_named it p.unit ≡ true
   ends_in_named n p is listed =
       sym (ap (λ o. option_map_or (λ p. is_named it p.unit) o false) is)
       ∙ not-false _ (listed_fails (λ n. not (is_parcel_named r it n)) it.parcels n h.parcels listed)
 
-  -- a parcel that is left stood before, and is of a unit that is left
+  -- a parcel that remains existed before, and belongs to a unit that remains
   pub record Remains (n : ℕ) (p : ParcelRecord) : Type 0 where
     pub before : map.get r.parcels n ≡ Some p
     pub unlisted : lists_number it.parcels n ≡ false
@@ -137,7 +137,7 @@ module _ (r : Register) (sound : IsSound r) (source : ℕ) (it : Merger) (h : Me
   unused_left =
       unused_from r (without r.parcels it.parcels) (λ n p is. used_from r r.parcels (are_used r (refers r (sound Reference)).numbers).parcels n p (parcel_stood n p is).before)
 
-  -- a unit that is left keeps a parcel: the unit has the new one, and the others all theirs
+  -- a unit that remains has a parcel: the unit has the new one, and every other has all of its own
   pub parcel_stays : (n : ℕ) → lists_number it.others n ≡ false → has_parcel r n ≡ true → has_parcel merged n ≡ true
   parcel_stays n apart had =
       elim (nat_eq it.unit n) as (λ b. nat_eq it.unit n ≡ b → has_parcel merged n ≡ true) [
@@ -162,7 +162,7 @@ module _ (r : Register) (sound : IsSound r) (source : ℕ) (it : Merger) (h : Me
         | false ↦ λ left. refl
       ] refl
 
-  -- the unit gets one parcel beside those that it keeps, and no other unit gets one
+  -- the unit gets one parcel in addition to the remaining ones, and no other unit gets one
   parcels_counted : (n : ℕ) → parcel_count merged n ≡ parcels_beside r n it.parcels + length {A = ℕ × ParcelRecord} (cond (nat_eq it.unit n) ((r.next, parcel) ∷ []) [])
   parcels_counted n =
       ap (λ (es : List (ℕ × ParcelRecord)). length (filter (λ e. nat_eq e.1.unit n) es)) (entries-last (without r.parcels it.parcels) r.next parcel (below_next r (without r.parcels it.parcels) unused_left))

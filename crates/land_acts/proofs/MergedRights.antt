@@ -1,4 +1,5 @@
--- A unit that keeps all its entries keeps its shares, its owner and their count, whatever entries of other units end.
+-- A unit whose entries remain has the same shares, owners and count of entries, no matter which entries of
+-- other units end.
 use Rattle.std.proofs.Common.{◌≡◌, ℕ, Bool, true, false, cond, ◌&&◌, None, List, [], ◌∷◌, length, refl, sym, ap, ◌∙◌}
 use Rattle.std.specs.Prelude.{filter, nat_eq}
 use Rattle.std.specs.List.{AllByRecursion, filter_map, list_any}

@@ -1,4 +1,5 @@
--- Merging keeps a register sound: other units end with all their entries and parcels, and the unit keeps its entries.
+-- A merger keeps a register sound: other units end with all their entries and parcels, and the unit keeps its
+-- entries.
 use Rattle.std.proofs.Common.{◌≡◌, ◌+◌, ◌≤◌, ℕ, Bool, true, false, ◌&&◌, ◌||◌, not, Some, refl, sym, ap, ◌∙◌, arith}
 use Rattle.std.specs.Prelude.{nat_eq, nat_lt}
 use Rattle.std.specs.Cmp.{nat_cmp_total}
@@ -37,7 +38,7 @@ module _ (r : Register) (sound : IsSound r) (source : ℕ) (it : Merger) (h : Me
 
   -- ---- entries
 
-  -- the entries of the units that are left
+  -- the entries of the remaining units
   abbrev kept : ℕ → RrrRecord → Bool
   kept n e = not (lists_number it.others e.unit)
 

@@ -1,4 +1,4 @@
--- What merging reads of a slice is what it reads of the register.
+-- A merger has the same refusals and the same change on the slice as on the register.
 use Rattle.std.proofs.Common.{◌≡◌, ◌+◌, ℕ, Bool, true, false, cond, not, ◌||◌, Some, List, [], ◌∷◌, refl, sym, ap, ◌∙◌}
 use Rattle.std.specs.Prelude.{ℤ, Option, is_none, nat_eq, nat_lt, map as map_list}
 use Rattle.std.specs.List.{list_any}
@@ -24,14 +24,14 @@ use Rattle.land_core.specs.declared.merger.Merger.{Merger}
 use Rattle.land_core.specs.declared.register.Register.{Register}
 use Rattle.land_core.specs.declared.rrr.RrrRecord.{RrrRecord}
 
--- tests that agree on the listed numbers pass alike
+-- conditions that are equal on the listed numbers hold for the same ones
 any_listed : (p q : ℕ → Bool) (ns : List ℕ) → ((n : ℕ) → lists_number ns n ≡ true → p n ≡ q n) → list_any p ns ≡ list_any q ns
 any_listed p q [] same = refl
 any_listed p q (n ∷ ns) same =
     ap (λ b. b || list_any p ns) (same n (ap (λ b. b || lists_number ns n) (nat_eq_equiv.refl n)))
     ∙ ap (λ b. q n || b) (any_listed p q ns (λ k listed. same k (or_right (nat_eq n k) (lists_number ns k) listed)))
 
--- the units that are named are those that stand in the content
+-- the units of the merger are those to which the content refers
 pub named_in_content : (it : Merger) (n : ℕ) → is_named it n ≡ true → content_names_unit n (content.Merger it) ≡ true
 named_in_content it n names = ap (λ b. b || lists_number it.others n) turned ∙ names
   where
@@ -58,7 +58,7 @@ module _ (s r : Register) (it : Merger) (named : ℕ → Bool) (agree : AgreeOnU
       list_any_same (λ n. not (is_parcel_named s it n)) (λ n. not (is_parcel_named r it n))
       (λ n. ap not (parcel_agrees s r named agree (λ p. is_named it p.unit) (λ p passes. names p.unit passes) n)) it.parcels
 
-  -- whether the new outline is not the ground of those of the parcels
+  -- whether the new outline has another ground than the outlines of the parcels
   abbrev is_lost : Register → Bool
   is_lost at = not (are_same_ground (outlines_at at it.parcels) (it.outline ∷ []))
 
@@ -66,7 +66,7 @@ module _ (s r : Register) (it : Merger) (named : ℕ → Bool) (agree : AgreeOnU
   lost_agrees none =
       ap (λ old. not (are_same_ground old (it.outline ∷ []))) (outlines_agree s r named agree (λ p. is_named it p.unit) (λ p passes. names p.unit passes) it.parcels none)
 
-  -- whether a unit is unlike the unit, by what is read of the two
+  -- whether another unit cannot be merged with the unit, from the records of the two
   abbrev is_unlike_by : (beside : ℕ) (checked mark : Bool) (entries others : List RrrRecord) → Bool
   is_unlike_by beside checked mark entries others = nat_lt 0 beside || not (is_same_mark checked mark) || not (are_same_entries entries others)
 
@@ -90,7 +90,8 @@ module _ (s r : Register) (it : Merger) (named : ℕ → Bool) (agree : AgreeOnU
       ap (λ next. nat_lt 1000000001 (next + 1) || would_have_more_parcels s it) agree.next
       ∙ ap (λ beside. lacks_numbers r 1 || nat_lt 256 (beside + 1)) (beside_agrees s r named agree it.unit unit_named it.parcels)
 
-  -- where a listed parcel is one of no named unit, its outline may be in the one and not in the other; but then it is refused before
+  -- if a listed parcel belongs to none of the units, its outline may be in only one of the two registers; an
+  -- earlier refusal applies then
   pub merger_refusal_agrees : (stamp : Option ℤ) → first_that_holds (merger_refusals s it stamp) ≡ first_that_holds (merger_refusals r it stamp)
   merger_refusal_agrees stamp =
       ap (λ b. first_that_holds ((NoSuchUnit, b) ∷ (NoSuchParcel, lacks_parcel s it) ∷ of_slice)) units_agree

@@ -18,11 +18,11 @@ use Rattle.land_core.specs.declared.register.Register.{Register}
 use Rattle.land_core.specs.declared.rrr.RrrRecord.{RrrRecord}
 use Rattle.land_core.specs.declared.soundness.Unsound.TheVariants.{Rank}
 
--- whether a rank is a bound at least
+-- whether a rank reaches a bound
 abbrev reaches : (bound : ℕ) → Option ℕ → Bool
 reaches bound rank = option_map_or (λ k. not (nat_lt k bound)) rank false
 
--- the greatest number reaches a bound where some number does
+-- the greatest number reaches a bound exactly if some number does
 some_reaches : {X : Type 0} (h : X → Option ℕ) (bound : ℕ) → 0 < bound → (xs : List X) → list_any (λ x. reaches bound (h x)) xs ≡ not (nat_lt (greatest (filter_map h xs)) bound)
 some_reaches h bound above [] = grind (arith, nat_tests)
 some_reaches h bound above (x ∷ xs) = ap (λ b. reaches bound (h x) || b) (some_reaches h bound above xs) ∙ first (h x) (filter_map h xs)
@@ -34,7 +34,7 @@ some_reaches h bound above (x ∷ xs) = ap (λ b. reaches bound (h x) || b) (som
     first None ns = refl
     first (Some k) ns = either k (greatest ns)
 
--- what no item passes, none passes of those that are kept
+-- if no item satisfies a condition, no item of the filtered list does
 none_kept : {X : Type 0} (t p : X → Bool) (xs : List X) → list_any t xs ≡ false → list_any t (filter p xs) ≡ false
 none_kept t p [] none = refl
 none_kept {X} t p (x ∷ xs) none =
@@ -42,7 +42,7 @@ none_kept {X} t p (x ∷ xs) none =
     let rest = none_kept t p xs parts.1 in
     elim (p x) as (λ b. list_any t (cond b (x ∷ filter p xs) (filter p xs)) ≡ false) [ true ↦ ap (λ b. b || list_any t (filter p xs)) parts.0 ∙ rest | false ↦ rest ]
 
--- ---- in a sound register the next rank is no greater than the next number
+-- ---- in a sound register the next rank is at most the next number
 
 module _ (r : Register) (sound : IsSound r) (unit : ℕ) where
   in_bounds : (e : RrrRecord) → is_loose_rank r (rank_of e.class) ≡ false → reaches r.next (rank_in unit e) ≡ false
@@ -68,7 +68,7 @@ module _ (r : Register) (sound : IsSound r) (unit : ℕ) where
   pub next_rank_fits : next_rank r unit ≤ r.next
   next_rank_fits = fits (map.entries r.rrrs) none_reaches
 
-  -- so it is where only some of the entries are looked at
+  -- the same for some of the entries
   pub next_rank_fits_kept : (s : Register) (kept : ℕ → RrrRecord → Bool) → s.rrrs ≡ only kept r.rrrs → next_rank s unit ≤ r.next
   next_rank_fits_kept s kept is =
       fits (map.entries s.rrrs)
@@ -76,7 +76,7 @@ module _ (r : Register) (sound : IsSound r) (unit : ℕ) where
       ∙ ap (list_any (λ e. reaches r.next (rank_in unit e.1))) (entries-only nat_cmp_total nat_cmp-IsAntisymmetric kept r.rrrs)
       ∙ none_kept (λ e. reaches r.next (rank_in unit e.1)) (λ e. kept e.0 e.1) (map.entries r.rrrs) none_reaches)
 
--- no mortgage on a unit has the next rank already
+-- no mortgage on a unit has the next rank
 pub next_rank_apart : (r : Register) (unit n : ℕ) (e : RrrRecord) → map.get r.rrrs n ≡ Some e → nat_eq e.unit unit ≡ true → are_of_one_rank (rank_of e.class) (Some (next_rank r unit)) ≡ false
 next_rank_apart r unit n e is here =
     let none : list_any (λ e. reaches (next_rank r unit) (rank_in unit e.1)) (map.entries r.rrrs) ≡ false =

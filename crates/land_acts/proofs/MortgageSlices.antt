@@ -1,4 +1,4 @@
--- What mortgaging reads of a slice is what it reads of the register.
+-- A mortgage has the same refusals and the same change on the slice as on the register.
 use Rattle.std.proofs.Common.{◌≡◌, ◌+◌, ℕ, Bool, true, false, cond, None, List, [], ◌∷◌, length, refl, sym, ap, ◌∙◌}
 use Rattle.std.specs.Prelude.{ℤ, Option, filter, nat_eq}
 use Rattle.std.specs.List.{filter_map, AllByRecursion}
@@ -17,7 +17,8 @@ use Rattle.land_core.specs.declared.register.Register.{Register}
 use Rattle.land_core.specs.declared.role.Role.TheVariants.{Bank}
 use Rattle.land_core.specs.declared.rrr.RrrRecord.{RrrRecord}
 
--- a register has only some entries of another one, but all those of a unit; they agree whether the unit stands, and on the next number
+-- a register with only some entries of another one, but all those of a unit; both agree on whether the unit
+-- exists, and on the next number
 pub record AgreeOnUnit (s r : Register) (unit : ℕ) : Type 0 where
   pub kept : ℕ → RrrRecord → Bool
   pub entries : s.rrrs ≡ only kept r.rrrs

@@ -1,4 +1,4 @@
--- Mortgaging keeps a register sound: a unit gets one more mortgage, of the next rank.
+-- A mortgage keeps a register sound: a unit gets one more mortgage, with the next rank.
 use Rattle.std.proofs.Common.{◌≡◌, ◌+◌, ◌≤◌, ℕ, ◌&&◌, not, true, false, refl, ap, arith}
 use Rattle.std.specs.Prelude.{nat_lt}
 use Rattle.std.proofs.lemmas.Bool.Decides.{nat_tests}

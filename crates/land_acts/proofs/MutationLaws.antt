@@ -1,4 +1,4 @@
--- What becomes of mutations: they stand for good, and are decided once. And of the shares that transfers move.
+-- Proves the laws on mutations: they are never lost, and are decided once. And the laws on transfers.
 use Rattle.std.proofs.Common.{◌≡◌, ℕ, ◌+◌, ◌<◌, Bool, true, false, not, cond, List, [], ◌∷◌, Option, Some, None, refl, sym, ap, ◌∙◌, subst, arith}
 use Rattle.std.specs.Prelude.{ℤ, nat_eq, nat_lt}
 use Rattle.std.specs.List.{AllByRecursion, find}
@@ -59,13 +59,13 @@ use Rattle.land_core.specs.declared.source.SourceRecord.{SourceRecord}
 use Rattle.land_core.specs.declared.subdivision.Part.{Part}
 use Rattle.land_shape.specs.Place.{Place, is_same_place, is_same_ring}
 
--- ---- what a change leaves
+-- ---- the effect of a change on mutations
 
--- what an act that is not refused does to a mutation that stands: it is as it was, or it was undecided and is decided
+-- an act to which no refusal applies leaves an existing mutation unchanged, or decides it if it was undecided
 abbrev Becomes : Register → ℕ → MutationRecord → Register → Type 0
 Becomes r number m new = (state : MutationState) × (map.get new.mutations number ≡ Some (decided state m)) × (is_undecided m ≡ false → state ≡ m.state)
 
--- a change that puts and ends no source, and ends no mutation
+-- a change that writes and ends no source, and ends no mutation
 record IsUntouched (change : Change) : Type 0 where
   mutations : change.ended.mutations ≡ []
   put : change.put.sources ≡ []
@@ -78,7 +78,7 @@ module _ (r : Register) (sound : IsSound r) where
   source_below : (n : ℕ) (s : SourceRecord) → map.get r.sources n ≡ Some s → n < r.next
   source_below n s is = (used_bounds r n (used_from r r.sources (are_used r (refers r (sound Reference)).numbers).sources n s is)).1
 
-  -- a decision changes the state of an undecided mutation, and of no other
+  -- a decision changes the state of one undecided mutation
   put_state : (n number : ℕ) (m x : MutationRecord) (state : MutationState) → map.get r.mutations number ≡ Some m → is_undecided m ≡ true → map.get r.mutations n ≡ Some x
       → (after : MutationState) × (map.get (map.insert r.mutations number (decided state m)) n ≡ Some (decided after x)) × (is_undecided x ≡ false → after ≡ x.state)
   put_state n number m x state there undecided is =
@@ -104,7 +104,7 @@ module _ (r : Register) (sound : IsSound r) where
   transfer_touches source it None = record { mutations = refl; put = refl; ended = refl }
   transfer_touches source it (Some from) = record { mutations = refl; put = refl; ended = refl }
 
-  -- the content of an approval touches no source, and ends no mutation
+  -- the content of an approval changes no source, and ends no mutation
   content_touches : (source : ℕ) (c : Content) → IsUntouched (content_change r source c)
   content_touches source (content.Transfer it) = transfer_touches source it (held_at r it.unit it.right)
   content_touches source (content.Subdivision it) = record { mutations = refl; put = refl; ended = refl }
@@ -112,7 +112,7 @@ module _ (r : Register) (sound : IsSound r) where
   content_touches source (content.Mortgage it) = record { mutations = refl; put = refl; ended = refl }
   content_touches source (content.Discharge it) = record { mutations = refl; put = refl; ended = refl }
 
-  -- what a decision does, by the mutation that stands under its number
+  -- the effect of a decision, from the mutation at its number
   by_decision : (number : ℕ) (state : MutationState) (change : MutationRecord → Change) → ((m : MutationRecord) → IsUntouched (change m)) → (o : Option MutationRecord) → map.get r.mutations number ≡ o
       → option_map_or is_undecided o false ≡ true → (n : ℕ) (x : MutationRecord) → map.get r.mutations n ≡ Some x
       → Becomes r n x (after (option_map_or (λ m. with_state state number m (change m)) o (no_change r.next)) r)
@@ -196,7 +196,7 @@ lodgings_stay r caller it source number lodged stamp change sound h standing =
 
 -- ---- repeats
 
--- what is compared item by item is the same as itself
+-- an item by item comparison is reflexive
 list_itself : {A : Type 0} (same : A → A → Bool) → ((x : A) → same x x ≡ true) → (xs : List A) → pointwise same xs xs ≡ true
 list_itself same each [] = refl
 list_itself same each (x ∷ xs) = and_from _ _ (each x) (list_itself same each xs)
@@ -257,7 +257,7 @@ module _ (later : Register) (sound : IsSound later) (caller : Caller) (it : Lodg
   passes : is_lodged_as caller.party it.reference m ≡ true
   passes = and_from _ _ (nat_eq_equiv.refl caller.party) ((bytes_eq-Decides it.reference it.reference).1 refl)
 
-  -- there is no other mutation of the lodger under the reference
+  -- the lodger has no other mutation under the reference
   the_one : (e : ℕ × MutationRecord) → find p (map.entries later.mutations) ≡ Some e → e ≡ (number, m)
   the_one e found =
       let looks = (by_look_ups whole_law later).0 sound in

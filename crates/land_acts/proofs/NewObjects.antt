@@ -1,4 +1,4 @@
--- New objects come after all others.
+-- New objects have numbers above all others.
 use Rattle.std.proofs.Common.{◌≡◌, ℕ, ◌+◌, ◌<◌, ◌≤◌, true, false, ◌||◌, ◌&&◌, not, Some, List, [], ◌∷◌, ◌++◌, refl, sym, ap, ◌∙◌, subst, append_assoc, append-nil, arith}
 use Rattle.std.specs.Prelude.{nat_eq, map as map_list}
 use Rattle.std.specs.List.{list_any, AllByRecursion}
@@ -15,7 +15,7 @@ use Rattle.land_core.specs.Entries.{with_entries, are_distinct}
 use Rattle.land_core.specs.Soundness.{has_unused}
 use Rattle.land_core.specs.declared.register.Register.{Register}
 
--- entries whose numbers are all below one
+-- entries whose numbers are all below a bound
 abbrev pub AreBelow : {V : Type 0} → ℕ → List (ℕ × V) → Type 0
 AreBelow k es = AllByRecursion (λ e. e.0 < k) es
 
@@ -34,11 +34,11 @@ pub below_later : {V : Type 0} (k later : ℕ) → k ≤ later → (es : List (�
 below_later k later le [] below = tt
 below_later k later le (e ∷ es) below = (let less = below.0 in omega (arith, le, less), below_later k later le es below.1)
 
--- an entry under a number above all others is the last
+-- an entry with a number above all others is the last one
 pub entries-last : {V : Type 0} (m : FinMap nat_cmp V) (k : ℕ) (v : V) → AreBelow k (map.entries m) → map.entries (map.insert m k v) ≡ map.entries m ++ (k, v) ∷ []
 entries-last m k v below = map.entries-insert nat_cmp_total m k v ∙ put_end k v (map.entries m) below
 
--- and so are several under the numbers that follow
+-- and so are several with the numbers after it
 pub entries-numbered : {V : Type 0} (m : FinMap nat_cmp V) (first : ℕ) (xs : List V) → AreBelow first (map.entries m)
     → map.entries (with_entries m (numbered first xs)) ≡ map.entries m ++ numbered first xs
 entries-numbered m first [] below = sym (append-nil (map.entries m))
@@ -48,7 +48,7 @@ entries-numbered {V} m first (x ∷ xs) below =
     ∙ ap (λ (it : List (ℕ × V)). it ++ numbered (first + 1) xs) once
     ∙ append_assoc (map.entries m) ((first, x) ∷ []) (numbered (first + 1) xs)
 
--- the numbers that are in use are below the next one
+-- used numbers are below the next one
 pub below_next : {V : Type 0} (r : Register) (records : FinMap nat_cmp V) → has_unused r records ≡ false → AreBelow r.next (map.entries records)
 below_next {V} r records none = each_below (map.entries records) (each_there nat_cmp_total nat_cmp-IsAntisymmetric records)
   where
@@ -56,7 +56,7 @@ below_next {V} r records none = each_below (map.entries records) (each_there nat
     each_below [] h = tt
     each_below (e ∷ es) h = ((used_bounds r e.0 (used_from r records none e.0 e.1 h.0)).1, each_below es h.1)
 
--- numbered objects have different numbers
+-- consecutively numbered objects have different numbers
 none_before : {V : Type 0} (k first : ℕ) → k < first → (xs : List V) → list_any (nat_eq k) (map_list (λ e. e.0) (numbered first xs)) ≡ false
 none_before k first less [] = refl
 none_before k first less (x ∷ xs) =

@@ -1,4 +1,4 @@
--- A test of what stands at a number is a test of the entries.
+-- A condition on the value at a number, as a condition on entries.
 use Rattle.std.proofs.Common.{◌≡◌, ℕ, Bool, true, false, ◌&&◌, Option, Some, None, List, [], ◌∷◌, refl, sym, ap, ◌∙◌, subst}
 use Rattle.std.specs.Prelude.{nat_eq}
 use Rattle.std.specs.Option.{option_map_or}
@@ -14,7 +14,7 @@ use Rattle.land_core.proofs.Reflection.{entries-only, list_any-filter, none_pass
 use Rattle.land_core.specs.Entries.{only, some}
 
 module _ {V : Type 0} (m : FinMap nat_cmp V) (test : V → Bool) (n : ℕ) where
-  -- it is a test of the entries, since there is no other entry at the number
+  -- they are equivalent, because there is no other entry at the number
   pub at_as_some : option_map_or test (map.get m n) false ≡ some (λ k v. nat_eq k n && test v) m
   at_as_some = by_case (map.get m n) refl
     where
@@ -37,7 +37,7 @@ module _ {V : Type 0} (m : FinMap nat_cmp V) (test : V → Bool) (n : ℕ) where
           same : (w : V) → Some v ≡ Some w → v ≡ w
           same w both = cc
 
--- its answer stays where all that pass it are kept
+-- filtering does not change its value if all entries that satisfy it remain
 pub at_kept : {V : Type 0} (m : FinMap nat_cmp V) (kept : ℕ → V → Bool) (test : V → Bool) (n : ℕ) → ((v : V) → test v ≡ true → kept n v ≡ true)
     → option_map_or test (map.get (only kept m) n) false ≡ option_map_or test (map.get m n) false
 at_kept {V} m kept test n keeps =

@@ -1,4 +1,4 @@
--- Numbers that are the same, by the test of numbers and by their order.
+-- Equality of numbers, as a test and by their order.
 use Rattle.std.proofs.Common.{◌≡◌, ℕ, ◌<◌, true, false, ◌∙◌, arith}
 use Rattle.std.specs.Prelude.{nat_eq}
 use Rattle.std.specs.Ordering.{nat_cmp, eq_by_cmp}
@@ -16,6 +16,6 @@ tied_number n m = unsigned_tied n m
 pub turned_number : (n m : ℕ) → nat_eq n m ≡ false → nat_eq m n ≡ false
 turned_number n m h = grind (arith, nat_tests)
 
--- a lesser number is another one
+-- a smaller number is a different one
 pub lesser_apart : (n m : ℕ) → n < m → eq_by_cmp nat_cmp n m ≡ false
 lesser_apart n m less = tied_number n m ∙ (grind (arith, nat_tests))

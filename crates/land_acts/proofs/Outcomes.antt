@@ -1,4 +1,4 @@
--- What an outcome says of the refusals and of the change.
+-- The refusals and the change of an outcome.
 use Rattle.std.proofs.Common.{◌≡◌, Bool, Option, Some, None, Ok, Err, List, refl}
 use Rattle.std.specs.Prelude.{ℤ, Result}
 use Rattle.land_acts.specs.Mutations.Planning.{first_that_holds}
@@ -10,7 +10,7 @@ use Rattle.land_acts.specs.declared.mutations.refusal.Refusal.TheVariants.{Clock
 use Rattle.land_core.specs.declared.change.Change.{Change}
 use Rattle.land_core.specs.declared.change.Done.{Done}
 
--- a change that is planned comes of no refusal and is no repeat, and is told with its stamp
+-- an outcome with a change is not a repeat, no refusal applies, and the receipt has the stamp
 pub record IsPlanned (repeat : Option Done) (lines : List (Refusal × Bool)) (made : ℤ → Change) (change : Change) (told : ℤ → Done) (done : Done) (stamp : ℤ) : Type 0 where
   pub new : repeat ≡ None
   pub none_holds : first_that_holds lines ≡ None
@@ -32,7 +32,7 @@ planned_from None lines made change told done stamp h = by_case (first_that_hold
         refused : Err refusal ≡ Ok (New change done) → ⊥
         refused e = cc
 
--- without a stamp nothing is planned
+-- without a stamp, no outcome has a change
 pub unstamped : (repeat : Option Done) (lines : List (Refusal × Bool)) (made : ℤ → Change) (change : Change) (told : ℤ → Done) (done : Done)
     → repeated_else repeat (refused_else (first_that_holds lines) (stamped made told None)) ≡ Ok (New change done) → ⊥
 unstamped (Some before) lines made change told done h = repeated (Ok (Repeat before)) refl h

@@ -1,4 +1,4 @@
--- A party that is put at the next number: what stood before stands as it was.
+-- A party is added under the next number, and all other records are unchanged.
 use Rattle.std.proofs.Common.{◌≡◌, ℕ, ◌+◌, ◌<◌, ◌≤◌, true, false, cond, ◌&&◌, not, Option, Some, None, refl, sym, ap, ◌∙◌, subst, arith}
 use Rattle.std.specs.Prelude.{nat_lt}
 use Rattle.std.specs.Option.{option_map_or}
@@ -18,7 +18,7 @@ use Rattle.land_core.specs.declared.party.PartyRecord.{PartyRecord}
 use Rattle.land_core.specs.declared.register.Register.{Register}
 use Rattle.land_core.specs.declared.soundness.Unsound.TheVariants.{Reference}
 
--- each party that stands in a register stands in another one too, as it was
+-- each party of a register is a party of another one, unchanged
 abbrev pub StayParties : Register → Register → Type 0
 StayParties r new = (n : ℕ) (p : PartyRecord) → map.get r.parties n ≡ Some p → map.get new.parties n ≡ Some p
 
@@ -42,7 +42,7 @@ tight_stays r new stay group members h = record {
   single = λ n share is. single_stays r new stay n (h.single n share is);
 }
 
--- the number that was next is in use when the next one grows by one
+-- the former next number is in use when the next number increases by one
 next_used : (next : ℕ) → 0 < next → (nat_lt 0 next && nat_lt next (next + 1)) ≡ true
 next_used next h = grind (arith, nat_tests)
 
@@ -53,7 +53,7 @@ module _ (r new : Register) (party : PartyRecord) (parties : new.parties ≡ map
   put_at : (n : ℕ) → map.get new.parties n ≡ cond (eq_by_cmp nat_cmp n r.next) (Some party) (map.get r.parties n)
   put_at n = ap (λ m. map.get m n) parties ∙ map.get-insert nat_cmp_total r.parties r.next party n
 
-  -- no party stood at the next number
+  -- no party had the next number
   pub not_next : (n : ℕ) (p : PartyRecord) → map.get r.parties n ≡ Some p → eq_by_cmp nat_cmp n r.next ≡ false
   not_next n p is = lesser_apart n r.next (used_bounds r n (used_from r r.parties (are_used r (refers r (sound Reference)).numbers).parties n p is)).1
 
@@ -63,7 +63,7 @@ module _ (r new : Register) (party : PartyRecord) (parties : new.parties ≡ map
   pub put_there : map.get new.parties r.next ≡ Some party
   put_there = put_at r.next ∙ ap (λ b. cond b (Some party) (map.get r.parties r.next)) (ap is_eq (tied_itself nat_cmp_total r.next))
 
-  -- each party of the new register is the new one or stood before
+  -- each party of the new register is the new one or existed before
   pub each_party : (P : ℕ → PartyRecord → Type 0) → P r.next party → ((n : ℕ) (p : PartyRecord) → eq_by_cmp nat_cmp n r.next ≡ false → map.get r.parties n ≡ Some p → P n p)
       → (n : ℕ) (p : PartyRecord) → map.get new.parties n ≡ Some p → P n p
   each_party P here there n p is =
@@ -94,7 +94,7 @@ module _ (r new : Register) (party : PartyRecord) (parties : new.parties ≡ map
         mutations = ap (has_unused new) mutations ∙ unused_grows r new grows r.mutations before.mutations;
       })
 
-  -- entries refer to what stands as before
+  -- the references of entries exist as before
   pub no_loose_rrr : new.units ≡ r.units → new.rrrs ≡ r.rrrs → new.sources ≡ r.sources → has_loose_rrr new ≡ false
   no_loose_rrr units rrrs sources =
       anchored_back new (λ n e is.

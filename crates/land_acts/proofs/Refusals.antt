@@ -1,10 +1,10 @@
--- What it says of refusals that none of their conditions holds.
+-- If no refusal applies, the condition of each one is false.
 use Rattle.std.proofs.Common.{◌≡◌, Bool, true, false, Some, None, List, [], ◌∷◌, refl}
 use Rattle.std.specs.List.{AllByRecursion}
 use Rattle.land_acts.specs.Mutations.Planning.{first_that_holds}
 use Rattle.land_acts.specs.declared.mutations.refusal.Refusal.{Refusal}
 
--- a line before others does not hold, where none holds
+-- if none of a list applies, the first does not
 pub record NoneHolds (b : Bool) (lines : List (Refusal × Bool)) : Type 0 where
   pub first : b ≡ false
   pub rest : first_that_holds lines ≡ None
@@ -16,7 +16,7 @@ first_none refusal true lines h = absurd (some_none h)
     some_none e = cc
 first_none refusal false lines h = record { first = refl; rest = h }
 
--- where nothing is refused, no line holds
+-- if no refusal applies, none of the list does
 pub none_hold : (lines : List (Refusal × Bool)) → first_that_holds lines ≡ None → AllByRecursion (λ (line : Refusal × Bool). line.1 ≡ false) lines
 none_hold [] h = tt
 none_hold (line ∷ lines) h = let none = first_none line.0 line.1 lines h in (none.first, none_hold lines none.rest)

@@ -1,4 +1,4 @@
--- An approval keeps the area of a register, and of all acts a registration alone adds to it.
+-- Approvals preserve the total area of a register, and of all acts only registrations add to it.
 use Rattle.std.proofs.Common.{◌≡◌, ℕ, ◌+◌, ◌<◌, ◌≤◌, Bool, true, false, ◌||◌, not, Option, Some, None, List, [], ◌∷◌, refl, sym, ap, ◌∙◌, subst, arith}
 use Rattle.std.specs.Prelude.{ℤ, is_some, nat_eq, map as map_list}
 use Rattle.std.specs.List.{AllByRecursion}
@@ -61,23 +61,23 @@ use Rattle.land_shape.specs.Place.{Place}
 nothing_more : (n : ℕ) → n ≡ n + 0
 nothing_more n = omega arith
 
--- no outlines are the ground of none
+-- an empty list of outlines has the ground of an empty list
 none_match : Match [] []
 unfolding Match
 none_match e = refl
 
--- what passes a test stands
+-- a key with a condition on its value exists
 stands_where : (test : ParcelRecord → Bool) (o : Option ParcelRecord) → option_map_or test o false ≡ true → is_some o ≡ true
 stands_where test None passes = absurd (false≢true passes)
 stands_where test (Some p) passes = refl
 
--- ---- numbered parcels
+-- ---- consecutively numbered parcels
 
 numbers_above : (next first : ℕ) → next ≤ first → (ps : List ParcelRecord) → AllByRecursion (λ e. next ≤ e.0) (numbered first ps)
 numbers_above next first le [] = tt
 numbers_above next first le (p ∷ ps) = (le, numbers_above next (first + 1) (omega (arith, le)) ps)
 
--- parcels that are registered have the area of their outlines
+-- registered parcels have the area of their outlines
 area_numbered : (unit source first : ℕ) (ps : List NewParcel) → area_in (numbered first (map_list (parcel_of unit source) ps)) ≡ doubled_areas (map_list (λ p. p.outline) ps)
 area_numbered unit source first [] = refl
 area_numbered unit source first (p ∷ ps) = ap (λ n. doubled_area p.outline + n) (area_numbered unit source (first + 1) ps)
@@ -86,9 +86,9 @@ module _ (r : Register) (sound : IsSound r) where
   below : (n : ℕ) (p : ParcelRecord) → map.get r.parcels n ≡ Some p → n < r.next
   below n p is = (used_bounds r n (used_from r r.parcels (are_used r (refers r (sound Reference)).numbers).parcels n p is)).1
 
-  -- ---- what an approval leaves
+  -- ---- the effect of an approval
 
-  -- where new parcels have the area of those that end, they have taken their place
+  -- new parcels with the area of those that end have replaced them
   taken_place : (change : Change) (outlines : List (List Place)) → IsReplacement r.parcels r.next change.put.parcels change.ended.parcels → outlines_put change ≡ outlines
       → doubled_areas (outlines_at r change.ended.parcels) ≡ doubled_areas outlines → Match (outlines_at r change.ended.parcels) outlines
       → HaveTakenPlace r change.ended.parcels outlines change
@@ -106,11 +106,11 @@ module _ (r : Register) (sound : IsSound r) where
       cancel : (then before old new : ℕ) → old ≡ new → then + old ≡ before + new → then ≡ before
       cancel then before old new same is = omega (arith, same, is)
 
-  -- no parcel is put, and none ends
+  -- no parcel is written, and none ends
   none_replaced : IsReplacement r.parcels r.next [] []
   none_replaced = record { once = refl; above = tt; below = below; stood = λ n listed. absurd (false≢true listed) }
 
-  -- so a change of other objects leaves the parcels as they are
+  -- so a change of other objects leaves the parcels unchanged
   none_taken : (put : Put) (ended : Ended) (next : ℕ) → HaveTakenPlace r [] [] (record { put = record put { parcels = [] }; ended = record ended { parcels = [] }; next = next })
   none_taken put ended next = taken_place (record { put = record put { parcels = [] }; ended = record ended { parcels = [] }; next = next }) [] none_replaced refl refl none_match
 
@@ -140,7 +140,7 @@ module _ (r : Register) (sound : IsSound r) where
         stood = λ n listed. stands_where (λ p. is_named it p.unit) (map.get r.parcels n) (not-false _ (listed_fails (λ n. not (is_parcel_named r it n)) it.parcels n free.parcels listed));
       }
 
-  -- what is approved, by its content
+  -- approvals, by their content
   content_taken : (number : ℕ) (m : MutationRecord) (c : Content) (stamp : ℤ) → is_well_formed_content c ≡ true → first_that_holds (content_refusals r c (Some stamp)) ≡ None
       → HaveTakenPlace r (parcels_replaced c) (outlines_asked c) (with_state Approved number m (content_change r m.source c))
   content_taken number m (content.Transfer it) stamp formed none = by_right (held_at r it.unit it.right)
@@ -170,7 +170,7 @@ module _ (r : Register) (sound : IsSound r) where
       let change = with_state Approved number m (discharge_change r it) in
       none_taken change.put change.ended change.next
 
-  -- ---- what any act adds
+  -- ---- the effect of any act
 
   -- a registration adds the areas of its parcels, and ends none
   registered : (it : NewUnit) (caller : Caller) (stamp : ℤ) → area_of_all (after (change_of r caller (act.Register it) stamp) r) ≡ area_of_all r + area_registered (act.Register it)

@@ -1,4 +1,5 @@
--- Registering keeps a register sound: a unit comes with its parcels and rights, and what stood before stands as it was.
+-- A registration keeps a register sound: a unit is added with its parcels and rights, and all other records
+-- are unchanged.
 use Rattle.std.proofs.Common.{◌≡◌, ℕ, ◌+◌, ◌<◌, ◌≤◌, Bool, true, false, cond, ◌&&◌, ◌||◌, not, Option, Some, None, List, [], ◌∷◌, ◌++◌, length, refl, ap, ◌∙◌, append-nil, arith}
 use Rattle.std.specs.Prelude.{filter, is_some, nat_eq, nat_lt, map as map_list}
 use Rattle.std.specs.List.{filter_map, cons_option, list_any}
@@ -42,9 +43,9 @@ use Rattle.land_core.specs.declared.source.SourceRecord.{SourceRecord}
 use Rattle.land_core.specs.declared.unit.UnitRecord.{UnitRecord}
 use Rattle.land_fraction.specs.Ratio.{Ratio}
 
--- ---- tests of numbered objects
+-- ---- conditions on consecutively numbered objects
 
--- no numbered object passes a test that none of its sort passes under a number of theirs
+-- no numbered object satisfies a condition that none satisfies under any of their numbers
 none_numbered : {A V : Type 0} (f : A → V) (p : ℕ → V → Bool) (first last : ℕ) → ((n : ℕ) (a : A) → first ≤ n → n < last → p n (f a) ≡ false) → (xs : List A) → first + length xs ≤ last
     → list_any (λ e. p e.0 e.1) (numbered first (map_list f xs)) ≡ false
 none_numbered f p first last h [] room = refl
@@ -52,7 +53,7 @@ none_numbered f p first last h (x ∷ xs) room =
     ap (λ b. b || list_any (λ e. p e.0 e.1) (numbered (first + 1) (map_list f xs))) (h first x (omega arith) (omega (arith, room)))
     ∙ none_numbered f p (first + 1) last (λ n a low high. h n a (omega (arith, low)) high) xs (omega (arith, room))
 
--- what a test of the objects alone gives of numbered ones
+-- a condition that reads only the object, on numbered objects
 any_numbered : {A V : Type 0} (f : A → V) (p : V → Bool) (first : ℕ) (xs : List A) → list_any (λ e. p e.1) (numbered first (map_list f xs)) ≡ list_any (λ a. p (f a)) xs
 any_numbered f p first [] = refl
 any_numbered f p first (x ∷ xs) = ap (λ b. p (f x) || b) (any_numbered f p (first + 1) xs)
@@ -73,12 +74,12 @@ filter_shorter {X} p (x ∷ xs) =
     let rest = filter_shorter p xs in
     elim (p x) as (λ b. length (cond b (x ∷ filter p xs) (filter p xs)) ≤ length (x ∷ xs)) [ true ↦ omega (arith, rest) | false ↦ omega (arith, rest) ]
 
--- tests that agree
+-- conditions that are equal
 list_any-same : {X : Type 0} (p q : X → Bool) → ((x : X) → p x ≡ q x) → (xs : List X) → list_any p xs ≡ list_any q xs
 list_any-same p q h [] = refl
 list_any-same p q h (x ∷ xs) = ap (λ b. b || list_any p xs) (h x) ∙ ap (λ b. q x || b) (list_any-same p q h xs)
 
--- one of two tests that none passes
+-- a disjunction of two conditions that no object satisfies
 drop_left : {X : Type 0} (p q : X → Bool) (xs : List X) → list_any p xs ≡ false → list_any (λ x. p x || q x) xs ≡ list_any q xs
 drop_left p q [] h = refl
 drop_left p q (x ∷ xs) h =
@@ -143,7 +144,7 @@ module _ (r : Register) (it : NewUnit) (sound : IsSound r) where
   sources_stay : (n : ℕ) → has r.sources n ≡ true → has more.sources n ≡ true
   sources_stay = has_stays r.sources more.sources (λ n s is. there r.sources r.next document n s (source_below n s is) is)
 
-  -- a unit that stands is not the new one
+  -- an existing unit is not the new one
   other_unit : (n : ℕ) → has r.units n ≡ true → nat_eq n unit ≡ false
   other_unit n stands = found (map.get r.units n) refl stands
     where
@@ -151,7 +152,7 @@ module _ (r : Register) (it : NewUnit) (sound : IsSound r) where
       found None e h = absurd (false≢true h)
       found (Some u) e h = let less = unit_below n u e in grind (arith, nat_tests)
 
-  -- nothing that stood before is in the new unit
+  -- no earlier record belongs to the new unit
   no_old_parcel : list_any (λ e. nat_eq e.1.unit unit) (map.entries r.parcels) ≡ false
   no_old_parcel =
       none_passes nat_cmp_total nat_cmp-IsAntisymmetric (λ n p. nat_eq p.unit unit) r.parcels
@@ -162,7 +163,7 @@ module _ (r : Register) (it : NewUnit) (sound : IsSound r) where
       none_passes nat_cmp_total nat_cmp-IsAntisymmetric (λ n e. nat_eq e.unit unit) r.rrrs
       (λ n e is. other_unit e.unit (anchored r (refers r (sound Reference)).rrrs n e is).unit)
 
-  -- nothing that is new is in a unit that stood before
+  -- no new record belongs to an earlier unit
   no_new_parcel : (n : ℕ) → nat_eq unit n ≡ false → list_any (λ e. nat_eq e.1.unit n) new_parcels ≡ false
   no_new_parcel n other =
       none_numbered (parcel_of unit r.next) (λ k p. nat_eq p.unit n) (r.next + 2) (r.next + 2 + length it.parcels) (λ k a low high. other) it.parcels (omega arith)
@@ -245,7 +246,7 @@ module _ (r : Register) (it : NewUnit) (sound : IsSound r) where
   source_here : has more.sources r.next ≡ true
   source_here = ap is_some (here r.sources r.next document)
 
-  -- ---- what the new entries refer to
+  -- ---- the references of the new entries
 
   rights_anchored : (rights : List NewRight) → lists_absent r rights ≡ false
       → list_any (λ a. not (has more.units unit && has r.parties a.party && has more.sources r.next)) rights ≡ false

@@ -1,4 +1,4 @@
--- What parcels have together when some are put and others end, and what stands at each number then.
+-- The total area of parcels when some are written and others end, and the parcel at each number then.
 use Rattle.std.proofs.Common.{◌≡◌, ℕ, ◌+◌, ◌<◌, ◌≤◌, Bool, true, false, cond, ◌&&◌, ◌||◌, not, Option, Some, None, List, [], ◌∷◌, ◌++◌, refl, sym, ap, ◌∙◌, arith}
 use Rattle.std.specs.Prelude.{is_some, nat_eq, map as map_list}
 use Rattle.std.specs.List.{AllByRecursion, cons_option, filter_map, list_any}
@@ -30,14 +30,14 @@ Parcels = FinMap nat_cmp ParcelRecord
 abbrev pub keys : List (ℕ × ParcelRecord) → List ℕ
 keys es = map_list (λ e. e.0) es
 
--- the area of entries together, and of all parcels
+-- the total area of entries, and of all parcels
 abbrev pub area_in : List (ℕ × ParcelRecord) → ℕ
 area_in es = doubled_areas (map_list (λ e. e.1.outline) es)
 
 abbrev pub area : Parcels → ℕ
 area m = area_in (map.entries m)
 
--- the outlines of the parcels at some numbers
+-- the outlines of the parcels at these numbers
 abbrev pub outlines_in : Parcels → List ℕ → List (List Place)
 outlines_in m ns = filter_map (λ n. option_map_or (λ p. Some p.outline) (map.get m n) None) ns
 
@@ -57,7 +57,7 @@ nothing_more n = omega arith
 
 -- ---- one parcel
 
--- a parcel at a number where none stands adds its area
+-- a parcel at a new number adds its area
 put_adds : (k : ℕ) (p : ParcelRecord) (es : List (ℕ × ParcelRecord)) → find nat_cmp k es ≡ None → area_in (put nat_cmp k p es) ≡ doubled_area p.outline + area_in es
 put_adds k p [] none = refl
 put_adds k p (e ∷ es) none = go (nat_cmp k e.0) refl (put_adds k p es)
@@ -73,7 +73,7 @@ put_adds k p (e ∷ es) none = go (nat_cmp k e.0) refl (put_adds k p es)
 insert_adds : (m : Parcels) (k : ℕ) (p : ParcelRecord) → map.get m k ≡ None → area (map.insert m k p) ≡ doubled_area p.outline + area m
 insert_adds m k p none = ap area_in (map.entries-insert nat_cmp_total m k p) ∙ put_adds k p (map.entries m) (sym (map.get-entries m k) ∙ none)
 
--- a parcel that ends takes its area
+-- a parcel that ends subtracts its area
 remove_takes : (m : Parcels) (k : ℕ) (p : ParcelRecord) → map.get m k ≡ Some p → area m ≡ doubled_area p.outline + area (map.remove m k)
 remove_takes m k p is = ap area (sym back) ∙ insert_adds (map.remove m k) k p gone
   where
@@ -89,7 +89,7 @@ remove_takes m k p is = ap area (sym back) ∙ insert_adds (map.remove m k) k p 
           | false ↦ λ apart. refl
         ] refl)
 
--- to remove what does not stand changes nothing
+-- removing a missing key changes nothing
 remove_nothing : (m : Parcels) (k : ℕ) → map.get m k ≡ None → map.remove m k ≡ m
 remove_nothing m k none = map.same_map nat_cmp_total nat_cmp-IsAntisymmetric (map.remove m k) m (λ q.
     map.get-remove nat_cmp_total m k q
@@ -100,7 +100,7 @@ remove_nothing m k none = map.same_map nat_cmp_total nat_cmp-IsAntisymmetric (ma
 
 -- ---- several parcels
 
--- what stands at other numbers is not looked for where one is removed
+-- removing a key does not change the other keys
 outlines_stay : (m : Parcels) (k : ℕ) (ns : List ℕ) → list_any (nat_eq k) ns ≡ false → outlines_in (map.remove m k) ns ≡ outlines_in m ns
 outlines_stay m k [] apart = refl
 outlines_stay m k (n ∷ ns) apart =
@@ -109,7 +109,7 @@ outlines_stay m k (n ∷ ns) apart =
     (map.get-remove nat_cmp_total m k n ∙ ap (λ b. cond b None (map.get m n)) (tied_number n k ∙ turned_number k n parts.0))
     ∙ ap (cons_option (option_map_or (λ p. Some p.outline) (map.get m n) None)) (outlines_stay m k ns parts.1)
 
--- those that end take their areas
+-- parcels that end subtract their areas
 pub without_takes : (m : Parcels) (ns : List ℕ) → are_distinct nat_eq ns ≡ true → area m ≡ doubled_areas (outlines_in m ns) + area (without m ns)
 without_takes m [] once = nothing_more (area m)
 without_takes m (k ∷ ns) once =
@@ -125,7 +125,7 @@ without_takes m (k ∷ ns) once =
     found rest (Some p) e =
         nested (doubled_area p.outline) (doubled_areas (outlines_in m ns)) (area (without (map.remove m k) ns)) (area m) (area (map.remove m k)) (remove_takes m k p e) rest
 
--- no number that is put later is one that is put now
+-- no number that is written later is written now
 unlisted : (k : ℕ) (ns : List ℕ) → list_any (nat_eq k) ns ≡ false → lists_number ns k ≡ false
 unlisted k [] apart = refl
 unlisted k (n ∷ ns) apart =
@@ -139,7 +139,7 @@ still_free m k p (e ∷ es) apart free =
     let parts = or_parts (nat_eq k e.0) (list_any (nat_eq k) (keys es)) apart in
     (map.get-insert nat_cmp_total m k p e.0 ∙ ap (λ b. cond b (Some p) (map.get m e.0)) (tied_number e.0 k ∙ turned_number k e.0 parts.0) ∙ free.0, still_free m k p es parts.1 free.1)
 
--- those that are put where none stands add their areas
+-- parcels at new numbers add their areas
 pub entries_add : (m : Parcels) (es : List (ℕ × ParcelRecord)) → are_distinct nat_eq (keys es) ≡ true → AllByRecursion (λ e. map.get m e.0 ≡ None) es → area (with_entries m es) ≡ area_in es + area m
 entries_add m [] once free = nothing_more (area m)
 entries_add m (e ∷ es) once free =
@@ -148,7 +148,7 @@ entries_add m (e ∷ es) once free =
     later (doubled_area e.1.outline) (area_in es) (area m) (area (with_entries more es)) (area more)
     (entries_add more es parts.1 (still_free m e.0 e.1 es (not-true (list_any (nat_eq e.0) (keys es)) parts.0) free.1)) (insert_adds m e.0 e.1 free.0)
 
--- at a number that is not put there is what there was
+-- a number that is not written is unchanged
 pub get-others : (m : Parcels) (es : List (ℕ × ParcelRecord)) (n : ℕ) → lists_number (keys es) n ≡ false → map.get (with_entries m es) n ≡ map.get m n
 get-others m [] n apart = refl
 get-others m (e ∷ es) n apart =
@@ -157,7 +157,7 @@ get-others m (e ∷ es) n apart =
     ∙ map.get-insert nat_cmp_total m e.0 e.1 n
     ∙ ap (λ b. cond b (Some e.1) (map.get m n)) (tied_number n e.0 ∙ turned_number e.0 n parts.0)
 
--- each that is put stands
+-- each written parcel exists
 pub entries_stand : (m : Parcels) (es : List (ℕ × ParcelRecord)) → are_distinct nat_eq (keys es) ≡ true → AllByRecursion (λ e. map.get (with_entries m es) e.0 ≡ Some e.1) es
 entries_stand m [] once = tt
 entries_stand m (e ∷ es) once =
@@ -165,9 +165,9 @@ entries_stand m (e ∷ es) once =
     let more = map.insert m e.0 e.1 in
     (get-others more es e.0 (unlisted e.0 (keys es) (not-true (list_any (nat_eq e.0) (keys es)) parts.0)) ∙ here m e.0 e.1, entries_stand more es parts.1)
 
--- ---- some parcels in the place of others
+-- ---- parcels that replace others
 
--- numbers that are distinct together are distinct in either part
+-- if a concatenation is distinct, so is each part
 pub once_before : (ks ns : List ℕ) → are_distinct nat_eq (ks ++ ns) ≡ true → are_distinct nat_eq ks ≡ true
 once_before [] ns once = refl
 once_before (k ∷ ks) ns once =
@@ -184,7 +184,7 @@ pub once_after : (ks ns : List ℕ) → are_distinct nat_eq (ks ++ ns) ≡ true 
 once_after [] ns once = once
 once_after (k ∷ ks) ns once = once_after ks ns (and_parts (not (list_any (nat_eq k) (ks ++ ns))) (are_distinct nat_eq (ks ++ ns)) once).1
 
--- what is put and what ends: no number twice, what is put under new numbers, and what ends stands
+-- a replacement: no number occurs twice, written parcels have new numbers, and parcels that end exist
 pub record IsReplacement (m : Parcels) (next : ℕ) (new : List (ℕ × ParcelRecord)) (ended : List ℕ) : Type 0 where
   pub once : are_distinct nat_eq (keys new ++ ended) ≡ true
   pub above : AllByRecursion (λ e. next ≤ e.0) new
@@ -192,7 +192,7 @@ pub record IsReplacement (m : Parcels) (next : ℕ) (new : List (ℕ × ParcelRe
   pub stood : (n : ℕ) → lists_number ended n ≡ true → has m n ≡ true
 
 module _ (m : Parcels) (next : ℕ) (new : List (ℕ × ParcelRecord)) (ended : List ℕ) (h : IsReplacement m next new ended) where
-  -- nothing stands under a new number
+  -- no parcel has a new number
   absent : (k : ℕ) → next ≤ k → map.get m k ≡ None
   absent k above = found (map.get m k) refl
     where
@@ -211,7 +211,7 @@ module _ (m : Parcels) (next : ℕ) (new : List (ℕ × ParcelRecord)) (ended : 
   all_free [] above = tt
   all_free (e ∷ es) above = (free_left e.0 above.0, all_free es above.1)
 
-  -- a number in use is not a new one
+  -- a used number is not a new one
   not_new : (n : ℕ) → n < next → (es : List (ℕ × ParcelRecord)) → AllByRecursion (λ e. next ≤ e.0) es → lists_number (keys es) n ≡ false
   not_new n less [] above = refl
   not_new n less (e ∷ es) above = ap (λ b. b || lists_number (keys es) n) (other e.0 above.0) ∙ not_new n less es above.1
@@ -219,7 +219,7 @@ module _ (m : Parcels) (next : ℕ) (new : List (ℕ × ParcelRecord)) (ended : 
       other : (k : ℕ) → next ≤ k → nat_eq k n ≡ false
       other k above = grind (arith, nat_tests)
 
-  -- what is put adds its area, and what ends takes its own
+  -- written parcels add their areas, and parcels that end subtract theirs
   pub area_changes : area (updated m new ended) + doubled_areas (outlines_in m ended) ≡ area m + area_in new
   area_changes =
       balance (area (updated m new ended)) (area m) (area_in new) (doubled_areas (outlines_in m ended)) (area (without m ended))

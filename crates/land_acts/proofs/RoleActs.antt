@@ -1,4 +1,4 @@
--- Granting and revoking keep a register sound.
+-- The acts `grant` and `revoke` keep a register sound.
 use Rattle.std.proofs.Common.{◌≡◌, ℕ, true, false, cond, ◌&&◌, not, Some, None, refl, sym, ap, ◌∙◌, subst}
 use Rattle.std.specs.Prelude.{nat_eq}
 use Rattle.std.specs.Ordering.{eq_by_cmp}
@@ -71,7 +71,7 @@ beside_from r n h =
     some_passes grants_total exact_grants (λ g u. is_role g.role StateAdministrator && not (nat_eq g.party n)) r.roles
     (sym (list_any-map (λ (g : Grant). is_role g.role StateAdministrator && not (nat_eq g.party n)) (λ e. e.0) (map.entries r.roles)) ∙ h)
 
--- another grant stays
+-- every other grant stays
 stays_beside : (r : Register) (it g : Grant) → map.get r.roles g ≡ Some tt → (g ≡ it → ⊥) → map.get (map.remove r.roles it) g ≡ Some tt
 stays_beside r it g is other =
     map.get-remove grants_total r.roles it g
@@ -80,7 +80,7 @@ stays_beside r it g is other =
       | false ↦ λ apart. is
     ] refl
 
--- somebody administers the register without it
+-- the register still has a state administrator
 pub record IsBeside (r : Register) (it : Grant) : Type 0 where
   pub key : Grant
   pub there : map.get r.roles key ≡ Some tt

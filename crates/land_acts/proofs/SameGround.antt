@@ -1,4 +1,4 @@
--- What is the same ground: lists of outlines that match, and so have together the same area.
+-- Lists of outlines with the same ground: they match, and so have the same total area.
 use Rattle.std.proofs.Common.{◌≡◌, ◌↔◌, ◌+◌, Bool, true, false, ◌&&◌, List, [], ◌∷◌, ◌++◌, refl, sym, ap, ◌∙◌, arith, IsTrue, sum_by}
 use Rattle.std.specs.List.{AllByRecursion, list_all}
 use Rattle.std.proofs.lemmas.Int.{ints}
@@ -13,7 +13,7 @@ use Rattle.land_shape.specs.Matching.{IsCounterclockwise, Match, do_match, runs_
 use Rattle.land_shape.specs.Outline.{doubled_area}
 use Rattle.land_shape.specs.Place.{Place}
 
--- rings that pass the test run counterclockwise
+-- rings that pass the check run counterclockwise
 all_left : (rings : List (List Place)) → list_all runs_counterclockwise rings ≡ true → AllByRecursion IsCounterclockwise rings
 all_left [] h = tt
 all_left (ring ∷ rings) h =
@@ -34,17 +34,17 @@ same_area old new same =
     ∙ matching_law old new (all_left old left.0) (all_left new left.1) ((test_law old new).0 parts.1)
     ∙ sym (area_sums new)
 
--- the same ground matches
+-- lists with the same ground match
 pub same_match : (old new : List (List Place)) → are_same_ground old new ≡ true → Match old new
 same_match old new same = (test_law old new).0 (and_parts (list_all runs_counterclockwise (old ++ new)) (do_match old new) same).1
 
--- two tests of one fact are one
+-- two decisions of one fact are equal
 one_test : {P : Type 0} (b t : Bool) → (IsTrue b ↔ P) → (IsTrue t ↔ P) → b ≡ t
 one_test true t h k = sym (k.1 (h.0 refl))
 one_test false true h k = h.1 (k.0 refl)
 one_test false false h k = refl
 
--- outlines that run counterclockwise have the same ground just where they match
+-- outlines that run counterclockwise have the same ground exactly if they match
 pub told_by_matching : (b : Bool) (old new : List (List Place)) → list_all runs_counterclockwise old ≡ true → list_all runs_counterclockwise new ≡ true
     → (IsTrue b ↔ Match old new) → b ≡ are_same_ground old new
 told_by_matching b old new h k tells =

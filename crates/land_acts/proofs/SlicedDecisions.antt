@@ -1,4 +1,4 @@
--- A decision has the same outcome over a register and over its slice.
+-- A decision has the same outcome on a register and on its slice.
 use Rattle.std.proofs.Common.{◌≡◌, ℕ, Bool, true, false, not, cond, Option, Some, None, [], ◌∷◌, refl, sym, ap, ◌∙◌, subst}
 use Rattle.std.specs.Prelude.{ℤ, Result, is_none}
 use Rattle.std.specs.Option.{option_map_or}
@@ -42,7 +42,7 @@ use Rattle.land_core.specs.declared.role.Role.TheVariants.{Bank}
 mutation_same : (r : Register) (caller : Caller) (a : Act) (n : ℕ) → ((m : MutationRecord) → looks_at_mutation caller a n m ≡ true) → map.get (slice_of r caller a).mutations n ≡ map.get r.mutations n
 mutation_same r caller a n looks = get-only nat_cmp_total nat_cmp-IsAntisymmetric (λ n m. looks_at_mutation caller a n m) r.mutations n looks
 
--- ---- what a content asks for, where the mutation stands
+-- ---- the content, if the mutation exists
 
 module _ (r : Register) (caller : Caller) (it : Decision) (m : MutationRecord) (there : map.get r.mutations it.mutation ≡ Some m) where
   abbrev a : Act
@@ -127,7 +127,7 @@ module _ (r : Register) (caller : Caller) (it : Decision) (m : MutationRecord) (
 
 -- ---- decisions
 
--- the outcome of an approval and of a refusal, by the mutation that stands at the number
+-- the outcome of an approval and of a refusal, from the mutation at the number
 abbrev approved_by : Register → ℕ → Option ℤ → Option MutationRecord → Result Planned Refusal
 approved_by r n stamp o =
     refused_else

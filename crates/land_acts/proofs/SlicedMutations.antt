@@ -1,4 +1,4 @@
--- What planning reads of mutations is the same over a register and over its slice.
+-- Planning reads the same of mutations on a register and on its slice.
 use Rattle.std.proofs.Common.{◌≡◌, ℕ, Bool, true, false, ◌||◌, ◌&&◌, not, cond, List, [], ◌∷◌, Option, Some, None, refl, sym, ap, ◌∙◌, subst}
 use Rattle.std.specs.Prelude.{filter, nat_eq}
 use Rattle.std.specs.List.{find, list_any}
@@ -19,7 +19,7 @@ use Rattle.land_core.specs.declared.caller.Caller.{Caller}
 use Rattle.land_core.specs.declared.mutation.MutationRecord.{MutationRecord}
 use Rattle.land_core.specs.declared.register.Register.{Register}
 
--- what is found among what passes
+-- the first item that satisfies a condition, in a filtered list
 find_kept : {X : Type 0} (p : X → Bool) (xs : List X) → find p (filter p xs) ≡ find p xs
 find_kept p [] = refl
 find_kept {X} p (x ∷ xs) =
@@ -28,7 +28,7 @@ find_kept {X} p (x ∷ xs) =
       | false ↦ λ fails. find_kept p xs
     ] refl
 
--- what is found is kept, so whatever it passes is passed by something that is kept
+-- a found mutation is in the slice, so a condition that it satisfies is satisfied in the slice
 found_among_kept : {X : Type 0} (p q : X → Bool) (xs : List X) (x : X) → find p xs ≡ Some x → q x ≡ true → list_any q (filter p xs) ≡ true
 found_among_kept {X} p q [] x e h = absurd (none_some e)
   where
@@ -52,7 +52,7 @@ module _ (r : Register) (caller : Caller) (it : Lodging) where
       ap (find (λ e. is_lodged_as caller.party it.reference e.1)) (entries-only nat_cmp_total nat_cmp-IsAntisymmetric (λ n m. is_lodged_as caller.party it.reference m) r.mutations)
       ∙ find_kept (λ e. is_lodged_as caller.party it.reference e.1) (map.entries r.mutations)
 
-  -- the source of the mutation that is found is kept
+  -- the source of a found mutation is in the slice
   looked_at : (e : ℕ × MutationRecord) → lodged_under r caller.party it.reference ≡ Some e → looks_at_source r caller (act.Lodge it) e.1.source ≡ true
   looked_at e is =
       ap (list_any (λ f. nat_eq f.1.source e.1.source)) (entries-only nat_cmp_total nat_cmp-IsAntisymmetric (λ n m. is_lodged_as caller.party it.reference m) r.mutations)

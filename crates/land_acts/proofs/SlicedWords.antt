@@ -1,4 +1,4 @@
--- What planning reads of a slice is what it reads of the register.
+-- Planning reads the same on a slice as on its register.
 use Rattle.std.proofs.Common.{◌≡◌, ℕ, Bool, true, false, length, ◌||◌, ◌&&◌, not, Some, List, [], ◌∷◌, refl, sym, ap, ◌∙◌, subst}
 use Rattle.std.specs.Prelude.{is_some, nat_eq, filter}
 use Rattle.std.specs.Option.{option_map_or}
@@ -42,7 +42,7 @@ administrator_is Notary h = absurd (false≢true h)
 administrator_is Bank h = absurd (false≢true h)
 administrator_is CertifiedSurveyor h = absurd (false≢true h)
 
--- a regrouping names its group and its members
+-- a regrouping refers to its group and its members
 pub names_group : (r : Register) (it : Regroup) → names_party r (act.Regroup it) it.group ≡ true
 names_group r it = ap (λ b. b || lists_party it.members it.group) (nat_eq_equiv.refl it.group)
 
@@ -92,7 +92,7 @@ module _ (r : Register) (caller : Caller) (a : Act) where
 
 -- ---- mandates
 
--- a mandate is itself
+-- a mandate equals itself
 pub same_mandate : (it : Mandate) → is_mandate it it ≡ true
 same_mandate it = ap (λ b. b && nat_eq it.agent it.agent) (nat_eq_equiv.refl it.principal) ∙ nat_eq_equiv.refl it.agent
 

@@ -1,4 +1,4 @@
--- What a register says of the entries of a unit it says of the list of them, and copies of them in another unit say the same.
+-- A property of the entries of a unit is a property of their list, and copies in another unit have it, too.
 use Rattle.std.proofs.Common.{◌≡◌, ℕ, ◌+◌, ◌<◌, ◌≤◌, Bool, true, false, cond, ◌&&◌, ◌||◌, Some, None, List, [], ◌∷◌, ◌++◌, length, refl, sym, ap, ◌∙◌, arith}
 use Rattle.std.specs.Prelude.{filter, nat_eq, map as map_list}
 use Rattle.std.specs.List.{filter_map, cons_option, list_any, AllByRecursion}
@@ -27,7 +27,8 @@ use Rattle.land_fraction.specs.Ratio.{Ratio}
 abbrev pub listed_in : (unit : ℕ) → List (ℕ × RrrRecord) → List RrrRecord
 listed_in unit es = map_list (λ e. e.1) (filter (λ e. nat_eq e.1.unit unit) es)
 
--- the shares of a type among entries, whether those of each type make a whole, and whether one is a right of a type
+-- the shares of a type among entries, whether those of each type sum to one, and whether an entry is a right
+-- of a type
 abbrev pub shares_among : RightType → List RrrRecord → List Ratio
 shares_among type es = filter_map (λ e. share_of type e.class) es
 
@@ -57,7 +58,7 @@ right_listed unit type (e ∷ es) =
       | false ↦ rest
     ]
 
--- ---- what a register says of a unit
+-- ---- properties of a unit in a register
 
 three_types : (a b c x y z : List Ratio) → a ≡ x → b ≡ y → c ≡ z → (are_whole_or_none a && are_whole_or_none b && are_whole_or_none c) ≡ (are_whole_or_none x && are_whole_or_none y && are_whole_or_none z)
 three_types a b c x y z first second third =
@@ -107,13 +108,13 @@ module _ (unit : ℕ) where
       let others = filter (λ (x : ℕ × RrrRecord). nat_eq x.1.unit other) (numbered (first + 1) (map_list (in_unit unit) es)) in
       ap (λ b. map_list (λ (x : ℕ × RrrRecord). x.1) (cond b ((first, in_unit unit e) ∷ others) others)) apart ∙ none_copied other (first + 1) apart es
 
--- what is listed of two lists
+-- a property of two lists
 pub listed-append : (unit : ℕ) (xs ys : List (ℕ × RrrRecord)) → listed_in unit (xs ++ ys) ≡ listed_in unit xs ++ listed_in unit ys
 listed-append unit xs ys =
     ap (map_list (λ (e : ℕ × RrrRecord). e.1)) (filter-append (λ (e : ℕ × RrrRecord). nat_eq e.1.unit unit) xs ys)
     ∙ map-append (λ (e : ℕ × RrrRecord). e.1) (filter (λ (e : ℕ × RrrRecord). nat_eq e.1.unit unit) xs) (filter (λ (e : ℕ × RrrRecord). nat_eq e.1.unit unit) ys)
 
--- nothing is listed where nothing is in the unit
+-- a unit without entries has an empty list
 pub none_listed : (unit : ℕ) (es : List (ℕ × RrrRecord)) → list_any (λ e. nat_eq e.1.unit unit) es ≡ false → listed_in unit es ≡ []
 none_listed unit [] none = refl
 none_listed unit (e ∷ es) none =
@@ -123,7 +124,7 @@ none_listed unit (e ∷ es) none =
 
 -- ---- copies clash no more than the entries do
 
--- what two entries of one unit are to each other
+-- the relation of two entries of one unit
 abbrev do_contents_clash : RrrRecord → RrrRecord → Bool
 do_contents_clash e f = nat_eq e.party f.party && are_of_one_type (type_of e.class) (type_of f.class) || are_of_one_rank (rank_of e.class) (rank_of f.class)
 
@@ -172,7 +173,7 @@ other_apart unit e apart first (f ∷ fs) =
     ap (λ b. b && do_contents_clash e (in_unit unit f) || list_any (λ (x : ℕ × RrrRecord). do_clash e x.1) (numbered (first + 1) (map_list (in_unit unit) fs))) apart
     ∙ other_apart unit e apart (first + 1) fs
 
--- two lists have no pair where neither has one and no item of one with an item of the other is one
+-- a concatenation has no clashing pair if neither list has one, and no pair across them clashes
 pub no_pair-append : {V : Type 0} (test : V → V → Bool) (xs ys : List (ℕ × V)) → some_pair test xs ≡ false → some_pair test ys ≡ false → AllByRecursion (λ x. list_any (λ y. test x.1 y.1) ys ≡ false) xs
     → some_pair test (xs ++ ys) ≡ false
 no_pair-append test [] ys left right across = right
@@ -181,7 +182,7 @@ no_pair-append {V} test (x ∷ xs) ys left right across =
     ap (λ b. b || some_pair test (xs ++ ys)) (list_any-append (λ (y : ℕ × V). test x.1 y.1) xs ys ∙ ap (λ b. b || list_any (λ (y : ℕ × V). test x.1 y.1) ys) parts.0 ∙ across.0)
     ∙ no_pair-append test xs ys parts.1 right across.1
 
--- no copy passes a test that none passes under a number of theirs
+-- no copy satisfies a condition that none satisfies under any of their numbers
 pub none_made : {S : RrrRecord → Type 0} (unit : ℕ) (p : ℕ → RrrRecord → Bool) (first last : ℕ) → ((n : ℕ) (e : RrrRecord) → S e → first ≤ n → n < last → p n (in_unit unit e) ≡ false)
     → (es : List RrrRecord) → AllByRecursion S es → first + length es ≤ last → list_any (λ (e : ℕ × RrrRecord). p e.0 e.1) (numbered first (map_list (in_unit unit) es)) ≡ false
 none_made unit p first last h [] all room = refl
@@ -189,12 +190,12 @@ none_made unit p first last h (e ∷ es) all room =
     ap (λ b. b || list_any (λ (x : ℕ × RrrRecord). p x.0 x.1) (numbered (first + 1) (map_list (in_unit unit) es))) (h first e all.0 (omega arith) (omega (arith, room)))
     ∙ none_made unit p (first + 1) last (λ n x is low high. h n x is (omega (arith, low)) high) es all.1 (omega (arith, room))
 
--- an entry that stands in a register
+-- an entry of a register exists
 pub record Stood (r : Register) (e : RrrRecord) : Type 0 where
   pub number : ℕ
   pub there : map.get r.rrrs number ≡ Some e
 
--- the entries of a unit stand
+-- the entries of a unit exist
 pub all_stood : (r : Register) (unit : ℕ) → AllByRecursion (Stood r) (entries_of r unit)
 all_stood r unit = listed (map.entries r.rrrs) (each_there nat_cmp_total nat_cmp-IsAntisymmetric r.rrrs)
   where

@@ -1,4 +1,5 @@
--- What holds where a subdivision is not refused: the parcels that it puts are the ground of the one that ends, and have its area.
+-- If no refusal applies to a subdivision, the parcels that it writes cover the ground of the one that ends,
+-- and have its area.
 use Rattle.std.proofs.Common.{◌≡◌, ℕ, ◌+◌, true, false, ◌||◌, not, Some, None, Option, List, [], ◌∷◌, ◌++◌, length, refl, sym, ap, ◌∙◌, arith, subst}
 use Rattle.std.specs.Prelude.{ℤ, is_none, map as map_list}
 use Rattle.std.specs.List.{cons_option}
@@ -23,7 +24,7 @@ use Rattle.land_shape.specs.Matching.{Match}
 use Rattle.land_shape.specs.Outline.{doubled_area}
 use Rattle.land_shape.specs.Place.{Place}
 
--- what holds where a subdivision is not refused
+-- the conditions if no refusal applies to a subdivision
 pub record IsUnrefusedSubdivision (r : Register) (it : Subdivision) : Type 0 where
   pub unit : has r.units it.unit ≡ true
   pub parcel : has_parcel_in r it.unit it.parcel ≡ true
@@ -43,7 +44,7 @@ unrefused_subdivision r it stamp none =
     let room = or_parts (lacks_numbers r (subdivision_count r it)) (would_have_many_parcels r it) number in
     record { unit = not-false _ unit; parcel = not-false _ parcel; room = room.0; few = room.1; ground = not-false _ ground }
 
--- the parcels that are put have the outlines of the parts
+-- the written parcels have the outlines of the parts
 pub outlines_made : (origin : Origin) (first : ℕ) (parts : List Part) → map_list (λ e. e.1.outline) (parcels_made origin first parts) ≡ outlines_of parts
 outlines_made origin first [] = refl
 outlines_made origin first (part ∷ parts) = by_unit (λ n. outlines_made origin n parts) part.unit
@@ -53,7 +54,7 @@ outlines_made origin first (part ∷ parts) = by_unit (λ n. outlines_made origi
     by_unit rest None = ap (λ it. part.outline ∷ it) (rest (first + 1))
     by_unit rest (Some name) = ap (λ it. part.outline ∷ it) (rest (first + (2 + length origin.entries)))
 
--- where a subdivision is not refused, the parcels that it puts are the ground of the one that ends, and have together its area
+-- if no refusal applies, the written parcels cover the ground of the one that ends, and have its total area
 module _ (r : Register) (source : ℕ) (it : Subdivision) (stamp : Option ℤ) (none : first_that_holds (content_refusals r (content.Subdivision it) stamp) ≡ None)
     (p : ParcelRecord) (is : map.get r.parcels it.parcel ≡ Some p) where
   put : map_list (λ e. e.1.outline) (subdivision_change r source it).put.parcels ≡ outlines_of (all_parts it)

@@ -1,4 +1,4 @@
--- A subdivision puts and ends no key twice.
+-- A subdivision writes and ends no key twice.
 use Rattle.std.proofs.Common.{◌≡◌, ℕ, ◌+◌, ◌<◌, ◌≤◌, true, false, ◌&&◌, ◌||◌, not, Some, None, Option, List, [], ◌∷◌, ◌++◌, length, refl, sym, ap, ◌∙◌, subst, arith}
 use Rattle.std.specs.Prelude.{nat_eq, map as map_list}
 use Rattle.std.specs.List.{list_any, AllByRecursion}
@@ -20,9 +20,9 @@ use Rattle.land_core.specs.declared.soundness.Unsound.TheVariants.{Reference}
 use Rattle.land_core.specs.declared.subdivision.Part.{Part}
 use Rattle.land_core.specs.declared.subdivision.Subdivision.{Subdivision}
 
--- ---- numbers that rise
+-- ---- ascending numbers
 
--- numbers from one on, each above the one before it
+-- numbers from a bound, each above the one before it
 abbrev Rise : (least : ℕ) → List ℕ → Type 0
 Rise least [] = Unit
 Rise least (n ∷ ns) = (least ≤ n) × Rise (n + 1) ns
@@ -38,7 +38,7 @@ not_among k least less (n ∷ ns) rise =
     let apart : nat_eq k n ≡ false = grind (arith, nat_tests) in
     ap (λ b. b || list_any (nat_eq k) ns) apart ∙ not_among k (n + 1) (omega (arith, less, above)) ns rise.1
 
--- such numbers, and others below them that are distinct, are distinct together
+-- such numbers, and distinct numbers below them, are distinct together
 rise_once : (least : ℕ) (ns others : List ℕ) → Rise least ns → AllByRecursion (λ n. n < least) others → are_distinct nat_eq others ≡ true → are_distinct nat_eq (ns ++ others) ≡ true
 rise_once least [] others rise below once = once
 rise_once least (n ∷ ns) others rise below once =
@@ -60,7 +60,7 @@ rise_once least (n ∷ ns) others rise below once =
     still low high le [] h = tt
     still low high le (k ∷ ks) h = (let less = h.0 in omega (arith, le, less), still low high le ks h.1)
 
--- ---- the numbers of what is made
+-- ---- the numbers of the new objects
 
 abbrev keys : {V : Type 0} → List (ℕ × V) → List ℕ
 keys es = map_list (λ e. e.0) es
@@ -108,18 +108,18 @@ module _ (origin : Origin) where
           subst (Rise first) (sym (map-append (λ e. e.0) (numbered (first + 2) copies) others))
           (rise_from first (first + 2) (omega arith) (keys (numbered (first + 2) copies) ++ keys others) risen)
 
--- numbers that rise from one on are none below it
+-- ascending numbers from a bound are not below it
 above_least : {V : Type 0} (least : ℕ) (es : List (ℕ × V)) → Rise least (keys es) → AllByRecursion (λ e. least ≤ e.0) es
 above_least least [] rise = tt
 above_least least (e ∷ es) rise = (rise.0, above_least least es (rise_from least (e.0 + 1) (let above = rise.0 in omega (arith, above)) (keys es) rise.1))
 
--- the new parcels have numbers from the next one on
+-- the new parcels have numbers from the next one
 pub parcels_above : (r : Register) (source : ℕ) (it : Subdivision) → AllByRecursion (λ e. r.next ≤ e.0) (subdivision_change r source it).put.parcels
 parcels_above r source it =
     let origin = origin_of r source it in
     above_least r.next (parcels_made origin r.next (all_parts it)) (parcels_rise origin r.next (all_parts it))
 
--- a subdivision of a parcel that stands puts and ends no key twice
+-- a subdivision of an existing parcel writes and ends no key twice
 pub subdivision_names_once : (r : Register) (source : ℕ) (it : Subdivision) → IsSound r → has_parcel_in r it.unit it.parcel ≡ true → NamesKeysOnce (subdivision_change r source it)
 subdivision_names_once r source it sound parcel = record {
   parties = refl;

@@ -1,4 +1,5 @@
--- A parcel is put into a unit that has room for it, where another one of the unit ends or none does: the register stays sound.
+-- A parcel is added to a unit that has space for it, because another one of the unit ends or because it has
+-- fewer than 256; the register stays sound.
 use Rattle.std.proofs.Common.{◌≡◌, ℕ, ◌+◌, ◌<◌, ◌≤◌, Bool, true, false, cond, ◌&&◌, ◌||◌, not, Some, List, [], ◌∷◌, ◌++◌, length, length-append, refl, sym, ap, ◌∙◌, subst, arith}
 use Rattle.std.specs.Prelude.{filter, nat_eq, nat_lt}
 use Rattle.std.specs.Ordering.{nat_cmp, eq_by_cmp}
@@ -27,21 +28,21 @@ use Rattle.land_core.specs.declared.parcel.ParcelRecord.{ParcelRecord}
 use Rattle.land_core.specs.declared.register.Register.{Register}
 use Rattle.land_core.specs.declared.soundness.Unsound.TheVariants.{Reference, Shares, Group, Bare, Crowded, Twice, Rank, Administrator, Reused, Memory}
 
--- how many parcels of a unit are in a map
+-- the number of parcels of a unit in a map
 abbrev pub parcels_in : FinMap nat_cmp ParcelRecord → (unit : ℕ) → ℕ
 parcels_in parcels unit = count_where (λ n p. nat_eq p.unit unit) parcels
 
--- what is left of a register's parcels: those of all units but one, and of that one no more than there were
+-- the remaining parcels of a register: those of all units but one, and of that one no more than before
 pub record AreLeft (r : Register) (unit : ℕ) (left : FinMap nat_cmp ParcelRecord) : Type 0 where
   pub before : (n : ℕ) (p : ParcelRecord) → map.get left n ≡ Some p → map.get r.parcels n ≡ Some p
   pub stay : (n : ℕ) (p : ParcelRecord) → map.get r.parcels n ≡ Some p → nat_eq p.unit unit ≡ false → map.get left n ≡ Some p
   pub fewer : (n : ℕ) → parcels_in left n ≤ parcel_count r n
 
--- all of them are left where none ends
+-- all parcels remain if none ends
 pub all_left : (r : Register) (unit : ℕ) → AreLeft r unit r.parcels
 all_left r unit = record { before = λ n p is. is; stay = λ n p is other. is; fewer = λ n. omega arith }
 
--- a register whose parcels are those that are left and one more, under the next number
+-- a register with the remaining parcels and one more, under the next number
 abbrev pub parcelled : Register → FinMap nat_cmp ParcelRecord → ParcelRecord → Register
 parcelled r left parcel = record r { parcels = map.insert left r.next parcel; next = r.next + 1 }
 
@@ -64,7 +65,7 @@ module _ (r : Register) (sound : IsSound r) (left : FinMap nat_cmp ParcelRecord)
       ∙ ap length (filter-append (λ (e : ℕ × ParcelRecord). nat_eq e.1.unit unit) (map.entries left) ((r.next, parcel) ∷ []))
       ∙ length-append (filter (λ (e : ℕ × ParcelRecord). nat_eq e.1.unit unit) (map.entries left)) (filter (λ (e : ℕ × ParcelRecord). nat_eq e.1.unit unit) ((r.next, parcel) ∷ []))
 
-  -- its unit has one parcel more than were left
+  -- its unit has one parcel more than remained
   pub one_more : parcel_count (parcelled r left parcel) parcel.unit ≡ parcels_in left parcel.unit + 1
   one_more = counted parcel.unit ∙ ap (λ b. parcels_in left parcel.unit + length {A = ℕ × ParcelRecord} (cond b ((r.next, parcel) ∷ []) [])) (nat_eq_equiv.refl parcel.unit)
 
@@ -142,7 +143,7 @@ module _ (r : Register) (sound : IsSound r) (left : FinMap nat_cmp ParcelRecord)
 
 -- ---- a parcel of the unit ends
 
--- what passes a test among what another test keeps passes both
+-- an item of the filtered list that satisfies a condition satisfies both
 filter-filter : {X : Type 0} (p q both : X → Bool) → ((x : X) → both x ≡ (p x && q x)) → (xs : List X) → filter p (filter q xs) ≡ filter both xs
 filter-filter p q both is [] = refl
 filter-filter {X} p q both is (x ∷ xs) =
@@ -157,7 +158,7 @@ filter-filter {X} p q both is (x ∷ xs) =
     ] (is x)
 
 module _ (r : Register) (unit ended : ℕ) where
-  -- those that are left are those beside the one that ends
+  -- the remaining parcels are all except the one that ends
   pub left_beside : parcels_in (map.remove r.parcels ended) unit ≡ parcels_beside r unit (ended ∷ [])
   left_beside =
       ap (λ (es : List (ℕ × ParcelRecord)). length (filter (λ e. nat_eq e.1.unit unit) es)) (entries_removed r.parcels ended)

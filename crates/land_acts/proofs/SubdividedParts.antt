@@ -1,4 +1,5 @@
--- What comes of the parts of a subdivision: units and copies do not tell the source, and the next number counts all that is made.
+-- The objects of the parts of a subdivision: units and copies do not depend on the source, and the next
+-- number counts all new objects.
 use Rattle.std.proofs.Common.{◌≡◌, ℕ, ◌+◌, List, [], ◌∷◌, Option, Some, None, refl, arith}
 use Rattle.land_acts.specs.Mutations.Subdividing.{copies_made, count_for, entries_made, next_after, numbers_for, origin_of, unit_made, units_made}
 use Rattle.land_core.specs.declared.register.Register.{Register}
@@ -17,7 +18,7 @@ copies_of_part_stay : (r : Register) (source : ℕ) (it : Subdivision) (first : 
 copies_of_part_stay r source it first None = refl
 copies_of_part_stay r source it first (Some name) = refl
 
--- the new units do not tell the source
+-- the new units do not depend on the source
 pub units_stay : (r : Register) (source : ℕ) (it : Subdivision) (first : ℕ) (parts : List Part) → units_made (origin_of r source it) first parts ≡ units_made (origin_of r 0 it) first parts
 units_stay r source it first [] = refl
 units_stay r source it first (part ∷ parts) =
@@ -26,7 +27,7 @@ units_stay r source it first (part ∷ parts) =
     let there = units_stay r source it (first + numbers_for (origin_of r 0 it) part.unit) parts in
     cc
 
--- nor do the copies of the entries
+-- neither do the copies of the entries
 pub copies_stay : (r : Register) (source : ℕ) (it : Subdivision) (first : ℕ) (parts : List Part) → copies_made (origin_of r source it) first parts ≡ copies_made (origin_of r 0 it) first parts
 copies_stay r source it first [] = refl
 copies_stay r source it first (part ∷ parts) =
@@ -35,7 +36,7 @@ copies_stay r source it first (part ∷ parts) =
     let there = copies_stay r source it (first + numbers_for (origin_of r 0 it) part.unit) parts in
     cc
 
--- the next number counts all objects that are made
+-- the next number counts all new objects
 pub next_counts_parts : (r : Register) (source : ℕ) (it : Subdivision) (first : ℕ) (parts : List Part) → next_after (origin_of r source it) first parts ≡ first + count_for (origin_of r 0 it) parts
 next_counts_parts r source it first [] = omega arith
 next_counts_parts r source it first (part ∷ parts) =

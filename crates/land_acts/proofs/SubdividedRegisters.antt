@@ -1,4 +1,4 @@
--- A subdivision puts its parts one after the other, and after each of them the register is sound.
+-- A subdivision adds its parts one at a time, and after each of them the register is sound.
 use Rattle.std.proofs.Common.{◌≡◌, ℕ, ◌+◌, ◌≤◌, true, false, cond, Some, None, Option, List, [], ◌∷◌, ◌++◌, length, refl, sym, ap, ◌∙◌, subst, arith}
 use Rattle.std.specs.Prelude.{filter, is_none, is_some, nat_eq, map as map_list}
 use Rattle.std.specs.Option.{option_map_or}
@@ -24,12 +24,12 @@ use Rattle.land_core.specs.declared.unit.UnitRecord.{UnitRecord}
 
 -- ---- numbers
 
--- the next number grows with each part
+-- the next number increases with each part
 pub next_grows : (origin : Origin) (first : ℕ) (parts : List Part) → first ≤ next_after origin first parts
 next_grows origin first [] = omega arith
 next_grows origin first (part ∷ parts) = let rest = next_grows origin (first + numbers_for origin part.unit) parts in omega (arith, rest)
 
--- it is as far as the objects that are counted, which are as many whatever the source
+-- it is the first number plus the count of new objects, which does not depend on the source
 pub next_counted : (r : Register) (source : ℕ) (it : Subdivision) (first : ℕ) (parts : List Part) → next_after (origin_of r source it) first parts ≡ first + count_for (origin_of r 0 it) parts
 next_counted r source it first [] = omega arith
 next_counted r source it first (part ∷ parts) =
@@ -50,7 +50,7 @@ subdivision_grows r source it = next_grows (origin_of r source it) r.next (all_p
 
 -- ---- one part
 
--- a register with what comes of some parts, under its next numbers
+-- a register with the objects of some parts, under its next numbers
 abbrev parted : Origin → List Part → Register → Register
 parted origin parts r = record r {
   units = with_entries r.units (units_made origin r.next parts);
@@ -59,17 +59,17 @@ parted origin parts r = record r {
   next = next_after origin r.next parts;
 }
 
--- and with what comes of one part
+-- and with the objects of one part
 abbrev with_part : Origin → Part → (new_unit : Option (List ℕ)) → Register → Register
 with_part origin part None r = parcelled r r.parcels (parcel_in origin origin.unit part)
 with_part origin part (Some name) r = copied r origin.unit (record { name = name; checked = origin.checked }) (parcel_in origin r.next part)
 
--- to put two lists is to put one after the other
+-- writing a concatenation is writing one list after the other
 with_entries-append : {V : Type 0} (m : FinMap nat_cmp V) (xs ys : List (ℕ × V)) → with_entries m (xs ++ ys) ≡ with_entries (with_entries m xs) ys
 with_entries-append m [] ys = refl
 with_entries-append m (x ∷ xs) ys = with_entries-append (map.insert m x.0 x.1) xs ys
 
--- what comes of some parts comes of the first one, and then of the others
+-- the objects of some parts are those of the first one, and then of the others
 parted_first : (origin : Origin) (part : Part) (parts : List Part) (r : Register) → entries_of r origin.unit ≡ origin.entries → parted origin (part ∷ parts) r ≡ parted origin parts (with_part origin part part.unit r)
 parted_first origin part parts r entries = by_unit part.unit
   where
@@ -94,7 +94,7 @@ parted_first origin part parts r entries = by_unit part.unit
           next = r.next + (2 + length es);
         })) (sym entries)
 
--- what holds before some parts: the unit stands as it was, there is room in it, and there are numbers
+-- the invariant before some parts: the unit is unchanged, it has space, and there are numbers
 record IsReady (origin : Origin) (parts : List Part) (r : Register) : Type 0 where
   sound : IsSound r
   original : UnitRecord
@@ -105,7 +105,7 @@ record IsReady (origin : Origin) (parts : List Part) (r : Register) : Type 0 whe
   few : parcel_count r origin.unit + staying parts ≤ 256
   room : next_after origin r.next parts ≤ 1000000001
 
--- it holds before the others when it holds before the first
+-- it holds before the others if it holds before the first
 ready_next : (origin : Origin) (part : Part) (parts : List Part) (r : Register) → IsReady origin (part ∷ parts) r → IsReady origin parts (with_part origin part part.unit r)
 ready_next origin part parts r ready = by_unit part.unit ready.few ready.room
   where
@@ -158,7 +158,7 @@ parted_is_sound origin [] r ready = ready.sound
 parted_is_sound origin (part ∷ parts) r ready =
     subst IsSound (sym (parted_first origin part parts r ready.entries)) (parted_is_sound origin parts (with_part origin part part.unit r) (ready_next origin part parts r ready))
 
--- a subdivision whose parcel is in its unit, which has room for the parts, leaves a sound register sound
+-- a subdivision whose parcel is in its unit, which has space for the parts, keeps a register sound
 pub subdivided_is_sound : (r : Register) (source : ℕ) (it : Subdivision) → IsSound r → has r.sources source ≡ true → has r.units it.unit ≡ true → has_parcel_in r it.unit it.parcel ≡ true
     → lacks_numbers r (subdivision_count r it) ≡ false → would_have_many_parcels r it ≡ false → IsSound (after (subdivision_change r source it) r)
 subdivided_is_sound r source it sound from unit parcel numbers few = found (map.get r.units it.unit) refl unit (map.get r.parcels it.parcel) refl parcel

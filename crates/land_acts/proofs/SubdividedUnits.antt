@@ -1,4 +1,5 @@
--- A new unit stands under the next number, with a parcel and with copies of the entries of a unit: the register stays sound.
+-- A new unit gets the next number, with a parcel and with copies of the entries of a unit; the register stays
+-- sound.
 use Rattle.std.proofs.Common.{◌≡◌, ℕ, ◌+◌, ◌<◌, ◌≤◌, Bool, true, false, cond, ◌&&◌, ◌||◌, not, Some, None, List, [], ◌∷◌, ◌++◌, length, length-append, refl, sym, ap, ◌∙◌, append-nil, arith}
 use Rattle.std.specs.Prelude.{filter, is_some, nat_eq, nat_lt, Option, map as map_list}
 use Rattle.std.specs.List.{list_any, AllByRecursion}
@@ -40,7 +41,8 @@ copied r unit new parcel = record r {
   next = r.next + (2 + length (entries_of r unit));
 }
 
--- what the new unit has to be: it is checked as the other one is, the parcel is in it, and there are numbers for all
+-- the conditions on the new unit: it is checked exactly if the other one is, the parcel is in it, and there
+-- are numbers for all objects
 pub record IsCopy (r : Register) (unit : ℕ) (new : UnitRecord) (parcel : ParcelRecord) : Type 0 where
   pub original : UnitRecord
   pub stands : map.get r.units unit ≡ Some original
@@ -59,7 +61,7 @@ module _ (r : Register) (sound : IsSound r) (unit : ℕ) (new : UnitRecord) (par
   grows : r.next ≤ more.next
   grows = omega arith
 
-  -- ---- what stands
+  -- ---- the objects that exist
 
   rrr_entries : map.entries more.rrrs ≡ map.entries r.rrrs ++ made
   rrr_entries =
@@ -82,7 +84,7 @@ module _ (r : Register) (sound : IsSound r) (unit : ℕ) (new : UnitRecord) (par
       let less = (used_bounds r n (used_from r r.parcels (are_used r (refers r (sound Reference)).numbers).parcels n p is)).1 in
       omega (arith, less)
 
-  -- the units that stood stand as they were
+  -- the earlier units are unchanged
   pub unit_stays : (n : ℕ) (u : UnitRecord) → map.get r.units n ≡ Some u → map.get (copied r unit new parcel).units n ≡ Some u
   unit_stays n u is = there r.units r.next new n u (unit_below n u is) is
 
@@ -95,7 +97,7 @@ module _ (r : Register) (sound : IsSound r) (unit : ℕ) (new : UnitRecord) (par
   unit_here : has more.units r.next ≡ true
   unit_here = ap is_some (here r.units r.next new)
 
-  -- a unit that stands is not the new one
+  -- an existing unit is not the new one
   other_unit : (n : ℕ) → has r.units n ≡ true → nat_eq n r.next ≡ false
   other_unit n stands = found (map.get r.units n) refl stands
     where
@@ -108,7 +110,7 @@ module _ (r : Register) (sound : IsSound r) (unit : ℕ) (new : UnitRecord) (par
 
   -- ---- the entries of each unit
 
-  -- nothing that stood before is in the new unit
+  -- no earlier record belongs to the new unit
   no_old_parcel : list_any (λ e. nat_eq e.1.unit r.next) (map.entries r.parcels) ≡ false
   no_old_parcel =
       none_passes nat_cmp_total nat_cmp-IsAntisymmetric (λ n p. nat_eq p.unit r.next) r.parcels
@@ -148,7 +150,7 @@ module _ (r : Register) (sound : IsSound r) (unit : ℕ) (new : UnitRecord) (par
       ∙ ap (λ b. parcel_count r n + length {A = ℕ × ParcelRecord} (cond b ((r.next + 1, parcel) ∷ []) [])) (ap (λ k. nat_eq k n) copy.in_new ∙ apart)
       ∙ omega arith
 
-  -- the new unit has the one parcel
+  -- the new unit has exactly one parcel
   one_parcel : parcel_count more r.next ≡ 1
   one_parcel =
       counted r.next
@@ -171,9 +173,9 @@ module _ (r : Register) (sound : IsSound r) (unit : ℕ) (new : UnitRecord) (par
   new_parcel : has_parcel more r.next ≡ true
   new_parcel = some_at nat_cmp_total nat_cmp-IsAntisymmetric (λ k p. nat_eq p.unit r.next) more.parcels (r.next + 1) parcel (here r.parcels (r.next + 1) parcel) (ap (λ k. nat_eq k r.next) copy.in_new ∙ nat_eq_equiv.refl r.next)
 
-  -- ---- what is said of the units
+  -- ---- properties of the units
 
-  -- what is said of the new unit's entries is said of the other one's
+  -- a property of the entries of the other unit is a property of those of the new one
   new_whole : has_whole_shares more r.next ≡ has_whole_shares r unit
   new_whole = whole_among more r.next ∙ ap are_shares_whole entries_new ∙ whole_copied r.next (entries_of r unit) ∙ sym (whole_among r unit)
 
@@ -197,7 +199,7 @@ module _ (r : Register) (sound : IsSound r) (unit : ℕ) (new : UnitRecord) (par
   new_used : (n : ℕ) → r.next ≤ n → n < more.next → is_used more n ≡ true
   new_used n low high = let above = next_above_zero r sound in grind (arith, nat_tests)
 
-  -- no copy passes a test that none passes of what stood
+  -- no copy satisfies a condition that no earlier entry satisfies
   no_copy : (p : ℕ → RrrRecord → Bool) → ((n : ℕ) (e : RrrRecord) → Stood r e → r.next + 2 ≤ n → n < more.next → p n (in_unit r.next e) ≡ false) → list_any (λ e. p e.0 e.1) made ≡ false
   no_copy p h = none_made r.next p (r.next + 2) more.next h (entries_of r unit) (all_stood r unit) (omega arith)
 

@@ -1,4 +1,4 @@
--- What subdividing reads of a slice is what it reads of the register.
+-- A subdivision has the same refusals and the same change on the slice as on the register.
 use Rattle.std.proofs.Common.{◌≡◌, ◌+◌, ℕ, Bool, true, false, cond, not, ◌&&◌, ◌||◌, Option, Some, None, List, [], ◌∷◌, length, refl, ap, ◌∙◌}
 use Rattle.std.specs.Prelude.{ℤ, filter, is_none, is_some, nat_eq, nat_lt, map as map_list}
 use Rattle.std.specs.Option.{option_map_or}
@@ -26,8 +26,8 @@ use Rattle.land_core.specs.declared.register.Register.{Register}
 use Rattle.land_core.specs.declared.rrr.RrrRecord.{RrrRecord}
 use Rattle.land_core.specs.declared.subdivision.Subdivision.{Subdivision}
 
--- a register has only some units, parcels and entries of another one, but all those of the units that are named; they agree on the
--- next number
+-- a register with only some units, parcels and entries of another one, but all those of the units to which
+-- the act refers; both agree on the next number
 pub record AgreeOnUnits (s r : Register) (named : ℕ → Bool) : Type 0 where
   pub units : (n : ℕ) → named n ≡ true → map.get s.units n ≡ map.get r.units n
   pub kept_parcels : ℕ → ParcelRecord → Bool
@@ -38,7 +38,7 @@ pub record AgreeOnUnits (s r : Register) (named : ℕ → Bool) : Type 0 where
   pub keeps_entries : (n : ℕ) (e : RrrRecord) → named e.unit ≡ true → kept_entries n e ≡ true
   pub next : s.next ≡ r.next
 
--- lines after another one are read only where that one does not hold
+-- refusals after another are read only if the condition of that one is false
 pub later_lines : (refusal : Refusal) (b : Bool) (lines others : List (Refusal × Bool)) → (b ≡ false → first_that_holds lines ≡ first_that_holds others)
     → first_that_holds ((refusal, b) ∷ lines) ≡ first_that_holds ((refusal, b) ∷ others)
 later_lines refusal true lines others same = refl
@@ -53,7 +53,7 @@ module _ (s r : Register) (named : ℕ → Bool) (agree : AgreeOnUnits s r named
   pub checked_agrees : (n : ℕ) → named n ≡ true → is_checked s n ≡ is_checked r n
   checked_agrees n names = ap (λ o. option_map_or (λ u. u.checked) o false) (agree.units n names)
 
-  -- the entries that pass a test, which only those of named units do
+  -- the entries that satisfy a condition which only those of these units do
   pub entries_passing_agree : (test : ℕ × RrrRecord → Bool) → ((e : ℕ × RrrRecord) → test e ≡ true → named e.1.unit ≡ true) → filter test (map.entries s.rrrs) ≡ filter test (map.entries r.rrrs)
   entries_passing_agree test names =
       ap (λ m. filter test (map.entries m)) agree.entries
@@ -77,14 +77,14 @@ module _ (s r : Register) (named : ℕ → Bool) (agree : AgreeOnUnits s r named
       keeps : (n : ℕ) (p : ParcelRecord) → (nat_eq p.unit unit && not (lists_number ended n)) ≡ true → agree.kept_parcels n p ≡ true
       keeps n p passes = agree.keeps_parcels n p (named_as unit p.unit names (and_parts (nat_eq p.unit unit) (not (lists_number ended n)) passes).0)
 
-  -- a test that only parcels of named units pass
+  -- a condition that only parcels of these units satisfy
   module _ (test : ParcelRecord → Bool) (names : (p : ParcelRecord) → test p ≡ true → named p.unit ≡ true) where
     pub parcel_agrees : (n : ℕ) → option_map_or test (map.get s.parcels n) false ≡ option_map_or test (map.get r.parcels n) false
     parcel_agrees n =
         ap (λ m. option_map_or test (map.get m n) false) agree.parcels
         ∙ at_kept r.parcels agree.kept_parcels test n (λ p passes. agree.keeps_parcels n p (names p passes))
 
-    -- a parcel that passes it is the same
+    -- a parcel that satisfies it is the same in both
     parcel_same : (n : ℕ) → option_map_or test (map.get r.parcels n) false ≡ true → map.get s.parcels n ≡ map.get r.parcels n
     parcel_same n passes =
         ap (λ m. map.get m n) agree.parcels
@@ -95,7 +95,7 @@ module _ (s r : Register) (named : ℕ → Bool) (agree : AgreeOnUnits s r named
         found None h = refl
         found (Some p) h = ap (λ b. cond b (Some p) None) (agree.keeps_parcels n p (names p h))
 
-    -- and so are the outlines of parcels that all pass it
+    -- and so are the outlines of parcels that all satisfy it
     pub outlines_agree : (ns : List ℕ) → list_any (λ n. not (option_map_or test (map.get r.parcels n) false)) ns ≡ false → outlines_at s ns ≡ outlines_at r ns
     outlines_agree [] none = refl
     outlines_agree (n ∷ ns) none =
@@ -136,7 +136,8 @@ module _ (s r : Register) (it : Subdivision) (named : ℕ → Bool) (agree : Agr
       ap (λ old. not (are_same_ground old (outlines_of (all_parts it))))
       (outlines_agree s r named agree (λ p. nat_eq p.unit it.unit) in_named (it.parcel ∷ []) (ap (λ b. not b || false) there))
 
-  -- where the parcel is one of another unit, its outline may be in the one and not in the other; but then it is refused before
+  -- if the parcel belongs to another unit, its outline may be in only one of the two registers; an earlier
+  -- refusal applies then
   pub subdivision_refusal_agrees : (stamp : Option ℤ) → first_that_holds (subdivision_refusals s it stamp) ≡ first_that_holds (subdivision_refusals r it stamp)
   subdivision_refusal_agrees stamp =
       ap (λ b. cond (not b) (Some NoSuchUnit) (first_that_holds ((NoSuchParcel, not (has_parcel_in s it.unit it.parcel)) ∷ of_slice))) (stands_agrees s r named agree it.unit names)

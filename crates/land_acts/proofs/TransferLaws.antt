@@ -1,4 +1,4 @@
--- The laws of transfers that are not refused.
+-- Proves the laws on transfers to which no refusal applies.
 use Rattle.std.proofs.Common.{◌≡◌, false, Some, None, sym, ◌∙◌, subst}
 use Rattle.std.specs.Prelude.{ℤ}
 use Rattle.land_acts.proofs.TransferShares.{same_some}
@@ -22,7 +22,7 @@ module _ (r : Register) (it : Transfer) (from : Held) (stamp : ℤ) (none : firs
   move : IsUnrefusedMove r it
   move = unrefused_move r it (Some stamp) none
 
-  -- what holds of the right that the transfer finds holds of this one
+  -- a condition on the right that the transfer finds is a condition on this one
   of_right : (P : Held → Type 0) → P move.from → P from
   of_right P = subst P (same_some (sym move.held ∙ held))
 

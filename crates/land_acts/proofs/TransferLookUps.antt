@@ -1,4 +1,5 @@
--- A share moves from a right to a receiver's right, and a sound register stays sound where the shares of the type stay whole.
+-- A share moves from one right to another, and the register stays sound if the shares of the type still sum
+-- to one.
 use Rattle.std.proofs.Common.{◌≡◌, ◌≢◌, ℕ, ◌+◌, ◌<◌, ◌≤◌, true, false, cond, ◌&&◌, Option, Some, None, [], ◌⊎◌, inl, inr, refl, sym, ap, ◌∙◌, subst, arith}
 use Rattle.std.specs.Prelude.{nat_eq}
 use Rattle.std.specs.Ordering.{nat_cmp, eq_by_cmp}
@@ -26,7 +27,7 @@ use Rattle.land_core.specs.declared.unit.UnitRecord.{UnitRecord}
 use Rattle.land_fraction.specs.Ratio.{Ratio}
 use Rattle.land_fraction.specs.Wholeness.{IsWhole}
 
--- ---- entries that are alike but for their share and source
+-- ---- entries that differ only in share and source
 
 record IsLike (e f : RrrRecord) : Type 0 where
   unit : e.unit ≡ f.unit
@@ -55,13 +56,13 @@ right_is it type share is = (ap type_of is, ap rank_of is)
 
 module _ (r : Register) (rrrs : FinMap nat_cmp RrrRecord) (unit receiver source : ℕ) (from : Held) (left : Option Ratio) (number : ℕ) (share : Ratio) (to : Option Held)
     (moved : IsMoved r rrrs unit receiver source from left number share to) where
-  -- the entry that stood before in the place of one that stands now
+  -- the earlier entry in the place of a current one
   record Follows (n : ℕ) (e : RrrRecord) : Type 0 where
     entry : RrrRecord
     there : map.get r.rrrs n ≡ Some entry
     like : IsLike e entry
 
-  -- a right that is new, of a party that had none of the type
+  -- a new right of a party that had none of the type
   record IsNew (n : ℕ) (e : RrrRecord) : Type 0 where
     number_is : n ≡ number
     unit_is : e.unit ≡ unit
@@ -98,7 +99,7 @@ module _ (r : Register) (rrrs : FinMap nat_cmp RrrRecord) (unit receiver source 
             like = record { unit = sym right.in_unit; party = sym (right.party ∙ h.0.by_party); type = sym (is.0 ∙ ap Some h.0.of_type); rank = sym is.1 };
           })
 
-  -- a new right goes together with what stood before
+  -- a new right is compatible with the earlier entries
   with_new : (m n : ℕ) (e f : RrrRecord) → Follows m e → IsNew n f → e.unit ≡ f.unit → GoTogether e f
   with_new m n e f old new same = record {
     rights = λ type party x y.
@@ -129,7 +130,7 @@ module _ (r : Register) (rrrs : FinMap nat_cmp RrrRecord) (unit receiver source 
     abbrev new : Register
     new = record r { rrrs = rrrs; next = next }
 
-    -- an owner of a unit is there as before, or the receiver is one
+    -- the unit has an owner as before, or the receiver is one
     owner_moved : (n : ℕ) → HasOwner r n → HasOwner new n
     owner_moved n h =
         elim (eq_by_cmp nat_cmp h.number from.number) as (λ b. eq_by_cmp nat_cmp h.number from.number ≡ b → HasOwner new n) [
@@ -162,7 +163,7 @@ module _ (r : Register) (rrrs : FinMap nat_cmp RrrRecord) (unit receiver source 
             receives (sym (ap (λ (e : RrrRecord). e.unit) same ∙ right.in_unit) ∙ h.in_unit)
             (ap Some (sym before.0.of_type) ∙ sym (right_is right.entry.class held.right_type held.share right.class).0 ∙ ap (λ (e : RrrRecord). type_of e.class) (sym same) ∙ h.owns)
 
-    -- no unit but that of a new right has more entries
+    -- only the unit of a new right has more entries
     count_moved : (n : ℕ) → rrr_count r n ≤ 256 → (to ≡ None → rrr_count new unit ≤ 256) → rrr_count new n ≤ 256
     count_moved n before few =
         let sum = moved_count r rrrs unit receiver source from left number share to moved n in
@@ -186,7 +187,8 @@ module _ (r : Register) (rrrs : FinMap nat_cmp RrrRecord) (unit receiver source 
         by_before None is (inl same) sum counted was kept = subst (λ (u : ℕ). rrr_count new u ≤ 256) same (few is)
         by_before None is (inr nothing) sum counted was kept = omega (arith, sum, counted, was, kept, nothing, before)
 
-    -- the shares of each type in a checked unit make a whole, where those of the type do in the unit of the transfer
+    -- the shares of each type in a checked unit sum to one, if those of the type do in the unit of the
+    -- transfer
     whole_moved : (n : ℕ) (u : UnitRecord) → IsSoundUnit r n u → (n ≡ unit → u.checked ≡ true → IsWhole (type_shares new unit from.right_type))
         → u.checked ≡ true → (t : RightType) → type_shares new n t ≢ [] → IsWhole (type_shares new n t)
     whole_moved n u before here checked t some =

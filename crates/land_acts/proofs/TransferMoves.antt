@@ -1,4 +1,4 @@
--- A share moves from a right to a receiver's right: what the register keeps, whatever the shares are.
+-- A share moves from one right to another: the properties of the register that do not depend on the shares.
 use Rattle.std.proofs.Common.{◌≡◌, ◌≢◌, ℕ, ◌+◌, Bool, true, false, cond, ◌&&◌, Option, Some, None, List, [], refl, sym, ap, ◌∙◌, subst, arith}
 use Rattle.std.specs.Prelude.{nat_eq}
 use Rattle.std.specs.Int.{◌∣◌}
@@ -21,18 +21,18 @@ use Rattle.land_core.specs.declared.rrr.RrrRecord.{RrrRecord}
 use Rattle.land_fraction.specs.Ratio.{Ratio}
 use Rattle.land_fraction.specs.Wholeness.{IsCommonMultiple, IsWhole}
 
--- the entry of a right with what it keeps, where that is something
+-- the entry of a right with its remaining share, if there is one
 abbrev pub right_left : (unit party : ℕ) → RightType → (source : ℕ) → Option Ratio → Option RrrRecord
 right_left unit party type source None = None
 right_left unit party type source (Some share) = Some (right_entry unit party type share source)
 
--- the receiver's right before: there was none at the number and none of the type, or there was this one
+-- the receiver's right before: either none at the number and none of the type, or this one
 abbrev pub IsBefore : Register → (unit receiver : ℕ) → RightType → (number : ℕ) → Option Held → Type 0
 IsBefore r unit receiver type number None =
     (map.get r.rrrs number ≡ None) × ((n : ℕ) (e : RrrRecord) → map.get r.rrrs n ≡ Some e → e.unit ≡ unit → e.party ≡ receiver → type_of e.class ≢ Some type)
 IsBefore r unit receiver type number (Some to) = IsHeldBy r.rrrs unit receiver type to × (to.number ≡ number)
 
--- the entries after a share has moved
+-- the entries after the transfer
 pub record IsMoved (r : Register) (rrrs : FinMap nat_cmp RrrRecord) (unit receiver source : ℕ) (from : Held) (left : Option Ratio) (number : ℕ) (share : Ratio) (to : Option Held) : Type 0 where
   pub first : IsHeldAt r.rrrs unit from
   pub differ : DifferAt r.rrrs rrrs from.number number
@@ -62,7 +62,7 @@ no_weight (Some x) = refl
 
 module _ (r : Register) (rrrs : FinMap nat_cmp RrrRecord) (unit receiver source : ℕ) (from : Held) (left : Option Ratio) (number : ℕ) (share : Ratio) (to : Option Held)
     (moved : IsMoved r rrrs unit receiver source from left number share to) where
-  -- what holds of the changed entries and of those that stay
+  -- properties of the changed entries and of the others
   pub each_entry : (P : ℕ → RrrRecord → Type 0) → ((s : Ratio) → left ≡ Some s → P from.number (right_entry unit from.party from.right_type s source))
       → P number (right_entry unit receiver from.right_type share source)
       → ((n : ℕ) (e : RrrRecord) → n ≢ from.number → n ≢ number → map.get r.rrrs n ≡ Some e → P n e)
@@ -86,7 +86,7 @@ module _ (r : Register) (rrrs : FinMap nat_cmp RrrRecord) (unit receiver source 
       at_left None at e_is = absurd (none_is_not_some e_is)
       at_left (Some s) at e_is = subst (λ (x : RrrRecord). P from.number x) (same_some e_is) (first s at)
 
-  -- the weights of all entries, where those of the changed ones are given by their shares
+  -- the weights of all entries, if those of the changed ones follow from their shares
   pub measured : (w : RrrRecord → ℕ) (value : Ratio → ℕ) → ((e : RrrRecord) (s : Ratio) → e.unit ≡ unit → e.class ≡ class.Right from.right_type s → w e ≡ value s)
       → weigh_map w rrrs + (value from.share + weight_of (λ held. value held.share) to) ≡ weigh_map w r.rrrs + (weight_of value left + value share)
   measured w value says =
@@ -124,13 +124,13 @@ module _ (r : Register) (rrrs : FinMap nat_cmp RrrRecord) (unit receiver source 
       says e s in_unit is =
           ap (weight_of value) (share_at n t e unit from.right_type s in_unit is) ∙ ap (λ c. weight_of value (cond c (Some s) None)) test ∙ weight_by value b s
 
-  -- how many entries a unit has
+  -- the number of entries of a unit
   pub moved_count : (n : ℕ)
       → weigh_map (λ e. cond (nat_eq e.unit n) 1 0) rrrs + (cond (nat_eq unit n) 1 0 + weight_of (λ (held : Held). cond (nat_eq unit n) 1 0) to)
       ≡ weigh_map (λ e. cond (nat_eq e.unit n) 1 0) r.rrrs + (weight_of (λ (s : Ratio). cond (nat_eq unit n) 1 0) left + cond (nat_eq unit n) 1 0)
   moved_count n = measured (λ e. cond (nat_eq e.unit n) 1 0) (λ s. cond (nat_eq unit n) 1 0) (λ e s in_unit is. ap (λ (u : ℕ). cond (nat_eq u n) 1 0) in_unit)
 
-  -- ---- shares that are not of the type or not in the unit stay
+  -- ---- shares of another type or in another unit are unchanged
 
   module _ (n : ℕ) (t : RightType) (other : (nat_eq unit n && is_type from.right_type t) ≡ false) where
     same_sum : (value : Ratio → ℕ) → weigh value (shares_in rrrs n t) ≡ weigh value (shares_in r.rrrs n t)

@@ -1,4 +1,5 @@
--- Common multiples of the shares of a type in a unit, and which rights a transfer meets, by what stands at each number.
+-- Common multiples of the shares of a type in a unit, and the rights of giver and receiver, from the entries
+-- at each number.
 use Rattle.std.proofs.Common.{◌≡◌, ◌≢◌, ℕ, ◌<◌, Bool, true, false, cond, ◌&&◌, Option, Some, None, List, [], ◌∷◌, refl, sym, ap, ◌∙◌, subst}
 use Rattle.std.specs.Prelude.{nat_eq}
 use Rattle.std.specs.Int.{◌∣◌}
@@ -28,7 +29,7 @@ use Rattle.land_fraction.specs.Wholeness.{IsCommonMultiple}
 pub same_some : {X : Type 0} {x y : X} → Some x ≡ Some y → x ≡ y
 same_some e = cc
 
--- ---- what holds of each item that is taken of a list
+-- ---- a property of all values that are taken from a list
 
 taken_all : {X Y : Type 0} (P : Y → Type 0) (take : X → Option Y) (xs : List X) → AllByRecursion (λ x. (y : Y) → take x ≡ Some y → P y) xs → AllByRecursion P (filter_map take xs)
 taken_all P take [] h = tt
@@ -64,7 +65,7 @@ module _ (rrrs : FinMap nat_cmp RrrRecord) (unit : ℕ) (type : RightType) where
       each [] all = tt
       each (e ∷ es) all = (λ share is. h e.0 e.1 share all.0 is, each es all.1)
 
-  -- what holds of each share holds of the one at a number
+  -- a property of each share is one of the share at a number
   pub each_share : (P : Ratio → Type 0) → AllByRecursion P shares → (n : ℕ) (e : RrrRecord) (share : Ratio) → map.get rrrs n ≡ Some e → share_in unit type e ≡ Some share → P share
   each_share P all n e share is taken =
       at_each (λ (e : ℕ × RrrRecord). (share : Ratio) → share_in unit type e.1 ≡ Some share → P share) rrrs
@@ -76,9 +77,9 @@ multiple_at rrrs unit type m h n e share is taken =
     each_share rrrs unit type (λ (share : Ratio). share.denominator ∣ m)
     (recursion_from_All (λ (share : Ratio). share.denominator ∣ m) (filter_map (λ e. share_in unit type e.1) (map.entries rrrs)) h.of_all) n e share is taken
 
--- ---- a right that a transfer meets
+-- ---- the right of giver or receiver
 
--- the entry that a right is
+-- the entry of a right
 pub record IsHeldAt (rrrs : FinMap nat_cmp RrrRecord) (unit : ℕ) (held : Held) : Type 0 where
   pub entry : RrrRecord
   pub there : map.get rrrs held.number ≡ Some entry
@@ -127,7 +128,7 @@ held_there r unit number held h =
       | Some e ↦ λ is e_held. (held_from r.rrrs unit number e held is e_held, (in_unit_from unit number e held e_held).is_class.number_is)
     ] refl h
 
--- the first right that passes is among the entries
+-- the first right that satisfies a condition is among the entries
 record FoundIn (unit : ℕ) (p : Held → Bool) (held : Held) (rrrs : FinMap nat_cmp RrrRecord) : Type 0 where
   number : ℕ
   entry : RrrRecord
@@ -148,7 +149,7 @@ first_found rrrs unit p held (e ∷ es) all h =
           ] refl here
     ] refl h
 
--- where no right passes, none of the entries is one that does
+-- if no right satisfies a condition, no entry is such a right
 none_found : (unit : ℕ) (p : Held → Bool) (es : List (ℕ × RrrRecord)) → find_in p (filter_map (λ e. held_in unit e.0 e.1) es) ≡ None
     → AllByRecursion (λ e. (held : Held) → held_in unit e.0 e.1 ≡ Some held → p held ≡ false) es
 none_found unit p [] h = tt
@@ -179,7 +180,7 @@ held_by_there r unit party type held h =
       of_type = one_type held.right_type type parts.1;
     }
 
--- where a party has no right of a type, no entry is one
+-- if a party has no right of a type, no entry is one
 pub none_held_by : (r : Register) (unit party : ℕ) (type : RightType) → held_by r unit party type ≡ None
     → (n : ℕ) (e : RrrRecord) → map.get r.rrrs n ≡ Some e → e.unit ≡ unit → e.party ≡ party → type_of e.class ≢ Some type
 none_held_by r unit party type none n e is in_unit by_party of_type =

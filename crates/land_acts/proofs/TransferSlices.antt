@@ -1,4 +1,4 @@
--- What transferring reads of a slice is what it reads of the register.
+-- A transfer has the same refusals and the same change on the slice as on the register.
 use Rattle.std.proofs.Common.{◌≡◌, ℕ, Bool, true, false, cond, Option, Some, None, List, [], ◌∷◌, ◌++◌, length, refl, sym, ap, ◌∙◌}
 use Rattle.std.specs.Prelude.{ℤ, Ok, Err, Result, filter, nat_eq}
 use Rattle.std.specs.List.{AllByRecursion, filter_map, find}
@@ -27,14 +27,14 @@ use Rattle.land_fraction.specs.Ratio.{Ratio}
 use Rattle.land_fraction.specs.declared.fault.FractionFault.{FractionFault}
 
 module _ (s r : Register) (it : Transfer) (agree : AgreeOnUnit s r it.unit) where
-  -- what is not kept is of another unit
+  -- an entry outside the slice belongs to another unit
   elsewhere : (n : ℕ) (e : RrrRecord) → agree.kept n e ≡ false → nat_eq e.unit it.unit ≡ false
   elsewhere n e lost = elim (nat_eq e.unit it.unit) as (λ b. nat_eq e.unit it.unit ≡ b → b ≡ false) [
     | true ↦ λ here. absurd (false≢true (sym lost ∙ agree.keeps n e here))
     | false ↦ λ other. refl
   ] refl
 
-  -- what is taken of the entries of the unit alone
+  -- values that are taken only from the entries of the unit
   module _ {Y : Type 0} (take : ℕ × RrrRecord → Option Y) (other : (e : ℕ × RrrRecord) → nat_eq e.1.unit it.unit ≡ false → take e ≡ None) where
     none_taken : (es : List (ℕ × RrrRecord)) → AllByRecursion (λ e. agree.kept e.0 e.1 ≡ false → take e ≡ None) es
     none_taken [] = tt
@@ -72,7 +72,7 @@ module _ (s r : Register) (it : Transfer) (agree : AgreeOnUnit s r it.unit) wher
   move_same : (source : ℕ) (from : Held) → move_change s source it from ≡ move_change r source it from
   move_same source from = rw (grows_same from, agree.next) refl
 
-  -- ---- what stands in the unit after the transfer
+  -- ---- the entries of the unit after the transfer
 
   kept_entry : (n : ℕ) (e : RrrRecord) → e.unit ≡ it.unit → agree.kept n e ≡ true
   kept_entry n e here = agree.keeps n e (ap (λ u. nat_eq u it.unit) here ∙ nat_eq_equiv.refl it.unit)
@@ -119,7 +119,7 @@ module _ (s r : Register) (it : Transfer) (agree : AgreeOnUnit s r it.unit) wher
   many_same : (from : Held) → are_too_many s it from ≡ are_too_many r it from
   many_same from = rw (count_after 0 from, grows_same from, agree.next) refl
 
-  -- a test of the right, where the tests agree
+  -- a condition on the right, if the conditions are equal
   right_same : (p q : Held → Bool) → ((from : Held) → p from ≡ q from) → has_right_where p s it ≡ has_right_where q r it
   right_same p q same = ap (λ o. option_map_or p o false) held_at_same ∙ by_case (held_at r it.unit it.right)
     where

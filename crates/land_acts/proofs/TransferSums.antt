@@ -1,4 +1,4 @@
--- Sums over the entries of a finite map, and how they change where two entries change.
+-- Sums over the entries of a finite map, and how they change if two entries change.
 use Rattle.std.proofs.Common.{◌≡◌, ◌≢◌, ℕ, ◌+◌, ◌*◌, ◌/◌, Bool, true, false, cond, not, Option, Some, None, List, [], ◌∷◌, length, refl, sym, ap, ◌∙◌, subst, arith}
 use Rattle.std.specs.Prelude.{filter}
 use Rattle.std.specs.List.{filter_map, cons_option, AllByRecursion}
@@ -17,7 +17,7 @@ use Rattle.land_core.proofs.Orders.{less_apart}
 use Rattle.land_fraction.specs.Ratio.{Ratio}
 use Rattle.land_fraction.specs.Wholeness.{parts_of}
 
--- ---- numbers apart
+-- ---- different numbers
 
 pub apart_from : (n k : ℕ) → eq_by_cmp nat_cmp n k ≡ false → n ≢ k
 apart_from n k apart same = false≢true (sym apart ∙ (tied_number n k ∙ eq-eqb n k same))
@@ -27,12 +27,12 @@ apart_to n k apart = elim (eq_by_cmp nat_cmp n k) as (λ b. eq_by_cmp nat_cmp n 
 
 -- ---- sums over lists
 
--- the weights of all items together
+-- the total weight of all items
 abbrev pub weigh : {X : Type 0} → (X → ℕ) → List X → ℕ
 weigh w [] = 0
 weigh w (x ∷ xs) = w x + weigh w xs
 
--- the weight of an item, where there is one
+-- the weight of an item if there is one
 abbrev pub weight_of : {X : Type 0} → (X → ℕ) → Option X → ℕ
 weight_of w None = 0
 weight_of w (Some x) = w x
@@ -56,7 +56,7 @@ pub length-weighed : {X : Type 0} (xs : List X) → length xs ≡ weigh (λ x. 1
 length-weighed [] = refl
 length-weighed (x ∷ xs) = let rest = length-weighed xs in omega (arith, rest)
 
--- how many of m equal parts a share has
+-- a share as a count of m equal parts
 abbrev pub part_of : ℕ → Ratio → ℕ
 part_of m share = share.numerator * (m / share.denominator)
 
@@ -90,14 +90,14 @@ split {V} w k (e ∷ es) s =
       | false ↦ λ at. omega (arith, rest)
     ] refl
 
--- what an entry adds to the sum
+-- the contribution of an entry to the sum
 pub without_one : {V : Type 0} (w : V → ℕ) (m : FinMap nat_cmp V) (k : ℕ) → weigh_map w m ≡ weigh_map w (map.remove m k) + weight_of w (map.get m k)
 without_one {V} w m k =
     split w k (map.entries m) (T_true _ (map.entries_sorted m))
     ∙ ap (λ (it : List (ℕ × V)). weigh (λ e. w e.1) it + weight_of w (find nat_cmp k (map.entries m))) (sym (entries_removed m k))
     ∙ ap (λ (o : Option V). weigh_map w (map.remove m k) + weight_of w o) (sym (map.get-entries m k))
 
--- two maps that differ at two numbers alone
+-- two maps that differ at only two numbers
 pub record DifferAt {V : Type 0} (m new : FinMap nat_cmp V) (k j : ℕ) : Type 0 where
   pub apart : k ≢ j
   pub elsewhere : (n : ℕ) → n ≢ k → n ≢ j → map.get new n ≡ map.get m n
@@ -136,7 +136,7 @@ module _ {V : Type 0} (m new : FinMap nat_cmp V) (k j : ℕ) (h : DifferAt m new
       let same : weigh_map w (map.remove (map.remove new k) j) ≡ weigh_map w (map.remove (map.remove m k) j) = ap (weigh_map w) rest_same in
       omega (arith, new_first, new_second, new_still, old_first, old_second, old_still, same)
 
--- ---- what holds of each entry of a list holds of what is found
+-- ---- a property of each entry of a list is one of a found entry
 
 pub found_all : {V : Type 0} (P : ℕ × V → Type 0) (es : List (ℕ × V)) → AllByRecursion P es → (k : ℕ) (v : V) → find nat_cmp k es ≡ Some v → P (k, v)
 found_all P [] all k v is = absurd (none_is_not_some is)

@@ -1,4 +1,5 @@
--- The shares of a type in a unit keep their sum where a share moves, and stay whole where they do not become too fine.
+-- The shares of a type in a unit keep their sum when a share moves, and still sum to one if they do not
+-- become too fine.
 use Rattle.std.proofs.Common.{◌≡◌, ◌≢◌, ℕ, ◌+◌, ◌-◌, ◌*◌, ◌/◌, ◌<◌, ◌≤◌, true, false, cond, ◌&&◌, Option, Some, None, List, [], inl, inr, Result, Ok, Err, refl, sym, ap, ◌∙◌, subst, arith}
 use Rattle.std.specs.Prelude.{nat_eq}
 use Rattle.std.specs.Int.{◌∣◌}
@@ -35,9 +36,9 @@ use Rattle.land_fraction.specs.declared.fault.FractionFault.TheVariants.{Zero, A
 use Rattle.land_fraction.specs.declared.lists.Whole.{Whole}
 use Rattle.land_fraction.specs.declared.lists.Whole.TheVariants as whole
 
--- ---- the parts of shares
+-- ---- shares in equal parts
 
--- shares that mean the same have as many parts
+-- equal shares have the same count of parts
 even_parts : (m x y a b c d : ℕ) → 0 < m → x * b ≡ m → y * d ≡ m → a * d ≡ c * b → a * x ≡ c * y
 even_parts m x y a b c d above ex ey e =
     let times : a * d * (x * y) ≡ c * b * (x * y) = ap (λ (t : ℕ). t * (x * y)) e in
@@ -45,7 +46,7 @@ even_parts m x y a b c d above ex ey e =
     let second : c * y * m ≡ c * y * (x * b) = ap (λ (t : ℕ). c * y * t) (sym ex) in
     eq_of_mul-eq-mul_right m above (a * x) (c * y) (omega arith)
 
--- a share that has no more parts than there are is at most one
+-- a share with at most all parts is at most one
 not_above_one : (m : ℕ) (share : Ratio) → 0 < m → share.denominator ∣ m → part_of m share ≤ m → share.numerator ≤ share.denominator
 not_above_one m share above divides fits =
     let x : ℕ = m / share.denominator in
@@ -55,17 +56,17 @@ not_above_one m share above divides fits =
     let room : share.numerator * x ≤ share.denominator * x = omega arith in
     le_of_mul-le-mul_right room pos
 
--- what a right keeps, where it keeps something
+-- the remaining share of a right, if there is one
 abbrev pub left_of : Result Ratio FractionFault → Option Ratio
 left_of (Ok share) = Some share
 left_of (Err fault) = None
 
--- where there is a value, it passes
+-- if there is a value, it satisfies the condition
 abbrev pub Each : {X : Type 0} → (X → Type 0) → Option X → Type 0
 Each P None = Unit {0}
 Each P (Some x) = P x
 
--- nothing is left of a share where all of it was taken
+-- no share remains if all of it was transferred
 all_gone : (m : ℕ) (a share : Ratio) → 0 < m → a.denominator ∣ m → share.denominator ∣ m → share.numerator * a.denominator ≤ a.numerator * share.denominator
     → IsAnswer (difference_of a share) (Err Zero) → part_of m share ≡ part_of m a
 all_gone m a share above ha hs upto (inl none) =
@@ -96,7 +97,7 @@ left_parts m a share (Err AboveOne) e coarse upto above ha hs hl one =
     absurd (not_more_left a share one (subst (λ (o : Result Ratio FractionFault). IsAnswer (difference_of a share) o) e (answered (difference_of a share))))
 left_parts m a share (Err TooFine) e coarse upto above ha hs hl one = absurd (false≢true (sym coarse))
 
--- what the receiver's right has after it: the share, or the sum with what it had
+-- the receiver's share afterwards: the transferred share, or its sum with the earlier one
 abbrev pub IsGrown : Transfer → (share : Ratio) → Option Held → Type 0
 IsGrown it share None = share ≡ it.share
 IsGrown it share (Some held) = share_grown it held ≡ Ok share
@@ -108,7 +109,7 @@ grown_parts m it share (Some held) e above hs hg ht =
     let same : 0 + part_of m held.share + part_of m it.share ≡ 0 + part_of m share = parts-sum m held.share it.share share e above ht hs hg in
     omega (arith, same)
 
--- the share that moves has a denominator above 0 where the receiver's share has one
+-- the denominator of the transferred share is positive if that of the receiver's share is
 moved_pos : (it : Transfer) (share : Ratio) (to : Option Held) → IsGrown it share to → 0 < share.denominator → 0 < it.share.denominator
 moved_pos it share None e above = subst (λ (s : Ratio). 0 < s.denominator) e above
 moved_pos it share (Some held) e above =
@@ -117,7 +118,7 @@ moved_pos it share (Some held) e above =
 
 -- ---- the shares of the type
 
--- a multiple of a common multiple is one
+-- a multiple of a common multiple is a common multiple
 finer_multiple : (m many : ℕ) (shares : List Ratio) → 0 < many → m ∣ many → IsCommonMultiple m shares → IsCommonMultiple many shares
 finer_multiple m many shares above divides h = record {
   positive = above;
@@ -141,7 +142,7 @@ module _ (r : Register) (rrrs : FinMap nat_cmp RrrRecord) (unit receiver source 
   abbrev new_shares : List Ratio
   new_shares = filter_map (λ e. share_in unit type e.1) (map.entries rrrs)
 
-  -- what divides what the shares before have as a common multiple
+  -- numbers that divide a common multiple of the earlier shares
   from_divides : (m : ℕ) → IsCommonMultiple m old_shares → from.share.denominator ∣ m
   from_divides m h = multiple_at r.rrrs unit type m h from.number moved.first.entry from.share moved.first.there (share_here moved.first.entry from.share moved.first.in_unit moved.first.class)
 
@@ -152,7 +153,7 @@ module _ (r : Register) (rrrs : FinMap nat_cmp RrrRecord) (unit receiver source 
       multiple_at r.rrrs unit type m h held.number right.entry held.share right.there
       (share_here right.entry held.share right.in_unit (right.class ∙ ap (λ (t : RightType). class.Right t held.share) before.0.of_type))
 
-  -- and the shares after
+  -- and of the later shares
   left_divides : (m : ℕ) → IsCommonMultiple m new_shares → (o : Option Ratio) → left ≡ o → Each (λ (s : Ratio). s.denominator ∣ m) o
   left_divides m h None is = tt
   left_divides m h (Some s) is =
@@ -162,7 +163,7 @@ module _ (r : Register) (rrrs : FinMap nat_cmp RrrRecord) (unit receiver source 
   share_divides : (m : ℕ) → IsCommonMultiple m new_shares → share.denominator ∣ m
   share_divides m h = multiple_at rrrs unit type m h number (right_entry unit receiver type share source) share moved.at_second (share_here (right_entry unit receiver type share source) share refl refl)
 
-  -- of a whole no share is above one
+  -- if shares sum to one, none is above one
   pub from_at_most_one : IsWhole old_shares → from.share.numerator ≤ from.share.denominator
   from_at_most_one whole =
       let m : ℕ = whole.0 in
@@ -173,13 +174,13 @@ module _ (r : Register) (rrrs : FinMap nat_cmp RrrRecord) (unit receiver source 
       ap (weight_of (λ e. weight_of (part_of m) (share_in unit type e))) moved.first.there ∙ ap (weight_of (part_of m)) (share_here moved.first.entry from.share moved.first.in_unit moved.first.class) in
       not_above_one m from.share whole.2.positive (from_divides m whole.2) (omega (arith, all, one, here))
 
-  -- the right is among the shares before
+  -- the right is among the earlier shares
   pub had_some : old_shares ≢ []
   had_some none =
       each_share r.rrrs unit type (λ (s : Ratio). ⊥) (subst (λ (shares : List Ratio). AllByRecursion (λ (s : Ratio). ⊥) shares) (sym none) tt) from.number moved.first.entry from.share moved.first.there
       (share_here moved.first.entry from.share moved.first.in_unit moved.first.class)
 
-  -- a common multiple of the shares is one whatever the source is
+  -- whether a number is a common multiple of the shares does not depend on the source
   pub any_source : (entries : FinMap nat_cmp RrrRecord) (other : ℕ) → IsMoved r entries unit receiver other from left number share to → (m : ℕ)
       → IsCommonMultiple m (filter_map (λ e. share_in unit type e.1) (map.entries entries)) → IsCommonMultiple m new_shares
   any_source entries other alike m h =
@@ -189,7 +190,8 @@ module _ (r : Register) (rrrs : FinMap nat_cmp RrrRecord) (unit receiver source 
       (λ k e off away is got taken. multiple_at entries unit type m h k e got (alike.differ.elsewhere k off away ∙ is) taken) in
       multiple_from rrrs unit type m h.positive (λ k e got is taken. each k e is got taken)
 
-  -- the shares keep their sum, over a number of parts that the denominator of the share that moves divides
+  -- the sum of the shares is preserved, in parts whose count is a multiple of the denominator of the
+  -- transferred share
   even_sum : (it : Transfer) (o : Result Ratio FractionFault) → share_left it from ≡ o → left ≡ left_of o → is_too_fine o ≡ false → is_above it from ≡ false → IsGrown it share to
       → from.share.numerator ≤ from.share.denominator → (parts : ℕ) → IsCommonMultiple parts old_shares → IsCommonMultiple parts new_shares → it.share.denominator ∣ parts
       → parts_of parts new_shares ≡ parts_of parts old_shares
@@ -205,7 +207,7 @@ module _ (r : Register) (rrrs : FinMap nat_cmp RrrRecord) (unit receiver source 
       let after = parts-weighed parts new_shares in
       omega (arith, kept, added, sum, before, after)
 
-  -- and so over each common multiple of the shares before and after
+  -- and so for each common multiple of the shares before and after
   pub sum_kept : (it : Transfer) (o : Result Ratio FractionFault) → share_left it from ≡ o → left ≡ left_of o → is_too_fine o ≡ false → is_above it from ≡ false → IsGrown it share to
       → from.share.numerator ≤ from.share.denominator → (parts : ℕ) → IsCommonMultiple parts old_shares → IsCommonMultiple parts new_shares → parts_of parts new_shares ≡ parts_of parts old_shares
   sum_kept it o is_left left_is coarse not_above grown one parts first second =

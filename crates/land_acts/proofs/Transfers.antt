@@ -1,4 +1,5 @@
--- Transfers keep a register sound and the sum of the shares of the type, leave the receiver one right of it, and name each entry once.
+-- Transfers keep a register sound, preserve the sum of the shares of the type, leave the receiver exactly one
+-- right of it, and write each entry once.
 use Rattle.std.proofs.Common.{◌≡◌, ◌≢◌, ℕ, ◌+◌, ◌<◌, ◌≤◌, Bool, true, false, cond, not, ◌&&◌, ◌||◌, Option, Some, None, List, [], ◌∷◌, ◌++◌, Result, Ok, Err, refl, sym, ap, ◌∙◌, subst, arith}
 use Rattle.std.specs.Prelude.{is_none, nat_eq, nat_lt, map as map_list}
 use Rattle.std.specs.Option.{option_map_or}
@@ -56,7 +57,7 @@ number_of_right r None = r.next
 number_of_right r (Some held) = held.number
 
 module _ (r : Register) (it : Transfer) (from : Held) where
-  -- the entries after the transfer, where the right keeps this and the receiver had that right
+  -- the entries after the transfer, from the remaining share and the receiver's earlier right
   abbrev entries_after : (source : ℕ) → Result Ratio FractionFault → Option Held → FinMap nat_cmp RrrRecord
   entries_after source left to = updated r.rrrs (kept source it from left ++ received r source it from to) (given_up from left)
 
@@ -77,7 +78,7 @@ module _ (r : Register) (it : Transfer) (from : Held) where
         entry : RrrRecord
         entry = right_entry it.unit it.receiver from.right_type share source
 
-        -- the entries with the right as it is after the transfer
+        -- the entries with the giver's right after the transfer
         one_changed : Result Ratio FractionFault → FinMap nat_cmp RrrRecord
         one_changed (Ok s) = map.insert r.rrrs from.number (right_entry it.unit from.party from.right_type s source)
         one_changed (Err fault) = map.remove r.rrrs from.number
@@ -105,7 +106,7 @@ module _ (r : Register) (it : Transfer) (from : Held) where
             one (Ok s) = inserted_else r.rrrs from.number (right_entry it.unit from.party from.right_type s source) n off
             one (Err fault) = removed_else r.rrrs from.number n off
 
-  -- ---- what is not refused
+  -- ---- if no refusal applies
 
   abbrev too_large : Option Held → Bool
   too_large to = is_above it from || not (is_itself it from) && option_map_or (λ held. is_above_one (share_grown it held)) to false
@@ -143,14 +144,14 @@ module _ (r : Register) (it : Transfer) (from : Held) where
         shares_coarse = λ checked. sym (ap (λ b. b && is_none (common_of (type_shares (register_after 0 to) it.unit from.right_type))) checked) ∙ parts.1;
       }
 
-  -- the receiver's right is another entry than that of another party
+  -- the receiver's right is not the giver's
   two_rights : {held : Held} → IsHeldAt r.rrrs it.unit from → IsHeldBy r.rrrs it.unit it.receiver from.right_type held → is_itself it from ≡ false → from.number ≢ held.number
   two_rights first right other same =
       let one : first.entry ≡ right.held_right.entry = same_some (sym first.there ∙ ap (map.get r.rrrs) same ∙ right.held_right.there) in
       let party : from.party ≡ it.receiver = sym first.party ∙ ap (λ (e : RrrRecord). e.party) one ∙ right.held_right.party ∙ right.by_party in
       false≢true (sym other ∙ eq-eqb from.party it.receiver party)
 
-  -- what is done to the entries, whatever the source is
+  -- the change of the entries, for any source
   record IsTransferred (to : Option Held) : Type 0 where
     number : ℕ
     share : Ratio
@@ -192,7 +193,7 @@ module _ (r : Register) (it : Transfer) (from : Held) where
         next_free : map.get r.rrrs r.next ≡ None
         next_free = free (map.get r.rrrs r.next) refl
 
-    -- the receiver had a right of the type, which grows
+    -- the receiver had a right of the type, whose share increases
     transferred_grown : (held : Held) → is_itself it from ≡ false → grows_at r it from ≡ Some held → IsAllowed (Some held) → IsTransferred (Some held)
     transferred_grown held other some allow = by_sum (share_grown it held) refl allow.within_one allow.grown_coarse
       where
@@ -318,7 +319,7 @@ module _ (r : Register) (it : Transfer) (from : Held) where
           below_end room = ltb-false 1000000001 (r.next + 1) room
       sound_after (Some held) h allow many = sound_with (Some held) h allow before.room (λ none. absurd (none_is_not_some (sym none)))
 
--- a transfer that is not refused keeps a sound register sound
+-- a transfer to which no refusal applies keeps a register sound
 pub transferred_is_sound : WholenessLaw → (r : Register) (source : ℕ) (it : Transfer) (from : Held) → IsSound r → held_at r it.unit it.right ≡ Some from → has r.sources source ≡ true
     → has r.parties it.receiver ≡ true → is_too_large r it from ≡ false → are_too_fine r it from ≡ false → are_too_many r it from ≡ false → is_itself it from ≡ false
     → IsSound (after (move_change r source it from) r)
@@ -327,7 +328,7 @@ transferred_is_sound law r source it from sound held has_source has_receiver lar
     let allow = allowed r it from (grows_at r it from) other large fine in
     sound_after r it from law sound first source has_source has_receiver (grows_at r it from) (transferred r it from law sound first (grows_at r it from) refl other allow) allow many
 
--- and keeps the sum of the shares of the right's type in the unit
+-- and preserves the sum of the shares of the right's type in the unit
 pub transferred_keeps_sum : WholenessLaw → (r : Register) (source : ℕ) (it : Transfer) (from : Held) (parts : ℕ) → IsSound r → held_at r it.unit it.right ≡ Some from
     → is_too_large r it from ≡ false → are_too_fine r it from ≡ false → is_itself it from ≡ false → (is_checked r it.unit ≡ false → from.share.numerator ≤ from.share.denominator)
     → IsCommonMultiple parts (type_shares r it.unit from.right_type) → IsCommonMultiple parts (type_shares (after (move_change r source it from) r) it.unit from.right_type)
@@ -337,7 +338,7 @@ transferred_keeps_sum law r source it from parts sound held large fine other unc
     let allow = allowed r it from (grows_at r it from) other large fine in
     same_sum r it from law sound first (grows_at r it from) (transferred r it from law sound first (grows_at r it from) refl other allow) allow unchecked source parts
 
--- and leaves the receiver one right of the type
+-- and leaves the receiver exactly one right of the type
 pub receiver_has_one_right : WholenessLaw → (r : Register) (source : ℕ) (it : Transfer) (from : Held) → IsSound r → held_at r it.unit it.right ≡ Some from
     → is_too_large r it from ≡ false → are_too_fine r it from ≡ false → is_itself it from ≡ false → HasOneRight (after (move_change r source it from) r) it.unit it.receiver from.right_type
 receiver_has_one_right law r source it from sound held large fine other =
@@ -373,7 +374,7 @@ module _ (r : Register) (source : ℕ) (it : Transfer) (from : Held) where
       once_grown (share_left it from) to (share_grown it to)
       (two_rights r it from (held_there r it.unit it.right from held).0 (held_by_there r it.unit it.receiver from.right_type to is) other)
 
-  -- the right and the receiver's right are two entries, where no right stands at the next number
+  -- the two rights are different entries if there is no right at the next number
   pub move_names_once : held_at r it.unit it.right ≡ Some from → is_itself it from ≡ false → from.number ≢ r.next → NamesKeysOnce (move_change r source it from)
   move_names_once held other apart = record {
     parties = refl;
@@ -387,7 +388,7 @@ module _ (r : Register) (source : ℕ) (it : Transfer) (from : Held) where
     mandates = refl;
   }
 
-  -- in a sound register none does
+  -- in a sound register there is none
   pub sound_names_once : IsSound r → held_at r it.unit it.right ≡ Some from → is_itself it from ≡ false → NamesKeysOnce (move_change r source it from)
   sound_names_once sound held other = move_names_once held other (λ same. omega (arith, same, below))
     where

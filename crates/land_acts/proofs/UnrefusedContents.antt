@@ -1,4 +1,4 @@
--- What holds where a transfer, a mortgage or a discharge is not refused.
+-- The conditions that hold if no refusal applies to a transfer, a mortgage or a discharge.
 use Rattle.std.proofs.Common.{◌≡◌, Bool, true, false, ◌||◌, not, Option, Some, None, [], ◌∷◌, refl, sym, ap, ◌∙◌}
 use Rattle.std.specs.Prelude.{ℤ, is_none}
 use Rattle.std.specs.Option.{option_map_or}
@@ -29,7 +29,7 @@ pub record IsUnrefusedMove (r : Register) (it : Transfer) : Type 0 where
   pub not_many : are_too_many r it from ≡ false
   pub other : is_itself it from ≡ false
 
--- a test of the right that fails, where the right stands
+-- a condition on the right that is false, if the right exists
 fails_at : (r : Register) (it : Transfer) (test : Held → Bool) (from : Held) → held_at r it.unit it.right ≡ Some from → has_right_where test r it ≡ false → test from ≡ false
 fails_at r it test from e fails = sym (ap (λ o. option_map_or test o false) e) ∙ fails
 
@@ -62,7 +62,7 @@ unrefused_move r it stamp none =
       other = fails_at r it (is_itself it) from e itself;
     }
 
--- ---- what holds where a mortgage and a discharge are not refused
+-- ---- mortgages and discharges to which no refusal applies
 
 pub record IsUnrefusedMortgage (r : Register) (it : Mortgage) : Type 0 where
   pub unit : has r.units it.unit ≡ true

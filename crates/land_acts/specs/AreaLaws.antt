@@ -1,4 +1,5 @@
--- Laws of areas, over the definitions alone: what an approval puts in the place of parcels has together their area.
+-- Laws on areas, stated only over the definitions: an approval preserves the total area of the parcels that
+-- it replaces.
 use Rattle.std.specs.Prelude.{◌≡◌, ℤ, List, map as map_list, Some, Ok}
 use Rattle.std.specs.FinMap as map
 use Rattle.land_acts.specs.Mutations.Areas.{doubled_areas, outlines_at}
@@ -18,18 +19,25 @@ use Rattle.land_core.specs.declared.subdivision.Subdivision.{Subdivision}
 use Rattle.land_shape.specs.Outline.{doubled_area}
 use Rattle.land_shape.specs.Place.{Place}
 
--- the outlines of the parcels that a change puts
+-- the outlines of the parcels that a change writes
 abbrev pub outlines_put : Change → List (List Place)
 outlines_put change = map_list (λ e. e.1.outline) change.put.parcels
 
--- the parcels of an approved subdivision have together the area of the old parcel
+-- the new parcels of an approved subdivision have in total the area of the old parcel
 abbrev pub SubdivisionsKeepAreas : Type 0
-SubdivisionsKeepAreas = (r : Register) (caller : Caller) (decision : Decision) (m : MutationRecord) (it : Subdivision) (old : ParcelRecord) (stamp : ℤ) (change : Change) (done : Done)
-    → map.get r.mutations decision.mutation ≡ Some m → m.content ≡ content.Subdivision it → map.get r.parcels it.parcel ≡ Some old
-    → outcome_of r caller (Approve decision) (Some stamp) ≡ Ok (New change done) → doubled_areas (outlines_put change) ≡ doubled_area old.outline
+SubdivisionsKeepAreas =
+    (r : Register) (caller : Caller) (decision : Decision) (m : MutationRecord) (it : Subdivision)
+    (old : ParcelRecord) (stamp : ℤ) (change : Change) (done : Done)
+    → map.get r.mutations decision.mutation ≡ Some m → m.content ≡ content.Subdivision it
+    → map.get r.parcels it.parcel ≡ Some old
+    → outcome_of r caller (Approve decision) (Some stamp) ≡ Ok (New change done)
+    → doubled_areas (outlines_put change) ≡ doubled_area old.outline
 
--- the parcel of an approved merger has the area of the listed parcels together
+-- the new parcel of an approved merger has the total area of the listed parcels
 abbrev pub MergersKeepAreas : Type 0
-MergersKeepAreas = (r : Register) (caller : Caller) (decision : Decision) (m : MutationRecord) (it : Merger) (stamp : ℤ) (change : Change) (done : Done)
+MergersKeepAreas =
+    (r : Register) (caller : Caller) (decision : Decision) (m : MutationRecord) (it : Merger) (stamp : ℤ)
+    (change : Change) (done : Done)
     → map.get r.mutations decision.mutation ≡ Some m → m.content ≡ content.Merger it
-    → outcome_of r caller (Approve decision) (Some stamp) ≡ Ok (New change done) → doubled_areas (outlines_put change) ≡ doubled_areas (outlines_at r it.parcels)
+    → outcome_of r caller (Approve decision) (Some stamp) ≡ Ok (New change done)
+    → doubled_areas (outlines_put change) ≡ doubled_areas (outlines_at r it.parcels)

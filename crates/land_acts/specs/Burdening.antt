@@ -1,8 +1,9 @@
--- Burdening: a unit gets a restriction or a responsibility of a party.
+-- The act `burden`: a unit gets a restriction or a responsibility of a party.
 use Rattle.std.specs.Prelude.{ℕ, ◌+◌, ℤ, Bool, not, ◌||◌, List, [], ◌∷◌, Option, is_none}
 use Rattle.land_acts.specs.Mutations.Planning.{document_source, lacks_numbers, would_crowd}
 use Rattle.land_acts.specs.declared.mutations.refusal.Refusal.{Refusal}
-use Rattle.land_acts.specs.declared.mutations.refusal.Refusal.TheVariants.{NoSuchUnit, NoSuchParty, TooMany, ClockOut}
+use Rattle.land_acts.specs.declared.mutations.refusal.Refusal.TheVariants.{NoSuchUnit, NoSuchParty, TooMany}
+use Rattle.land_acts.specs.declared.mutations.refusal.Refusal.TheVariants.{ClockOut}
 use Rattle.land_core.specs.Changes.{no_put, no_ended}
 use Rattle.land_core.specs.Entries.{has}
 use Rattle.land_core.specs.declared.act.Burden.{Burden}
@@ -15,7 +16,7 @@ use Rattle.land_core.specs.declared.rrr.Class.{Class}
 use Rattle.land_core.specs.declared.rrr.Class.TheVariants as class
 use Rattle.land_core.specs.declared.source.SourceKind.TheVariants.{Administrative}
 
--- its refusals, each with whether its condition holds, the least number first
+-- the refusals with their conditions, in ascending order
 abbrev pub burden_refusals : Register → Burden → Option ℤ → List (Refusal × Bool)
 burden_refusals r it stamp =
     (NoSuchUnit, not (has r.units it.unit))
@@ -24,22 +25,30 @@ burden_refusals r it stamp =
     ∷ (ClockOut, is_none stamp)
     ∷ []
 
--- the entry that says the words
+-- the class of the entry with these words
 abbrev pub class_of : BurdenClass → (words : List ℕ) → Class
 class_of burden.Restriction words = class.Restriction words
 class_of burden.Responsibility words = class.Responsibility words
 
--- the source stands under the next number, and then the entry, which comes from it
+-- the source gets the next number, and the entry the one after it; the source of the entry is this document
 abbrev pub burden_change : Register → Burden → Change
 burden_change r it = record {
   put = record no_put {
-    rrrs = (r.next + 1, record { unit = it.unit; party = it.party; class = class_of it.class it.words; source = r.next }) ∷ [];
+    rrrs = (
+      r.next + 1,
+      record {
+        unit = it.unit;
+        party = it.party;
+        class = class_of it.class it.words;
+        source = r.next;
+      },
+    ) ∷ [];
     sources = document_source r.next Administrative it.document;
   };
   ended = no_ended;
   next = r.next + 2;
 }
 
--- the act is about the entry
+-- the receipt is about the entry
 abbrev pub burden_done : Register → ℤ → Done
 burden_done r stamp = record { number = r.next + 1; made = r.next ∷ (r.next + 1) ∷ []; stamp = stamp }

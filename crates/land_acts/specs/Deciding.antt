@@ -1,4 +1,4 @@
--- Deciding: a mutation is approved, and what it asks for is done, or it is refused.
+-- The acts `approve` and `refuse`: a mutation is decided, and an approval executes its content.
 use Rattle.std.specs.Prelude.{ℕ, ℤ, Bool, true, false, not, List, [], ◌∷◌, Option, is_none}
 use Rattle.std.specs.Option.{option_map_or}
 use Rattle.std.specs.FinMap as map
@@ -15,39 +15,51 @@ use Rattle.land_core.specs.declared.mutation.MutationState.{MutationState}
 use Rattle.land_core.specs.declared.mutation.MutationState.TheVariants.{Approved, Refused}
 use Rattle.land_core.specs.declared.register.Register.{Register}
 
--- whether an undecided mutation stands at a number
+-- whether an undecided mutation exists at a number
 abbrev pub is_lodged : Register → ℕ → Bool
 is_lodged r n = option_map_or is_undecided (map.get r.mutations n) false
 
--- a mutation once it is decided
+-- the mutation in another state
 abbrev pub decided : MutationState → MutationRecord → MutationRecord
 decided state m = record m { state = state }
 
--- the change of a mutation's state
+-- a change that also sets the state of a mutation
 abbrev pub with_state : MutationState → (number : ℕ) → MutationRecord → Change → Change
-with_state state number m change = record change { put = record change.put { mutations = (number, decided state m) ∷ [] } }
+with_state state number m change =
+    record change { put = record change.put { mutations = (number, decided state m) ∷ [] } }
 
--- its refusals, each with whether its condition holds: first that the mutation is undecided, then those of its content, the
--- least number first
+-- the refusals with their conditions: first 201, then those of the content in ascending order
 abbrev pub approve_refusals : Register → Decision → Option ℤ → List (Refusal × Bool)
 approve_refusals r it stamp =
-    (NotLodged, not (is_lodged r it.mutation)) ∷ option_map_or (λ m. content_refusals r m.content stamp) (map.get r.mutations it.mutation) []
+    (NotLodged, not (is_lodged r it.mutation))
+    ∷ option_map_or (λ m. content_refusals r m.content stamp) (map.get r.mutations it.mutation) []
 
+-- the refusals of a refusal with their conditions, in ascending order
 abbrev pub refuse_refusals : Register → Decision → Option ℤ → List (Refusal × Bool)
 refuse_refusals r it stamp = (NotLodged, not (is_lodged r it.mutation)) ∷ (ClockOut, is_none stamp) ∷ []
 
--- what the mutation asks for is done, with its source, and it is approved
+-- the change of the content, with the mutation's source, and the mutation is approved
 abbrev pub approve_change : Register → Decision → Change
-approve_change r it = option_map_or (λ m. with_state Approved it.mutation m (content_change r m.source m.content)) (map.get r.mutations it.mutation) (no_change r.next)
+approve_change r it =
+    option_map_or (λ m. with_state Approved it.mutation m (content_change r m.source m.content))
+    (map.get r.mutations it.mutation) (no_change r.next)
 
--- nothing is done, and it is refused
+-- the mutation is refused, and nothing else changes
 abbrev pub refuse_change : Register → Decision → Change
-refuse_change r it = option_map_or (λ m. with_state Refused it.mutation m (no_change r.next)) (map.get r.mutations it.mutation) (no_change r.next)
+refuse_change r it =
+    option_map_or (λ m. with_state Refused it.mutation m (no_change r.next)) (map.get r.mutations it.mutation)
+    (no_change r.next)
 
--- the act is about the mutation
+-- the receipt is about the mutation
 abbrev pub approve_done : Register → Decision → ℤ → Done
-approve_done r it stamp = record { number = it.mutation; made = option_map_or (λ m. content_made r m.content) (map.get r.mutations it.mutation) []; stamp = stamp }
+approve_done r it stamp =
+    record {
+      number = it.mutation;
+      made = option_map_or (λ m. content_made r m.content)
+          (map.get r.mutations it.mutation) [];
+      stamp = stamp;
+    }
 
--- the numbers that a register holds leave room for what an approval makes
+-- the numbers and ranks that the content creates stay in range
 abbrev pub approve_has_room : Register → Decision → Bool
 approve_has_room r it = option_map_or (λ m. has_room r m.content) (map.get r.mutations it.mutation) true

@@ -1,4 +1,4 @@
--- Enrolling: a natural or non-natural person gets the next number and becomes a citizen.
+-- The act `enrol`: a natural or non-natural person gets the next number and becomes a citizen.
 use Rattle.std.specs.Prelude.{◌+◌, Bool, List, [], ◌∷◌, Option, is_none, ℤ}
 use Rattle.land_acts.specs.Mutations.Planning.{lacks_numbers}
 use Rattle.land_acts.specs.declared.mutations.refusal.Refusal.{Refusal}
@@ -11,11 +11,11 @@ use Rattle.land_core.specs.declared.change.Done.{Done}
 use Rattle.land_core.specs.declared.register.Register.{Register}
 use Rattle.land_core.specs.declared.role.Role.TheVariants.{Citizen}
 
--- its refusals, each with whether its condition holds, the least number first
+-- the refusals with their conditions, in ascending order
 abbrev pub enrol_refusals : Register → Option ℤ → List (Refusal × Bool)
 enrol_refusals r stamp = (TooMany, lacks_numbers r 1) ∷ (ClockOut, is_none stamp) ∷ []
 
--- the party stands under the next number and holds the role citizen
+-- the party gets the next number and the role citizen
 abbrev pub enrol_change : Register → Enrol → Change
 enrol_change r it = record {
   put = record no_put {
@@ -26,6 +26,6 @@ enrol_change r it = record {
   next = r.next + 1;
 }
 
--- the act is about the party, and made it
+-- the receipt is about the party, which the act created
 abbrev pub enrol_done : Register → Enrol → ℤ → Done
 enrol_done r it stamp = record { number = r.next; made = r.next ∷ []; stamp = stamp }

@@ -1,4 +1,4 @@
--- The rights with which a unit is entered, and what is asked of them.
+-- The checks of the rights with which a unit is registered.
 use Rattle.std.specs.Prelude.{ℕ, Bool, not, ◌&&◌, ◌||◌, List, Option, Some, None, nat_eq, if◌then◌else◌}
 use Rattle.std.specs.List.{list_any, filter_map}
 use Rattle.land_acts.specs.Sharing.{is_too_fine}
@@ -11,37 +11,37 @@ use Rattle.land_core.specs.declared.rrr.RightType.TheVariants.{Ownership, Lease,
 use Rattle.land_fraction.specs.Ratio.{Ratio}
 use Rattle.land_fraction.specs.Wholeness.{wholeness}
 
--- whether a party has one of the rights
+-- whether one of the rights is of this party
 abbrev pub have_party : List NewRight → ℕ → Bool
 have_party rights n = list_any (λ right. nat_eq n right.party) rights
 
--- whether one of the rights is of a party that does not stand
+-- whether one of the rights is of a party that does not exist
 abbrev pub lists_absent : Register → List NewRight → Bool
 lists_absent r rights = list_any (λ right. not (has r.parties right.party)) rights
 
--- the share of a right of a type
+-- the share of a right if it has this type
 abbrev pub share_listed : RightType → NewRight → Option Ratio
 share_listed type right = if is_type right.right_type type then Some right.share else None
 
--- the shares of the rights of a type, as they are listed
+-- the shares of the rights of a type, in their order
 abbrev pub listed_of_type : RightType → List NewRight → List Ratio
 listed_of_type type rights = filter_map (share_listed type) rights
 
--- whether it cannot be told of some type if its shares make a whole
+-- whether the shares of some type are too fine
 abbrev pub are_types_too_fine : List NewRight → Bool
 are_types_too_fine rights =
     is_too_fine (wholeness (listed_of_type Ownership rights))
     || is_too_fine (wholeness (listed_of_type Lease rights))
     || is_too_fine (wholeness (listed_of_type Usufruct rights))
 
--- whether the shares of each type that occurs make a whole
+-- whether the shares of each type that occurs sum to one
 abbrev pub are_types_whole : List NewRight → Bool
 are_types_whole rights =
     are_whole_or_none (listed_of_type Ownership rights)
     && are_whole_or_none (listed_of_type Lease rights)
     && are_whole_or_none (listed_of_type Usufruct rights)
 
--- whether two rights are of one type and of one party
+-- whether two rights have the same party and the same type
 abbrev pub is_same_right : NewRight → NewRight → Bool
 is_same_right right other = nat_eq right.party other.party && is_type right.right_type other.right_type
 

@@ -1,4 +1,4 @@
--- Granting: a single party gets a role that it does not hold.
+-- The act `grant`: a single party gets a role that it does not hold.
 use Rattle.std.specs.Prelude.{ℤ, Bool, not, List, [], ◌∷◌, Option, is_none}
 use Rattle.land_acts.specs.Mutations.Planning.{done_on}
 use Rattle.land_acts.specs.declared.mutations.refusal.Refusal.{Refusal}
@@ -10,12 +10,13 @@ use Rattle.land_core.specs.declared.change.Done.{Done}
 use Rattle.land_core.specs.declared.register.Register.{Register}
 use Rattle.land_core.specs.declared.roles.Grant.{Grant}
 
--- its refusals, each with whether its condition holds, the least number first
+-- the refusals with their conditions, in ascending order
 abbrev pub grant_refusals : Register → Grant → Option ℤ → List (Refusal × Bool)
 grant_refusals r it stamp =
-    (NoSuchParty, not (has_single_party r it.party)) ∷ (RoleHeld, holds r it.party it.role) ∷ (ClockOut, is_none stamp) ∷ []
+    (NoSuchParty, not (has_single_party r it.party)) ∷ (RoleHeld, holds r it.party it.role)
+    ∷ (ClockOut, is_none stamp) ∷ []
 
--- the role begins
+-- the role starts
 abbrev pub grant_change : Register → Grant → Change
 grant_change r it = record {
   put = record no_put { roles = it ∷ [] };
@@ -23,6 +24,6 @@ grant_change r it = record {
   next = r.next;
 }
 
--- the act is about the party
+-- the receipt is about the party
 abbrev pub grant_done : Grant → ℤ → Done
 grant_done it stamp = done_on it.party stamp

@@ -1,4 +1,5 @@
--- Laws of grounds, over the definitions alone: what an approval puts in the place of parcels is their ground, no more and no less.
+-- Laws on ground, stated only over the definitions: an approval writes parcels that cover exactly the ground
+-- of those that they replace.
 use Rattle.std.specs.Prelude.{◌≡◌, ℤ, [], ◌∷◌, Some, Ok}
 use Rattle.std.specs.FinMap as map
 use Rattle.land_acts.specs.AreaLaws.{outlines_put}
@@ -18,14 +19,21 @@ use Rattle.land_core.specs.declared.register.Register.{Register}
 use Rattle.land_core.specs.declared.subdivision.Subdivision.{Subdivision}
 use Rattle.land_shape.specs.Matching.{Match}
 
--- the parcels of an approved subdivision are the ground of the old parcel
+-- the new parcels of an approved subdivision cover exactly the ground of the old parcel
 abbrev pub SubdivisionsKeepGround : Type 0
-SubdivisionsKeepGround = (r : Register) (caller : Caller) (decision : Decision) (m : MutationRecord) (it : Subdivision) (old : ParcelRecord) (stamp : ℤ) (change : Change) (done : Done)
-    → map.get r.mutations decision.mutation ≡ Some m → m.content ≡ content.Subdivision it → map.get r.parcels it.parcel ≡ Some old
-    → outcome_of r caller (Approve decision) (Some stamp) ≡ Ok (New change done) → Match (old.outline ∷ []) (outlines_put change)
+SubdivisionsKeepGround =
+    (r : Register) (caller : Caller) (decision : Decision) (m : MutationRecord) (it : Subdivision)
+    (old : ParcelRecord) (stamp : ℤ) (change : Change) (done : Done)
+    → map.get r.mutations decision.mutation ≡ Some m → m.content ≡ content.Subdivision it
+    → map.get r.parcels it.parcel ≡ Some old
+    → outcome_of r caller (Approve decision) (Some stamp) ≡ Ok (New change done)
+    → Match (old.outline ∷ []) (outlines_put change)
 
--- the parcel of an approved merger is the ground of the listed parcels together
+-- the new parcel of an approved merger covers exactly the ground of the listed parcels
 abbrev pub MergersKeepGround : Type 0
-MergersKeepGround = (r : Register) (caller : Caller) (decision : Decision) (m : MutationRecord) (it : Merger) (stamp : ℤ) (change : Change) (done : Done)
+MergersKeepGround =
+    (r : Register) (caller : Caller) (decision : Decision) (m : MutationRecord) (it : Merger) (stamp : ℤ)
+    (change : Change) (done : Done)
     → map.get r.mutations decision.mutation ≡ Some m → m.content ≡ content.Merger it
-    → outcome_of r caller (Approve decision) (Some stamp) ≡ Ok (New change done) → Match (outlines_at r it.parcels) (outlines_put change)
+    → outcome_of r caller (Approve decision) (Some stamp) ≡ Ok (New change done)
+    → Match (outlines_at r it.parcels) (outlines_put change)

@@ -1,9 +1,12 @@
--- Grouping: single parties, each with its share, become the members of a new group, which has no roles.
+-- The act `group`: single parties, each with its share, become the members of a new group, which has no
+-- roles.
 use Rattle.std.specs.Prelude.{◌+◌, ℤ, Bool, not, List, [], ◌∷◌, Option, is_none}
 use Rattle.land_acts.specs.Mutations.Planning.{lacks_numbers}
 use Rattle.land_acts.specs.Sharing.{lists_stranger, are_too_fine, are_whole, lists_twice, members_of_list}
 use Rattle.land_acts.specs.declared.mutations.refusal.Refusal.{Refusal}
-use Rattle.land_acts.specs.declared.mutations.refusal.Refusal.TheVariants.{NoSuchParty, SharesTooFine, TooMany, SharesNotWhole, ClockOut, SameParty}
+use Rattle.land_acts.specs.declared.mutations.refusal.Refusal.TheVariants.{NoSuchParty, SharesTooFine}
+use Rattle.land_acts.specs.declared.mutations.refusal.Refusal.TheVariants.{TooMany, SharesNotWhole, ClockOut}
+use Rattle.land_acts.specs.declared.mutations.refusal.Refusal.TheVariants.{SameParty}
 use Rattle.land_core.specs.Changes.{no_put, no_ended}
 use Rattle.land_core.specs.declared.act.NewGroup.{NewGroup}
 use Rattle.land_core.specs.declared.change.Change.{Change}
@@ -11,7 +14,7 @@ use Rattle.land_core.specs.declared.change.Done.{Done}
 use Rattle.land_core.specs.declared.kind.PartyKind.TheVariants.{Group}
 use Rattle.land_core.specs.declared.register.Register.{Register}
 
--- its refusals, each with whether its condition holds, the least number first
+-- the refusals with their conditions, in ascending order
 abbrev pub group_refusals : Register → NewGroup → Option ℤ → List (Refusal × Bool)
 group_refusals r it stamp =
     (NoSuchParty, lists_stranger r it.members)
@@ -22,7 +25,7 @@ group_refusals r it stamp =
     ∷ (SameParty, lists_twice it.members)
     ∷ []
 
--- the group stands under the next number, and so do its members
+-- the group gets the next number, and so do its members
 abbrev pub group_change : Register → NewGroup → Change
 group_change r it = record {
   put = record no_put {
@@ -33,6 +36,6 @@ group_change r it = record {
   next = r.next + 1;
 }
 
--- the act is about the group, and made it
+-- the receipt is about the group, which the act created
 abbrev pub group_done : Register → ℤ → Done
 group_done r stamp = record { number = r.next; made = r.next ∷ []; stamp = stamp }

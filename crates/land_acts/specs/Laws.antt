@@ -1,4 +1,4 @@
--- Laws over the definitions alone.
+-- Laws on all acts, stated only over the definitions.
 use Rattle.std.specs.Prelude.{◌≡◌, ◌≢◌, ◌≤◌, true, Option, Some, None, Ok, ℤ}
 use Rattle.land_acts.specs.Outcome.{outcome_of}
 use Rattle.land_acts.specs.Slices.{slice_of}
@@ -13,11 +13,13 @@ use Rattle.land_core.specs.declared.change.Change.{Change}
 use Rattle.land_core.specs.declared.change.Done.{Done}
 use Rattle.land_core.specs.declared.register.Register.{Register}
 
--- an act has the same outcome over a register and over its slice: the same refusal, the same change, the same done
+-- an act has the same outcome on a register and on its slice: the same refusal, change and receipt
 abbrev pub SlicesSuffice : Type 0
-SlicesSuffice = (r : Register) (caller : Caller) (a : Act) (stamp : Option ℤ) → outcome_of (slice_of r caller a) caller a stamp ≡ outcome_of r caller a stamp
+SlicesSuffice = (r : Register) (caller : Caller) (a : Act) (stamp : Option ℤ)
+    → outcome_of (slice_of r caller a) caller a stamp ≡ outcome_of r caller a stamp
 
--- a change is what a well-formed act of a caller that holds its role makes of a register, with a stamp
+-- a change is accepted if it is the outcome of a well-formed act of a caller that holds its role, with this
+-- stamp
 pub record IsAccepted (r : Register) (change : Change) (stamp : ℤ) : Type 0 where
   pub caller : Caller
   pub act : Act
@@ -26,18 +28,23 @@ pub record IsAccepted (r : Register) (change : Change) (stamp : ℤ) : Type 0 wh
   pub role_held : holds r caller.party caller.role ≡ true
   pub outcome : outcome_of r caller act (Some stamp) ≡ Ok (New change done)
 
--- an accepted act leaves a sound register sound, and no number is given anew
+-- an accepted act keeps a sound register sound, and never reuses a number
 abbrev pub AcceptedKeepsSound : Type 0
-AcceptedKeepsSound = (r : Register) (change : Change) (stamp : ℤ) → IsSound r → IsAccepted r change stamp → IsSound (after change r) × (r.next ≤ change.next)
+AcceptedKeepsSound = (r : Register) (change : Change) (stamp : ℤ) → IsSound r → IsAccepted r change stamp
+    → IsSound (after change r) × (r.next ≤ change.next)
 
--- an accepted act of a sound register puts and ends no key twice; only there is the next number a new one
+-- the change of an accepted act of a sound register writes and ends no key twice; in a sound register the
+-- next number is unused
 abbrev pub AcceptedNamesKeysOnce : Type 0
-AcceptedNamesKeysOnce = (r : Register) (change : Change) (stamp : ℤ) → IsSound r → IsAccepted r change stamp → NamesKeysOnce change
+AcceptedNamesKeysOnce = (r : Register) (change : Change) (stamp : ℤ) → IsSound r → IsAccepted r change stamp
+    → NamesKeysOnce change
 
--- an accepted act is told with the stamp of its change
+-- the receipt of an accepted act has the stamp of its change
 abbrev pub AcceptedTellsStamp : Type 0
-AcceptedTellsStamp = (r : Register) (change : Change) (stamp : ℤ) → (h : IsAccepted r change stamp) → h.done.stamp ≡ stamp
+AcceptedTellsStamp =
+    (r : Register) (change : Change) (stamp : ℤ) → (h : IsAccepted r change stamp) → h.done.stamp ≡ stamp
 
--- without a stamp every act is refused
+-- without a stamp, no act is accepted
 abbrev pub NothingWithoutStamp : Type 0
-NothingWithoutStamp = (r : Register) (caller : Caller) (a : Act) (change : Change) (done : Done) → outcome_of r caller a None ≢ Ok (New change done)
+NothingWithoutStamp = (r : Register) (caller : Caller) (a : Act) (change : Change) (done : Done)
+    → outcome_of r caller a None ≢ Ok (New change done)

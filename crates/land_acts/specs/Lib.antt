@@ -1,4 +1,5 @@
--- Definitions of the acts.
+-- The definitions of the acts. `Outcome` has the outcome of an act; the modules with `Laws` in their names
+-- have its consequences.
 pub mod AreaLaws
 pub mod Burdening
 pub mod Deciding

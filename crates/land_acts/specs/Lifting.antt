@@ -1,4 +1,4 @@
--- Lifting: a restriction or a responsibility ends.
+-- The act `lift`: a restriction or a responsibility ends.
 use Rattle.std.specs.Prelude.{ℕ, ℤ, Bool, true, false, not, List, [], ◌∷◌, Option, is_none}
 use Rattle.std.specs.Option.{option_map_or}
 use Rattle.std.specs.FinMap as map
@@ -13,18 +13,18 @@ use Rattle.land_core.specs.declared.register.Register.{Register}
 use Rattle.land_core.specs.declared.rrr.Class.{Class}
 use Rattle.land_core.specs.declared.rrr.Class.TheVariants.{Right, Restriction, Responsibility, Mortgage}
 
--- whether an entry is a burden: a restriction or a responsibility
+-- whether an entry is a restriction or a responsibility
 abbrev pub is_burden : Class → Bool
 is_burden (Right type share) = false
 is_burden (Restriction words) = true
 is_burden (Responsibility words) = true
 is_burden (Mortgage amount currency rank) = false
 
--- whether a burden stands at a number
+-- whether such an entry exists at a number
 abbrev pub has_burden : Register → ℕ → Bool
 has_burden r n = option_map_or (λ e. is_burden e.class) (map.get r.rrrs n) false
 
--- its refusals, each with whether its condition holds, the least number first
+-- the refusals with their conditions, in ascending order
 abbrev pub lift_refusals : Register → Lift → Option ℤ → List (Refusal × Bool)
 lift_refusals r it stamp = (NoSuchRight, not (has_burden r it.rrr)) ∷ (ClockOut, is_none stamp) ∷ []
 
@@ -36,6 +36,6 @@ lift_change r it = record {
   next = r.next;
 }
 
--- the act is about the entry
+-- the receipt is about the entry
 abbrev pub lift_done : Lift → ℤ → Done
 lift_done it stamp = done_on it.rrr stamp

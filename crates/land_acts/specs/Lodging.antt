@@ -1,5 +1,7 @@
--- Lodging: a mutation is handed in with its document, and waits to be decided. What its content names is not looked at yet.
-use Rattle.std.specs.Prelude.{ℕ, ◌+◌, ℤ, Bool, false, not, ◌&&◌, nat_lt, List, [], ◌∷◌, Option, Some, None, is_none, if◌then◌else◌}
+-- The act `lodge`: a mutation is filed with its document, undecided. Lodging does not read the objects to
+-- which the content refers.
+use Rattle.std.specs.Prelude.{ℕ, ◌+◌, ℤ, Bool, false, not, ◌&&◌, nat_lt, List, [], ◌∷◌, Option, Some, None}
+use Rattle.std.specs.Prelude.{is_none, if◌then◌else◌}
 use Rattle.std.specs.List.{find}
 use Rattle.std.specs.Option.{option_map_or}
 use Rattle.std.specs.Str.{bytes_eq}
@@ -22,43 +24,47 @@ use Rattle.land_core.specs.declared.register.Register.{Register}
 use Rattle.land_core.specs.declared.source.SourceKind.{SourceKind}
 use Rattle.land_core.specs.declared.source.SourceKind.TheVariants.{Administrative, Spatial}
 
--- the mutation that a party has lodged under a reference, with its number: there is at most one
+-- the mutation that a party has lodged under a reference, with its number; there is at most one
 abbrev pub lodged_under : Register → (lodger : ℕ) → (reference : List ℕ) → Option (ℕ × MutationRecord)
 lodged_under r lodger reference = find (λ e. is_lodged_as lodger reference e.1) (map.entries r.mutations)
 
--- whether a document stands under a title
+-- whether a source exists and has this title
 abbrev pub has_title : Register → (source : ℕ) → (title : List ℕ) → Bool
 has_title r source title = option_map_or (λ s. bytes_eq s.title title) (map.get r.sources source) false
 
--- whether a mutation was lodged with the same document, and asks for the same
+-- whether a mutation was lodged with the same document and the same content
 abbrev pub is_same_lodging : Register → Lodging → MutationRecord → Bool
 is_same_lodging r it m = has_title r m.source it.document && is_same_content m.content it.content
 
--- two numbers, ascending
+-- two numbers in ascending order
 abbrev pub in_order : ℕ → ℕ → List ℕ
 in_order m n = if nat_lt n m then n ∷ m ∷ [] else m ∷ n ∷ []
 
--- what was told when a mutation was lodged: it, and its source, were made then
+-- the receipt that a lodging got: it created the mutation and its source
 abbrev pub lodged_told : ℕ × MutationRecord → Done
 lodged_told e = record { number = e.0; made = in_order e.1.source e.0; stamp = e.1.lodged }
 
--- a lodging that repeats an earlier one is told what was told then
+-- the receipt of an earlier lodging, if this one repeats it
 abbrev pub repeat_of : Register → Lodging → Option (ℕ × MutationRecord) → Option Done
 repeat_of r it None = None
 repeat_of r it (Some e) = if is_same_lodging r it e.1 then Some (lodged_told e) else None
 
+-- the same, with the lodging under the reference
 abbrev pub lodge_repeat : Register → Caller → Lodging → Option Done
 lodge_repeat r caller it = repeat_of r it (lodged_under r caller.party it.reference)
 
 -- whether the caller has lodged another document or content under the reference
 abbrev pub has_lodged_other : Register → Caller → Lodging → Bool
-has_lodged_other r caller it = option_map_or (λ e. not (is_same_lodging r it e.1)) (lodged_under r caller.party it.reference) false
+has_lodged_other r caller it =
+    option_map_or (λ e. not (is_same_lodging r it e.1)) (lodged_under r caller.party it.reference) false
 
--- its refusals, each with whether its condition holds, the least number first
+-- the refusals with their conditions, in ascending order
 abbrev pub lodge_refusals : Register → Caller → Lodging → Option ℤ → List (Refusal × Bool)
-lodge_refusals r caller it stamp = (TooMany, lacks_numbers r 2) ∷ (ReferenceUsed, has_lodged_other r caller it) ∷ (ClockOut, is_none stamp) ∷ []
+lodge_refusals r caller it stamp =
+    (TooMany, lacks_numbers r 2) ∷ (ReferenceUsed, has_lodged_other r caller it) ∷ (ClockOut, is_none stamp)
+    ∷ []
 
--- the document of a subdivision or a merger is a plan: a spatial source
+-- the document of a subdivision or a merger is a plan, which is a spatial source
 abbrev pub document_kind : Content → SourceKind
 document_kind (content.Transfer it) = Administrative
 document_kind (content.Subdivision it) = Spatial
@@ -66,11 +72,19 @@ document_kind (content.Merger it) = Spatial
 document_kind (content.Mortgage it) = Administrative
 document_kind (content.Discharge it) = Administrative
 
--- the mutation as it is lodged: undecided
+-- the new mutation, undecided
 abbrev pub lodged_record : Caller → Lodging → (source : ℕ) → ℤ → MutationRecord
-lodged_record caller it source stamp = record { lodger = caller.party; reference = it.reference; source = source; lodged = stamp; state = Lodged; content = it.content }
+lodged_record caller it source stamp =
+    record {
+      lodger = caller.party;
+      reference = it.reference;
+      source = source;
+      lodged = stamp;
+      state = Lodged;
+      content = it.content;
+    }
 
--- the source stands under the next number, and then the mutation
+-- the source gets the next number, and the mutation the one after it
 abbrev pub lodge_change : Register → Caller → Lodging → ℤ → Change
 lodge_change r caller it stamp = record {
   put = record no_put {
@@ -81,6 +95,6 @@ lodge_change r caller it stamp = record {
   next = r.next + 2;
 }
 
--- the act is about the mutation
+-- the receipt is about the mutation
 abbrev pub lodge_done : Register → ℤ → Done
 lodge_done r stamp = record { number = r.next + 1; made = r.next ∷ (r.next + 1) ∷ []; stamp = stamp }

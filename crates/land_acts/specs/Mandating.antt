@@ -1,8 +1,9 @@
--- Mandating: the caller, the principal, lets another single party, the agent, look as it does.
+-- The act `mandate`: the caller, as principal, lets another single party, the agent, see what it sees.
 use Rattle.std.specs.Prelude.{ℤ, Bool, not, nat_eq, List, [], ◌∷◌, Option, is_none}
 use Rattle.land_acts.specs.Mutations.Planning.{done_on}
 use Rattle.land_acts.specs.declared.mutations.refusal.Refusal.{Refusal}
-use Rattle.land_acts.specs.declared.mutations.refusal.Refusal.TheVariants.{NoSuchParty, ClockOut, SameParty, MandateHeld}
+use Rattle.land_acts.specs.declared.mutations.refusal.Refusal.TheVariants.{NoSuchParty, ClockOut, SameParty}
+use Rattle.land_acts.specs.declared.mutations.refusal.Refusal.TheVariants.{MandateHeld}
 use Rattle.land_core.specs.Changes.{no_put, no_ended}
 use Rattle.land_core.specs.Mandates.{has_mandate, mandate_of}
 use Rattle.land_core.specs.Register.{has_single_party}
@@ -13,11 +14,11 @@ use Rattle.land_core.specs.declared.change.Done.{Done}
 use Rattle.land_core.specs.declared.mandates.Mandate.{Mandate}
 use Rattle.land_core.specs.declared.register.Register.{Register}
 
--- the mandate that the act is about: of its caller
+-- the mandate from the caller to the agent
 abbrev pub given : Caller → NewMandate → Mandate
 given caller it = mandate_of caller.party it.agent
 
--- its refusals, each with whether its condition holds, the least number first
+-- the refusals with their conditions, in ascending order
 abbrev pub mandate_refusals : Register → Caller → NewMandate → Option ℤ → List (Refusal × Bool)
 mandate_refusals r caller it stamp =
     (NoSuchParty, not (has_single_party r it.agent))
@@ -26,7 +27,7 @@ mandate_refusals r caller it stamp =
     ∷ (MandateHeld, has_mandate r.mandates (given caller it))
     ∷ []
 
--- the mandate begins
+-- the mandate starts
 abbrev pub mandate_change : Register → Caller → NewMandate → Change
 mandate_change r caller it = record {
   put = record no_put { mandates = given caller it ∷ [] };
@@ -34,6 +35,6 @@ mandate_change r caller it = record {
   next = r.next;
 }
 
--- the act is about the agent
+-- the receipt is about the agent
 abbrev pub mandate_done : NewMandate → ℤ → Done
 mandate_done it stamp = done_on it.agent stamp

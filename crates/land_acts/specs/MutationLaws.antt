@@ -1,6 +1,5 @@
--- Laws of mutations, over the definitions alone: what is lodged stands for good, a repeat is told what the first was told, and what
--- is decided stays decided. And of transfers: the sum of the shares stays, and the
--- receiver has one right.
+-- Laws on mutations, stated only over the definitions: mutations are never lost, a repeat gets the first
+-- receipt, and decisions are final.
 use Rattle.std.specs.Prelude.{◌≡◌, ℕ, ◌+◌, false, Option, Some, Ok, ℤ}
 use Rattle.std.specs.FinMap as map
 use Rattle.land_acts.specs.Deciding.{decided}
@@ -20,29 +19,40 @@ use Rattle.land_core.specs.declared.mutation.MutationRecord.{MutationRecord}
 use Rattle.land_core.specs.declared.mutation.MutationState.{MutationState}
 use Rattle.land_core.specs.declared.register.Register.{Register}
 
--- a mutation stands, with all but its state as it was lodged, and so does its document
-pub record StandsAsLodged (r : Register) (caller : Caller) (it : Lodging) (source number : ℕ) (stamp : ℤ) : Type 0 where
+-- a mutation and its document exist, and only the state of the mutation may differ from the lodging
+pub record StandsAsLodged (r : Register) (caller : Caller) (it : Lodging) (source number : ℕ) (stamp : ℤ)
+    : Type 0 where
   pub state : MutationState
   pub mutation : map.get r.mutations number ≡ Some (decided state (lodged_record caller it source stamp))
-  pub document : map.get r.sources source ≡ Some (record { kind = document_kind it.content; title = it.document })
+  pub document : map.get r.sources source
+      ≡ Some (record { kind = document_kind it.content; title = it.document })
 
--- what is lodged stands after its change, under the next two numbers
+-- after a lodging, the mutation and its document exist under the next two numbers
 abbrev pub LodgingsStand : Type 0
-LodgingsStand = (r : Register) (caller : Caller) (it : Lodging) (stamp : ℤ) (change : Change) (done : Done) → outcome_of r caller (Lodge it) (Some stamp) ≡ Ok (New change done)
+LodgingsStand = (r : Register) (caller : Caller) (it : Lodging) (stamp : ℤ) (change : Change) (done : Done)
+    → outcome_of r caller (Lodge it) (Some stamp) ≡ Ok (New change done)
     → StandsAsLodged (after change r) caller it r.next (r.next + 1) stamp
 
--- and after every accepted change
+-- every accepted change preserves them
 abbrev pub LodgingsStay : Type 0
-LodgingsStay = (r : Register) (caller : Caller) (it : Lodging) (source number : ℕ) (lodged stamp : ℤ) (change : Change) → IsSound r → IsAccepted r change stamp
-    → StandsAsLodged r caller it source number lodged → StandsAsLodged (after change r) caller it source number lodged
+LodgingsStay =
+    (r : Register) (caller : Caller) (it : Lodging) (source number : ℕ) (lodged stamp : ℤ) (change : Change)
+    → IsSound r → IsAccepted r change stamp
+    → StandsAsLodged r caller it source number lodged
+    → StandsAsLodged (after change r) caller it source number lodged
 
--- a repeat is told what the first was told, with or without a stamp, whatever else holds
+-- a repeat gets the first receipt, with or without a stamp, even if a refusal would apply
 abbrev pub RepeatsAreToldTheFirst : Type 0
-RepeatsAreToldTheFirst = (r later : Register) (caller : Caller) (it : Lodging) (stamp : ℤ) (now : Option ℤ) (change : Change) (done : Done)
+RepeatsAreToldTheFirst =
+    (r later : Register) (caller : Caller) (it : Lodging) (stamp : ℤ) (now : Option ℤ) (change : Change)
+    (done : Done)
     → outcome_of r caller (Lodge it) (Some stamp) ≡ Ok (New change done)
-    → IsSound later → StandsAsLodged later caller it r.next (r.next + 1) stamp → outcome_of later caller (Lodge it) now ≡ Ok (Repeat done)
+    → IsSound later → StandsAsLodged later caller it r.next (r.next + 1) stamp
+    → outcome_of later caller (Lodge it) now ≡ Ok (Repeat done)
 
--- a decided mutation stays as it is: no accepted change makes it undecided again, or decides it anew
+-- no accepted change modifies a decided mutation
 abbrev pub DecisionsStay : Type 0
-DecisionsStay = (r : Register) (change : Change) (stamp : ℤ) (number : ℕ) (m : MutationRecord) → IsSound r → IsAccepted r change stamp
-    → map.get r.mutations number ≡ Some m → is_undecided m ≡ false → map.get (after change r).mutations number ≡ Some m
+DecisionsStay = (r : Register) (change : Change) (stamp : ℤ) (number : ℕ) (m : MutationRecord) → IsSound r
+    → IsAccepted r change stamp
+    → map.get r.mutations number ≡ Some m → is_undecided m ≡ false
+    → map.get (after change r).mutations number ≡ Some m

@@ -1,4 +1,4 @@
--- Definitions of what mutations ask for, and of what all plans have in common.
+-- The definitions of the contents of mutations.
 pub mod Areas
 pub mod Asking
 pub mod Discharging

@@ -1,7 +1,9 @@
--- What an act leads to: the least refusal whose condition holds, else a change of the register.
+-- The outcome of an act: the first refusal whose condition holds, or else a change of the register and a
+-- receipt.
 use Rattle.std.specs.Prelude.{◌≡◌, Bool, true, List, Option, Some, None, Result, Ok, Err, ℤ}
 use Rattle.land_acts.specs.Burdening.{burden_refusals, burden_change, burden_done}
-use Rattle.land_acts.specs.Deciding.{approve_refusals, approve_change, approve_done, approve_has_room, refuse_refusals, refuse_change}
+use Rattle.land_acts.specs.Deciding.{approve_refusals, approve_change, approve_done, approve_has_room}
+use Rattle.land_acts.specs.Deciding.{refuse_refusals, refuse_change}
 use Rattle.land_acts.specs.Enrolment.{enrol_refusals, enrol_change, enrol_done}
 use Rattle.land_acts.specs.Granting.{grant_refusals, grant_change, grant_done}
 use Rattle.land_acts.specs.Grouping.{group_refusals, group_change, group_done}
@@ -18,13 +20,15 @@ use Rattle.land_acts.specs.declared.mutations.refusal.Planned.TheVariants.{New, 
 use Rattle.land_acts.specs.declared.mutations.refusal.Refusal.{Refusal}
 use Rattle.land_acts.specs.declared.mutations.refusal.Refusal.TheVariants.{ClockOut}
 use Rattle.land_core.specs.declared.act.Act.{Act}
-use Rattle.land_core.specs.declared.act.Act.TheVariants.{Enrol, Group, Regroup, Grant, Revoke, Mandate, Withdraw, Register as RegisterUnit, Burden, Lift, Lodge, Approve, Refuse}
+use Rattle.land_core.specs.declared.act.Act.TheVariants.{Enrol, Group, Regroup, Grant, Revoke, Mandate}
+use Rattle.land_core.specs.declared.act.Act.TheVariants.{Withdraw, Register as RegisterUnit, Burden, Lift}
+use Rattle.land_core.specs.declared.act.Act.TheVariants.{Lodge, Approve, Refuse}
 use Rattle.land_core.specs.declared.caller.Caller.{Caller}
 use Rattle.land_core.specs.declared.change.Change.{Change}
 use Rattle.land_core.specs.declared.change.Done.{Done}
 use Rattle.land_core.specs.declared.register.Register.{Register}
 
--- the refusals of an act, each with whether its condition holds, the least number first
+-- the refusals of an act with their conditions, in ascending order
 abbrev pub refusals_of : Register → Caller → Act → Option ℤ → List (Refusal × Bool)
 refusals_of r caller (Enrol it) stamp = enrol_refusals r stamp
 refusals_of r caller (Group it) stamp = group_refusals r it stamp
@@ -40,7 +44,7 @@ refusals_of r caller (Lodge it) stamp = lodge_refusals r caller it stamp
 refusals_of r caller (Approve it) stamp = approve_refusals r it stamp
 refusals_of r caller (Refuse it) stamp = refuse_refusals r it stamp
 
--- what an act changes where it is not refused
+-- the change of an act to which no refusal applies
 abbrev pub change_of : Register → Caller → Act → ℤ → Change
 change_of r caller (Enrol it) stamp = enrol_change r it
 change_of r caller (Group it) stamp = group_change r it
@@ -56,7 +60,7 @@ change_of r caller (Lodge it) stamp = lodge_change r caller it stamp
 change_of r caller (Approve it) stamp = approve_change r it
 change_of r caller (Refuse it) stamp = refuse_change r it
 
--- what the caller is told of an act that is not refused
+-- the receipt of an act to which no refusal applies
 abbrev pub done_of : Register → Caller → Act → ℤ → Done
 done_of r caller (Enrol it) stamp = enrol_done r it stamp
 done_of r caller (Group it) stamp = group_done r stamp
@@ -72,16 +76,17 @@ done_of r caller (Lodge it) stamp = lodge_done r stamp
 done_of r caller (Approve it) stamp = approve_done r it stamp
 done_of r caller (Refuse it) stamp = done_on it.mutation stamp
 
+-- a refusal, or else the plan
 abbrev pub refused_else : Option Refusal → Result Planned Refusal → Result Planned Refusal
 refused_else None else_planned = else_planned
 refused_else (Some refusal) else_planned = Err refusal
 
--- the plan of an act that nothing refuses; without a stamp there is no moment for its change
+-- the plan of an act to which no refusal applies; without a stamp it is refused
 abbrev pub stamped : (ℤ → Change) → (ℤ → Done) → Option ℤ → Result Planned Refusal
 stamped change done (Some stamp) = Ok (New (change stamp) (done stamp))
 stamped change done None = Err ClockOut
 
--- what the caller was told of an act that it repeats: only a lodging can be repeated
+-- the receipt that a repeated act got before; only a lodging can be a repeat
 abbrev pub repeated_done : Register → Caller → Act → Option Done
 repeated_done r caller (Enrol it) = None
 repeated_done r caller (Group it) = None
@@ -97,24 +102,25 @@ repeated_done r caller (Lodge it) = lodge_repeat r caller it
 repeated_done r caller (Approve it) = None
 repeated_done r caller (Refuse it) = None
 
--- a repeat is told what was told before, whatever else holds
+-- a repeat gets the earlier receipt, even if a refusal would apply
 abbrev pub repeated_else : Option Done → Result Planned Refusal → Result Planned Refusal
 repeated_else None else_planned = else_planned
 repeated_else (Some done) else_planned = Ok (Repeat done)
 
--- the outcome of an act with a stamp, or with none where there is no moment left for a change
+-- the outcome of an act with a stamp, or without one if no later stamp exists
 abbrev pub outcome_of : Register → Caller → Act → Option ℤ → Result Planned Refusal
 outcome_of r caller a stamp =
     repeated_else (repeated_done r caller a)
-    (refused_else (first_that_holds (refusals_of r caller a stamp)) (stamped (λ at. change_of r caller a at) (λ at. done_of r caller a at) stamp))
+    (refused_else (first_that_holds (refusals_of r caller a stamp))
+    (stamped (λ at. change_of r caller a at) (λ at. done_of r caller a at) stamp))
 
--- no refusal holds, at some stamp or none
+-- no refusal applies, with some stamp or without one
 pub record IsUnrefused (r : Register) (caller : Caller) (a : Act) : Type 0 where
   pub stamp : Option ℤ
   pub none_holds : first_that_holds (refusals_of r caller a stamp) ≡ None
 
--- the numbers that a register holds leave room for what an act makes that nothing refuses. Only a mortgage's rank and a
--- transfer's right are not bounded by refusals: they are in a sound register
+-- the numbers and ranks that the act creates stay in range. Refusals bound all of them except the rank of a
+-- mortgage and the right of a transfer; in a sound register these are in range, too
 abbrev pub has_room_for : Register → Act → Bool
 has_room_for r (Enrol it) = true
 has_room_for r (Group it) = true

@@ -1,6 +1,6 @@
--- The area of a register: what all its parcels have together. An approval leaves it as it was, and of all acts a registration alone
--- adds to it.
-use Rattle.std.specs.Prelude.{◌≡◌, ℕ, ◌+◌, ◌≤◌, ℤ, true, false, List, [], ◌∷◌, map as map_list, Some, None, Ok}
+-- The total area of a register: approvals preserve it, and of all acts only registrations add to it.
+use Rattle.std.specs.Prelude.{◌≡◌, ℕ, ◌+◌, ◌≤◌, ℤ, true, false, List, [], ◌∷◌, map as map_list, Some, None}
+use Rattle.std.specs.Prelude.{Ok}
 use Rattle.std.specs.List.{AllByRecursion}
 use Rattle.std.specs.FinMap as map
 use Rattle.land_acts.specs.AreaLaws.{outlines_put}
@@ -26,7 +26,7 @@ use Rattle.land_core.specs.declared.register.Register.{Register}
 use Rattle.land_shape.specs.Matching.{Match}
 use Rattle.land_shape.specs.Place.{Place}
 
--- twice the area of all parcels of a register together, in square millimetres
+-- twice the total area of all parcels of a register, in square millimetres
 abbrev pub area_of_all : Register → ℕ
 area_of_all r = doubled_areas (map_list (λ e. e.1.outline) (map.entries r.parcels))
 
@@ -40,7 +40,7 @@ parcels_replaced (content.Merger it) = it.parcels
 parcels_replaced (content.Mortgage it) = []
 parcels_replaced (content.Discharge it) = []
 
--- the outlines that it asks for in their place
+-- the outlines of the parcels that replace them
 abbrev pub outlines_asked : Content → List (List Place)
 outlines_asked (content.Transfer it) = []
 outlines_asked (content.Subdivision it) = outlines_of (all_parts it)
@@ -48,31 +48,39 @@ outlines_asked (content.Merger it) = it.outline ∷ []
 outlines_asked (content.Mortgage it) = []
 outlines_asked (content.Discharge it) = []
 
--- what a register is after a change that puts new parcels in the place of others, at some numbers
-pub record HaveTakenPlace (r : Register) (replaced : List ℕ) (outlines : List (List Place)) (change : Change) : Type 0 where
-  -- all parcels have together the area that they had
+-- the effect of a change that replaces the parcels at these numbers by new ones
+pub record HaveTakenPlace (r : Register) (replaced : List ℕ) (outlines : List (List Place)) (change : Change)
+    : Type 0 where
+  -- the total area is unchanged
   pub area : area_of_all (after change r) ≡ area_of_all r
-  -- a parcel stood at each of the numbers, and is gone
-  pub gone : (n : ℕ) → lists_number replaced n ≡ true → (has r.parcels n ≡ true) × (map.get (after change r).parcels n ≡ None)
-  -- the new parcels have the outlines
+  -- a parcel existed at each of the numbers, and does not exist any more
+  pub gone : (n : ℕ) → lists_number replaced n ≡ true
+      → (has r.parcels n ≡ true) × (map.get (after change r).parcels n ≡ None)
+  -- the new parcels have these outlines
   pub outlined : outlines_put change ≡ outlines
-  -- which are the ground of those that are gone, no more and no less
+  -- they cover exactly the ground of the replaced parcels
   pub ground : Match (outlines_at r replaced) outlines
-  -- each new parcel stands, under a new number
-  pub stand : AllByRecursion (λ e. (r.next ≤ e.0) × (map.get (after change r).parcels e.0 ≡ Some e.1)) change.put.parcels
-  -- at every other number there is what there was
-  pub others : (n : ℕ) → lists_number replaced n ≡ false → lists_number (map_list (λ e. e.0) change.put.parcels) n ≡ false
+  -- each new parcel exists, under a new number
+  pub stand : AllByRecursion
+      (λ e. (r.next ≤ e.0) × (map.get (after change r).parcels e.0 ≡ Some e.1)) change.put.parcels
+  -- every other number is unchanged
+  pub others : (n : ℕ) → lists_number replaced n ≡ false
+      → lists_number (map_list (λ e. e.0) change.put.parcels) n ≡ false
       → map.get (after change r).parcels n ≡ map.get r.parcels n
 
--- an approval puts the parcels that the mutation asks for in the place of those that it cuts or merges, and keeps the area of all
+-- an approval replaces the parcels that the mutation cuts or merges by those that it requests, and preserves
+-- the total area
 abbrev pub ApprovedRegistersKeepTheirArea : Type 0
-ApprovedRegistersKeepTheirArea = (r : Register) (caller : Caller) (decision : Decision) (m : MutationRecord) (stamp : ℤ) (change : Change) (done : Done)
-    → IsSound r → map.get r.mutations decision.mutation ≡ Some m → outcome_of r caller (act.Approve decision) (Some stamp) ≡ Ok (New change done)
+ApprovedRegistersKeepTheirArea =
+    (r : Register) (caller : Caller) (decision : Decision) (m : MutationRecord) (stamp : ℤ) (change : Change)
+    (done : Done)
+    → IsSound r → map.get r.mutations decision.mutation ≡ Some m
+    → outcome_of r caller (act.Approve decision) (Some stamp) ≡ Ok (New change done)
     → HaveTakenPlace r (parcels_replaced m.content) (outlines_asked m.content) change
 
 -- ---- all acts
 
--- twice the area of the parcels that an act registers
+-- twice the total area of the parcels that an act registers
 abbrev pub area_registered : Act → ℕ
 area_registered (act.Enrol it) = 0
 area_registered (act.Group it) = 0
@@ -88,7 +96,8 @@ area_registered (act.Lodge it) = 0
 area_registered (act.Approve it) = 0
 area_registered (act.Refuse it) = 0
 
--- an accepted act adds to the area of all parcels what it registers, and no act takes from it
+-- an accepted act adds to the total area exactly the area that it registers
 abbrev pub RegistrationsAloneAddArea : Type 0
-RegistrationsAloneAddArea = (r : Register) (change : Change) (stamp : ℤ) → IsSound r → (h : IsAccepted r change stamp)
+RegistrationsAloneAddArea =
+    (r : Register) (change : Change) (stamp : ℤ) → IsSound r → (h : IsAccepted r change stamp)
     → area_of_all (after change r) ≡ area_of_all r + area_registered h.act

@@ -1,10 +1,13 @@
--- Registering: a unit is entered with its first parcels and rights.
-use Rattle.std.specs.Prelude.{ℕ, ◌+◌, ℤ, Bool, not, ◌&&◌, List, [], ◌∷◌, length, map as map_list, Option, is_none}
+-- The act `register`: a unit is added with its first parcels and rights.
+use Rattle.std.specs.Prelude.{ℕ, ◌+◌, ℤ, Bool, not, ◌&&◌, List, [], ◌∷◌, length, map as map_list, Option}
+use Rattle.std.specs.Prelude.{is_none}
 use Rattle.land_acts.specs.FirstRights.{lists_absent, are_types_too_fine, are_types_whole, has_right_twice}
 use Rattle.land_acts.specs.Mutations.Numbering.{numbered, numbers_from}
 use Rattle.land_acts.specs.Mutations.Planning.{document_source, lacks_numbers}
 use Rattle.land_acts.specs.declared.mutations.refusal.Refusal.{Refusal}
-use Rattle.land_acts.specs.declared.mutations.refusal.Refusal.TheVariants.{NoSuchParty, SharesTooFine, TooMany, SharesNotWhole, ClockOut, SameParty}
+use Rattle.land_acts.specs.declared.mutations.refusal.Refusal.TheVariants.{NoSuchParty, SharesTooFine}
+use Rattle.land_acts.specs.declared.mutations.refusal.Refusal.TheVariants.{TooMany, SharesNotWhole, ClockOut}
+use Rattle.land_acts.specs.declared.mutations.refusal.Refusal.TheVariants.{SameParty}
 use Rattle.land_core.specs.Changes.{no_put, no_ended}
 use Rattle.land_core.specs.declared.act.NewParcel.{NewParcel}
 use Rattle.land_core.specs.declared.act.NewRight.{NewRight}
@@ -17,11 +20,11 @@ use Rattle.land_core.specs.declared.rrr.Class.TheVariants.{Right}
 use Rattle.land_core.specs.declared.rrr.RrrRecord.{RrrRecord}
 use Rattle.land_core.specs.declared.source.SourceKind.TheVariants.{Administrative}
 
--- how many objects are new: the source, the unit, the parcels and the rights
+-- the number of new objects: the source, the unit, the parcels and the rights
 abbrev pub new_count : NewUnit → ℕ
 new_count it = 2 + length it.parcels + length it.rights
 
--- its refusals, each with whether its condition holds, the least number first
+-- the refusals with their conditions, in ascending order
 abbrev pub register_refusals : Register → NewUnit → Option ℤ → List (Refusal × Bool)
 register_refusals r it stamp =
     (NoSuchParty, lists_absent r it.rights)
@@ -32,14 +35,18 @@ register_refusals r it stamp =
     ∷ (SameParty, has_right_twice it.rights)
     ∷ []
 
--- a parcel and a right as the register keeps them
+-- the record of a parcel
 abbrev pub parcel_of : (unit source : ℕ) → NewParcel → ParcelRecord
-parcel_of unit source parcel = record { unit = unit; label = parcel.label; outline = parcel.outline; source = source }
+parcel_of unit source parcel =
+    record { unit = unit; label = parcel.label; outline = parcel.outline; source = source }
 
+-- the record of a right
 abbrev pub right_of : (unit source : ℕ) → NewRight → RrrRecord
-right_of unit source right = record { unit = unit; party = right.party; class = Right right.right_type right.share; source = source }
+right_of unit source right =
+    record { unit = unit; party = right.party; class = Right right.right_type right.share; source = source }
 
--- the source stands under the next number, then the unit, the parcels and the rights; all come from the source
+-- the source gets the next number, then the unit, the parcels and the rights; the source of all is this
+-- document
 abbrev pub register_change : Register → NewUnit → Change
 register_change r it = record {
   put = record no_put {
@@ -52,6 +59,7 @@ register_change r it = record {
   next = r.next + new_count it;
 }
 
--- the act is about the unit
+-- the receipt is about the unit
 abbrev pub register_done : Register → NewUnit → ℤ → Done
-register_done r it stamp = record { number = r.next + 1; made = numbers_from r.next (new_count it); stamp = stamp }
+register_done r it stamp =
+    record { number = r.next + 1; made = numbers_from r.next (new_count it); stamp = stamp }

@@ -1,9 +1,11 @@
--- Regrouping: the listed members take the place of those that a group has.
+-- The act `regroup`: the listed members replace those of a group.
 use Rattle.std.specs.Prelude.{ℤ, Bool, not, ◌||◌, List, [], ◌∷◌, Option, is_none}
 use Rattle.land_acts.specs.Mutations.Planning.{done_on}
 use Rattle.land_acts.specs.Sharing.{lists_stranger, are_too_fine, are_whole, lists_twice, members_of_list}
 use Rattle.land_acts.specs.declared.mutations.refusal.Refusal.{Refusal}
-use Rattle.land_acts.specs.declared.mutations.refusal.Refusal.TheVariants.{NoSuchParty, SharesTooFine, SharesNotWhole, ClockOut, SameParty}
+use Rattle.land_acts.specs.declared.mutations.refusal.Refusal.TheVariants.{NoSuchParty, SharesTooFine}
+use Rattle.land_acts.specs.declared.mutations.refusal.Refusal.TheVariants.{SharesNotWhole, ClockOut}
+use Rattle.land_acts.specs.declared.mutations.refusal.Refusal.TheVariants.{SameParty}
 use Rattle.land_core.specs.Changes.{no_put, no_ended}
 use Rattle.land_core.specs.Register.{has_group}
 use Rattle.land_core.specs.declared.act.Regroup.{Regroup}
@@ -11,7 +13,7 @@ use Rattle.land_core.specs.declared.change.Change.{Change}
 use Rattle.land_core.specs.declared.change.Done.{Done}
 use Rattle.land_core.specs.declared.register.Register.{Register}
 
--- its refusals, each with whether its condition holds, the least number first
+-- the refusals with their conditions, in ascending order
 abbrev pub regroup_refusals : Register → Regroup → Option ℤ → List (Refusal × Bool)
 regroup_refusals r it stamp =
     (NoSuchParty, not (has_group r it.group) || lists_stranger r it.members)
@@ -21,7 +23,7 @@ regroup_refusals r it stamp =
     ∷ (SameParty, lists_twice it.members)
     ∷ []
 
--- the listed members stand under the group's number, and no others
+-- the group has exactly the listed members
 abbrev pub regroup_change : Register → Regroup → Change
 regroup_change r it = record {
   put = record no_put { members = (it.group, members_of_list it.members) ∷ [] };
@@ -29,6 +31,6 @@ regroup_change r it = record {
   next = r.next;
 }
 
--- the act is about the group
+-- the receipt is about the group
 abbrev pub regroup_done : Regroup → ℤ → Done
 regroup_done it stamp = done_on it.group stamp

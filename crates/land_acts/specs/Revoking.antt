@@ -1,9 +1,10 @@
--- Revoking: a role of a single party ends. The last state administrator stays one.
+-- The act `revoke`: a role of a single party ends. The last state administrator keeps its role.
 use Rattle.std.specs.Prelude.{ℕ, ℤ, Bool, not, ◌&&◌, nat_eq, List, [], ◌∷◌, Option, is_none}
 use Rattle.std.specs.List.{list_any}
 use Rattle.land_acts.specs.Mutations.Planning.{done_on}
 use Rattle.land_acts.specs.declared.mutations.refusal.Refusal.{Refusal}
-use Rattle.land_acts.specs.declared.mutations.refusal.Refusal.TheVariants.{NoSuchParty, RoleNotHeld, ClockOut, LastAdministrator}
+use Rattle.land_acts.specs.declared.mutations.refusal.Refusal.TheVariants.{NoSuchParty, RoleNotHeld, ClockOut}
+use Rattle.land_acts.specs.declared.mutations.refusal.Refusal.TheVariants.{LastAdministrator}
 use Rattle.land_core.specs.Changes.{no_put, no_ended}
 use Rattle.land_core.specs.Grants.{grants_in}
 use Rattle.land_core.specs.Register.{has_single_party, holds}
@@ -14,11 +15,13 @@ use Rattle.land_core.specs.declared.register.Register.{Register}
 use Rattle.land_core.specs.declared.role.Role.TheVariants.{StateAdministrator}
 use Rattle.land_core.specs.declared.roles.Grant.{Grant}
 
--- whether some other party is state administrator
+-- whether another party is state administrator
 abbrev pub has_administrator_beside : Register → ℕ → Bool
-has_administrator_beside r n = list_any (λ grant. is_role grant.role StateAdministrator && not (nat_eq grant.party n)) (grants_in r.roles)
+has_administrator_beside r n =
+    list_any (λ grant. is_role grant.role StateAdministrator && not (nat_eq grant.party n))
+    (grants_in r.roles)
 
--- its refusals, each with whether its condition holds, the least number first
+-- the refusals with their conditions, in ascending order
 abbrev pub revoke_refusals : Register → Grant → Option ℤ → List (Refusal × Bool)
 revoke_refusals r it stamp =
     (NoSuchParty, not (has_single_party r it.party))
@@ -35,6 +38,6 @@ revoke_change r it = record {
   next = r.next;
 }
 
--- the act is about the party
+-- the receipt is about the party
 abbrev pub revoke_done : Grant → ℤ → Done
 revoke_done it stamp = done_on it.party stamp

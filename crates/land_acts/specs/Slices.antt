@@ -1,4 +1,4 @@
--- Slices: a register with only the records that planning may look at.
+-- The slice of a register for an act: only the records that planning the act may read.
 use Rattle.std.specs.Prelude.{ℕ, ◌≡◌, Bool, false, ◌&&◌, ◌||◌, nat_eq}
 use Rattle.std.specs.FinMap as map
 use Rattle.std.specs.FinMap.{FinMap}
@@ -23,7 +23,7 @@ use Rattle.land_core.specs.declared.register.Register.{Register}
 use Rattle.land_core.specs.declared.role.Role.TheVariants.{StateAdministrator}
 use Rattle.land_core.specs.declared.rrr.RrrRecord.{RrrRecord}
 
--- whether a party stands in a content: who receives, or who lends
+-- whether a content refers to a party: the receiver of a transfer, or the creditor of a mortgage
 abbrev pub content_names_party : (party : ℕ) → Content → Bool
 content_names_party n (content.Transfer it) = nat_eq n it.receiver
 content_names_party n (content.Subdivision it) = false
@@ -31,11 +31,11 @@ content_names_party n (content.Merger it) = false
 content_names_party n (content.Mortgage it) = nat_eq n it.creditor
 content_names_party n (content.Discharge it) = false
 
--- whether a mutation stands at a number and passes a test
+-- whether a mutation exists at a number and satisfies a condition
 abbrev pub is_mutation_where : (MutationRecord → Bool) → Register → ℕ → Bool
 is_mutation_where passes r n = option_map_or passes (map.get r.mutations n) false
 
--- whether an act names a party, in itself or through what it names in the register
+-- whether an act refers to a party, directly or through the mutation that it decides
 abbrev pub names_party : Register → Act → ℕ → Bool
 names_party r (act.Enrol it) n = false
 names_party r (act.Group it) n = lists_party it.members n
@@ -51,7 +51,7 @@ names_party r (act.Lodge it) n = content_names_party n it.content
 names_party r (act.Approve it) n = is_mutation_where (λ m. content_names_party n m.content) r it.mutation
 names_party r (act.Refuse it) n = is_mutation_where (λ m. content_names_party n m.content) r it.mutation
 
--- whether an act names a unit, likewise
+-- whether an act refers to a unit, directly or through the mutation that it decides
 abbrev pub names_unit : Register → Act → ℕ → Bool
 names_unit r (act.Enrol it) n = false
 names_unit r (act.Group it) n = false
@@ -67,7 +67,7 @@ names_unit r (act.Lodge it) n = content_names_unit n it.content
 names_unit r (act.Approve it) n = is_mutation_where (λ m. content_names_unit n m.content) r it.mutation
 names_unit r (act.Refuse it) n = is_mutation_where (λ m. content_names_unit n m.content) r it.mutation
 
--- whether an act names an entry, likewise
+-- whether an act refers to an entry
 abbrev pub names_rrr : Register → Act → ℕ → Bool
 names_rrr r (act.Enrol it) n = false
 names_rrr r (act.Group it) n = false
@@ -83,7 +83,8 @@ names_rrr r (act.Lodge it) n = false
 names_rrr r (act.Approve it) n = false
 names_rrr r (act.Refuse it) n = false
 
--- whether an act is about a mutation: it decides it, or it lodges one under a reference that its caller gave it before
+-- whether planning an act reads a mutation: the act decides it, or its caller lodged it under the same
+-- reference
 abbrev pub looks_at_mutation : Caller → Act → ℕ → MutationRecord → Bool
 looks_at_mutation caller (act.Enrol it) n m = false
 looks_at_mutation caller (act.Group it) n m = false
@@ -99,11 +100,11 @@ looks_at_mutation caller (act.Lodge it) n m = is_lodged_as caller.party it.refer
 looks_at_mutation caller (act.Approve it) n m = nat_eq n it.mutation
 looks_at_mutation caller (act.Refuse it) n m = nat_eq n it.mutation
 
--- whether a mandate is another: of the same principal, to the same agent
+-- whether two mandates have the same principal and the same agent
 abbrev pub is_mandate : (it m : Mandate) → Bool
 is_mandate it m = nat_eq m.principal it.principal && nat_eq m.agent it.agent
 
--- whether an act names a mandate: it gives or withdraws it
+-- whether an act gives or withdraws a mandate
 abbrev pub names_mandate : Caller → Act → Mandate → Bool
 names_mandate caller (act.Enrol it) m = false
 names_mandate caller (act.Group it) m = false
@@ -119,23 +120,24 @@ names_mandate caller (act.Lodge it) m = false
 names_mandate caller (act.Approve it) m = false
 names_mandate caller (act.Refuse it) m = false
 
+-- the mutations in the slice
 abbrev pub mutations_looked_at : Register → Caller → Act → FinMap nat_cmp MutationRecord
 mutations_looked_at r caller a = only (λ n m. looks_at_mutation caller a n m) r.mutations
 
--- planning may look at the sources of these mutations
+-- planning reads the sources of these mutations
 abbrev pub looks_at_source : Register → Caller → Act → ℕ → Bool
 looks_at_source r caller a n = some (λ k m. nat_eq m.source n) (mutations_looked_at r caller a)
 
--- planning may look at the parties that the act names, and at all state administrators
+-- planning reads the parties to which the act refers, and all state administrators
 abbrev pub looks_at_party : Register → Act → ℕ → Bool
 looks_at_party r a n = names_party r a n || holds r n StateAdministrator
 
--- at the entries of the units that it names, and at the entry that it names
+-- planning reads the entries of the units to which the act refers, and the entry of a lift
 abbrev pub looks_at_rrr : Register → Act → ℕ → RrrRecord → Bool
 looks_at_rrr r a n e = names_unit r a e.unit || names_rrr r a n
 
--- the register with the records that planning may look at, and no others; a party that is kept keeps all its roles, a group
--- all its members, and a unit that is named all its parcels and entries
+-- the register with only these records: each party with all its roles, each group with all its members, each
+-- unit with all its parcels and entries
 abbrev pub slice_of : Register → Caller → Act → Register
 slice_of r caller a = record {
   parties = only (λ n p. looks_at_party r a n) r.parties;
@@ -150,7 +152,7 @@ slice_of r caller a = record {
   next = r.next;
 }
 
--- a register is the slice of a sound one for an act
+-- the register is the slice of a sound register for an act
 pub record IsOfSound (slice : Register) (caller : Caller) (a : Act) : Type 0 where
   pub register : Register
   pub sound : IsSound register

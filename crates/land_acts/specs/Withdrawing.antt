@@ -1,4 +1,5 @@
--- Withdrawing: a mandate ends. Who may withdraw it is the policy's business: its principal or its agent.
+-- The act `withdraw`: a mandate ends. The policy decides which parties may withdraw it: its principal and its
+-- agent.
 use Rattle.std.specs.Prelude.{ℤ, Bool, not, List, [], ◌∷◌, Option, is_none}
 use Rattle.land_acts.specs.Mutations.Planning.{done_on}
 use Rattle.land_acts.specs.declared.mutations.refusal.Refusal.{Refusal}
@@ -10,7 +11,7 @@ use Rattle.land_core.specs.declared.change.Done.{Done}
 use Rattle.land_core.specs.declared.mandates.Mandate.{Mandate}
 use Rattle.land_core.specs.declared.register.Register.{Register}
 
--- its refusals, each with whether its condition holds, the least number first
+-- the refusals with their conditions, in ascending order
 abbrev pub withdraw_refusals : Register → Mandate → Option ℤ → List (Refusal × Bool)
 withdraw_refusals r it stamp = (ClockOut, is_none stamp) ∷ (NoMandate, not (has_mandate r.mandates it)) ∷ []
 
@@ -22,6 +23,6 @@ withdraw_change r it = record {
   next = r.next;
 }
 
--- the act is about the agent
+-- the receipt is about the agent
 abbrev pub withdraw_done : Mandate → ℤ → Done
 withdraw_done it stamp = done_on it.agent stamp

@@ -1,7 +1,7 @@
-//! Burdening a unit.
+//! The act `burden`: a unit gets a restriction or a responsibility.
 ghost use Rattle.std.specs.Prelude.{◌≡◌, ◌≤◌, IfOk};
 ghost use Rattle.land_acts.specs.Burdening.{burden_refusals, burden_change, burden_done, class_of};
-ghost use Rattle.land_acts.specs.Mutations.Planning.{would_crowd, first_that_holds};
+ghost use Rattle.land_acts.specs.Mutations.Planning.{IsPlanOf, first_that_holds, would_crowd};
 
 use crate::mutations::planning::{document_source, lacks_numbers, would_crowd};
 use crate::mutations::refusal::Refusal;
@@ -16,7 +16,7 @@ use land_core::source::SourceKind;
 use land_core::text::Text;
 use std::alloc::{AllocError, Global};
 
-/// The least refusal of a burden whose condition holds.
+/// Returns the first refusal of a burden whose condition holds: 202, 205, 210 or 217.
 pub(crate) fn refusal(slice: &Slice, it: &Burden, stamp: Option<i64>) -> Option<Refusal>
     ensures { result ≡ first_that_holds (burden_refusals slice.now it.now stamp) }
 {
@@ -33,7 +33,7 @@ pub(crate) fn refusal(slice: &Slice, it: &Burden, stamp: Option<i64>) -> Option<
     }
 }
 
-/// The source and the entry, under the next numbers.
+/// Returns the change, with the source and the entry under the next two numbers, and the receipt.
 pub(crate) fn planned(
     alloc: Global,
     slice: &Slice,
@@ -41,7 +41,7 @@ pub(crate) fn planned(
     stamp: i64,
 ) -> Result<(Change, Done), AllocError>
     requires { slice.now.next ≤ 999_999_999 }
-    ensures { IfOk result (λ planned. (planned.0 ≡ burden_change slice.now it.now) × (planned.1 ≡ burden_done slice.now stamp)) }
+    ensures { IfOk result (IsPlanOf (burden_change slice.now it.now) (burden_done slice.now stamp)) }
 {
     let source = slice.next;
     let number = source + 1;
@@ -68,7 +68,7 @@ pub(crate) fn planned(
     ))
 }
 
-/// The entry that says the words.
+/// Returns the class of the entry with these words.
 fn class_of(class: BurdenClass, words: Text) -> Class
     ensures { result ≡ class_of class words }
 {

@@ -1,9 +1,10 @@
-//! Deciding a mutation.
+//! The acts `approve` and `refuse`, which decide on a mutation.
 ghost use Rattle.std.specs.Prelude.{◌≡◌, ◌∷◌, [], Some, IfOk};
 ghost use Rattle.std.specs.FinMap as map;
-ghost use Rattle.land_acts.specs.Deciding.{approve_change, approve_done, approve_has_room, approve_refusals, decided, is_lodged, refuse_change, refuse_refusals};
+ghost use Rattle.land_acts.specs.Deciding.{approve_change, approve_done, approve_has_room, approve_refusals};
+ghost use Rattle.land_acts.specs.Deciding.{decided, is_lodged, refuse_change, refuse_refusals};
 ghost use Rattle.land_acts.specs.Mutations.Asking.{Fits};
-ghost use Rattle.land_acts.specs.Mutations.Planning.{done_on, first_that_holds};
+ghost use Rattle.land_acts.specs.Mutations.Planning.{IsPlanOf, done_on, first_that_holds};
 
 use crate::mutations::asking;
 use crate::mutations::planning::done_on;
@@ -16,7 +17,8 @@ use land_core::mutation::{MutationRecord, MutationState};
 use land_core::sequence::Sequence;
 use std::alloc::{AllocError, Global};
 
-/// The least refusal of an approval whose condition holds.
+/// Returns the first refusal of an approval whose condition holds: 201, or a refusal of the content. The
+/// other error is out of memory.
 pub(crate) fn approve_refusal(
     alloc: Global,
     slice: &Slice,
@@ -33,7 +35,7 @@ pub(crate) fn approve_refusal(
     }
 }
 
-/// The least refusal of a refusal whose condition holds.
+/// Returns the first refusal of a refusal whose condition holds: 201 or 217.
 pub(crate) fn refuse_refusal(slice: &Slice, it: Decision, stamp: Option<i64>) -> Option<Refusal>
     ensures { result ≡ first_that_holds (refuse_refusals slice.now it stamp) }
 {
@@ -46,7 +48,7 @@ pub(crate) fn refuse_refusal(slice: &Slice, it: Decision, stamp: Option<i64>) ->
     }
 }
 
-/// Whether an undecided mutation stands at a number.
+/// Returns whether an undecided mutation exists at a number.
 fn is_lodged(slice: &Slice, number: u64) -> bool
     ensures { result ≡ is_lodged slice.now number }
 {
@@ -56,7 +58,7 @@ fn is_lodged(slice: &Slice, number: u64) -> bool
     }
 }
 
-/// Whether the numbers that a register holds leave room for what the mutation asks for.
+/// Returns whether the numbers and ranks that the content creates stay in range. In a sound register they do.
 pub(crate) fn approve_has_room(slice: &Slice, it: Decision) -> bool
     ensures { result ≡ approve_has_room slice.now it }
 {
@@ -66,15 +68,16 @@ pub(crate) fn approve_has_room(slice: &Slice, it: Decision) -> bool
     }
 }
 
-/// What the mutation asks for, and that it is approved.
+/// Returns the change that the content requests, with the mutation marked approved, and the receipt.
 pub(crate) fn approved(
     alloc: Global,
     slice: &Slice,
     it: Decision,
     stamp: i64,
 ) -> Result<(Change, Done), AllocError>
-    requires { (mutation : MutationRecord) → map.get slice.now.mutations it.mutation ≡ Some mutation → Fits slice.now mutation.content }
-    ensures { IfOk result (λ planned. (planned.0 ≡ approve_change slice.now it) × (planned.1 ≡ approve_done slice.now it stamp)) }
+    requires { (mutation : MutationRecord) → map.get slice.now.mutations it.mutation ≡ Some mutation
+        → Fits slice.now mutation.content }
+    ensures { IfOk result (IsPlanOf (approve_change slice.now it) (approve_done slice.now it stamp)) }
 {
     let Some(mutation) = slice.mutations.get(it.mutation) else {
         return Ok((
@@ -96,14 +99,14 @@ pub(crate) fn approved(
     ))
 }
 
-/// That the mutation is refused.
+/// Returns the change that only marks the mutation refused, and the receipt.
 pub(crate) fn refused(
     alloc: Global,
     slice: &Slice,
     it: Decision,
     stamp: i64,
 ) -> Result<(Change, Done), AllocError>
-    ensures { IfOk result (λ planned. (planned.0 ≡ refuse_change slice.now it) × (planned.1 ≡ done_on it.mutation stamp)) }
+    ensures { IfOk result (IsPlanOf (refuse_change slice.now it) (done_on it.mutation stamp)) }
 {
     let Some(mutation) = slice.mutations.get(it.mutation) else {
         return Ok((
@@ -117,7 +120,7 @@ pub(crate) fn refused(
     Ok((change, done_on(alloc, it.mutation, stamp)))
 }
 
-/// A mutation once it is decided, under its number.
+/// Returns the mutation in its new state, under its number.
 fn decided(
     alloc: Global,
     number: u64,

@@ -1,7 +1,7 @@
-//! Enrolling a party.
+//! The act `enrol`: a party is added to the register.
 ghost use Rattle.std.specs.Prelude.{◌≡◌, ◌≤◌, ◌+◌, IfOk};
 ghost use Rattle.land_acts.specs.Enrolment.{enrol_refusals, enrol_change, enrol_done};
-ghost use Rattle.land_acts.specs.Mutations.Planning.{first_that_holds};
+ghost use Rattle.land_acts.specs.Mutations.Planning.{IsPlanOf, first_that_holds};
 
 use crate::mutations::planning::lacks_numbers;
 use crate::mutations::refusal::Refusal;
@@ -15,7 +15,7 @@ use land_core::roles::Grant;
 use land_core::sequence::Sequence;
 use std::alloc::{AllocError, Global};
 
-/// The least refusal of an enrolment whose condition holds.
+/// Returns the first refusal of an enrolment whose condition holds: 210 or 217.
 pub(crate) fn refusal(slice: &Slice, stamp: Option<i64>) -> Option<Refusal>
     ensures { result ≡ first_that_holds (enrol_refusals slice.now stamp) }
 {
@@ -28,7 +28,7 @@ pub(crate) fn refusal(slice: &Slice, stamp: Option<i64>) -> Option<Refusal>
     }
 }
 
-/// The new party with the next number, a citizen.
+/// Returns the change, with the party under the next number and its role citizen, and the receipt.
 pub(crate) fn planned(
     alloc: Global,
     slice: &Slice,
@@ -36,7 +36,7 @@ pub(crate) fn planned(
     stamp: i64,
 ) -> Result<(Change, Done), AllocError>
     requires { slice.now.next ≤ 1_000_000_000 }
-    ensures { IfOk result (λ planned. (planned.0 ≡ enrol_change slice.now it.now) × (planned.1 ≡ enrol_done slice.now it.now stamp)) }
+    ensures { IfOk result (IsPlanOf (enrol_change slice.now it.now) (enrol_done slice.now it.now stamp)) }
 {
     let number = slice.next;
     let party = PartyRecord {

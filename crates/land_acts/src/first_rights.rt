@@ -1,7 +1,8 @@
-//! The rights with which a unit is entered.
+//! Checks of the rights with which a unit is registered.
 ghost use Rattle.std.specs.Prelude.{◌≡◌, IfOk};
 ghost use Rattle.std.specs.List.{list_any};
-ghost use Rattle.land_acts.specs.FirstRights.{are_types_too_fine, are_types_whole, has_right_twice, have_party, is_same_right, listed_of_type, lists_absent};
+ghost use Rattle.land_acts.specs.FirstRights.{are_types_too_fine, are_types_whole, has_right_twice};
+ghost use Rattle.land_acts.specs.FirstRights.{have_party, is_same_right, listed_of_type, lists_absent};
 ghost use Rattle.land_acts.specs.Sharing.{is_too_fine};
 ghost use Rattle.land_core.specs.Entries.{are_distinct};
 ghost use Rattle.land_core.specs.Units.{are_whole_or_none};
@@ -14,14 +15,14 @@ use land_core::rrr::RightType;
 use land_fraction::{Fraction, Whole, is_whole};
 use std::alloc::{AllocError, Global};
 
-/// Whether a party has one of the rights.
+/// Returns whether one of the rights is of this party.
 pub(crate) fn have_party(rights: &[NewRight], number: u64) -> bool
     ensures { result ≡ have_party rights.now number }
 {
     rights.iter().any(|right| number == right.party)
 }
 
-/// Whether one of the rights is of a party that does not stand.
+/// Returns whether one of the rights is of a party that does not exist.
 pub(crate) fn lists_absent(slice: &Slice, rights: &[NewRight]) -> bool
     ensures { result ≡ lists_absent slice.now rights.now }
 {
@@ -30,7 +31,8 @@ pub(crate) fn lists_absent(slice: &Slice, rights: &[NewRight]) -> bool
         .any(|right| !slice.stands(Kind::Party, right.party))
 }
 
-/// Whether it cannot be told of some type if its shares make a whole.
+/// Returns whether the shares of some type have no common denominator up to 1,000,000,000, so that their sum
+/// is not checked.
 pub(crate) fn are_types_too_fine(alloc: Global, rights: &[NewRight]) -> Result<bool, AllocError>
     ensures { IfOk result (λ it. it ≡ are_types_too_fine rights.now) }
 {
@@ -52,7 +54,7 @@ fn is_type_too_fine(
     Ok(is_whole(shares.as_slice()) == Whole::TooFine)
 }
 
-/// Whether the shares of each type that occurs make a whole.
+/// Returns whether the shares of each type that occurs sum to one.
 pub(crate) fn are_types_whole(alloc: Global, rights: &[NewRight]) -> Result<bool, AllocError>
     ensures { IfOk result (λ it. it ≡ are_types_whole rights.now) }
 {
@@ -74,7 +76,7 @@ fn is_type_whole(
     Ok(shares.is_empty() || is_whole(shares.as_slice()) == Whole::Yes)
 }
 
-/// The shares of the rights of a type, as they are listed.
+/// Returns the shares of the rights of a type, in their order.
 fn listed_of_type(
     alloc: Global,
     rights: &[NewRight],
@@ -91,14 +93,14 @@ fn listed_of_type(
     Ok(shares)
 }
 
-/// Whether a party has two rights of one type.
+/// Returns whether a party has two rights of one type.
 pub(crate) fn has_right_twice(rights: &[NewRight]) -> bool
     ensures { result ≡ has_right_twice rights.now }
 {
     !are_apart(rights)
 }
 
-/// Whether no party has two rights of one type.
+/// Returns whether no party has two rights of one type.
 fn are_apart(rights: &[NewRight]) -> bool
     ensures { result ≡ are_distinct is_same_right rights.now }
 {

@@ -1,7 +1,7 @@
-//! Giving a party a role.
+//! The act `grant`: a party gets a role.
 ghost use Rattle.std.specs.Prelude.{◌≡◌, IfOk};
 ghost use Rattle.land_acts.specs.Granting.{grant_refusals, grant_change, grant_done};
-ghost use Rattle.land_acts.specs.Mutations.Planning.{first_that_holds};
+ghost use Rattle.land_acts.specs.Mutations.Planning.{IsPlanOf, first_that_holds};
 
 use crate::mutations::planning::done_on;
 use crate::mutations::refusal::Refusal;
@@ -11,7 +11,7 @@ use land_core::roles::Grant;
 use land_core::sequence::Sequence;
 use std::alloc::{AllocError, Global};
 
-/// The least refusal of a grant whose condition holds.
+/// Returns the first refusal of a grant whose condition holds: 205, 215 or 217.
 pub(crate) fn refusal(slice: &Slice, it: &Grant, stamp: Option<i64>) -> Option<Refusal>
     ensures { result ≡ first_that_holds (grant_refusals slice.now it.now stamp) }
 {
@@ -26,14 +26,14 @@ pub(crate) fn refusal(slice: &Slice, it: &Grant, stamp: Option<i64>) -> Option<R
     }
 }
 
-/// The role of the party, from then on.
+/// Returns the change, which starts the role, and the receipt.
 pub(crate) fn planned(
     alloc: Global,
     slice: &Slice,
     it: &Grant,
     stamp: i64,
 ) -> Result<(Change, Done), AllocError>
-    ensures { IfOk result (λ planned. (planned.0 ≡ grant_change slice.now it.now) × (planned.1 ≡ grant_done it.now stamp)) }
+    ensures { IfOk result (IsPlanOf (grant_change slice.now it.now) (grant_done it.now stamp)) }
 {
     let roles = Sequence::of_one(alloc, *it)?;
     let mut change = Change::nothing(alloc, slice.next);

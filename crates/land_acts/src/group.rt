@@ -1,7 +1,7 @@
-//! Making a group of parties.
+//! The act `group`: parties become the members of a new group.
 ghost use Rattle.std.specs.Prelude.{◌≡◌, ◌≤◌, IfOk};
 ghost use Rattle.land_acts.specs.Grouping.{group_refusals, group_change, group_done};
-ghost use Rattle.land_acts.specs.Mutations.Planning.{first_that_holds};
+ghost use Rattle.land_acts.specs.Mutations.Planning.{IsPlanOf, first_that_holds};
 
 use crate::mutations::planning::lacks_numbers;
 use crate::mutations::refusal::Refusal;
@@ -16,7 +16,8 @@ use land_core::sequence::Sequence;
 use land_fraction::Whole;
 use std::alloc::{AllocError, Global};
 
-/// The least refusal of a new group whose condition holds.
+/// Returns the first refusal of a new group whose condition holds: 205, 207, 210, 213, 217 or 219. The other
+/// error is out of memory.
 pub(crate) fn refusal(
     alloc: Global,
     slice: &Slice,
@@ -45,7 +46,7 @@ pub(crate) fn refusal(
     }
 }
 
-/// The new group with the next number, and its members.
+/// Returns the change, with the group under the next number and its members, and the receipt.
 pub(crate) fn planned(
     alloc: Global,
     slice: &Slice,
@@ -53,7 +54,7 @@ pub(crate) fn planned(
     stamp: i64,
 ) -> Result<(Change, Done), AllocError>
     requires { slice.now.next ≤ 1_000_000_000 }
-    ensures { IfOk result (λ planned. (planned.0 ≡ group_change slice.now it.now) × (planned.1 ≡ group_done slice.now stamp)) }
+    ensures { IfOk result (IsPlanOf (group_change slice.now it.now) (group_done slice.now stamp)) }
 {
     let number = slice.next;
     let party = PartyRecord {

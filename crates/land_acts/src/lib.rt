@@ -1,4 +1,4 @@
-//! The acts of the office: when each is refused, what it changes, and what its caller is told.
+//! The acts: for each, its refusals with their conditions, its change of the register, and its receipt.
 #![tactic(auto)]
 
 mod burden;

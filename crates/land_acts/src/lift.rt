@@ -1,7 +1,7 @@
-//! Lifting a burden.
+//! The act `lift`: a restriction or a responsibility ends.
 ghost use Rattle.std.specs.Prelude.{◌≡◌, IfOk};
 ghost use Rattle.land_acts.specs.Lifting.{has_burden, is_burden, lift_refusals, lift_change, lift_done};
-ghost use Rattle.land_acts.specs.Mutations.Planning.{first_that_holds};
+ghost use Rattle.land_acts.specs.Mutations.Planning.{IsPlanOf, first_that_holds};
 
 use crate::mutations::planning::done_on;
 use crate::mutations::refusal::Refusal;
@@ -12,7 +12,7 @@ use land_core::rrr::Class;
 use land_core::sequence::Sequence;
 use std::alloc::{AllocError, Global};
 
-/// The least refusal of a lift whose condition holds.
+/// Returns the first refusal of a lift whose condition holds: 204 or 217.
 pub(crate) fn refusal(slice: &Slice, it: &Lift, stamp: Option<i64>) -> Option<Refusal>
     ensures { result ≡ first_that_holds (lift_refusals slice.now it.now stamp) }
 {
@@ -25,7 +25,7 @@ pub(crate) fn refusal(slice: &Slice, it: &Lift, stamp: Option<i64>) -> Option<Re
     }
 }
 
-/// Whether a burden stands at a number.
+/// Returns whether a burden exists at a number.
 fn has_burden(slice: &Slice, number: u64) -> bool
     ensures { result ≡ has_burden slice.now number }
 {
@@ -35,7 +35,7 @@ fn has_burden(slice: &Slice, number: u64) -> bool
     }
 }
 
-/// Whether an entry is a restriction or a responsibility.
+/// Returns whether an entry is a restriction or a responsibility.
 fn is_burden(class: &Class) -> bool
     ensures { result ≡ is_burden class.now }
 {
@@ -45,14 +45,14 @@ fn is_burden(class: &Class) -> bool
     }
 }
 
-/// The end of the entry.
+/// Returns the change, which ends the entry, and the receipt.
 pub(crate) fn planned(
     alloc: Global,
     slice: &Slice,
     it: &Lift,
     stamp: i64,
 ) -> Result<(Change, Done), AllocError>
-    ensures { IfOk result (λ planned. (planned.0 ≡ lift_change slice.now it.now) × (planned.1 ≡ lift_done it.now stamp)) }
+    ensures { IfOk result (IsPlanOf (lift_change slice.now it.now) (lift_done it.now stamp)) }
 {
     let rrrs = Sequence::of_one(alloc, it.rrr)?;
     let mut change = Change::nothing(alloc, slice.next);

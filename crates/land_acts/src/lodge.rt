@@ -1,7 +1,9 @@
-//! Lodging a mutation.
+//! The act `lodge`: a mutation is filed with its document.
 ghost use Rattle.std.specs.Prelude.{◌≡◌, ◌≤◌, ◌∷◌, [], IfOk};
-ghost use Rattle.land_acts.specs.Lodging.{document_kind, has_lodged_other, has_title, in_order, is_same_lodging, lodge_change, lodge_done, lodge_refusals, lodge_repeat, lodged_record, lodged_told};
-ghost use Rattle.land_acts.specs.Mutations.Planning.{first_that_holds};
+ghost use Rattle.land_acts.specs.Lodging.{document_kind, has_lodged_other, has_title, in_order};
+ghost use Rattle.land_acts.specs.Lodging.{is_same_lodging, lodge_change, lodge_done, lodge_refusals};
+ghost use Rattle.land_acts.specs.Lodging.{lodge_repeat, lodged_record, lodged_told};
+ghost use Rattle.land_acts.specs.Mutations.Planning.{IsPlanOf, first_that_holds};
 
 use crate::mutations::planning::{document_source, lacks_numbers};
 use crate::mutations::refusal::Refusal;
@@ -16,8 +18,8 @@ use land_core::sequence::{NumberList, Sequence};
 use land_core::source::SourceKind;
 use std::alloc::{AllocError, Global};
 
-/// What was told of an earlier lodging that this one repeats: one of the same caller under the same reference, with the
-/// same document and the same content.
+/// Returns the receipt of an earlier lodging if this one repeats it: a lodging of the same caller under the
+/// same reference, with the same document and the same content. The only error is out of memory.
 pub(crate) fn repeat(
     alloc: Global,
     slice: &Slice,
@@ -37,7 +39,7 @@ pub(crate) fn repeat(
     Ok(None)
 }
 
-/// Whether the caller has lodged another document or content under the reference.
+/// Returns whether the caller has lodged another document or content under the reference.
 fn has_lodged_other(slice: &Slice, caller: Caller, it: &Lodging) -> bool
     ensures { result ≡ has_lodged_other slice.now caller it.now }
 {
@@ -49,14 +51,14 @@ fn has_lodged_other(slice: &Slice, caller: Caller, it: &Lodging) -> bool
     false
 }
 
-/// Whether a mutation was lodged with the same document, and asks for the same.
+/// Returns whether a mutation was lodged with the same document and the same content.
 fn is_same_lodging(slice: &Slice, it: &Lodging, mutation: &MutationRecord) -> bool
     ensures { result ≡ is_same_lodging slice.now it.now mutation.now }
 {
     has_title(slice, mutation.source, it.document.as_str()) && mutation.content.is_same(&it.content)
 }
 
-/// Whether a document stands under a title.
+/// Returns whether a source exists and has this title.
 fn has_title(slice: &Slice, source: u64, title: &str) -> bool
     ensures { result ≡ has_title slice.now source title.now }
 {
@@ -66,7 +68,7 @@ fn has_title(slice: &Slice, source: u64, title: &str) -> bool
     }
 }
 
-/// What was told when a mutation was lodged.
+/// Returns the receipt that a lodging got.
 fn lodged_told(alloc: Global, number: u64, mutation: &MutationRecord) -> Result<Done, AllocError>
     ensures { IfOk result (λ told. told ≡ lodged_told (number, mutation.now)) }
 {
@@ -77,7 +79,7 @@ fn lodged_told(alloc: Global, number: u64, mutation: &MutationRecord) -> Result<
     })
 }
 
-/// Two numbers, ascending.
+/// Returns two numbers in ascending order.
 fn in_order(alloc: Global, number: u64, other: u64) -> Result<NumberList, AllocError>
     ensures { IfOk result (λ it. it ≡ in_order number other) }
 {
@@ -97,7 +99,7 @@ fn two_numbers(alloc: Global, first: u64, second: u64) -> Result<NumberList, All
     Ok(numbers)
 }
 
-/// The least refusal of a lodging whose condition holds.
+/// Returns the first refusal of a lodging whose condition holds: 210, 214 or 217.
 pub(crate) fn refusal(
     slice: &Slice,
     caller: Caller,
@@ -117,7 +119,7 @@ pub(crate) fn refusal(
     }
 }
 
-/// The source and the mutation, under the next numbers.
+/// Returns the change, with the source and the mutation under the next two numbers, and the receipt.
 pub(crate) fn planned(
     alloc: Global,
     slice: &Slice,
@@ -126,7 +128,8 @@ pub(crate) fn planned(
     stamp: i64,
 ) -> Result<(Change, Done), AllocError>
     requires { slice.now.next ≤ 999_999_999 }
-    ensures { IfOk result (λ planned. (planned.0 ≡ lodge_change slice.now caller it.now stamp) × (planned.1 ≡ lodge_done slice.now stamp)) }
+    ensures { IfOk result (IsPlanOf (lodge_change slice.now caller it.now stamp)
+        (lodge_done slice.now stamp)) }
 {
     let source = slice.next;
     let number = source + 1;
@@ -147,7 +150,7 @@ pub(crate) fn planned(
     ))
 }
 
-/// What the document of a mutation is: a plan where outlines change.
+/// Returns the kind of the document: a plan if the content has outlines, else a deed.
 fn document_kind(content: &Content) -> SourceKind
     ensures { result ≡ document_kind content.now }
 {
@@ -159,7 +162,7 @@ fn document_kind(content: &Content) -> SourceKind
     }
 }
 
-/// The mutation as it is lodged, undecided.
+/// Returns the new mutation, undecided.
 fn lodged(
     alloc: Global,
     caller: Caller,

@@ -1,7 +1,7 @@
-//! Giving another party a mandate.
+//! The act `mandate`: the caller lets another party see what it sees.
 ghost use Rattle.std.specs.Prelude.{◌≡◌, IfOk};
 ghost use Rattle.land_acts.specs.Mandating.{given, mandate_refusals, mandate_change, mandate_done};
-ghost use Rattle.land_acts.specs.Mutations.Planning.{first_that_holds};
+ghost use Rattle.land_acts.specs.Mutations.Planning.{IsPlanOf, first_that_holds};
 
 use crate::mutations::planning::done_on;
 use crate::mutations::refusal::Refusal;
@@ -13,7 +13,7 @@ use land_core::mandates::Mandate;
 use land_core::sequence::Sequence;
 use std::alloc::{AllocError, Global};
 
-/// The least refusal of a mandate whose condition holds.
+/// Returns the first refusal of a mandate whose condition holds: 205, 217, 219 or 221.
 pub(crate) fn refusal(
     slice: &Slice,
     caller: Caller,
@@ -35,7 +35,7 @@ pub(crate) fn refusal(
     }
 }
 
-/// The mandate of the caller that is asked for.
+/// Returns the mandate from the caller to the agent.
 pub(crate) fn given(caller: Caller, it: &NewMandate) -> Mandate
     ensures { result ≡ given caller it.now }
 {
@@ -45,7 +45,7 @@ pub(crate) fn given(caller: Caller, it: &NewMandate) -> Mandate
     }
 }
 
-/// The mandate, from then on.
+/// Returns the change, which starts the mandate, and the receipt.
 pub(crate) fn planned(
     alloc: Global,
     slice: &Slice,
@@ -53,7 +53,7 @@ pub(crate) fn planned(
     it: &NewMandate,
     stamp: i64,
 ) -> Result<(Change, Done), AllocError>
-    ensures { IfOk result (λ planned. (planned.0 ≡ mandate_change slice.now caller it.now) × (planned.1 ≡ mandate_done it.now stamp)) }
+    ensures { IfOk result (IsPlanOf (mandate_change slice.now caller it.now) (mandate_done it.now stamp)) }
 {
     let mandates = Sequence::of_one(alloc, given(caller, it))?;
     let mut change = Change::nothing(alloc, slice.next);

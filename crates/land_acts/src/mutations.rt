@@ -1,4 +1,5 @@
-//! What mutations ask for: when it is refused, what it changes and what it makes; and what all plans have in common.
+//! The contents of mutations: for each, its refusals, its change and the numbers that it creates; and the
+//! parts that all plans share.
 
 pub mod asking;
 mod discharge;

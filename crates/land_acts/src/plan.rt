@@ -1,7 +1,8 @@
-//! The plan of an act.
+//! The plan of an act: its refusal, or its change and receipt.
 ghost use Rattle.std.specs.Prelude.{◌≡◌, ◌≢◌, true, IfOk};
-ghost use Rattle.land_acts.specs.Mutations.Planning.{first_that_holds};
-ghost use Rattle.land_acts.specs.Outcome.{outcome_of, refusals_of, change_of, done_of, has_room_for, repeated_done, IsUnrefused};
+ghost use Rattle.land_acts.specs.Mutations.Planning.{IsPlanOf, first_that_holds};
+ghost use Rattle.land_acts.specs.Outcome.{outcome_of, refusals_of, change_of, done_of, has_room_for};
+ghost use Rattle.land_acts.specs.Outcome.{repeated_done, IsUnrefused};
 ghost use Rattle.land_acts.specs.Slices.{IsOfSound};
 ghost use Rattle.land_core.specs.Acts.{is_well_formed};
 
@@ -15,10 +16,11 @@ use land_core::caller::Caller;
 use land_core::change::{Change, Done};
 use std::alloc::{AllocError, Global};
 
-/// What an act leads to, over a slice of a sound register: the least refusal whose condition holds, else the change and
-/// what the caller is told. A lodging that was made before is told again what was told then. `stamp` is the moment of the
-/// change, in milliseconds since 1970 UTC. Over any other records, such as those of a file that somebody else wrote, it
-/// answers too, and no number runs over: where one is past its bound, the act is refused as too many (210).
+/// Plans an act on a slice of a sound register. Returns the first refusal whose condition holds, or else the
+/// change and the receipt; a repeated lodging gets its first receipt again. `stamp` is the Unix time of the
+/// change in milliseconds. Errors are the refusals 201 to 222, and 501 if out of memory. On any other
+/// records, for example those of a corrupted file, it returns as well, and no number overflows: if one is out
+/// of range, the act is refused with 210.
 pub fn plan(
     alloc: Global,
     slice: &Slice,
@@ -27,7 +29,8 @@ pub fn plan(
     stamp: Option<i64>,
 ) -> Result<Planned, Refusal>
     requires { is_well_formed act.now ≡ true }
-    ensures { IsOfSound slice.now caller act.now → result ≢ Err Refusal.NoMemory → result ≡ outcome_of slice.now caller act.now stamp }
+    ensures { IsOfSound slice.now caller act.now → result ≢ Err Refusal.NoMemory
+        → result ≡ outcome_of slice.now caller act.now stamp }
 {
     if let Some(done) = repeated(alloc, slice, caller, act)? {
         return Ok(Planned::Repeat(done));
@@ -45,7 +48,7 @@ pub fn plan(
     Ok(Planned::New(change, done))
 }
 
-/// What was told of an act that this one repeats.
+/// Returns the receipt of an earlier act if this one repeats it.
 fn repeated(
     alloc: Global,
     slice: &Slice,
@@ -60,7 +63,7 @@ fn repeated(
     }
 }
 
-/// The least refusal whose condition holds.
+/// Returns the first refusal whose condition holds.
 fn first_refusal(
     alloc: Global,
     slice: &Slice,
@@ -88,7 +91,7 @@ fn first_refusal(
     }
 }
 
-/// Whether the numbers that the register holds leave room for what an act makes.
+/// Returns whether the numbers and ranks that an act creates stay in range.
 fn has_room(slice: &Slice, act: &Act) -> bool
     ensures { result ≡ has_room_for slice.now act.now }
 {
@@ -98,7 +101,7 @@ fn has_room(slice: &Slice, act: &Act) -> bool
     }
 }
 
-/// What an act that is not refused changes, and what the caller is told.
+/// Returns the change of an act without refusal, and its receipt.
 fn planned(
     alloc: Global,
     slice: &Slice,
@@ -109,7 +112,8 @@ fn planned(
     requires formed { is_well_formed act.now ≡ true }
     requires room { has_room_for slice.now act.now ≡ true }
     requires unrefused { IsUnrefused slice.now caller act.now }
-    ensures { IfOk result (λ it. (it.0 ≡ change_of slice.now caller act.now stamp) × (it.1 ≡ done_of slice.now caller act.now stamp)) }
+    ensures { IfOk result (IsPlanOf (change_of slice.now caller act.now stamp)
+        (done_of slice.now caller act.now stamp)) }
 {
     match act {
         Act::Enrol(it) => enrol::planned(alloc, slice, it, stamp),

@@ -1,8 +1,9 @@
-//! Entering a unit with its first parcels and rights.
+//! The act `register`: a unit is added with its first parcels and rights.
 ghost use Rattle.std.specs.Prelude.{◌≡◌, ◌≤◌, ◌+◌, true, length, map as map_list, IfOk};
 ghost use Rattle.land_acts.specs.Mutations.Numbering.{numbered, numbers_from};
-ghost use Rattle.land_acts.specs.Mutations.Planning.{first_that_holds};
-ghost use Rattle.land_acts.specs.Registering.{new_count, parcel_of, register_refusals, register_change, register_done, right_of};
+ghost use Rattle.land_acts.specs.Mutations.Planning.{IsPlanOf, first_that_holds, numbers_end};
+ghost use Rattle.land_acts.specs.Registering.{new_count, parcel_of, register_refusals, register_change};
+ghost use Rattle.land_acts.specs.Registering.{register_done, right_of};
 ghost use Rattle.land_core.specs.Acts.{is_new_unit};
 
 use crate::first_rights::{are_types_too_fine, are_types_whole, has_right_twice, lists_absent};
@@ -20,7 +21,8 @@ use land_core::unit::UnitRecord;
 use land_shape::Ring;
 use std::alloc::{AllocError, Global};
 
-/// The least refusal of a registration whose condition holds.
+/// Returns the first refusal of a registration whose condition holds: 205, 207, 210, 213, 217 or 219. The
+/// other error is out of memory.
 pub(crate) fn refusal(
     alloc: Global,
     slice: &Slice,
@@ -48,7 +50,7 @@ pub(crate) fn refusal(
     }
 }
 
-/// How many objects are new: the source, the unit, the parcels and the rights.
+/// Returns the number of new objects: the source, the unit, the parcels and the rights.
 fn new_count(it: &NewUnit) -> u64
     requires { is_new_unit it.now ≡ true }
     ensures { result ≡ new_count it.now }
@@ -56,7 +58,8 @@ fn new_count(it: &NewUnit) -> u64
     2 + it.parcels.as_slice().len() as u64 + it.rights.as_slice().len() as u64
 }
 
-/// The source, the unit, its parcels and its rights, under the next numbers.
+/// Returns the change, with the source, the unit, its parcels and its rights under the next numbers, and the
+/// receipt.
 pub(crate) fn planned(
     alloc: Global,
     slice: &Slice,
@@ -64,8 +67,9 @@ pub(crate) fn planned(
     stamp: i64,
 ) -> Result<(Change, Done), AllocError>
     requires formed { is_new_unit it.now ≡ true }
-    requires room { slice.now.next + new_count it.now ≤ 1_000_000_001 }
-    ensures { IfOk result (λ planned. (planned.0 ≡ register_change slice.now it.now) × (planned.1 ≡ register_done slice.now it.now stamp)) }
+    requires room { slice.now.next + new_count it.now ≤ numbers_end }
+    ensures { IfOk result (IsPlanOf (register_change slice.now it.now)
+        (register_done slice.now it.now stamp)) }
 {
     let source = slice.next;
     let unit = source + 1;
@@ -95,7 +99,7 @@ pub(crate) fn planned(
     ))
 }
 
-/// The parcels as the register keeps them, under the numbers from `first` on.
+/// Returns the records of the parcels, numbered from `first`.
 fn placed_parcels(
     alloc: Global,
     parcels: &[NewParcel],
@@ -103,7 +107,7 @@ fn placed_parcels(
     source: u64,
     first: u64,
 ) -> Result<Sequence<(u64, ParcelRecord)>, AllocError>
-    requires { first + length parcels.now ≤ 1_000_000_001 }
+    requires { first + length parcels.now ≤ numbers_end }
     ensures { IfOk result (λ it. it ≡ numbered first (map_list (parcel_of unit source) parcels.now)) }
 {
     let mut placed = Sequence::new(alloc);
@@ -121,7 +125,7 @@ fn placed_parcels(
     Ok(placed)
 }
 
-/// The rights as the register keeps them, under the numbers from `first` on.
+/// Returns the records of the rights, numbered from `first`.
 fn placed_rights(
     alloc: Global,
     rights: &[NewRight],
@@ -129,7 +133,7 @@ fn placed_rights(
     source: u64,
     first: u64,
 ) -> Result<Sequence<(u64, RrrRecord)>, AllocError>
-    requires { first + length rights.now ≤ 1_000_000_001 }
+    requires { first + length rights.now ≤ numbers_end }
     ensures { IfOk result (λ it. it ≡ numbered first (map_list (right_of unit source) rights.now)) }
 {
     let mut placed = Sequence::new(alloc);

@@ -1,6 +1,6 @@
-//! Giving a group other members.
+//! The act `regroup`: a group gets other members.
 ghost use Rattle.std.specs.Prelude.{◌≡◌, IfOk};
-ghost use Rattle.land_acts.specs.Mutations.Planning.{first_that_holds};
+ghost use Rattle.land_acts.specs.Mutations.Planning.{IsPlanOf, first_that_holds};
 ghost use Rattle.land_acts.specs.Regrouping.{regroup_refusals, regroup_change, regroup_done};
 
 use crate::mutations::planning::done_on;
@@ -13,7 +13,8 @@ use land_core::sequence::Sequence;
 use land_fraction::Whole;
 use std::alloc::{AllocError, Global};
 
-/// The least refusal of a regrouping whose condition holds.
+/// Returns the first refusal of a regrouping whose condition holds: 205, 207, 213, 217 or 219. The other
+/// error is out of memory.
 pub(crate) fn refusal(
     alloc: Global,
     slice: &Slice,
@@ -40,14 +41,14 @@ pub(crate) fn refusal(
     }
 }
 
-/// The group with the listed members in place of those that it had.
+/// Returns the change, which replaces the members of the group, and the receipt.
 pub(crate) fn planned(
     alloc: Global,
     slice: &Slice,
     it: &Regroup,
     stamp: i64,
 ) -> Result<(Change, Done), AllocError>
-    ensures { IfOk result (λ planned. (planned.0 ≡ regroup_change slice.now it.now) × (planned.1 ≡ regroup_done it.now stamp)) }
+    ensures { IfOk result (IsPlanOf (regroup_change slice.now it.now) (regroup_done it.now stamp)) }
 {
     let members = members_of_list(alloc, it.members.as_slice())?;
     let members = Sequence::of_one(alloc, (it.group, members))?;

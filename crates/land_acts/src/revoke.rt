@@ -1,7 +1,8 @@
-//! Ending a role of a party.
+//! The act `revoke`: a role of a party ends.
 ghost use Rattle.std.specs.Prelude.{◌≡◌, IfOk};
-ghost use Rattle.land_acts.specs.Mutations.Planning.{first_that_holds};
-ghost use Rattle.land_acts.specs.Revoking.{revoke_refusals, revoke_change, revoke_done, has_administrator_beside};
+ghost use Rattle.land_acts.specs.Mutations.Planning.{IsPlanOf, first_that_holds};
+ghost use Rattle.land_acts.specs.Revoking.{revoke_refusals, revoke_change, revoke_done};
+ghost use Rattle.land_acts.specs.Revoking.{has_administrator_beside};
 
 use crate::mutations::planning::done_on;
 use crate::mutations::refusal::Refusal;
@@ -12,7 +13,7 @@ use land_core::roles::Grant;
 use land_core::sequence::Sequence;
 use std::alloc::{AllocError, Global};
 
-/// The least refusal of a revocation whose condition holds.
+/// Returns the first refusal of a revocation whose condition holds: 205, 216, 217 or 218.
 pub(crate) fn refusal(slice: &Slice, it: &Grant, stamp: Option<i64>) -> Option<Refusal>
     ensures { result ≡ first_that_holds (revoke_refusals slice.now it.now stamp) }
 {
@@ -29,21 +30,21 @@ pub(crate) fn refusal(slice: &Slice, it: &Grant, stamp: Option<i64>) -> Option<R
     }
 }
 
-/// Whether some other party is state administrator.
+/// Returns whether another party is state administrator.
 fn has_administrator_beside(slice: &Slice, party: u64) -> bool
     ensures { result ≡ has_administrator_beside slice.now party }
 {
     slice.roles.iter().any(|grant| grant.role == Role::StateAdministrator && grant.party != party)
 }
 
-/// The end of the party's role.
+/// Returns the change, which ends the role, and the receipt.
 pub(crate) fn planned(
     alloc: Global,
     slice: &Slice,
     it: &Grant,
     stamp: i64,
 ) -> Result<(Change, Done), AllocError>
-    ensures { IfOk result (λ planned. (planned.0 ≡ revoke_change slice.now it.now) × (planned.1 ≡ revoke_done it.now stamp)) }
+    ensures { IfOk result (IsPlanOf (revoke_change slice.now it.now) (revoke_done it.now stamp)) }
 {
     let roles = Sequence::of_one(alloc, *it)?;
     let mut change = Change::nothing(alloc, slice.next);

@@ -1,6 +1,7 @@
-//! The members that an act lists.
+//! Checks of the members that an act lists.
 ghost use Rattle.std.specs.Prelude.{◌≡◌, IfOk};
-ghost use Rattle.land_acts.specs.Sharing.{listed_shares, lists_party, lists_stranger, lists_twice, members_of_list, same_party};
+ghost use Rattle.land_acts.specs.Sharing.{listed_shares, lists_party, lists_stranger, lists_twice};
+ghost use Rattle.land_acts.specs.Sharing.{members_of_list, same_party};
 ghost use Rattle.land_core.specs.Entries.{are_distinct};
 ghost use Rattle.land_fraction.specs.Wholeness.{wholeness};
 
@@ -10,14 +11,14 @@ use land_core::records::Records;
 use land_fraction::{Fraction, Whole, is_whole};
 use std::alloc::{AllocError, Global};
 
-/// Whether a party is listed.
+/// Returns whether a party is listed.
 pub(crate) fn lists_party(members: &[Member], number: u64) -> bool
     ensures { result ≡ lists_party members.now number }
 {
     members.iter().any(|member| number == member.party)
 }
 
-/// Whether one of those listed is no single party that stands.
+/// Returns whether a listed number is not that of a single party.
 pub(crate) fn lists_stranger(slice: &Slice, members: &[Member]) -> bool
     ensures { result ≡ lists_stranger slice.now members.now }
 {
@@ -26,7 +27,8 @@ pub(crate) fn lists_stranger(slice: &Slice, members: &[Member]) -> bool
         .any(|member| !slice.has_single_party(member.party))
 }
 
-/// Whether the listed shares make a whole.
+/// Returns whether the listed shares sum to one, or that they have no common denominator. The only error is
+/// out of memory.
 pub(crate) fn wholeness(alloc: Global, members: &[Member]) -> Result<Whole, AllocError>
     ensures { IfOk result (λ it. it ≡ wholeness (listed_shares members.now)) }
 {
@@ -40,14 +42,14 @@ fn listed_shares(alloc: Global, members: &[Member]) -> Result<Vec<Fraction>, All
     members.iter().map(|member| member.share).collect(alloc)
 }
 
-/// Whether a party is listed twice.
+/// Returns whether a party is listed twice.
 pub(crate) fn lists_twice(members: &[Member]) -> bool
     ensures { result ≡ lists_twice members.now }
 {
     !are_apart(members)
 }
 
-/// Whether no party is listed twice.
+/// Returns whether no party is listed twice.
 fn are_apart(members: &[Member]) -> bool
     ensures { result ≡ are_distinct same_party members.now }
 {
@@ -57,7 +59,7 @@ fn are_apart(members: &[Member]) -> bool
     }
 }
 
-/// The listed members as a group has them.
+/// Returns the listed members as a map, from party to share. The only error is out of memory.
 pub(crate) fn members_of_list(alloc: Global, listed: &[Member]) -> Result<Members, AllocError>
     ensures { IfOk result (λ it. it ≡ members_of_list listed.now) }
 {

@@ -1,6 +1,8 @@
-//! Slices: the records that planning may look at.
+//! Slices: the records that planning an act may read.
 ghost use Rattle.std.specs.Prelude.{◌≡◌, nat_eq, IfOk};
-ghost use Rattle.land_acts.specs.Slices.{content_names_party, slice_of, is_mandate, looks_at_mutation, looks_at_party, looks_at_rrr, mutations_looked_at, names_mandate, names_party, names_rrr, names_unit};
+ghost use Rattle.land_acts.specs.Slices.{content_names_party, slice_of, is_mandate, looks_at_mutation};
+ghost use Rattle.land_acts.specs.Slices.{looks_at_party, looks_at_rrr, mutations_looked_at, names_mandate};
+ghost use Rattle.land_acts.specs.Slices.{names_party, names_rrr, names_unit};
 ghost use Rattle.land_core.specs.Entries.{only, some};
 
 use crate::first_rights::have_party;
@@ -23,10 +25,11 @@ use land_core::source::SourceRecord;
 use land_core::unit::UnitRecord;
 use std::alloc::{AllocError, Global};
 
-/// The slice of a register for an act: the parties that the act names, or the mutation that it decides, and all state
-/// administrators, each with its roles and its members; the units named likewise with their parcels and entries; the entry
-/// that a lift names; the mutation that it decides, or that its caller lodged under its reference, with its source; the
-/// mandate that it gives or withdraws; and the next number.
+/// Returns the slice of a register for an act: the parties to which the act or the mutation that it decides
+/// refers, and all state administrators, each with its roles and members; the units to which it refers, with
+/// their parcels and entries; the entry of a lift; the mutation that the act decides, or that its caller
+/// lodged under its reference, with its source; the mandate that it gives or withdraws; and the next number.
+/// The only error is out of memory.
 pub fn slice_of(
     alloc: Global,
     register: &Register,
@@ -50,7 +53,7 @@ pub fn slice_of(
     })
 }
 
-/// Of records by the numbers of parties, those that planning may look at.
+/// Returns the records in the slice, of a map by the numbers of parties.
 fn records_looked_at<T: Duplicate>(
     alloc: Global,
     records: &Records<T>,
@@ -69,7 +72,8 @@ fn records_looked_at<T: Duplicate>(
 }
 
 fn roles_looked_at(alloc: Global, register: &Register, act: &Act) -> Result<Roles, AllocError>
-    ensures { IfOk result (λ it. it ≡ only (λ grant u. looks_at_party register.now act.now grant.party) register.now.roles) }
+    ensures { IfOk result
+        (λ it. it ≡ only (λ grant u. looks_at_party register.now act.now grant.party) register.now.roles) }
 {
     let mut kept = Roles::new(alloc);
     for grant in register.roles.iter() {
@@ -101,7 +105,8 @@ fn parcels_looked_at(
     register: &Register,
     act: &Act,
 ) -> Result<Records<ParcelRecord>, AllocError>
-    ensures { IfOk result (λ it. it ≡ only (λ n p. names_unit register.now act.now p.unit) register.now.parcels) }
+    ensures { IfOk result
+        (λ it. it ≡ only (λ n p. names_unit register.now act.now p.unit) register.now.parcels) }
 {
     let mut kept = Records::new(alloc);
     for (number, parcel) in register.parcels.iter() {
@@ -145,13 +150,14 @@ fn mutations_looked_at(
     Ok(kept)
 }
 
-/// The sources of some mutations.
+/// Returns the sources of these mutations.
 fn sources_of(
     alloc: Global,
     register: &Register,
     mutations: &Records<MutationRecord>,
 ) -> Result<Records<SourceRecord>, AllocError>
-    ensures { IfOk result (λ it. it ≡ only (λ n s. some (λ k m. nat_eq m.source n) mutations.now) register.now.sources) }
+    ensures { IfOk result (λ it. it ≡ only (λ n s. some
+        (λ k m. nat_eq m.source n) mutations.now) register.now.sources) }
 {
     let mut kept = Records::new(alloc);
     for (number, source) in register.sources.iter() {
@@ -162,7 +168,7 @@ fn sources_of(
     Ok(kept)
 }
 
-/// Whether a source is that of one of some mutations.
+/// Returns whether one of these mutations has this source.
 fn is_source_of(mutations: &Records<MutationRecord>, source: u64) -> bool
     ensures { result ≡ some (λ k m. nat_eq m.source source) mutations.now }
 {
@@ -171,14 +177,15 @@ fn is_source_of(mutations: &Records<MutationRecord>, source: u64) -> bool
         .any(|(_, mutation)| mutation.source == source)
 }
 
-/// The mandate that an act gives or withdraws, where it stands.
+/// Returns the mandate that an act gives or withdraws, if it exists.
 fn mandates_looked_at(
     alloc: Global,
     register: &Register,
     caller: Caller,
     act: &Act,
 ) -> Result<Mandates, AllocError>
-    ensures { IfOk result (λ it. it ≡ only (λ mandate u. names_mandate caller act.now mandate) register.now.mandates) }
+    ensures { IfOk result
+        (λ it. it ≡ only (λ mandate u. names_mandate caller act.now mandate) register.now.mandates) }
 {
     let mut kept = Mandates::new(alloc);
     for mandate in register.mandates.iter() {
@@ -199,7 +206,7 @@ fn names_mandate(caller: Caller, act: &Act, mandate: Mandate) -> bool
     }
 }
 
-/// Whether a mandate is another: of the same principal, to the same agent.
+/// Returns whether two mandates have the same principal and the same agent.
 fn is_mandate(it: Mandate, mandate: Mandate) -> bool
     ensures { result ≡ is_mandate it mandate }
 {
@@ -243,7 +250,7 @@ fn names_party(register: &Register, act: &Act, party: u64) -> bool
     }
 }
 
-/// Whether a party stands in a content: who receives, or who lends.
+/// Returns whether a content refers to a party: the receiver of a transfer, or the creditor of a mortgage.
 fn content_names_party(content: &Content, party: u64) -> bool
     ensures { result ≡ content_names_party party content.now }
 {

@@ -1,6 +1,6 @@
-//! Ending a mandate.
+//! The act `withdraw`: a mandate ends.
 ghost use Rattle.std.specs.Prelude.{◌≡◌, IfOk};
-ghost use Rattle.land_acts.specs.Mutations.Planning.{first_that_holds};
+ghost use Rattle.land_acts.specs.Mutations.Planning.{IsPlanOf, first_that_holds};
 ghost use Rattle.land_acts.specs.Withdrawing.{withdraw_refusals, withdraw_change, withdraw_done};
 
 use crate::mutations::planning::done_on;
@@ -11,7 +11,7 @@ use land_core::mandates::Mandate;
 use land_core::sequence::Sequence;
 use std::alloc::{AllocError, Global};
 
-/// The least refusal of a withdrawal whose condition holds.
+/// Returns the first refusal of a withdrawal whose condition holds: 217 or 222.
 pub(crate) fn refusal(slice: &Slice, it: &Mandate, stamp: Option<i64>) -> Option<Refusal>
     ensures { result ≡ first_that_holds (withdraw_refusals slice.now it.now stamp) }
 {
@@ -24,14 +24,14 @@ pub(crate) fn refusal(slice: &Slice, it: &Mandate, stamp: Option<i64>) -> Option
     }
 }
 
-/// The end of the mandate.
+/// Returns the change, which ends the mandate, and the receipt.
 pub(crate) fn planned(
     alloc: Global,
     slice: &Slice,
     it: &Mandate,
     stamp: i64,
 ) -> Result<(Change, Done), AllocError>
-    ensures { IfOk result (λ planned. (planned.0 ≡ withdraw_change slice.now it.now) × (planned.1 ≡ withdraw_done it.now stamp)) }
+    ensures { IfOk result (IsPlanOf (withdraw_change slice.now it.now) (withdraw_done it.now stamp)) }
 {
     let mandates = Sequence::of_one(alloc, *it)?;
     let mut change = Change::nothing(alloc, slice.next);

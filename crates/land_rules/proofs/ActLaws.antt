@@ -1,4 +1,4 @@
--- Who decides what was lodged.
+-- Proves the laws on decisions.
 use Rattle.std.proofs.Common.{◌≡◌, ℕ, Bool, true, false, refl, sym, ◌∙◌}
 use Rattle.std.specs.Prelude.{◌||◌}
 use Rattle.std.proofs.lemmas.Bool.{false≢true}
@@ -9,7 +9,7 @@ use Rattle.land_rules.specs.Rules.{Rules, denies, first_denial, is_allowed, rule
 use Rattle.land_rules.specs.declared.verdict.Verdict.{Verdict}
 use Rattle.land_rules.specs.declared.verdict.Verdict.TheVariants.{Allowed, Denied}
 
--- where a rule denies, the verdict does not allow
+-- if a rule denies, the verdict does not allow
 denied_by : (k : ℕ) (rules : Rules) → denies k rules ≡ true → is_allowed (first_denial rules) ≡ false
 denied_by k rules h = by_verdict (first_denial rules) refl
   where
@@ -17,7 +17,7 @@ denied_by k rules h = by_verdict (first_denial rules) refl
     by_verdict Allowed e = absurd (false≢true (sym (none_from_allowed rules e k) ∙ h))
     by_verdict (Denied j) e = refl
 
--- rule 10 stands last of the rules on a decision
+-- rule 10 is the last of the rules on a decision
 last_denies : (b : Bool) → b ≡ true → (b || false) ≡ true
 last_denies true e = refl
 last_denies false e = e

@@ -1,4 +1,4 @@
--- What is in sight tells all that is told: registers that look alike to a caller are told alike.
+-- Verdicts follow from visibility, so registers that look alike to a caller give it the same verdicts.
 use Rattle.std.proofs.Common.{◌≡◌, ℕ, Bool, true, false, ◌||◌, ◌&&◌, not, cond, List, [], ◌∷◌, Option, Some, None, refl, sym, ap, ◌∙◌, subst}
 use Rattle.std.specs.Prelude.{nat_eq, map as map_list}
 use Rattle.std.specs.Cmp.{nat_cmp_total}
@@ -34,7 +34,7 @@ use Rattle.land_rules.specs.Rules.{first_denial, is_allowed, is_of_the_present, 
 use Rattle.land_rules.specs.declared.verdict.Verdict.{Verdict}
 use Rattle.land_rules.specs.declared.verdict.Verdict.TheVariants.{Allowed, Denied}
 
--- ---- lists of numbers with what is under them
+-- ---- lists of numbers with their objects
 
 module _ {X : Type 0} where
   firsts : (f : ℕ → X) (ns : List ℕ) → map_list (λ e. e.0) (map_list {B = ℕ × X} (λ n. (n, f n)) ns) ≡ ns
@@ -47,7 +47,7 @@ module _ {X : Type 0} where
   tail_is : {a b : ℕ × X} {xs ys : List (ℕ × X)} → a ∷ xs ≡ b ∷ ys → xs ≡ ys
   tail_is e = cc
 
-  -- what is under a number of the list
+  -- the object of a number of the list
   under : (f g : ℕ → X) (ns : List ℕ) (n : ℕ) → map_list {B = ℕ × X} (λ k. (k, f k)) ns ≡ map_list (λ k. (k, g k)) ns → list_any (nat_eq n) ns ≡ true → f n ≡ g n
   under f g [] n e h = absurd (false≢true h)
   under f g (k ∷ ks) n e h =
@@ -56,7 +56,7 @@ module _ {X : Type 0} where
         | false ↦ λ gone h. under f g ks n (tail_is e) h
       ] refl h
 
--- ---- what is in sight
+-- ---- visible objects
 
 pub flip : (one other : Register) (caller : Caller) → LookAlike one other caller → LookAlike other one caller
 flip one other caller alike = record { party = sym alike.party; roles = λ role. sym (alike.roles role); shown = λ k. sym (alike.shown k) }
@@ -74,7 +74,7 @@ module _ (one other : Register) (caller : Caller) (alike : LookAlike one other c
       (alike.shown k ∙ ap (map_list (λ m. (m, object_at other k m))) (sym (same_numbers k)))
       ((seen_exactly one caller k).exact n ∙ h)
 
--- what is shown of a number tells the record there
+-- the visible object of a number determines the record there
 module _ {A B : Type 0} where
   pub inside : (f : A → B) → ((a b : A) → f a ≡ f b → a ≡ b) → (x y : Option A) → option_map f x ≡ option_map f y → x ≡ y
   inside f exact None None e = refl
@@ -94,7 +94,7 @@ mutation_is one other n e =
     inside (shown_mutation n) (λ a b same. ap kept_mutation same) (map.get one.mutations n) (map.get other.mutations n)
     (inside object.Mutation (λ a b same. cc) (mutation_at one n) (mutation_at other n) e)
 
--- ---- a conveyancer's own lodgings are in its sight
+-- ---- a conveyancer sees its own lodgings
 
 abbrev conveyancer : ℕ → Caller
 conveyancer party = record { party = party; role = Conveyancer }
@@ -136,7 +136,7 @@ same_view one other caller sound also alike k n =
     ∙ ap (λ b. cond (sees other caller k n) Allowed (Denied (cond (b || is_itself caller k n) 27 (rule_of_role caller.role k)))) (same_named one other caller.party caller.role k n alike)
     ∙ sym (told_by_references other also caller k n)
 
--- the standing rules on a read look at the caller alone
+-- for a read, the standing rules read only the caller
 abbrev asked : (stands holds late : Bool) → Verdict → Verdict
 asked stands holds late v = cond (not stands) (Denied 1) (cond (not holds) (Denied 2) (cond late (Denied 3) v))
 
@@ -152,7 +152,7 @@ same_verdicts now other_now at other_at caller (ask.Sheet unit moment) past alik
     same_asked _ _ _ _ (past && is_of_the_present caller) _ _ alike.last.party (alike.last.roles caller.role) (same_view at other_at caller alike.one alike.other alike.asked kind.Unit unit)
 same_verdicts now other_now at other_at caller (ask.Do it) past alike read = absurd read
 
--- ---- the party of an entry in sight is in sight
+-- ---- the party of a visible entry is visible
 
 met_there : (itself met there : Bool) (k : ℕ) → met ≡ true → there ≡ true → is_allowed (cond (not (itself || met)) (Denied k) (cond (not there) (Denied 27) Allowed)) ≡ true
 met_there true met true k e f = refl
@@ -198,6 +198,6 @@ module _ (at : Register) (sound : IsSoundOrNothing at) (n : ℕ) (e : RrrRecord)
   pub party_in_sight : (caller : Caller) → sees at caller kind.Rrr n ≡ true → sees at caller kind.Party e.party ≡ true
   party_in_sight caller seen = seen_by_role caller.party caller.role seen
 
--- all see the parcels that stand
+-- every caller sees the parcels that exist
 pub parcel_in_sight : (at : Register) (caller : Caller) (n : ℕ) → sees at caller kind.Parcel n ≡ has at.parcels n
 parcel_in_sight at caller n = elim (has at.parcels n) as (λ b. is_allowed (cond (not b) (Denied 27) Allowed) ≡ b) [ true ↦ refl | false ↦ refl ]

@@ -1,4 +1,4 @@
--- Where there are no mandates, what one of the circle of a party is, is what the party is itself.
+-- Without mandates, a relation of the circle of a party is a relation of the party itself.
 use Rattle.std.proofs.Common.{◌≡◌, ℕ, Bool, ap, ◌∙◌}
 use Rattle.std.specs.Prelude.{nat_eq}
 use Rattle.std.specs.FinMap as map
@@ -11,7 +11,7 @@ use Rattle.land_rules.specs.Circles.{circle_of, is_group_of, is_held_by, is_in_c
 use Rattle.land_rules.specs.Relations.{holds_as, is_holder, is_member_of, is_told_to_holder}
 
 module _ (at : Register) (none : at.mandates ≡ map.empty) (party : ℕ) where
-  -- a test that one of the circle passes
+  -- a condition that a member of the circle satisfies
   one_alone : (passes : ℕ → Bool) → list_any passes (circle_of at party) ≡ passes party
   one_alone passes = ap (list_any passes) (alone at party none) ∙ or_nothing (passes party)
 

@@ -1,4 +1,4 @@
--- What is asked for: acts of the office, and what is lodged.
+-- Kinds of requests: acts of the office, and lodgings by content.
 use Rattle.std.proofs.Common.{◌≡◌, inl, inr, ℕ, Bool, true, false, not, Option, Some, None, refl, sym, ap, ◌∙◌, subst}
 use Rattle.std.specs.Prelude.{◌≢◌, ◌||◌}
 use Rattle.std.specs.Option.{option_map_or}
@@ -21,14 +21,14 @@ use Rattle.land_rules.specs.Relations.{has_lodged, is_rrr_where}
 use Rattle.land_rules.specs.StandingLaws.{HasMortgage, IsOfTheOffice, Lodges, LodgesMortgageOrDischarge, LodgesSubdivisionOrMerger, LodgesTransfer, is_lodging}
 use Rattle.land_rules.proofs.StandingTests.{not_both}
 
--- whether what is asked for is an act that passes a test
+-- whether the request is an act that satisfies a condition
 abbrev pub asks_for : (Act → Bool) → Ask → Bool
 asks_for passes (ask.View k number at) = false
 asks_for passes (ask.List k at) = false
 asks_for passes (ask.Sheet unit at) = false
 asks_for passes (ask.Do it) = passes it
 
--- an act that lodges what passes a test
+-- an act that lodges a content which satisfies a condition
 pub record IsLodging (passes : Content → Bool) (a : Ask) : Type 0 where
   pub content : Content
   pub lodged : Lodges content a
@@ -42,24 +42,24 @@ lodging_of passes (ask.Do (act.Lodge it)) h = record {
 }
 lodging_of passes other h = absurd (false≢true h)
 
--- a content that is lodged passes a test or not
+-- a lodged content satisfies a condition or not
 pub lodges_it : (passes : Content → Bool) (a : Ask) (c : Content) → Lodges c a → (b : Bool) → passes c ≡ b → asks_for (lodges passes) a ≡ b
 lodges_it passes a c it b h = subst (λ (x : Ask). asks_for (lodges passes) x ≡ b) (sym it.asked) (ap passes it.content ∙ h)
 
--- what is lodged passes no test that no such content passes
+-- a lodged content satisfies no condition that no such content satisfies
 pub lodges_no_other : (passes other : Content → Bool) → ((c : Content) → passes c ≡ true → other c ≡ false) → (a : Ask)
     → asks_for (lodges passes) a ≡ true → asks_for (lodges other) a ≡ false
 lodges_no_other passes other apart a h =
     let it = lodging_of passes a h in
     lodges_it other a it.content it.lodged false (apart it.content it.meets)
 
--- to lodge is no act of the office
+-- a lodging is not an act of the office
 pub lodges_as_no_office : (passes : Content → Bool) (a : Ask) → asks_for (lodges passes) a ≡ true → asks_for is_office_act a ≡ false
 lodges_as_no_office passes a h =
     let it = lodging_of passes a h in
     subst (λ (x : Ask). asks_for is_office_act x ≡ false) (sym it.lodged.asked) refl
 
--- what is no lodging and not on a mandate is an act of the office, and lodges nothing
+-- an act that is neither a lodging nor on a mandate is an act of the office, and lodges nothing
 lodging_or_office : (it : Act) → is_office_act it ≡ not (is_lodging it || is_of_mandates it)
 lodging_or_office (act.Lodge it) = refl
 lodging_or_office (act.Mandate it) = refl
@@ -84,7 +84,7 @@ pub withdraws_nothing : (passes : Mandate → Bool) (it : Act) → is_of_mandate
 withdraws_nothing passes (act.Withdraw it) h = absurd (false≢true (sym h))
 withdraws_nothing passes other h = refl
 
--- a decision on nothing that a party lodged
+-- a decision on a mutation that the party did not lodge
 pub decides_for_others : (now : Register) (party : ℕ) (it : Act)
     → ((number : ℕ) → has_lodged now party number ≡ true → (ask.Do it ≢ to_approve number) × (ask.Do it ≢ to_refuse number))
     → decides (has_lodged now party) it ≡ false
@@ -139,7 +139,7 @@ pub lodges_mortgage_or_discharge : (a : Ask) → LodgesMortgageOrDischarge a →
 lodges_mortgage_or_discharge a (inl (it, lodged)) = lodges_it is_of_a_mortgage a (content.Mortgage it) lodged true refl
 lodges_mortgage_or_discharge a (inr (it, lodged)) = lodges_it is_of_a_mortgage a (content.Discharge it) lodged true refl
 
--- a mortgage of another creditor, and a discharge of what is no mortgage of a party
+-- a mortgage of another creditor, and a discharge of a number at which the party has no mortgage
 pub record LodgesForAnother (party : ℕ) (a : Ask) : Type 0 where
   pub mortgage : Mortgage
   pub lodged : Lodges (content.Mortgage mortgage) a
@@ -169,7 +169,7 @@ discharge_of_another now party a h = let it = lodging_of (is_discharge_of_anothe
     by_content (content.Discharge it) lodged h = record { discharge = it; lodged = lodged; other = not-true _ h }
     by_content other lodged h = absurd (false≢true h)
 
--- what a discharge asks for is a mortgage of the party, or it is none
+-- a discharge refers to a mortgage of the party or it does not
 mortgage_found : (now : Register) (party number : ℕ) → is_rrr_where (is_mortgage_of party) now number ≡ true → HasMortgage now party number
 mortgage_found now party number h = found (map.get now.rrrs number) refl h
   where

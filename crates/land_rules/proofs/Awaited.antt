@@ -1,4 +1,4 @@
--- What a conveyancer sees of units and entries is what it awaits.
+-- A conveyancer sees units and entries exactly by its undecided mutations.
 use Rattle.std.proofs.Common.{◌≡◌, ℕ, Bool, true, false, ◌&&◌, Option, Some, None, is_some, refl, ap, ◌∙◌}
 use Rattle.std.proofs.lemmas.Bool.{false≢true}
 use Rattle.std.specs.FinMap as map
@@ -18,7 +18,7 @@ use Rattle.land_rules.specs.Denials.Sight.{WhatIsAwaitedIsSeen, is_awaited, sees
 use Rattle.land_rules.specs.Relations.{is_lodger_on, is_rrr_where}
 use Rattle.land_rules.specs.Rules.{is_told_to_conveyancer, sees}
 
--- a record that stands is told or not, where its being told is known of what stands
+-- whether an existing record is visible, if the condition is known for existing records
 told_there : {X : Type 0} (told shown : X → Bool) (o : Option X) → ((x : X) → o ≡ Some x → told x ≡ shown x) → (option_map_or told o false && is_some o) ≡ option_map_or shown o false
 told_there told shown None same = refl
 told_there told shown (Some x) same = and_true (told x) ∙ same x refl
@@ -30,7 +30,7 @@ module _ (r : Register) (refers : UnitsStand r) (p : ℕ) where
   unit_is : (unit : ℕ) → sees r conveyancer kind.Unit unit ≡ is_awaited r conveyancer kind.Unit unit
   unit_is unit = passes_both (is_lodger_on r p unit) (has r.units unit) 19
 
-  -- the unit of an entry that stands is there
+  -- the unit of an existing entry exists
   told : (n : ℕ) (e : RrrRecord) → map.get r.rrrs n ≡ Some e → is_told_to_conveyancer r conveyancer e ≡ is_lodger_on r p e.unit
   told n e there = unit_is e.unit ∙ ap (λ b. is_lodger_on r p e.unit && b) (refers n e there) ∙ and_true (is_lodger_on r p e.unit)
 

@@ -1,4 +1,5 @@
--- A citizen sees what one of its circle would see without mandates, and mandates give nothing to see in other roles.
+-- Proves the laws on mandates: a citizen sees what a member of its circle would see without mandates, and
+-- mandates change nothing in other roles.
 use Rattle.std.proofs.Common.{◌≡◌, ℕ, Bool, true, false, ◌||◌, ◌&&◌, not, cond, List, [], ◌∷◌, Option, Some, None, is_some, refl, sym, ap, ap₂, ◌∙◌}
 use Rattle.std.specs.Prelude.{nat_eq}
 use Rattle.std.specs.FinMap as map
@@ -24,26 +25,26 @@ use Rattle.land_rules.specs.Relations.{is_holder, is_member_of, is_mutation_wher
 use Rattle.land_rules.specs.Rules.{is_allowed, seen_of, sees, view_rules}
 use Rattle.land_rules.specs.declared.verdict.Verdict.TheVariants.{Allowed, Denied}
 
--- a rule and the last one let pass what passes both
+-- a rule and rule 27 allow an object that satisfies both conditions
 pub passes_both : (a b : Bool) (k : ℕ) → is_allowed (cond (not a) (Denied k) (cond (not b) (Denied 27) Allowed)) ≡ (a && b)
 passes_both true true k = refl
 passes_both true false k = refl
 passes_both false b k = refl
 
--- of a record that may stand
+-- the same for a record that may exist
 passes_there : {V : Type 0} (passes : V → Bool) (found : Option V) (k : ℕ)
     → is_allowed (cond (not (option_map_or passes found false)) (Denied k) (cond (not (is_some found)) (Denied 27) Allowed)) ≡ option_map_or passes found false
 passes_there passes None k = refl
 passes_there passes (Some v) k = passes_both (passes v) true k ∙ and_true (passes v)
 
--- where a test of a record passes for a circle exactly if it does for one of it
+-- a record satisfies a condition on the circle exactly if it satisfies it for a member
 any_there : {V : Type 0} (all : V → Bool) (one : ℕ → V → Bool) (circle : List ℕ) → ((v : V) → all v ≡ list_any (λ p. one p v) circle) → (found : Option V)
     → option_map_or all found false ≡ list_any (λ p. option_map_or (one p) found false) circle
 any_there all one circle same None = sym (any_none circle)
 any_there all one circle same (Some v) = same v
 
 module _ (at : Register) where
-  -- what a circle sees
+  -- the objects that a circle sees
   abbrev sees_met : (circle : List ℕ) (party : ℕ) → Bool
   sees_met circle party = some (λ n e. nat_eq e.party party && is_allowed (cond (not (is_rrr_where (is_told_to_circle at circle) at n)) (Denied 12) (cond (not (stands at kind.Rrr n)) (Denied 27) Allowed))) at.rrrs
 
@@ -56,7 +57,7 @@ module _ (at : Register) where
   circle_sees circle kind.Source n = false
   circle_sees circle kind.Mutation n = is_allowed (cond (not (is_mutation_where (names_held_by at circle) at n)) (Denied 14) (cond (not (stands at kind.Mutation n)) (Denied 27) Allowed))
 
-  -- what one party sees by itself
+  -- the objects that one party sees by itself
   abbrev is_told : (party number : ℕ) → Bool
   is_told p n = is_rrr_where (is_told_to_holder at p) at n
 
@@ -93,7 +94,7 @@ module _ (at : Register) where
       ∙ any_or (λ p. nat_eq n p || is_member_of at p n) (λ p. meets p n) circle)
       ∙ any_and (λ p. nat_eq n p || is_member_of at p n || meets p n) (stands at kind.Party n) circle
 
-  -- so a circle sees what one of it sees that is a circle alone
+  -- a circle sees an object exactly if a member does that is a circle by itself
   singly : (all : List ℕ → Bool) (one : ℕ → Bool) → ((circle : List ℕ) → all circle ≡ list_any one circle) → (circle : List ℕ) → all circle ≡ list_any (λ p. all (p ∷ [])) circle
   singly all one same circle = same circle ∙ any_alike one (λ p. all (p ∷ [])) (λ p. sym (same (p ∷ []) ∙ or_nothing (one p))) circle
 
@@ -114,7 +115,7 @@ module _ (at : Register) where
   by_circle party kind.Source n = refl
   by_circle party kind.Mutation n = refl
 
-  -- and without mandates what it sees alone
+  -- and without mandates what it sees by itself
   without : (party : ℕ) (principals : List ℕ) → principals ≡ [] → (k : Kind) (n : ℕ) → circle_sees (party ∷ principals) k n ≡ circle_sees (party ∷ []) k n
   without party principals none k n = ap (λ ps. circle_sees (party ∷ ps) k n) none
 

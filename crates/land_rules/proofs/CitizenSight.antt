@@ -1,4 +1,5 @@
--- What a citizen sees of units, by what its circle holds, and who meets parties of them, by its names.
+-- The units that a citizen sees follow from the holdings of its circle, and the parties of entries from its
+-- names.
 use Rattle.std.proofs.Common.{◌≡◌, ℕ, Bool, true, false, ◌||◌, ◌&&◌, not, cond, refl, ap, ◌∙◌}
 use Rattle.std.specs.Prelude.{nat_eq}
 use Rattle.std.proofs.lemmas.Bool.{false≢true, and_parts}
@@ -23,7 +24,7 @@ and_implied : (a b : Bool) → (a ≡ true → b ≡ true) → (a && b) ≡ a
 and_implied true b h = h refl
 and_implied false b h = refl
 
--- what is held stands
+-- a unit with a holder exists
 held_stands : (at : Register) (party unit : ℕ) → is_held_by at (circle_of at party) unit ≡ true → stands at kind.Unit unit ≡ true
 held_stands at party unit = any_says (λ p. is_holder at p unit) (λ p h. (and_parts _ _ h).0) (circle_of at party)
 

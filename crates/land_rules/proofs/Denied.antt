@@ -1,4 +1,4 @@
--- The first rule that denies is the least one.
+-- The first rule that denies has the lowest number of all that deny.
 use Rattle.std.proofs.Common.{◌≡◌, ℕ, ◌<◌, ◌≤◌, Bool, true, false, ◌||◌, ◌&&◌, cond, [], ◌∷◌, refl, sym, ap, ◌∙◌, subst, arith}
 use Rattle.std.specs.Prelude.{nat_eq, nat_lt}
 use Rattle.std.proofs.lemmas.Bool.{false≢true, and_parts}
@@ -11,7 +11,7 @@ use Rattle.land_rules.specs.Rules.{Rules, first_denial, denies, rise_above, rule
 use Rattle.land_rules.specs.declared.verdict.Verdict.{Verdict}
 use Rattle.land_rules.specs.declared.verdict.Verdict.TheVariants.{Allowed, Denied}
 
--- no rule up to a number denies, where the rules rise above it
+-- no rule up to a number denies if all numbers are above it
 none_below : (low : ℕ) (rules : Rules) → rise_above low rules ≡ true → (k : ℕ) → k ≤ low → denies k rules ≡ false
 none_below low [] h k le = refl
 none_below low (rule ∷ rules) h k le =
@@ -26,7 +26,7 @@ none_below low (rule ∷ rules) h k le =
     below : (low n k : ℕ) → nat_lt low n ≡ true → k ≤ low → k ≤ n
     below low n k h le = grind (arith, nat_tests)
 
--- where the first denial is k, k denies and no lesser rule does
+-- if the first denial is k, rule k denies and no lower rule does
 pub record IsLeast (rules : Rules) (k : ℕ) : Type 0 where
   pub holds : denies k rules ≡ true
   pub least : (j : ℕ) → j < k → denies j rules ≡ false
@@ -74,7 +74,7 @@ none_from_allowed (rule ∷ rules) e k =
 one_number : (m k : ℕ) → (m < k → ⊥) → (k < m → ⊥) → m ≡ k
 one_number m k a b = grind (arith, a, b)
 
--- the least rule that denies is the first one
+-- the lowest rule that denies is the first one
 pub first_from_least : (rules : Rules) → rise_above 0 rules ≡ true → (k : ℕ) → denies k rules ≡ true → ((j : ℕ) → j < k → denies j rules ≡ false) → first_denial rules ≡ Denied k
 first_from_least rules rise k holds least = by_verdict (first_denial rules) refl
   where

@@ -1,4 +1,4 @@
--- The evidence is enough for the standing rules.
+-- The evidence is sufficient for the standing rules.
 use Rattle.std.proofs.Common.{◌≡◌, ℕ, Bool, false, not, refl, ap, ◌∙◌, ◌++◌}
 use Rattle.std.specs.Prelude.{IfSome}
 use Rattle.std.specs.FinMap as map

@@ -1,4 +1,4 @@
--- The circle of a party, and what one of it is.
+-- The circle of a party, and the relations of its members.
 use Rattle.std.proofs.Common.{◌≡◌, ℕ, Bool, true, false, ◌||◌, ◌&&◌, not, List, [], ◌∷◌, filter, map as map_list, Option, Some, None, is_some, refl, sym, ap, ◌∙◌}
 use Rattle.std.specs.Prelude.{nat_eq}
 use Rattle.std.specs.FinMap as map
@@ -34,13 +34,13 @@ use Rattle.land_rules.specs.Relations.{holds_as, is_holder, is_member_of, is_mor
 
 -- ---- principals
 
--- some principal passes a test where one does in a mandate that the party holds
+-- a principal satisfies a condition exactly if one does in a mandate that the party has
 pub some_principal : (t : ℕ → Bool) (at : Register) (party : ℕ) → list_any t (principals_of at party) ≡ list_any (λ m. nat_eq m.agent party && t m.principal) (mandates_in at.mandates)
 some_principal t at party =
     list_any-map t (λ (m : Mandate). m.principal) (filter (λ m. nat_eq m.agent party) (mandates_in at.mandates))
     ∙ any_kept (λ m. t m.principal) (λ m. nat_eq m.agent party) (mandates_in at.mandates)
 
--- a principal is who gave a mandate that stands
+-- a principal is a party that gave an existing mandate
 abbrev is_of : (party number : ℕ) → Mandate → Unit {0} → Bool
 is_of party number m u = nat_eq m.agent party && nat_eq number m.principal
 
@@ -71,7 +71,7 @@ is_principal at party number =
 pub are_of_mandates : CirclesAreOfMandates
 are_of_mandates at party number = ap (λ b. nat_eq number party || b) (is_principal at party number)
 
--- where there are no mandates, a party has no principals
+-- without mandates, a party has no principals
 none_in : map.entries (map.empty {X = Unit {0}} {R = mandate_cmp}) ≡ []
 none_in = nothing_from_length _ (sym (map.len-entries map.empty) ∙ map.len-empty mandate_cmp (Unit {0}))
 
@@ -82,7 +82,7 @@ no_principals at party none = ap (λ es. map_list (λ (m : Mandate). m.principal
 pub alone : AloneWithoutMandates
 alone at party none = ap (λ ps. party ∷ ps) (no_principals at party none)
 
--- ---- what one of a circle is
+-- ---- relations of the members of a circle
 
 implied : (a b : Bool) → (b ≡ true → a ≡ true) → (a && b) ≡ b
 implied true b h = refl
@@ -90,7 +90,7 @@ implied false true h = h refl
 implied false false h = refl
 
 module _ (at : Register) (circle : List ℕ) where
-  -- a circle is told what one of it is told as a holder
+  -- a circle sees an entry exactly if a member sees it as a holder
   pub told_together : (e : RrrRecord) → is_told_to_circle at circle e ≡ list_any (λ p. is_told_to_holder at p e) circle
   told_together e = by_class (is_mortgage e.class)
     where
@@ -109,7 +109,7 @@ module _ (at : Register) (circle : List ℕ) where
   named_together (content.Mortgage it) = refl
   named_together (content.Discharge it) = refl
 
-  -- ---- by the names in which one of it holds
+  -- ---- relations by name
 
   by_names : (is_of : RrrRecord → Bool) (unit : ℕ) → list_any (λ p. stands at kind.Unit unit && some (λ n e. is_of e && holds_as at p e.party) at.rrrs) circle
       ≡ (stands at kind.Unit unit && some (λ n e. is_of e && is_name_of at circle e.party) at.rrrs)
@@ -126,11 +126,11 @@ module _ (at : Register) (circle : List ℕ) where
   pub owned_by_names : (unit : ℕ) → is_owned_by at circle unit ≡ (stands at kind.Unit unit && some (λ n e. nat_eq e.unit unit && is_right_of Ownership e.class && is_name_of at circle e.party) at.rrrs)
   owned_by_names unit = by_names (λ e. nat_eq e.unit unit && is_right_of Ownership e.class) unit
 
-  -- the names are those of the circle, and of the groups of which one of it is a member
+  -- the names are the members of the circle, and the groups of which one of them is a member
   pub names_in_parts : (named : ℕ) → (list_any (nat_eq named) circle || list_any (λ p. is_member_of at p named) circle) ≡ is_name_of at circle named
   names_in_parts named = any_or (nat_eq named) (λ p. is_member_of at p named) circle
 
-  -- who is a member is found among the members
+  -- a member is found among the members
   member_found : (members : Members) (p : ℕ) → some (λ party share. nat_eq party p) members ≡ has members p
   member_found members p = same_tests _ _ forth (back (map.get members p) refl)
     where

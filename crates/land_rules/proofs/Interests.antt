@@ -1,4 +1,4 @@
--- What interest a party has in a unit, by the names in which it has it.
+-- The interest of a party in a unit follows from the names under which it has the interest.
 use Rattle.std.proofs.Common.{◌≡◌, ℕ, Bool, true, false, ◌&&◌, ◌||◌, Option, Some, None, refl, sym, ap, ap₂, ◌∙◌}
 use Rattle.std.proofs.lemmas.Bool.{false≢true, and_parts, eqb-true}
 use Rattle.std.specs.BTreeSet.{BTreeSet}
@@ -27,19 +27,19 @@ use Rattle.land_rules.specs.Holdings.{AreNames, gives_interest, has_interest, ha
 use Rattle.land_rules.specs.declared.rules.holdings.Interest.{Interest}
 use Rattle.land_rules.specs.declared.rules.holdings.Interest.TheVariants.{Holder, Owner, Creditor}
 
--- ---- entries in some names
+-- ---- entries under given names
 
--- whether an entry is of a class that gives the interest, in the unit, in one of some names
+-- whether an entry gives the interest in the unit under one of these names
 abbrev is_in_names : Interest → (is_name : ℕ → Bool) → (unit : ℕ) → RrrRecord → Bool
 is_in_names interest is_name unit e = nat_eq e.unit unit && gives_interest interest e.class && is_name e.party
 
--- by an entry in one of its names a party has the interest in a unit that stands
+-- an entry under one of its names gives a party the interest in an existing unit
 interest_as : (interest : Interest) (at : Register) (party unit : ℕ) → (stands at kind.Unit unit && some (λ n e. is_in_names interest (has_interest_as interest at party) unit e) at.rrrs) ≡ has_interest interest at party unit
 interest_as Holder at party unit = sym (held_by_names at (circle_of at party) unit)
 interest_as Owner at party unit = sym (owned_by_names at (circle_of at party) unit)
 interest_as Creditor at party unit = refl
 
--- so a party has the interest in a unit where some entry in one of these names gives it
+-- so a party has the interest in a unit exactly if an entry under one of these names gives it
 pub interest_by_names : (interest : Interest) (at : Register) (party : ℕ) (names : BTreeSet ℕ) → AreNames interest at party names → (unit : ℕ)
     → some (λ n e. has_interest_by interest at (has_number names) unit e) at.rrrs ≡ has_interest interest at party unit
 interest_by_names interest at party names are unit =
@@ -51,14 +51,14 @@ interest_by_names interest at party names are unit =
 
 -- ---- the names of a citizen
 
--- whether a group is the one that is named, and its members pass a test
+-- whether a group has this name and its members satisfy a condition
 abbrev pub is_group_where : (passes : Members → Bool) → (named : ℕ) → ℕ × Members → Bool
 is_group_where passes named e = nat_eq e.0 named && passes e.1
 
 abbrev is_its_group : (passes : Members → Bool) → (named group : ℕ) → Members → Bool
 is_its_group passes named group members = is_group_where passes named (group, members)
 
--- some group whose members pass is the one that is named where the members of that pass
+-- some group with such members has this name exactly if the group of this name has such members
 pub group_where : (passes : Members → Bool) (at : Register) (named : ℕ)
     → list_any (is_group_where passes named) (map.entries at.members) ≡ option_map_or passes (map.get at.members named) false
 group_where passes at named = same_tests _ _ forth (back (map.get at.members named) refl)
@@ -76,12 +76,12 @@ group_where passes at named = same_tests _ _ forth (back (map.get at.members nam
         some_at nat_cmp_total nat_cmp-IsAntisymmetric (is_its_group passes named) at.members named members is
         (ap (λ b. b && passes members) (nat_eq_equiv.refl named) ∙ sym (ap (λ o. option_map_or passes o false) is) ∙ h)
 
--- so these are the names of some parties: their own, and those of the groups that have one of them for a member
+-- so these are the names of the parties: their own, and those of the groups of which one of them is a member
 pub names_grouped : (at : Register) (is_one : ℕ → Bool) (named : ℕ)
     → (is_one named || list_any (is_group_where (has_member_among is_one) named) (map.entries at.members)) ≡ is_name_among at is_one named
 names_grouped at is_one named = ap (λ b. is_one named || b) (group_where (has_member_among is_one) at named)
 
--- and those of a set that is the circle of a citizen are the citizen's
+-- if the parties are the circle of a citizen, these are the citizen's names
 names_alike : (at : Register) (one other : ℕ → Bool) → ((n : ℕ) → one n ≡ other n) → (named : ℕ) → is_name_among at one named ≡ is_name_among at other named
 names_alike at one other same named = ap₂ (λ a b. a || b) (same named) (by_members (map.get at.members named))
   where

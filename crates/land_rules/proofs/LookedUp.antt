@@ -1,4 +1,4 @@
--- What is looked up is enough to judge who asks.
+-- Records that are read by key are sufficient evidence.
 use Rattle.std.proofs.Common.{◌≡◌, ℕ, nat_eq, cond, is_some, None, Option, Some, refl, ap, ◌∙◌}
 use Rattle.std.specs.Cmp.{nat_cmp_total, tied_itself}
 use Rattle.std.specs.FinMap as map
@@ -11,7 +11,7 @@ use Rattle.land_core.proofs.Reflection.{get-only}
 use Rattle.land_core.specs.Grants.{grant_of}
 use Rattle.land_rules.specs.Denials.Standing.{LookedUpIsEnough, one_at}
 
--- what was put in is there
+-- an inserted record is found
 there : {V : Type 0} (n : ℕ) (found : Option V) → map.get (one_at (Some n) found) n ≡ found
 there n None = map.get-empty nat_cmp n
 there n (Some value) = map.get-insert nat_cmp_total map.empty n value n ∙ ap (λ b. cond b (Some value) (map.get (map.empty {R = nat_cmp}) n)) (ap is_eq (tied_itself nat_cmp_total n))

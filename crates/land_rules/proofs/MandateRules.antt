@@ -1,4 +1,4 @@
--- Who gives mandates, and who withdraws them.
+-- Proves the law on rules 28 and 29: which callers give and withdraw mandates.
 use Rattle.std.proofs.Common.{◌≡◌, ℕ, Bool, true, false, ◌||◌, ◌&&◌, not, cond, [], ◌∷◌, ◌++◌, inl, inr, refl, sym, ap, ◌∙◌, subst, arith}
 use Rattle.std.specs.Prelude.{nat_eq}
 use Rattle.std.specs.List.{list_any}
@@ -27,7 +27,7 @@ use Rattle.land_rules.specs.Rules.{Rules, caller_rules, denies, first_denial, ru
 use Rattle.land_rules.specs.StandingLaws.{CitizensGiveMandates, IsLeftTo, IsOnItsMandate, IsOnMandate, IsPartyTo, WithdrawsMandate, may_ask}
 use Rattle.land_rules.specs.declared.verdict.Verdict.TheVariants.{Allowed, Denied}
 
--- a rule that denies, where none of those before it does
+-- a rule that denies if none of those before it does
 first_of : (before : Rules) (k : ℕ) (b : Bool) (later : Rules) → list_any (λ rule. rule.1) before ≡ false → b ≡ true
     → first_denial (before ++ ((k, b) ∷ later)) ≡ Denied k
 first_of [] k b later none here = ap (λ x. cond x (Denied k) (first_denial later)) here
@@ -35,7 +35,7 @@ first_of (rule ∷ before) k b later none here =
     ap (λ x. cond x (Denied rule.0) (first_denial (before ++ ((k, b) ∷ later)))) (or_parts _ _ none).0
     ∙ first_of before k b later (or_parts _ _ none).1 here
 
--- ---- what is done with a mandate is no act of the office, no lodging and no decision
+-- ---- an act on a mandate is not an act of the office, a lodging or a decision
 
 no_office : (it : Act) → is_of_mandates it ≡ true → is_office_act it ≡ false
 no_office (act.Mandate it) h = refl
@@ -82,7 +82,7 @@ withdrawal party (ask.Do (act.Withdraw it)) h = record { mandate = it; asked = r
 withdrawal party other h = absurd (false≢true h)
 
 module _ (now at : Register) (caller : Caller) (past : Bool) where
-  -- ---- rules 28 and 29 on any ask
+  -- ---- rules 28 and 29 on any request
 
   rule_28 : (a : Ask) → denies 28 (rules_on now at caller a past) ≡ (asks_for is_of_mandates a && not (is_role caller.role Citizen))
   rule_28 (ask.View kind.Party number moment) = refl
@@ -106,7 +106,7 @@ module _ (now at : Register) (caller : Caller) (past : Bool) where
   rule_29 (ask.Sheet unit moment) = refl
   rule_29 (ask.Do it) = or_nothing _
 
-  -- ---- of what is done with a mandate no lesser rule denies anything to a caller that may ask
+  -- ---- no lower rule denies an act on a mandate to a caller that may make requests
 
   abbrev earlier : Act → Rules
   earlier it =

@@ -1,4 +1,4 @@
--- What is seen is exactly what no rule denies.
+-- A list has exactly the objects whose view no rule denies.
 use Rattle.std.proofs.Common.{◌≡◌, ℕ, Bool, true, false, ◌||◌, ◌&&◌, cond, List, [], ◌∷◌, Option, Some, None, refl, sym, ap, ◌∙◌, subst}
 use Rattle.std.specs.Prelude.{nat_eq, nat_lt}
 use Rattle.std.proofs.lemmas.Bool.{false≢true, and_parts, eqb-true, not-false, or_parts}
@@ -42,7 +42,7 @@ denies_absent at caller kind.Rrr n h = not-false _ (or_parts _ _ h).0
 denies_absent at caller kind.Source n h = not-false _ (or_parts _ _ h).0
 denies_absent at caller kind.Mutation n h = not-false _ (or_parts _ _ h).0
 
--- what a caller sees stands
+-- an object that a caller sees exists
 sees_what_stands : (at : Register) (caller : Caller) (k : Kind) (n : ℕ) → sees at caller k n ≡ true → stands at k n ≡ true
 sees_what_stands at caller k n h = denies_absent at caller k n (none_from_allowed (view_rules at caller k n) (allowed_from (first_denial (view_rules at caller k n)) h) 27)
   where
@@ -58,7 +58,7 @@ less_is n k h = by_test (nat_lt n k) (nat_eq n k) h
     by_test false true h = h
     by_test false false h = h
 
--- the numbers of the records that pass a test on their numbers
+-- the numbers of the records whose numbers satisfy a condition
 module _ {V : Type 0} (p : ℕ → Bool) where
   above : (n : ℕ) (es : List (ℕ × V)) → below_all nat_cmp n es ≡ true → list_all (nat_lt n) (map_list (λ e. e.0) (filter (λ e. p e.0) es)) ≡ true
   above n [] h = refl
@@ -90,7 +90,7 @@ module _ {V : Type 0} (m : FinMap nat_cmp V) (p : ℕ → Bool) where
       found None e h = absurd (false≢true h)
       found (Some v) e h = record { value = v; there = e }
 
-  -- where only what stands passes, a number is among them exactly where it passes
+  -- if only existing objects satisfy a condition, a number is in the list exactly if it satisfies it
   exactly : (n : ℕ) → (p n ≡ true → has m n ≡ true) → list_any (nat_eq n) (numbers_where (λ k v. p k) m) ≡ p n
   exactly n stand =
       list_any-map (nat_eq n) (λ e. e.0) (filter (λ e. p e.0) (map.entries m))

@@ -1,4 +1,5 @@
--- What a citizen or a bank sees of a unit and of its entries, and a citizen of what names the unit, is told by its interest in the unit.
+-- The interest of a citizen or a bank in a unit decides which of its entries are visible, and for a citizen
+-- which mutations that refer to it.
 use Rattle.std.proofs.Common.{◌≡◌, ◌↔◌, inl, inr, ℕ, Bool, true, false, not, ◌&&◌, ◌||◌, cond, nat_eq, List, [], ◌∷◌, filter, Option, Some, None, is_some, refl, sym, ap, ap₂, subst, ◌∙◌}
 use Rattle.std.proofs.lemmas.Bool.{eqb-true, false≢true, and_parts}
 use Rattle.std.proofs.lemmas.Bool.Decides.{Decides-eqb}
@@ -40,31 +41,31 @@ use Rattle.land_rules.specs.declared.denials.interests.Interest.{Interest}
 use Rattle.land_rules.specs.declared.denials.interests.Interest.TheVariants.{Stranger, Holder, Owner, Creditor}
 use Rattle.land_rules.specs.declared.verdict.Verdict.TheVariants.{Allowed, Denied}
 
--- ---- tests
+-- ---- conditions
 
 and_assoc : (a b c : Bool) → (a && (b && c)) ≡ ((a && b) && c)
 and_assoc true b c = refl
 and_assoc false b c = refl
 
--- what follows from a test adds nothing to it
+-- a consequence of a condition adds nothing to it
 implied : (a b : Bool) → (b ≡ true → a ≡ true) → (a && b) ≡ b
 implied true b h = refl
 implied false true h = h refl
 implied false false h = refl
 
--- twice is once
+-- a condition twice is the condition once
 again : (a b : Bool) → ((a && b) && a) ≡ (a && b)
 again true b = and_true b
 again false b = refl
 
--- a role's rule and the last rule let pass what passes both
+-- a role's rule and rule 27 allow an object that satisfies both conditions
 pub passes_both : (a b : Bool) (k : ℕ) → is_allowed (cond (not a) (Denied k) (cond (not b) (Denied 27) Allowed)) ≡ (a && b)
 passes_both true true k = refl
 passes_both true false k = refl
 passes_both false b k = refl
 
 module _ {X : Type 0} where
-  -- of what passes one test some passes another where some passes both
+  -- an item that satisfies one condition satisfies another exactly if an item satisfies both
   any_of : (p q : X → Bool) (xs : List X) → list_any p (filter q xs) ≡ list_any (λ x. q x && p x) xs
   any_of p q [] = refl
   any_of p q (x ∷ xs) = go (q x) (any_of p q xs)
@@ -75,7 +76,7 @@ module _ {X : Type 0} where
 
 -- ---- the entries of a unit
 
--- the unit of an entry stands
+-- the unit of an entry exists
 abbrev pub UnitsStand : Register → Type 0
 UnitsStand r = (n : ℕ) (e : RrrRecord) → map.get r.rrrs n ≡ Some e → has r.units e.unit ≡ true
 
@@ -87,7 +88,7 @@ units_stand look_ups r (inl sound) = λ n e is. (((look_ups r).0 sound).entries 
 units_stand look_ups r (inr none) = subst UnitsStand (sym none) none_there
 
 module _ (r : Register) (refers : UnitsStand r) (is_of : Class → Bool) (is_his : ℕ → Bool) (unit : ℕ) where
-  -- an entry of a class in a name
+  -- an entry of a class under a name
   abbrev is_one : RrrRecord → Bool
   is_one e = is_of e.class && is_his e.party
 
@@ -100,7 +101,7 @@ module _ (r : Register) (refers : UnitsStand r) (is_of : Class → Bool) (is_his
       ∙ any_of (λ e. is_one e.1) (λ e. nat_eq e.1.unit unit) (map.entries r.rrrs)
       ∙ list_any_same (λ e. nat_eq e.1.unit unit && is_one e.1) (λ e. is_one_there e.1) (λ e. and_assoc (nat_eq e.1.unit unit) (is_of e.1.class) (is_his e.1.party)) (map.entries r.rrrs)
 
-  -- a unit with an entry stands
+  -- a unit with an entry exists
   unit_there : some (λ n e. is_one_there e) r.rrrs ≡ true → has r.units unit ≡ true
   unit_there h =
       let it = some_passes nat_cmp_total nat_cmp-IsAntisymmetric (λ n e. is_one_there e) r.rrrs h in
@@ -111,7 +112,7 @@ module _ (r : Register) (refers : UnitsStand r) (is_of : Class → Bool) (is_his
   pub in_unit : (has r.units unit && some (λ n e. is_one_there e) r.rrrs) ≡ some (λ n e. is_one e) (entries_of r unit)
   in_unit = implied (has r.units unit) (some (λ n e. is_one_there e) r.rrrs) unit_there ∙ sym some_there
 
--- ---- what is shown by an interest
+-- ---- the objects that an interest makes visible
 
 abbrev of_citizen : (holds owns : Bool) → Interest
 of_citizen holds owns = cond holds (cond owns Owner Holder) Stranger
@@ -137,12 +138,12 @@ entry_to_bank : (credits : Bool) (party : ℕ) (e : RrrRecord) → (credits && i
 entry_to_bank true party e = refl
 entry_to_bank false party e = refl
 
--- a record that stands is told or not
+-- an existing record is visible or it is not
 told_of : {X : Type 0} (told shown : X → Bool) → ((x : X) → told x ≡ shown x) → (o : Option X) → (option_map_or told o false && is_some o) ≡ option_map_or shown o false
 told_of told shown same None = refl
 told_of told shown same (Some x) = and_true (told x) ∙ same x
 
--- tests that agree on units agree on what names them
+-- conditions that are equal on units are equal on the mutations that refer to them
 named_alike : (p q : ℕ → Bool) → ((unit : ℕ) → p unit ≡ q unit) → (c : Content) → names_where p c ≡ names_where q c
 named_alike p q same (content.Transfer it) = same it.unit
 named_alike p q same (content.Subdivision it) = same it.unit
@@ -241,7 +242,7 @@ interests_tell_sight look_ups at premise caller k number h = by_role at (units_s
 
 -- ---- the names
 
--- where two tests of names agree, the entries in such a name are the same
+-- if two conditions on names are equal, they select the same entries
 module _ (p : ℕ) (one other : ℕ → Bool) (same : (named : ℕ) → one named ≡ other named) (entries : Entries) where
   some_alike : (is_of : Class → Bool) → some (λ n e. is_of e.class && one e.party) entries ≡ some (λ n e. is_of e.class && other e.party) entries
   some_alike is_of = list_any_same (λ e. is_of e.1.class && one e.1.party) (λ e. is_of e.1.class && other e.1.party) (λ e. ap (λ b. is_of e.1.class && b) (same e.1.party)) (map.entries entries)

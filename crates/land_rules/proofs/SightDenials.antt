@@ -1,4 +1,4 @@
--- What the denial of a view tells.
+-- The denial of a view reveals only that the object is not visible.
 use Rattle.std.proofs.Common.{◌≡◌, inl, inr, ℕ, Bool, true, false, ◌||◌, ◌&&◌, not, cond, Option, Some, None, refl, sym, subst, ◌∙◌}
 use Rattle.std.specs.Prelude.{is_some, nat_eq}
 use Rattle.std.specs.Option.{option_map_or}
@@ -38,7 +38,7 @@ use Rattle.land_rules.specs.declared.verdict.Verdict.TheVariants.{Allowed, Denie
 abbrev tells : Verdict → ℕ → Type 0
 tells v k = v ≡ cond (is_allowed v) Allowed (Denied k)
 
--- by rule 27 alone
+-- by rule 27 only
 absent : (there : Bool) → tells (cond (not there) (Denied 27) Allowed) 27
 absent true = refl
 absent false = refl
@@ -47,30 +47,30 @@ absent_itself : (itself there : Bool) → tells (cond (not there) (Denied 27) Al
 absent_itself true there = absent there
 absent_itself false there = absent there
 
--- by a relation that nobody has to what does not stand
+-- by a relation that no party has to a missing object
 related : (there has : Bool) (k : ℕ) → tells (cond (not (there && has)) (Denied k) (cond (not there) (Denied 27) Allowed)) k
 related true true k = refl
 related true false k = refl
 related false has k = refl
 
--- by a relation that one of several has, which nobody has to what does not stand
+-- by a relation of one of several parties, which none has to a missing object
 related_together : (passes there : Bool) (k : ℕ) → (passes ≡ true → there ≡ true) → tells (cond (not passes) (Denied k) (cond (not there) (Denied 27) Allowed)) k
 related_together true true k h = refl
 related_together true false k h = absurd (false≢true (h refl))
 related_together false there k h = refl
 
--- by what is asked of others, whether it stands or not
+-- by a condition on other objects, whether this one exists or not
 lodged : (lodged there : Bool) (k : ℕ) → tells (cond (not lodged) (Denied k) (cond (not there) (Denied 27) Allowed)) (cond (lodged || false) 27 k)
 lodged true true k = refl
 lodged true false k = refl
 lodged false there k = refl
 
--- by a test of what stands
+-- by a condition on existing objects
 tested : {V : Type 0} (passes : V → Bool) (found : Option V) (k : ℕ) → tells (cond (not (option_map_or passes found false)) (Denied k) (cond (not (is_some found)) (Denied 27) Allowed)) k
 tested passes None k = refl
 tested passes (Some v) k = elim (passes v) as (λ b. tells (cond (not b) (Denied k) Allowed) k) [ true ↦ refl | false ↦ refl ]
 
--- by being another, where what is seen stands
+-- by being another party, if visible objects exist
 met : (itself seen there : Bool) (k : ℕ) → (seen ≡ true → there ≡ true) → tells (cond (not (itself || seen)) (Denied k) (cond (not there) (Denied 27) Allowed)) (cond itself 27 k)
 met true seen true k h = refl
 met true seen false k h = refl
@@ -95,7 +95,7 @@ apart true true k = refl
 apart true false k = refl
 apart false there k = refl
 
--- nothing refers to anything
+-- an empty register has no references
 refers_nothing : Refers nothing
 refers_nothing = record {
   room = refl;
@@ -115,13 +115,13 @@ refers_nothing = record {
   mandates = no_mandates_are_tight nothing refl;
 }
 
--- what the tests of a register's references say, where it is sound and where nothing is in it
+-- the references of a register are valid if it is sound or empty
 pub references : (at : Register) → IsSoundOrNothing at → Refers at
 references at (inl sound) = refers at (sound Reference)
 references at (inr none) = subst Refers (sym none) refers_nothing
 
 module _ (at : Register) (sound : IsSoundOrNothing at) where
-  -- groups with members stand
+  -- groups with members exist
   pub group_stands : (party group : ℕ) → is_member at group party ≡ true → has at.parties group ≡ true
   group_stands party group h = found (map.get at.members group) refl h
     where
@@ -135,7 +135,7 @@ module _ (at : Register) (sound : IsSoundOrNothing at) where
           let whole = none_at nat_cmp_total nat_cmp-IsAntisymmetric (λ n m. are_loose at n m) at.members group members (references at sound).members e in
           is_there (map.get at.parties group) (not-false _ (or_parts _ _ whole).0)
 
-  -- principals stand
+  -- principals exist
   principal_stands : (party number : ℕ) → list_any (nat_eq number) (principals_of at party) ≡ true → has at.parties number ≡ true
   principal_stands party number h = found (map.get at.mandates (mandate_of number party)) refl (sym (is_principal at party number) ∙ h)
     where
@@ -149,7 +149,7 @@ module _ (at : Register) (sound : IsSoundOrNothing at) where
           let tight = not-false _ (mandates_from at (references at sound).mandates (mandate_of number party) e) in
           is_there (map.get at.parties number) (and_parts _ _ (and_parts _ _ tight).0).0
 
-  -- parties of entries stand
+  -- parties of entries exist
   pub party_stands : (caller : Caller) (party : ℕ) → is_party_in_sight at caller party ≡ true → has at.parties party ≡ true
   party_stands caller party h =
       let it = some_passes nat_cmp_total nat_cmp-IsAntisymmetric (λ n e. nat_eq e.party party && is_rrr_in_sight at caller n) at.rrrs h in

@@ -1,4 +1,4 @@
--- What holdings, ended entries, mortgages and lodgings give to see.
+-- Proves the laws on visibility by holdings, ended entries, mortgages and lodgings.
 use Rattle.std.proofs.Common.{◌≡◌, ℕ, Bool, true, false, ◌||◌, ◌&&◌, not, cond, Option, Some, None, refl, sym, ap, ◌∙◌, subst}
 use Rattle.std.specs.Prelude.{◌≢◌, is_some, nat_eq}
 use Rattle.std.specs.Option.{option_map_or}
@@ -29,7 +29,7 @@ use Rattle.land_rules.specs.SightLaws.{BanksSeeByTheirMortgages, CircleHoldsNone
 use Rattle.land_rules.specs.declared.verdict.Verdict.{Verdict}
 use Rattle.land_rules.specs.declared.verdict.Verdict.TheVariants.{Allowed, Denied}
 
--- ---- tests
+-- ---- conditions
 
 all_three : (a b c : Bool) → a ≡ true → b ≡ true → c ≡ true → (a && b && c) ≡ true
 all_three true true true e f g = refl
@@ -37,13 +37,13 @@ all_three true true false e f g = absurd (false≢true g)
 all_three true false c e f g = absurd (false≢true f)
 all_three false b c e f g = absurd (false≢true e)
 
--- a conjunction fails where its last part fails whenever the others hold
+-- a conjunction fails if its last part fails whenever the others hold
 last_fails : (a b c : Bool) → (a ≡ true → b ≡ true → c ≡ false) → (a && b && c) ≡ false
 last_fails true true c h = h refl refl
 last_fails true false c h = refl
 last_fails false b c h = refl
 
--- ---- a citizen that may ask is told what the sight rules say
+-- ---- the verdict on a citizen that may make requests is that of the sight rules
 
 pub may_ask : (stands holds past : Bool) (v : Verdict) → (stands && holds) ≡ true → cond (not stands) (Denied 1) (cond (not holds) (Denied 2) (cond (past && false) (Denied 3) v)) ≡ v
 may_ask true true true v e = refl
@@ -57,7 +57,7 @@ shown_by true false k e f = absurd (false≢true f)
 shown_by false there k e f = absurd (false≢true e)
 
 module _ (at : Register) (party : ℕ) where
-  -- who is a member of a group holds what is held in its name, and nobody holds what is held in the name of others
+  -- a member of a group has the rights under its name, and a party has none under the names of others
   holds_as_member : (group named : ℕ) → is_member at group party ≡ true → named ≡ group → holds_as at party named ≡ true
   holds_as_member group named member is = or_right (nat_eq named party) (is_member at named party) (subst (λ (g : ℕ). is_member at g party ≡ true) (sym is) member)
 
@@ -94,7 +94,7 @@ module _ (at : Register) (party : ℕ) where
       and_from _ _ parts.0 (some_at nat_cmp_total nat_cmp-IsAntisymmetric (λ n e. is_held_right at party unit e) at.rrrs it.key it.value it.there
       (all_three _ _ _ (and_parts _ _ tests.0).0 (right_from_ownership it.value.class (and_parts _ _ tests.0).1) tests.1))
 
--- ---- what one of its circle is tells what a citizen is told
+-- ---- a relation of a member of its circle decides a citizen's verdict
 
 module _ (at : Register) (party : ℕ) where
   unit_shown : (one unit : ℕ) → is_in_circle at party one ≡ true → is_holder at one unit ≡ true → first_denial (unit_rules at (citizen party) unit) ≡ Allowed
@@ -106,7 +106,7 @@ module _ (at : Register) (party : ℕ) where
       ap (λ b. cond (not b) (Denied 11) (cond (not (stands at kind.Unit unit)) (Denied 27) Allowed))
       (none_at_all (λ p. is_holder at p unit) (circle_of at party) (λ one among. no_holder at one unit (none one among)))
 
-  -- what is told of an entry that stands
+  -- the verdict on an existing entry
   entry_told : (number : ℕ) (e : RrrRecord) → map.get at.rrrs number ≡ Some e
       → first_denial (rrr_rules at (citizen party) number) ≡ cond (not (is_told_to_circle at (circle_of at party) e)) (Denied 12) Allowed
   entry_told number e there = ap (λ o. cond (not (option_map_or (is_told_to_circle at (circle_of at party)) o false)) (Denied 12) (cond (not (is_some o)) (Denied 27) Allowed)) there
@@ -140,7 +140,8 @@ module _ (at : Register) (party : ℕ) where
       ∙ subst (λ (n : ℕ). is_owned_by at (circle_of at party) n ≡ false) (sym of_unit)
       (none_at_all (λ p. is_owner at p unit) (circle_of at party) (λ one among. no_owner at one unit (none one among))))
 
--- a party is told by being of the circle, a group by a member of the circle, or either by what is in sight
+-- a citizen sees a party in its circle, a group with a member of its circle, and the parties of visible
+-- entries
 told_as_group : (among grouped in_sight : Bool) → grouped ≡ true → (among || grouped || in_sight) ≡ true
 told_as_group true grouped in_sight e = refl
 told_as_group false grouped in_sight e = ap (λ b. b || in_sight) e
@@ -183,7 +184,7 @@ owners_alone now at party unit number e moment past asks is class = record {
 
 -- ---- banks
 
--- what is shown passes its test
+-- a visible record satisfies its condition
 unit_passes : (there has : Bool) → is_allowed (cond (not (there && has)) (Denied 15) (cond (not there) (Denied 27) Allowed)) ≡ (there && has)
 unit_passes true true = refl
 unit_passes true false = refl
@@ -222,7 +223,7 @@ module _ (at : Register) (party : ℕ) where
   sees_entry : (number : ℕ) → sees at (bank party) kind.Rrr number ≡ option_map_or (is_told_to_bank at (bank party)) (map.get at.rrrs number) false
   sees_entry number = record_passes (is_told_to_bank at (bank party)) (map.get at.rrrs number) 16
 
-  -- no mortgage of another
+  -- the mortgages of other creditors are not visible
   own_from : (mortgage own : Bool) → (not mortgage || own) ≡ true → mortgage ≡ true → own ≡ true
   own_from true own h e = h
   own_from false own h e = absurd (false≢true e)
@@ -279,7 +280,7 @@ module _ (at : Register) (party : ℕ) where
   is_lodged : (number : ℕ) → HasLodged at party number → is_mutation_where (is_lodger_of party) at number ≡ true
   is_lodged number it = ap (λ o. option_map_or (is_lodger_of party) o false) it.there ∙ eq-eqb it.mutation.lodger party it.lodger
 
-  -- a conveyancer is shown a unit where it is a lodger on it and it stands
+  -- a conveyancer sees a unit exactly if it exists and one of its undecided mutations refers to it
   lodger_passes : (lodged there : Bool) → is_allowed (cond (not lodged) (Denied 19) (cond (not there) (Denied 27) Allowed)) ≡ (there && lodged)
   lodger_passes true true = refl
   lodger_passes true false = refl

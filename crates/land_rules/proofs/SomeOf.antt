@@ -1,4 +1,4 @@
--- When some item of a list passes a test.
+-- When an item of a list satisfies a condition.
 use Rattle.std.proofs.Common.{◌≡◌, ℕ, Bool, true, false, ◌||◌, ◌&&◌, cond, nat_eq, List, [], ◌∷◌, filter, refl, sym, ap, ap₂, subst, ◌∙◌}
 use Rattle.std.specs.List.{list_any}
 use Rattle.std.proofs.lemmas.Bool.{false≢true, eqb-true, or_right}
@@ -45,22 +45,22 @@ module _ {X : Type 0} where
   any_or p q [] = refl
   any_or p q (x ∷ xs) = or_four (p x) (list_any p xs) (q x) (list_any q xs) ∙ ap (λ c. (p x || q x) || c) (any_or p q xs)
 
-  -- what holds of all holds of one
+  -- a property of all items is a property of each
   pub any_same : (b : Bool) (x : X) (xs : List X) → list_any (λ y. b) (x ∷ xs) ≡ b
   any_same b x [] = or_nothing b
   any_same b x (y ∷ ys) = ap (λ c. b || c) (any_same b y ys) ∙ or_same b
 
-  -- where one passes the second test it passes the first
+  -- if an item that satisfies the second condition satisfies the first
   pub any_implied : (p q : X → Bool) → ((x : X) → q x ≡ true → p x ≡ true) → (xs : List X) → list_any q xs ≡ true → list_any p xs ≡ true
   any_implied p q h [] e = absurd (false≢true e)
   any_implied p q h (x ∷ xs) e = either_implied (p x) (list_any p xs) (q x) (list_any q xs) (h x) (any_implied p q h xs) e
 
-  -- what follows from the test of each item follows where some item passes
+  -- a consequence of each item's condition holds if an item satisfies it
   pub any_says : (p : X → Bool) {b : Bool} → ((x : X) → p x ≡ true → b ≡ true) → (xs : List X) → list_any p xs ≡ true → b ≡ true
   any_says p h [] e = absurd (false≢true e)
   any_says p h (x ∷ xs) e = either_true (p x) (list_any p xs) (h x) (any_says p h xs) e
 
-  -- of those that pass one test some passes another where some item passes both
+  -- an item among those that satisfy one condition satisfies another exactly if an item satisfies both
   pub any_kept : (t p : X → Bool) (xs : List X) → list_any t (filter p xs) ≡ list_any (λ x. p x && t x) xs
   any_kept t p [] = refl
   any_kept t p (x ∷ xs) = go (p x) (any_kept t p xs)
@@ -76,7 +76,7 @@ any_either p (x ∷ xs) ys = ap (λ b. list_any (p x) ys || b) (any_either p xs 
 
 -- ---- numbers
 
--- a number of the list that passes
+-- a number of the list that satisfies a condition
 pub any_at : (p : ℕ → Bool) (n : ℕ) (ns : List ℕ) → list_any (nat_eq n) ns ≡ true → p n ≡ true → list_any p ns ≡ true
 any_at p n [] h e = absurd (false≢true h)
 any_at p n (m ∷ ms) h e =
@@ -85,7 +85,7 @@ any_at p n (m ∷ ms) h e =
       | false ↦ λ gone h. or_right (p m) (list_any p ms) (any_at p n ms h e)
     ] refl h
 
--- no number of the list passes
+-- no number of the list satisfies a condition
 pub none_at_all : (p : ℕ → Bool) (ns : List ℕ) → ((n : ℕ) → list_any (nat_eq n) ns ≡ true → p n ≡ false) → list_any p ns ≡ false
 none_at_all p [] h = refl
 none_at_all p (m ∷ ms) h =

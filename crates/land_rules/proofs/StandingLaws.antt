@@ -1,4 +1,4 @@
--- Who may ask, of which moments, and which acts are left to which roles.
+-- Proves the laws on callers, times and the acts that are reserved to roles.
 use Rattle.std.proofs.Common.{◌≡◌, inl, inr, ℕ, ◌≤◌, Bool, true, false, ◌||◌, ◌&&◌, not, List, [], ◌∷◌, refl, sym, ap, ◌∙◌, subst, arith}
 use Rattle.std.specs.Prelude.{◌≢◌, is_some, nat_eq}
 use Rattle.std.proofs.lemmas.Bool.{false≢true, and_from, and_left, and_parts, and_right, eq-eqb, ne_eqb, not-false, not-true, or_from}
@@ -35,7 +35,8 @@ use Rattle.land_rules.proofs.Asked.{asks_for, asks_the_office, decides_for_other
 use Rattle.land_rules.proofs.StandingRules.{allows, as_bank, closed_from, from_rule_1, from_rule_2, from_rule_3, from_rule_4, from_rule_5, from_rule_6, from_rule_7, from_rule_8, from_rule_9, in_role, late_is_allowed, may, no_past_from, none_before, past_from, present_from, rule_1, rule_2, rule_3, rule_4, rule_5, rule_6, rule_7, rule_8, rule_9}
 
 module _ (now at : Register) (caller : Caller) (past : Bool) where
-  -- a rule that denies acts of a sort in all roles but some, where no lesser one but the first three denies such an act
+  -- a rule that denies such acts in all roles but some, if of the lower rules only the first three may deny
+  -- such an act
   left_by : (roles : List Role) (k : ℕ) (these : Ask → Type 0) (test : Act → Bool) (a : Ask) → 4 ≤ k
       → (these a → asks_for test a ≡ true) → (asks_for test a ≡ true → these a)
       → denies k (rules_on now at caller a past) ≡ (asks_for test a && not (asks_in roles caller))
@@ -89,7 +90,7 @@ module _ (now at : Register) (caller : Caller) (past : Bool) where
       (sym (or_nothing (is_role caller.role Notary))))
       (from_rule_7 now at caller past a)
 
-  -- none of the first three rules denies a caller that may ask
+  -- none of the first three rules denies a caller that may make requests
   pub none_of_three : may_ask now caller past ≡ true → (others : Bool) → others ≡ false
       → (not (stands now kind.Party caller.party) || (not (holds now caller.party caller.role) || (past && is_of_the_present caller || others)))
       ≡ false
@@ -98,7 +99,7 @@ module _ (now at : Register) (caller : Caller) (past : Bool) where
       let held = and_parts (stands now kind.Party caller.party) (holds now caller.party caller.role) parts.0 in
       or_from _ _ (ap not held.0) (or_from _ _ (ap not held.1) (or_from _ _ (late_is_allowed past _ _ (present_from caller) parts.1) none))
 
-  -- an act of the office that decides nothing of the caller's
+  -- an act of the office that is not a decision on the caller's own mutation
   office_given : (a : Ask) → IsGivenTo (StateAdministrator ∷ []) (IsOfTheOfficeForOthers now caller.party) now at caller a past
   office_given a asker role it =
       subst (λ (x : Ask). verdict_of now at caller x past ≡ Allowed) (sym it.office.asked)
@@ -121,7 +122,7 @@ module _ (now at : Register) (caller : Caller) (past : Bool) where
           (or_from _ _ (and_left _ _ no_mandate)
           (or_from _ _ (withdraws_nothing (is_between_others caller.party) it no_mandate) refl))))))))))
 
-  -- what rules 5 to 9 say of a content that is lodged
+  -- rules 5 to 9 on a lodged content
   record IsFree (c : Content) : Type 0 where
     transfer : (is_transfer c && not (is_of_transfers caller)) ≡ false
     outlines : (is_of_outlines c && not (is_role caller.role CertifiedSurveyor)) ≡ false
@@ -189,7 +190,7 @@ module _ (now at : Register) (caller : Caller) (past : Bool) where
     discharged = discharged;
   }
 
-  -- in the role of a bank mortgages and discharges are lodged
+  -- banks may lodge mortgages and discharges
   bank_lodges : is_role caller.role Bank ≡ true → is_of_mortgages caller ≡ true
   bank_lodges bank = ap (λ b. b || is_role caller.role Notary) bank
 
@@ -221,12 +222,12 @@ roles_are_held now at caller a past = record {
   allowed = λ e. let none = none_from_allowed (rules_on now at caller a past) e in in_role now at caller past a (none 1) (none 2);
 }
 
--- the verdict where what rule 3 asks is known
+-- the verdict if the condition of rule 3 is known
 abbrev with_late : (now : Register) → Caller → Rules → (late : Bool) → Verdict
 with_late now caller others late =
     first_denial ((1, not (stands now kind.Party caller.party)) ∷ (2, not (holds now caller.party caller.role)) ∷ (3, late) ∷ others)
 
--- in a role that is not of the present alone the verdict is the same at each moment
+-- a role that sees the past has the same verdict at each time
 same_at_each_moment : (now at : Register) (caller : Caller) (a : Ask) → is_of_the_present caller ≡ false
     → verdict_of now at caller a true ≡ verdict_of now at caller a false
 same_at_each_moment now at caller (ask.View kind number moment) h =
@@ -284,7 +285,7 @@ outlines_are_left now at caller a past = record {
     given asker role (inr (it, lodged)) =
         lodging_given now at caller past a (content.Merger it) lodged asker (free_merger now at caller past it role)
 
--- a notary is no bank, and lodges mortgages as well
+-- a notary is not a bank, and lodges mortgages as well
 record IsNotary (caller : Caller) : Type 0 where
   no_bank : is_role caller.role Bank ≡ false
   mortgages : is_of_mortgages caller ≡ true

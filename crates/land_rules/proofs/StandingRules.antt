@@ -1,4 +1,4 @@
--- What each of the rules 1 to 9 says of an ask.
+-- When each of the rules 1 to 9 denies a request.
 use Rattle.std.proofs.Common.{◌≡◌, ℕ, ◌+◌, ◌<◌, ◌≤◌, Bool, true, false, ◌||◌, ◌&&◌, not, cond, [], ◌∷◌, refl, sym, ap, ◌∙◌, subst, arith}
 use Rattle.std.specs.Prelude.{nat_eq, nat_lt}
 use Rattle.std.specs.List.{list_any}
@@ -23,9 +23,9 @@ use Rattle.land_rules.specs.StandingLaws.{asks_as_bank, asks_in, is_in_role, may
 use Rattle.land_rules.specs.declared.verdict.Verdict.TheVariants.{Allowed, Denied}
 use Rattle.land_rules.proofs.Asked.{asks_for, lodges_as_no_office, lodges_no_other, mortgages_are_no_outlines, mortgages_are_no_transfer}
 
--- ---- rules in rising order
+-- ---- rules in ascending order
 
--- no rule up to a number denies, where the rules rise above it
+-- no rule up to a number denies if all numbers are above it
 none_up_to : (low : ℕ) (rules : Rules) → rise_above low rules ≡ true → (k : ℕ) → k ≤ low → denies k rules ≡ false
 none_up_to low [] h k le = refl
 none_up_to low (rule ∷ rules) h k le =
@@ -49,12 +49,12 @@ sight_rises at caller (ask.List k moment) = refl
 sight_rises at caller (ask.Sheet unit moment) = refl
 sight_rises at caller (ask.Do it) = refl
 
--- where no rule denies, the verdict allows
+-- if no rule denies, the verdict allows
 pub allows : (rules : Rules) → list_any (λ rule. rule.1) rules ≡ false → first_denial rules ≡ Allowed
 allows [] h = refl
 allows (rule ∷ rules) h = ap (λ b. cond b (Denied rule.0) (first_denial rules)) (or_parts _ _ h).0 ∙ allows rules (or_parts _ _ h).1
 
--- a test of numbers that holds below a number and at it
+-- a condition on numbers that holds below a number and at it
 one_more : (test : ℕ → Bool) (k : ℕ) → test k ≡ false → ((j : ℕ) → j < k → test j ≡ false) → (j : ℕ) → j < k + 1 → test j ≡ false
 one_more test k here before j less =
     elim (nat_eq j k) as (λ b. nat_eq j k ≡ b → test j ≡ false) [
@@ -98,10 +98,10 @@ late_may : (past told present : Bool) → (present ≡ false → told ≡ true) 
 late_may true told present h e = h e
 late_may false told present h e = refl
 
--- ---- the rules one by one
+-- ---- each rule
 
 module _ (now at : Register) (caller : Caller) (past : Bool) where
-  -- no sight rule has a number up to 10
+  -- sight rules have numbers above 10
   standing_alone : (a : Ask) (k : ℕ) → k ≤ 10 → denies k (rules_on now at caller a past) ≡ denies k (standing_rules now caller a past)
   standing_alone a k le =
       list_any-append (λ rule. nat_eq rule.0 k && rule.1) (standing_rules now caller a past) (sight_rules at caller a)
@@ -123,7 +123,7 @@ module _ (now at : Register) (caller : Caller) (past : Bool) where
       ∙ ap (λ b. b || denies k (act_rules now caller it)) none
   by_act k none read = none
 
-  -- a rule on acts of a sort in other roles, and one on acts of a sort in a role
+  -- a rule on acts of a kind in other roles, and one on acts of a kind in one role
   elsewhere : (these : Act → Bool) (role : Bool) (a : Ask)
       → asks_for (λ it. these it && not role || false) a ≡ (asks_for these a && not role)
   elsewhere these role (ask.Do it) = or_nothing _
@@ -206,7 +206,7 @@ module _ (now at : Register) (caller : Caller) (past : Bool) where
       and_from _ _ (in_role a (none 1 (omega arith)) (none 2 (omega arith)))
       (late_may past _ _ (past_from caller) (sym (rule_3 a) ∙ none 3 (omega arith)))
 
-  -- lodgings: rule 4 does not deny them, nor rules 5 and 6 those of mortgages and discharges
+  -- rule 4 does not deny lodgings, and rules 5 and 6 do not deny those of mortgages and discharges
   pub from_rule_5 : (passes : Content → Bool) (a : Ask) → asks_for (lodges passes) a ≡ true → none_before a 4 → none_before a 5
   from_rule_5 passes a h before = next a 4 (rule_4 a ∙ and_left _ _ (lodges_as_no_office passes a h)) before
 
@@ -221,7 +221,8 @@ module _ (now at : Register) (caller : Caller) (past : Bool) where
       next a 6 (rule_6 a ∙ and_left _ _ (lodges_no_other is_of_a_mortgage is_of_outlines mortgages_are_no_outlines a h))
       (from_rule_6 is_of_a_mortgage mortgages_are_no_transfer a h before)
 
-  -- a bank's lodgings: rule 7 does not deny those of mortgages and discharges, nor rule 8 those that are no mortgages of others
+  -- for a bank, rule 7 does not deny lodgings of mortgages and discharges, and rule 8 only those of mortgages
+  -- of others
   pub from_rule_8 : (a : Ask) → is_role caller.role Bank ≡ true → asks_for (lodges is_of_a_mortgage) a ≡ true
       → none_before a 4 → none_before a 8
   from_rule_8 a bank h before =

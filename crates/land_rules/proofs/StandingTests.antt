@@ -1,4 +1,4 @@
--- Tests joined by and, or and not, and tests of numbers.
+-- Conditions joined by and, or and not, and comparisons of numbers.
 use Rattle.std.proofs.Common.{◌≡◌, Bool, true, false, Option, Some, None, refl, sym, ◌∙◌}
 use Rattle.std.specs.Prelude.{◌≢◌, is_some}
 use Rattle.std.proofs.lemmas.Bool.{false≢true}

@@ -1,4 +1,4 @@
--- What is in sight tells the verdict on a view.
+-- The visibility of an object decides the verdict on its view.
 use Rattle.std.proofs.Common.{◌≡◌, ℕ, Bool, true, false, not, [], ◌∷◌, Option, Some, None, is_some, cond, nat_eq, refl, ◌∙◌}
 use Rattle.std.proofs.lemmas.Bool.{false≢true}
 use Rattle.std.specs.FinMap as map
@@ -29,7 +29,7 @@ told_same at caller kind.Mutation number = refl
 pub sight_tells_verdicts : DenialsTellSight → SightTellsVerdicts
 sight_tells_verdicts law at sound caller k number = law at sound caller k number ∙ told_same at caller k number
 
--- one rule alone denies: that nothing stands
+-- only rule 27 denies: the object does not exist
 last : (stood : Bool) → is_allowed (first_denial ((27, not stood) ∷ [])) ≡ stood
 last true = refl
 last false = refl
@@ -71,7 +71,7 @@ seen_by at party roles.CertifiedSurveyor kind.Mutation number h = absurd (false�
 pub all_that_stands_is_seen : AllThatStandsIsSeen
 all_that_stands_is_seen at caller k number h = seen_by at caller.party caller.role k number h
 
--- what a rule denies that is not the caller's, and what does not stand
+-- a rule of another role does not deny, and rule 27 denies a missing object
 its_own : (number party : ℕ) (found : Option MutationRecord)
     → is_allowed (cond (not (option_map_or (is_lodger_of party) found false)) (Denied number) (cond (not (is_some found)) (Denied 27) Allowed)) ≡ option_map_or (is_lodger_of party) found false
 its_own number party None = refl

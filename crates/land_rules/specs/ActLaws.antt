@@ -1,4 +1,4 @@
--- Laws for a reader of the policy: who decides what was lodged.
+-- Laws on decisions: a party never decides on a mutation that it lodged.
 use Rattle.std.specs.Prelude.{◌≡◌, ℕ, Bool, true, false, ◌&&◌, if◌then◌else◌}
 use Rattle.land_core.specs.Register.{stands, holds}
 use Rattle.land_core.specs.declared.act.Act.TheVariants.{Approve, Refuse}
@@ -13,40 +13,46 @@ use Rattle.land_rules.specs.Rules.{is_allowed, verdict_of}
 use Rattle.land_rules.specs.declared.verdict.Verdict.{Verdict}
 use Rattle.land_rules.specs.declared.verdict.Verdict.TheVariants.{Allowed, Denied}
 
--- what is asked to approve a mutation, and to refuse it
+-- the request to approve a mutation
 abbrev pub to_approve : ℕ → Ask
 to_approve number = ask.Do (Approve (record { mutation = number }))
 
+-- the request to refuse a mutation
 abbrev pub to_refuse : ℕ → Ask
 to_refuse number = ask.Do (Refuse (record { mutation = number }))
 
--- neither decision on a mutation is allowed
+-- the caller is allowed neither decision on a mutation
 pub record MayNotDecide (now at : Register) (caller : Caller) (number : ℕ) (past : Bool) : Type 0 where
   pub approval : is_allowed (verdict_of now at caller (to_approve number) past) ≡ false
   pub refusal : is_allowed (verdict_of now at caller (to_refuse number) past) ≡ false
 
--- whoever lodged a mutation may not decide it, in no role
+-- a party that lodged a mutation may not decide on it, in any role
 abbrev pub LodgersDoNotDecide : Type 0
-LodgersDoNotDecide = (now at : Register) (caller : Caller) (number : ℕ) (past : Bool) → has_lodged now caller.party number ≡ true
+LodgersDoNotDecide = (now at : Register) (caller : Caller) (number : ℕ) (past : Bool)
+    → has_lodged now caller.party number ≡ true
     → MayNotDecide now at caller number past
 
--- a party in the role of a state administrator, and whether it may ask in it
+-- a caller in the role of state administrator
 abbrev pub administrator : ℕ → Caller
 administrator party = record { party = party; role = StateAdministrator }
 
+-- whether a party exists and holds this role now
 abbrev pub is_administrator : (now : Register) → (party : ℕ) → Bool
 is_administrator now party = stands now kind.Party party && holds now party StateAdministrator
 
--- what it is told of a decision: rule 10 where it lodged the mutation, else that it may decide
+-- the verdict on a decision of a state administrator: rule 10 if the party lodged the mutation, else allowed
 abbrev pub told_of_decision : (now : Register) → (party number : ℕ) → Verdict
 told_of_decision now party number = if has_lodged now party number then Denied 10 else Allowed
 
--- exactly this is what the policy says of both decisions
+-- both decisions have exactly this verdict
 pub record DecisionIsTold (now at : Register) (party number : ℕ) (past : Bool) : Type 0 where
-  pub approval : verdict_of now at (administrator party) (to_approve number) past ≡ told_of_decision now party number
-  pub refusal : verdict_of now at (administrator party) (to_refuse number) past ≡ told_of_decision now party number
+  pub approval : verdict_of now at (administrator party) (to_approve number) past
+      ≡ told_of_decision now party number
+  pub refusal : verdict_of now at (administrator party) (to_refuse number) past
+      ≡ told_of_decision now party number
 
--- a state administrator decides what others lodged
+-- a state administrator may decide on a mutation exactly if another party lodged it
 abbrev pub AdministratorsDecideForOthers : Type 0
-AdministratorsDecideForOthers = (now at : Register) (party number : ℕ) (past : Bool) → is_administrator now party ≡ true
+AdministratorsDecideForOthers =
+    (now at : Register) (party number : ℕ) (past : Bool) → is_administrator now party ≡ true
     → DecisionIsTold now at party number past

@@ -1,4 +1,4 @@
--- What an act asks for, as far as the policy looks at it.
+-- The properties of acts and contents that the policy reads.
 use Rattle.std.specs.Prelude.{ℕ, Bool, true, false, not, ◌&&◌, ◌||◌, nat_eq}
 use Rattle.land_core.specs.Role.{is_role}
 use Rattle.land_core.specs.declared.act.Act.{Act}
@@ -12,8 +12,7 @@ use Rattle.land_core.specs.declared.role.Role.TheVariants.{Conveyancer, Notary, 
 use Rattle.land_core.specs.declared.rrr.RrrRecord.{RrrRecord}
 use Rattle.land_rules.specs.Relations.{is_mortgage, is_rrr_where}
 
--- acts of the office: to enrol, to group and regroup, to grant and revoke roles, to register and burden units, to lift burdens,
--- to approve and refuse mutations; the others are lodgings, and what is done with mandates
+-- whether an act is one of the office: all acts are, except lodgings and the acts on mandates
 abbrev pub is_office_act : Act → Bool
 is_office_act (act.Enrol it) = true
 is_office_act (act.Group it) = true
@@ -29,12 +28,12 @@ is_office_act (act.Lodge it) = false
 is_office_act (act.Approve it) = true
 is_office_act (act.Refuse it) = true
 
--- whether an act lodges a content that passes a test
+-- whether an act lodges a content that satisfies a condition
 abbrev pub lodges : (Content → Bool) → Act → Bool
 lodges passes (act.Lodge it) = passes it.content
 lodges passes other = false
 
--- whether an act approves or refuses a mutation whose number passes a test
+-- whether an act approves or refuses a mutation whose number satisfies a condition
 abbrev pub decides : (ℕ → Bool) → Act → Bool
 decides passes (act.Approve it) = passes it.mutation
 decides passes (act.Refuse it) = passes it.mutation
@@ -46,7 +45,7 @@ is_of_mandates (act.Mandate it) = true
 is_of_mandates (act.Withdraw it) = true
 is_of_mandates other = false
 
--- whether an act withdraws a mandate that passes a test
+-- whether an act withdraws a mandate that satisfies a condition
 abbrev pub withdraws : (Mandate → Bool) → Act → Bool
 withdraws passes (act.Withdraw it) = passes it
 withdraws passes other = false
@@ -57,15 +56,15 @@ is_between_others party m = not (nat_eq m.principal party || nat_eq m.agent part
 
 -- ---- roles that lodge
 
--- conveyancers and notaries lodge transfers
+-- whether the role may lodge transfers: conveyancers and notaries may
 abbrev pub is_of_transfers : Caller → Bool
 is_of_transfers caller = is_role caller.role Conveyancer || is_role caller.role Notary
 
--- banks and notaries lodge mortgages and discharges
+-- whether the role may lodge mortgages and discharges: banks and notaries may
 abbrev pub is_of_mortgages : Caller → Bool
 is_of_mortgages caller = is_role caller.role Bank || is_role caller.role Notary
 
--- ---- what is lodged
+-- ---- contents
 
 -- whether a content is a transfer
 abbrev pub is_transfer : Content → Bool
@@ -75,7 +74,7 @@ is_transfer (content.Merger it) = false
 is_transfer (content.Mortgage it) = false
 is_transfer (content.Discharge it) = false
 
--- whether a content is a subdivision or a merger: whether it asks for new outlines
+-- whether a content has new outlines: a subdivision or a merger
 abbrev pub is_of_outlines : Content → Bool
 is_of_outlines (content.Transfer it) = false
 is_of_outlines (content.Subdivision it) = true
@@ -83,7 +82,7 @@ is_of_outlines (content.Merger it) = true
 is_of_outlines (content.Mortgage it) = false
 is_of_outlines (content.Discharge it) = false
 
--- whether a content makes or ends a mortgage
+-- whether a content creates or ends a mortgage
 abbrev pub is_of_a_mortgage : Content → Bool
 is_of_a_mortgage (content.Transfer it) = false
 is_of_a_mortgage (content.Subdivision it) = false
@@ -91,7 +90,7 @@ is_of_a_mortgage (content.Merger it) = false
 is_of_a_mortgage (content.Mortgage it) = true
 is_of_a_mortgage (content.Discharge it) = true
 
--- whether a content is a mortgage whose creditor is another than the party
+-- whether a content is a mortgage of which the party is not the creditor
 abbrev pub is_mortgage_of_another : (party : ℕ) → Content → Bool
 is_mortgage_of_another party (content.Transfer it) = false
 is_mortgage_of_another party (content.Subdivision it) = false
@@ -103,11 +102,12 @@ is_mortgage_of_another party (content.Discharge it) = false
 abbrev pub is_mortgage_of : (party : ℕ) → RrrRecord → Bool
 is_mortgage_of party e = is_mortgage e.class && nat_eq e.party party
 
--- whether a content is a discharge of what is no mortgage now with the party as creditor: nothing stands there, or no mortgage,
--- or the mortgage of another
+-- whether a content is the discharge of a number at which the party has no mortgage now: there is no entry,
+-- the entry is not a mortgage, or another party is the creditor
 abbrev pub is_discharge_of_another : (now : Register) → (party : ℕ) → Content → Bool
 is_discharge_of_another now party (content.Transfer it) = false
 is_discharge_of_another now party (content.Subdivision it) = false
 is_discharge_of_another now party (content.Merger it) = false
 is_discharge_of_another now party (content.Mortgage it) = false
-is_discharge_of_another now party (content.Discharge it) = not (is_rrr_where (is_mortgage_of party) now it.mortgage)
+is_discharge_of_another now party (content.Discharge it) =
+    not (is_rrr_where (is_mortgage_of party) now it.mortgage)

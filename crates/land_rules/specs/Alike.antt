@@ -1,4 +1,4 @@
--- When two registers look alike to a caller, and what follows for what it is told.
+-- When two registers look alike to a caller, and the law that their verdicts are then equal.
 use Rattle.std.specs.Prelude.{◌≡◌, ℕ, Bool, List, Option, map as map_list}
 use Rattle.land_core.specs.Register.{holds, object_at, stands}
 use Rattle.land_core.specs.declared.ask.Ask.{Ask}
@@ -16,29 +16,31 @@ use Rattle.land_rules.specs.Rules.{seen_of, verdict_of}
 abbrev pub shown_of : Register → Caller → Kind → List (ℕ × Option Object)
 shown_of at caller k = map_list (λ n. (n, object_at at k n)) (seen_of at caller k)
 
--- two registers look alike to a caller: it stands in both or in neither, it has the same roles in both, and of each kind it sees the
--- same numbers with the same objects
+-- two registers look alike to a caller if it exists in both or in neither, has the same roles in both, and
+-- sees the same numbers of each kind with the same objects
 pub record LookAlike (one other : Register) (caller : Caller) : Type 0 where
   pub party : stands one kind.Party caller.party ≡ stands other kind.Party caller.party
   pub roles : (role : Role) → holds one caller.party role ≡ holds other caller.party role
   pub shown : (k : Kind) → shown_of one caller k ≡ shown_of other caller k
 
--- an ask to see: a view, a list or a sheet, and not an act
+-- a request that only reads: a view, a list or a sheet
 abbrev pub IsRead : Ask → Type 0
 IsRead (ask.View k number at) = Unit {0}
 IsRead (ask.List k at) = Unit {0}
 IsRead (ask.Sheet unit at) = Unit {0}
 IsRead (ask.Do it) = ⊥
 
--- two worlds look alike to a caller: their registers now do, and so do those at the asked moment, each sound or nothing
+-- two worlds look alike to a caller if their registers now do, and their registers at the requested time do,
+-- and the latter are sound or empty
 pub record WorldsLookAlike (now other_now at other_at : Register) (caller : Caller) : Type 0 where
   pub last : LookAlike now other_now caller
   pub asked : LookAlike at other_at caller
   pub one : IsSoundOrNothing at
   pub other : IsSoundOrNothing other_at
 
--- in worlds that look alike to a caller the policy says the same of each view, list and sheet that it asks for, the number of a
--- denial included
+-- in worlds that look alike to a caller, each view, list and sheet gets the same verdict, with the same
+-- number
 abbrev pub VerdictsTellNothingUnseen : Type 0
-VerdictsTellNothingUnseen = (now other_now at other_at : Register) (caller : Caller) (a : Ask) (past : Bool) → WorldsLookAlike now other_now at other_at caller
+VerdictsTellNothingUnseen = (now other_now at other_at : Register) (caller : Caller) (a : Ask) (past : Bool)
+    → WorldsLookAlike now other_now at other_at caller
     → IsRead a → verdict_of now at caller a past ≡ verdict_of other_now other_at caller a past

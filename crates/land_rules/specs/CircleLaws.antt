@@ -1,4 +1,4 @@
--- Laws for a reader of the policy: what mandates give to see.
+-- Laws on mandates: which objects they make visible, and to which parties.
 use Rattle.std.specs.Prelude.{◌≡◌, ℕ, false, ◌||◌, nat_eq, [], ◌∷◌}
 use Rattle.std.specs.FinMap as map
 use Rattle.std.specs.List.{list_any}
@@ -12,28 +12,37 @@ use Rattle.land_rules.specs.Circles.{circle_of, is_in_circle}
 use Rattle.land_rules.specs.Laws.{citizen}
 use Rattle.land_rules.specs.Rules.{seen_of, sees, view_rules}
 
--- in the circle of a party is the party itself, and whoever gave it a mandate that stands, and nobody else: whose mandate such a
--- principal holds is not looked at
+-- the circle of a party has exactly the party itself and the parties that gave it a mandate; mandates that
+-- those parties hold do not matter
 abbrev pub CirclesAreOfMandates : Type 0
-CirclesAreOfMandates = (at : Register) (party number : ℕ) → is_in_circle at party number ≡ (nat_eq number party || has_mandate at.mandates (mandate_of number party))
+CirclesAreOfMandates = (at : Register) (party number : ℕ)
+    → is_in_circle at party number
+    ≡ (nat_eq number party || has_mandate at.mandates (mandate_of number party))
 
--- where there are no mandates, each party is in its circle alone
+-- without mandates, the circle of a party has only the party itself
 abbrev pub AloneWithoutMandates : Type 0
 AloneWithoutMandates = (at : Register) (party : ℕ) → at.mandates ≡ map.empty → circle_of at party ≡ party ∷ []
 
--- a register as it is, but that no mandates stand
+-- the same register without its mandates
 abbrev pub without_mandates : Register → Register
 without_mandates at = record at { mandates = map.empty }
 
--- a citizen sees exactly what one of its circle would see without mandates, so that its lists are the union of theirs
+-- a citizen sees exactly the objects that a member of its circle would see without mandates; so its lists are
+-- the union of their lists
 pub record SeesTogether (at : Register) (party : ℕ) (k : Kind) (number : ℕ) : Type 0 where
-  pub sight : sees at (citizen party) k number ≡ list_any (λ p. sees (without_mandates at) (citizen p) k number) (circle_of at party)
-  pub listed : list_any (nat_eq number) (seen_of at (citizen party) k) ≡ list_any (λ p. list_any (nat_eq number) (seen_of (without_mandates at) (citizen p) k)) (circle_of at party)
+  pub sight : sees at (citizen party) k number
+      ≡ list_any (λ p. sees (without_mandates at) (citizen p) k number) (circle_of at party)
+  pub listed : list_any (nat_eq number) (seen_of at (citizen party) k)
+      ≡ list_any (λ p. list_any (nat_eq number) (seen_of (without_mandates at) (citizen p) k))
+      (circle_of at party)
 
+-- this holds for every object
 abbrev pub CirclesSeeTogether : Type 0
 CirclesSeeTogether = (at : Register) (party : ℕ) (k : Kind) (number : ℕ) → SeesTogether at party k number
 
--- mandates serve citizens alone: in each other role the same rules deny the same views, whatever mandates stand
+-- mandates change only what citizens see: in every other role, the same rules deny the same views with and
+-- without them
 abbrev pub MandatesServeCitizens : Type 0
-MandatesServeCitizens = (at : Register) (caller : Caller) → is_role caller.role Citizen ≡ false → (k : Kind) (number : ℕ)
+MandatesServeCitizens =
+    (at : Register) (caller : Caller) → is_role caller.role Citizen ≡ false → (k : Kind) (number : ℕ)
     → view_rules at caller k number ≡ view_rules (without_mandates at) caller k number

@@ -1,4 +1,4 @@
--- Definitions of what is denied, by the evidence and by what is in sight.
+-- Verdicts from few records: from the evidence, from interests, and from the visibility of an object.
 pub mod Interests
 pub mod Sight
 pub mod Standing

@@ -1,5 +1,6 @@
--- Laws over the definitions alone.
-use Rattle.std.specs.Prelude.{◌≡◌, ◌⊎◌, ℕ, ◌<◌, ◌↔◌, Bool, true, false, ◌&&◌, ◌||◌, Option, ℤ, nat_eq, if◌then◌else◌}
+-- Laws on verdicts and lists, stated only over the definitions of the policy.
+use Rattle.std.specs.Prelude.{◌≡◌, ◌⊎◌, ℕ, ◌<◌, ◌↔◌, Bool, true, false, ◌&&◌, ◌||◌, Option, ℤ, nat_eq}
+use Rattle.std.specs.Prelude.{if◌then◌else◌}
 use Rattle.std.specs.List.{list_any}
 use Rattle.land_core.specs.Register.{stands, holds, is_member, nothing}
 use Rattle.land_core.specs.Role.{is_role}
@@ -11,57 +12,70 @@ use Rattle.land_core.specs.declared.kind.Kind.{Kind}
 use Rattle.land_core.specs.declared.kind.Kind.TheVariants as kind
 use Rattle.land_core.specs.declared.register.Register.{Register}
 use Rattle.land_core.specs.declared.role.Role.{Role}
-use Rattle.land_core.specs.declared.role.Role.TheVariants.{Citizen, Conveyancer, Notary, Bank, CertifiedSurveyor, StateAdministrator}
+use Rattle.land_core.specs.declared.role.Role.TheVariants.{Citizen, Conveyancer, Notary, Bank}
+use Rattle.land_core.specs.declared.role.Role.TheVariants.{CertifiedSurveyor, StateAdministrator}
 use Rattle.land_rules.specs.Circles.{circle_of, is_group_of, is_in_circle}
 use Rattle.land_rules.specs.Relations.{is_lodger_on}
-use Rattle.land_rules.specs.Rules.{rules_on, verdict_of, denies, first_denial, rise_above, ascends, sees, seen_of, is_party_in_sight, view_rules}
+use Rattle.land_rules.specs.Rules.{rules_on, verdict_of, denies, first_denial, rise_above, ascends, sees}
+use Rattle.land_rules.specs.Rules.{seen_of, is_party_in_sight, view_rules}
 use Rattle.land_rules.specs.declared.verdict.Verdict.{Verdict}
 use Rattle.land_rules.specs.declared.verdict.Verdict.TheVariants.{Allowed, Denied}
 
--- the rules on every ask stand in rising order, from rule 1 on
+-- the rules on each request are in ascending order
 abbrev pub RulesRise : Type 0
-RulesRise = (now at : Register) (caller : Caller) (a : Ask) (past : Bool) → rise_above 0 (rules_on now at caller a past) ≡ true
+RulesRise = (now at : Register) (caller : Caller) (a : Ask) (past : Bool)
+    → rise_above 0 (rules_on now at caller a past) ≡ true
 
--- a rule denies and no lesser one does
+-- rule k denies, and no rule with a lower number does
 pub record IsLeastDenial (now at : Register) (caller : Caller) (a : Ask) (past : Bool) (k : ℕ) : Type 0 where
   pub holds : denies k (rules_on now at caller a past) ≡ true
   pub least : (j : ℕ) → j < k → denies j (rules_on now at caller a past) ≡ false
 
--- the verdict is a rule's number exactly where that rule is the least that denies, and it allows exactly where none denies
+-- a verdict denies by a rule exactly if this is the first rule that denies, and it allows exactly if no rule
+-- denies
 pub record VerdictIsLeast (now at : Register) (caller : Caller) (a : Ask) (past : Bool) : Type 0 where
   pub denied : (k : ℕ) → (verdict_of now at caller a past ≡ Denied k) ↔ IsLeastDenial now at caller a past k
-  pub allowed : (verdict_of now at caller a past ≡ Allowed) ↔ ((k : ℕ) → denies k (rules_on now at caller a past) ≡ false)
+  pub allowed : (verdict_of now at caller a past ≡ Allowed)
+      ↔ ((k : ℕ) → denies k (rules_on now at caller a past) ≡ false)
 
+-- every verdict is of this kind
 abbrev pub VerdictsAreLeast : Type 0
-VerdictsAreLeast = (now at : Register) (caller : Caller) (a : Ask) (past : Bool) → VerdictIsLeast now at caller a past
+VerdictsAreLeast =
+    (now at : Register) (caller : Caller) (a : Ask) (past : Bool) → VerdictIsLeast now at caller a past
 
--- what is seen ascends, each number once, and a number is among it exactly where no rule denies its view
+-- a list is ascending without duplicates, and it has a number exactly if no rule denies the view of that
+-- object
 pub record SeenIsExact (at : Register) (caller : Caller) (k : Kind) : Type 0 where
   pub ascending : ascends (seen_of at caller k) ≡ true
   pub exact : (n : ℕ) → list_any (nat_eq n) (seen_of at caller k) ≡ sees at caller k n
 
+-- every list is of this kind
 abbrev pub SeenIsExactly : Type 0
 SeenIsExactly = (at : Register) (caller : Caller) (k : Kind) → SeenIsExact at caller k
 
--- a party in the role of a citizen
+-- a caller in the role of citizen
 abbrev pub citizen : ℕ → Caller
 citizen party = record { party = party; role = Citizen }
 
--- what the policy says of a citizen's view of a group, whatever the register is now: it is shown where one of the citizen's
--- circle at the asked moment is its member then, and to no other party that does not have it in its circle and sees it in nothing else
+-- the verdict on a citizen's view of a group: allowed if a member of the citizen's circle is a member of the
+-- group at the requested time; denied by rule 13 if neither this holds, nor the group is in the circle, nor
+-- it is the party of a visible entry
 pub record GroupIsSeen (now at : Register) (party group : ℕ) (moment : Option ℤ) (past : Bool) : Type 0 where
-  pub member : (one : ℕ) → is_in_circle at party one ≡ true → is_member at group one ≡ true → stands at kind.Party group ≡ true
+  pub member : (one : ℕ) → is_in_circle at party one ≡ true → is_member at group one ≡ true
+      → stands at kind.Party group ≡ true
       → verdict_of now at (citizen party) (ask.View kind.Party group moment) past ≡ Allowed
-  pub other : is_in_circle at party group ≡ false → is_group_of at (circle_of at party) group ≡ false → is_party_in_sight at (citizen party) group ≡ false
+  pub other : is_in_circle at party group ≡ false → is_group_of at (circle_of at party) group ≡ false
+      → is_party_in_sight at (citizen party) group ≡ false
       → verdict_of now at (citizen party) (ask.View kind.Party group moment) past ≡ Denied 13
 
--- members at the asked moment, and those who hold their mandate then, see their group, and others do not; the register now only says
--- that the caller is a citizen
+-- members at the requested time, and the agents of their mandates then, see their group, and other citizens
+-- do not; of the register now, only the caller and its role are read
 abbrev pub MembersSeeGroups : Type 0
-MembersSeeGroups = (now at : Register) (party group : ℕ) (moment : Option ℤ) (past : Bool) → stands now kind.Party party ≡ true → holds now party Citizen ≡ true
+MembersSeeGroups = (now at : Register) (party group : ℕ) (moment : Option ℤ) (past : Bool)
+    → stands now kind.Party party ≡ true → holds now party Citizen ≡ true
     → GroupIsSeen now at party group moment past
 
--- the rule that denies a role the view of what is out of its sight
+-- the number of the rule that denies a role the view of an object that is not visible
 abbrev pub rule_of_role : Role → Kind → ℕ
 rule_of_role Citizen kind.Party = 13
 rule_of_role Citizen kind.Unit = 11
@@ -90,7 +104,7 @@ rule_of_role CertifiedSurveyor kind.Source = 26
 rule_of_role CertifiedSurveyor kind.Mutation = 25
 rule_of_role StateAdministrator k = 27
 
--- whether a caller looks for itself
+-- whether a caller views the party that it is itself
 abbrev pub is_itself : Caller → Kind → ℕ → Bool
 is_itself caller kind.Party number = nat_eq number caller.party
 is_itself caller kind.Unit number = false
@@ -99,30 +113,34 @@ is_itself caller kind.Rrr number = false
 is_itself caller kind.Source number = false
 is_itself caller kind.Mutation number = false
 
--- whether a conveyancer looks for a unit that its own undecided mutation names
+-- whether a conveyancer views a unit to which its own undecided mutation refers
 abbrev pub is_named_by_itself : (at : Register) → Caller → Kind → ℕ → Bool
 is_named_by_itself at caller kind.Party number = false
-is_named_by_itself at caller kind.Unit number = is_role caller.role Conveyancer && is_lodger_on at caller.party number
+is_named_by_itself at caller kind.Unit number =
+    is_role caller.role Conveyancer && is_lodger_on at caller.party number
 is_named_by_itself at caller kind.Parcel number = false
 is_named_by_itself at caller kind.Rrr number = false
 is_named_by_itself at caller kind.Source number = false
 is_named_by_itself at caller kind.Mutation number = false
 
--- the rule that denies what is out of sight, by role, kind and caller alone, but for two cases, in which it is rule 27: a caller
--- that looks for itself where it does not stand, and a conveyancer's unit that its own undecided mutation names and that does
--- not stand
+-- the number of the rule that denies an object that is not visible. It follows from role, kind and caller,
+-- but two cases get rule 27: a caller that views itself, and a conveyancer's unit to which its own undecided
+-- mutation refers; neither object exists then
 abbrev pub rule_out_of_sight : (at : Register) → Caller → Kind → ℕ → ℕ
-rule_out_of_sight at caller k number = if is_named_by_itself at caller k number || is_itself caller k number then 27 else rule_of_role caller.role k
+rule_out_of_sight at caller k number =
+    if is_named_by_itself at caller k number || is_itself caller k number then 27
+    else rule_of_role caller.role k
 
--- what is in sight is shown, and what is not is denied by that rule
+-- a visible object is allowed, and this rule denies every other
 abbrev pub told_by_sight : (at : Register) → Caller → Kind → ℕ → Verdict
-told_by_sight at caller k number = if sees at caller k number then Allowed else Denied (rule_out_of_sight at caller k number)
+told_by_sight at caller k number =
+    if sees at caller k number then Allowed else Denied (rule_out_of_sight at caller k number)
 
--- what a register may be at a moment: sound, or nothing, as before the office began
+-- a register at a time: sound, or empty if the time is before the first change
 abbrev pub IsSoundOrNothing : Register → Type 0
 IsSoundOrNothing at = IsSound at ⊎ (at ≡ nothing)
 
--- the denial of a view in such a register tells nothing else of it than that the object is out of sight
+-- in such a register, the denial of a view reveals only that the object is not visible
 abbrev pub DenialsTellSight : Type 0
 DenialsTellSight = (at : Register) → IsSoundOrNothing at → (caller : Caller) (k : Kind) (number : ℕ)
     → first_denial (view_rules at caller k number) ≡ told_by_sight at caller k number

@@ -1,4 +1,5 @@
--- Definitions of the policy.
+-- The definitions of the policy. `Rules` has the rules, one line each; the modules with `Laws` in their names
+-- have the consequences.
 pub mod ActLaws
 pub mod Acts
 pub mod Alike

@@ -1,5 +1,7 @@
--- Laws for a reader of the policy: who may ask, of which moments, and which acts are left to which roles.
-use Rattle.std.specs.Prelude.{◌≡◌, ◌≢◌, ◌⊎◌, ℕ, ◌↔◌, Bool, true, false, not, ◌&&◌, ◌||◌, List, [], ◌∷◌, Some, None}
+-- Laws on callers and acts: which callers may make requests, about which times, and which roles may do which
+-- acts. Each rule has two halves: what it denies, and that it denies nothing else.
+use Rattle.std.specs.Prelude.{◌≡◌, ◌≢◌, ◌⊎◌, ℕ, ◌↔◌, Bool, true, false, not, ◌&&◌, ◌||◌, List, [], ◌∷◌, Some}
+use Rattle.std.specs.Prelude.{None}
 use Rattle.std.specs.List.{list_any}
 use Rattle.std.specs.FinMap as map
 use Rattle.land_core.specs.Grants.{grant_of}
@@ -22,7 +24,8 @@ use Rattle.land_core.specs.declared.mandates.Mandate.{Mandate}
 use Rattle.land_core.specs.declared.merger.Merger.{Merger}
 use Rattle.land_core.specs.declared.register.Register.{Register}
 use Rattle.land_core.specs.declared.role.Role.{Role}
-use Rattle.land_core.specs.declared.role.Role.TheVariants.{Citizen, Conveyancer, Notary, Bank, CertifiedSurveyor, StateAdministrator}
+use Rattle.land_core.specs.declared.role.Role.TheVariants.{Citizen, Conveyancer, Notary, Bank}
+use Rattle.land_core.specs.declared.role.Role.TheVariants.{CertifiedSurveyor, StateAdministrator}
 use Rattle.land_core.specs.declared.rrr.RrrRecord.{RrrRecord}
 use Rattle.land_core.specs.declared.subdivision.Subdivision.{Subdivision}
 use Rattle.land_rules.specs.ActLaws.{to_approve, to_refuse}
@@ -31,155 +34,176 @@ use Rattle.land_rules.specs.Relations.{has_lodged, is_mortgage}
 use Rattle.land_rules.specs.Rules.{verdict_of}
 use Rattle.land_rules.specs.declared.verdict.Verdict.TheVariants.{Allowed, Denied}
 
--- ---- rules 1 to 3: who may ask, and of which moments
+-- ---- rules 1 to 3: callers, roles and times
 
--- a stranger, at whose number no party of the register stands now, is denied everything by rule 1: whatever it asks, in whatever role,
--- of whatever moment; and nobody else is denied anything by it
+-- rule 1 denies a request exactly if the caller is not a party of the register now, in any role and for any
+-- time
 abbrev pub StrangersAreDeniedEverything : Type 0
 StrangersAreDeniedEverything = (now at : Register) (caller : Caller) (a : Ask) (past : Bool)
     → (verdict_of now at caller a past ≡ Denied 1) ↔ (map.get now.parties caller.party ≡ None)
 
--- whether a caller is a party of the register now, in a role that it holds now
+-- whether the caller is a party of the register now and holds its role now
 abbrev pub is_in_role : (now : Register) → Caller → Bool
 is_in_role now caller = stands now kind.Party caller.party && holds now caller.party caller.role
 
--- a party of the register names a role that was never granted to it, or that was revoked
+-- the caller is a party of the register, and its role was never granted to it, or was revoked
 pub record LacksItsRole (now : Register) (caller : Caller) : Type 0 where
   pub party : stands now kind.Party caller.party ≡ true
   pub no_grant : map.get now.roles (grant_of caller.party caller.role) ≡ None
 
--- in a role that it does not hold now a party is denied everything by rule 2, and nothing by it in a role that it holds; so whatever
--- is allowed is allowed to a party in a role that it holds now, whichever it held at the asked moment
+-- rule 2 denies a request exactly if the caller exists and does not hold its role now. So only callers that
+-- hold their role now are ever allowed anything; the roles at the requested time do not matter
 pub record RoleIsHeld (now at : Register) (caller : Caller) (a : Ask) (past : Bool) : Type 0 where
   pub denied : (verdict_of now at caller a past ≡ Denied 2) ↔ LacksItsRole now caller
   pub allowed : verdict_of now at caller a past ≡ Allowed → is_in_role now caller ≡ true
 
+-- the law on rule 2
 abbrev pub RolesAreHeld : Type 0
 RolesAreHeld = (now at : Register) (caller : Caller) (a : Ask) (past : Bool) → RoleIsHeld now at caller a past
 
--- whether a caller asks in one of these roles
+-- whether the caller's role is one of these
 abbrev pub asks_in : List Role → Caller → Bool
 asks_in roles caller = list_any (is_role caller.role) roles
 
--- the roles in which the past may be asked for
+-- the roles that may request a past time
 abbrev pub roles_of_the_past : List Role
 roles_of_the_past = Citizen ∷ Notary ∷ StateAdministrator ∷ []
 
--- a party in a role that it holds asks for a past moment, and in a role in which there is none to ask for
+-- a caller that holds its role requests a past time, and its role may not
 pub record AsksForClosedPast (now : Register) (caller : Caller) (past : Bool) : Type 0 where
   pub asker : is_in_role now caller ≡ true
   pub late : past ≡ true
   pub closed : asks_in roles_of_the_past caller ≡ false
 
--- citizens, notaries and state administrators are judged of a past moment as of the present; all that others ask of the past is
--- denied, by rule 3 where they hold their role, and nothing else is denied by it
+-- citizens, notaries and state administrators get the same verdict on the past as on the present. All other
+-- roles are denied every request about the past: by rule 3 if they hold their role, and rule 3 denies nothing
+-- else
 pub record PastIsByRole (now at : Register) (caller : Caller) (a : Ask) : Type 0 where
-  pub as_now : asks_in roles_of_the_past caller ≡ true → verdict_of now at caller a true ≡ verdict_of now at caller a false
+  pub as_now : asks_in roles_of_the_past caller ≡ true
+      → verdict_of now at caller a true ≡ verdict_of now at caller a false
   pub allowed : verdict_of now at caller a true ≡ Allowed → asks_in roles_of_the_past caller ≡ true
-  pub denied : (past : Bool) → (verdict_of now at caller a past ≡ Denied 3) ↔ AsksForClosedPast now caller past
+  pub denied : (past : Bool)
+      → (verdict_of now at caller a past ≡ Denied 3) ↔ AsksForClosedPast now caller past
 
+-- the law on rule 3
 abbrev pub ThePastIsClosedToThreeRoles : Type 0
 ThePastIsClosedToThreeRoles = (now at : Register) (caller : Caller) (a : Ask) → PastIsByRole now at caller a
 
--- ---- rules 4 to 7: acts that are left to some roles
+-- ---- rules 4 to 7: acts that are reserved to some roles
 
--- whether a caller may ask: in a role that it holds now, and of the past in a role in which the past may be asked for
+-- whether a caller may make requests: it holds its role now, and requests the past only if its role may
 abbrev pub may_ask : (now : Register) → Caller → (past : Bool) → Bool
 may_ask now caller past = is_in_role now caller && (not past || asks_in roles_of_the_past caller)
 
--- a caller that may ask asks for one of these acts in none of these roles
-pub record AsksOutOfRole (these : Ask → Type 0) (roles : List Role) (now : Register) (caller : Caller) (a : Ask) (past : Bool)
-    : Type 0 where
+-- a caller that may make requests requests one of these acts, and its role is not one of these
+pub record AsksOutOfRole (these : Ask → Type 0) (roles : List Role) (now : Register) (caller : Caller)
+    (a : Ask) (past : Bool) : Type 0 where
   pub asker : may_ask now caller past ≡ true
   pub asked : these a
   pub other : asks_in roles caller ≡ false
 
--- these acts are left to these roles: to a caller that may ask in another role the rule denies them, it denies nothing else, and
--- none of these acts is allowed in another role
-pub record IsLeftTo (roles : List Role) (rule : ℕ) (these : Ask → Type 0) (now at : Register) (caller : Caller) (a : Ask) (past : Bool)
-    : Type 0 where
+-- these acts are reserved to these roles: the rule denies them to a caller that may make requests in another
+-- role; it denies nothing else; and none of these acts is ever allowed in another role
+pub record IsLeftTo (roles : List Role) (rule : ℕ) (these : Ask → Type 0) (now at : Register)
+    (caller : Caller) (a : Ask) (past : Bool) : Type 0 where
   pub denied : (verdict_of now at caller a past ≡ Denied rule) ↔ AsksOutOfRole these roles now caller a past
   pub allowed : these a → verdict_of now at caller a past ≡ Allowed → asks_in roles caller ≡ true
 
--- in these roles a caller that may ask is allowed all of these acts
-abbrev pub IsGivenTo : (roles : List Role) (these : Ask → Type 0) (now at : Register) → Caller → Ask → (past : Bool) → Type 0
-IsGivenTo roles these now at caller a past = may_ask now caller past ≡ true → asks_in roles caller ≡ true → these a
+-- a caller that may make requests and has one of these roles is allowed each of these acts
+abbrev pub IsGivenTo : (roles : List Role) (these : Ask → Type 0) (now at : Register) → Caller → Ask
+    → (past : Bool) → Type 0
+IsGivenTo roles these now at caller a past =
+    may_ask now caller past ≡ true → asks_in roles caller ≡ true → these a
     → verdict_of now at caller a past ≡ Allowed
 
--- whether an act lodges something, whatever it is
+-- whether an act lodges a mutation
 abbrev pub is_lodging : Act → Bool
 is_lodging (act.Lodge it) = true
 is_lodging other = false
 
--- what is asked for is an act, no lodging, and nothing is done with a mandate: it is one of the office
+-- the request is an act of the office: neither a lodging, nor an act on mandates
 pub record IsOfTheOffice (a : Ask) : Type 0 where
   pub act : Act
   pub asked : a ≡ ask.Do act
   pub no_lodging : is_lodging act ≡ false
   pub no_mandate : is_of_mandates act ≡ false
 
--- such an act, and no decision on a mutation that the party lodged
+-- the request is such an act, and not a decision on a mutation that the party lodged
 pub record IsOfTheOfficeForOthers (now : Register) (party : ℕ) (a : Ask) : Type 0 where
   pub office : IsOfTheOffice a
-  pub others : (number : ℕ) → has_lodged now party number ≡ true → (a ≢ to_approve number) × (a ≢ to_refuse number)
+  pub others : (number : ℕ) → has_lodged now party number ≡ true
+      → (a ≢ to_approve number) × (a ≢ to_refuse number)
 
--- acts of the office are left to state administrators by rule 4, and given to them, but for the decisions on what they lodged
+-- rule 4: acts of the office are reserved to state administrators, and they are allowed all of them except
+-- decisions on what they lodged
 pub record OfficeActIsReserved (now at : Register) (caller : Caller) (a : Ask) (past : Bool) : Type 0 where
   pub left : IsLeftTo (StateAdministrator ∷ []) 4 IsOfTheOffice now at caller a past
-  pub given : IsGivenTo (StateAdministrator ∷ []) (IsOfTheOfficeForOthers now caller.party) now at caller a past
+  pub given : IsGivenTo (StateAdministrator ∷ [])
+      (IsOfTheOfficeForOthers now caller.party) now at caller a past
 
+-- the law on rule 4
 abbrev pub ActsOfTheOfficeAreReserved : Type 0
-ActsOfTheOfficeAreReserved = (now at : Register) (caller : Caller) (a : Ask) (past : Bool) → OfficeActIsReserved now at caller a past
+ActsOfTheOfficeAreReserved =
+    (now at : Register) (caller : Caller) (a : Ask) (past : Bool) → OfficeActIsReserved now at caller a past
 
--- what is asked for is to lodge this content
+-- the request lodges this content
 pub record Lodges (c : Content) (a : Ask) : Type 0 where
   pub lodging : Lodging
   pub asked : a ≡ ask.Do (act.Lodge lodging)
   pub content : lodging.content ≡ c
 
--- what is asked for is to lodge a transfer
+-- the request lodges a transfer
 abbrev pub LodgesTransfer : Ask → Type 0
 LodgesTransfer a = (it : Transfer) × Lodges (content.Transfer it) a
 
--- to lodge transfers is left to conveyancers and notaries by rule 5, and given to both
+-- rule 5: transfers are reserved to conveyancers and notaries, and both are allowed all of them
 pub record TransferIsLeft (now at : Register) (caller : Caller) (a : Ask) (past : Bool) : Type 0 where
   pub left : IsLeftTo (Conveyancer ∷ Notary ∷ []) 5 LodgesTransfer now at caller a past
   pub given : IsGivenTo (Conveyancer ∷ Notary ∷ []) LodgesTransfer now at caller a past
 
+-- the law on rule 5
 abbrev pub ConveyancersAndNotariesLodgeTransfers : Type 0
-ConveyancersAndNotariesLodgeTransfers = (now at : Register) (caller : Caller) (a : Ask) (past : Bool) → TransferIsLeft now at caller a past
+ConveyancersAndNotariesLodgeTransfers =
+    (now at : Register) (caller : Caller) (a : Ask) (past : Bool) → TransferIsLeft now at caller a past
 
--- what is asked for is to lodge a subdivision or a merger
+-- the request lodges a subdivision or a merger
 abbrev pub LodgesSubdivisionOrMerger : Ask → Type 0
-LodgesSubdivisionOrMerger a = ((it : Subdivision) × Lodges (content.Subdivision it) a) ⊎ ((it : Merger) × Lodges (content.Merger it) a)
+LodgesSubdivisionOrMerger a =
+    ((it : Subdivision) × Lodges (content.Subdivision it) a) ⊎ ((it : Merger) × Lodges (content.Merger it) a)
 
--- to lodge subdivisions and mergers is left to certified surveyors by rule 6, and given to them
+-- rule 6: subdivisions and mergers are reserved to certified surveyors, and they are allowed all of them
 pub record OutlinesAreLeft (now at : Register) (caller : Caller) (a : Ask) (past : Bool) : Type 0 where
   pub left : IsLeftTo (CertifiedSurveyor ∷ []) 6 LodgesSubdivisionOrMerger now at caller a past
   pub given : IsGivenTo (CertifiedSurveyor ∷ []) LodgesSubdivisionOrMerger now at caller a past
 
+-- the law on rule 6
 abbrev pub SurveyorsLodgeSubdivisionsAndMergers : Type 0
-SurveyorsLodgeSubdivisionsAndMergers = (now at : Register) (caller : Caller) (a : Ask) (past : Bool) → OutlinesAreLeft now at caller a past
+SurveyorsLodgeSubdivisionsAndMergers =
+    (now at : Register) (caller : Caller) (a : Ask) (past : Bool) → OutlinesAreLeft now at caller a past
 
--- what is asked for is to lodge a mortgage or a discharge
+-- the request lodges a mortgage or a discharge
 abbrev pub LodgesMortgageOrDischarge : Ask → Type 0
-LodgesMortgageOrDischarge a = ((it : Mortgage) × Lodges (content.Mortgage it) a) ⊎ ((it : Discharge) × Lodges (content.Discharge it) a)
+LodgesMortgageOrDischarge a =
+    ((it : Mortgage) × Lodges (content.Mortgage it) a) ⊎ ((it : Discharge) × Lodges (content.Discharge it) a)
 
--- to lodge mortgages and discharges is left to banks and notaries by rule 7, and given to notaries, whoever the creditor is
+-- rule 7: mortgages and discharges are reserved to banks and notaries, and notaries are allowed all of them,
+-- for any creditor
 pub record MortgagesAreLeft (now at : Register) (caller : Caller) (a : Ask) (past : Bool) : Type 0 where
   pub left : IsLeftTo (Bank ∷ Notary ∷ []) 7 LodgesMortgageOrDischarge now at caller a past
   pub given : IsGivenTo (Notary ∷ []) LodgesMortgageOrDischarge now at caller a past
 
+-- the law on rule 7
 abbrev pub BanksAndNotariesLodgeMortgages : Type 0
-BanksAndNotariesLodgeMortgages = (now at : Register) (caller : Caller) (a : Ask) (past : Bool) → MortgagesAreLeft now at caller a past
+BanksAndNotariesLodgeMortgages =
+    (now at : Register) (caller : Caller) (a : Ask) (past : Bool) → MortgagesAreLeft now at caller a past
 
--- ---- rules 8 and 9: banks act for themselves
+-- ---- rules 8 and 9: banks act only for themselves
 
--- whether a caller may ask, and asks as a bank
+-- whether the caller may make requests, and is in the role of bank
 abbrev pub asks_as_bank : (now : Register) → Caller → (past : Bool) → Bool
 asks_as_bank now caller past = may_ask now caller past && asks_in (Bank ∷ []) caller
 
--- what is asked for is to lodge a mortgage of this creditor
+-- the request lodges a mortgage of this creditor
 pub record LodgesMortgage (creditor : ℕ) (a : Ask) : Type 0 where
   pub mortgage : Mortgage
   pub lodged : Lodges (content.Mortgage mortgage) a
@@ -192,53 +216,64 @@ pub record LendsForAnother (now : Register) (caller : Caller) (a : Ask) (past : 
   pub lodged : LodgesMortgage creditor a
   pub other : creditor ≢ caller.party
 
--- a bank lodges the mortgages of which it is itself the creditor; those of others rule 8 denies it, and it denies nothing else
+-- rule 8: a bank is allowed the mortgages of which it is the creditor; the rule denies it those of other
+-- creditors, and denies nothing else
 pub record MortgageIsItsOwn (now at : Register) (caller : Caller) (a : Ask) (past : Bool) : Type 0 where
-  pub own : asks_as_bank now caller past ≡ true → LodgesMortgage caller.party a → verdict_of now at caller a past ≡ Allowed
+  pub own : asks_as_bank now caller past ≡ true → LodgesMortgage caller.party a
+      → verdict_of now at caller a past ≡ Allowed
   pub denied : (verdict_of now at caller a past ≡ Denied 8) ↔ LendsForAnother now caller a past
 
+-- the law on rule 8
 abbrev pub BanksLodgeTheirOwnMortgages : Type 0
-BanksLodgeTheirOwnMortgages = (now at : Register) (caller : Caller) (a : Ask) (past : Bool) → MortgageIsItsOwn now at caller a past
+BanksLodgeTheirOwnMortgages =
+    (now at : Register) (caller : Caller) (a : Ask) (past : Bool) → MortgageIsItsOwn now at caller a past
 
--- what is asked for is to lodge the discharge of the mortgage with this number
+-- the request lodges the discharge of the mortgage with this number
 pub record LodgesDischarge (number : ℕ) (a : Ask) : Type 0 where
   pub discharge : Discharge
   pub lodged : Lodges (content.Discharge discharge) a
   pub ends : discharge.mortgage ≡ number
 
--- a mortgage stands at a number, and a party is its creditor
+-- a mortgage exists at a number, and a party is its creditor
 pub record HasMortgage (now : Register) (party number : ℕ) : Type 0 where
   pub entry : RrrRecord
   pub there : map.get now.rrrs number ≡ Some entry
   pub class : is_mortgage entry.class ≡ true
   pub creditor : entry.party ≡ party
 
--- a bank lodges a discharge where it has no mortgage: nothing stands there, or no mortgage, or that of another
+-- a bank lodges a discharge, and has no mortgage at that number: there is no entry, the entry is not a
+-- mortgage, or another party is the creditor
 pub record DischargesWhatIsNotItsOwn (now : Register) (caller : Caller) (a : Ask) (past : Bool) : Type 0 where
   pub bank : asks_as_bank now caller past ≡ true
   pub number : ℕ
   pub lodged : LodgesDischarge number a
   pub none : HasMortgage now caller.party number → ⊥
 
--- a bank lodges the discharges of the mortgages that it has now, on whatever unit; those of all else rule 9 denies it, and it denies
--- nothing else
+-- rule 9: a bank is allowed the discharges of the mortgages that it has now, on any unit; the rule denies it
+-- every other discharge, and denies nothing else
 pub record DischargeIsItsOwn (now at : Register) (caller : Caller) (a : Ask) (past : Bool) : Type 0 where
-  pub own : (number : ℕ) → asks_as_bank now caller past ≡ true → LodgesDischarge number a → HasMortgage now caller.party number
+  pub own : (number : ℕ) → asks_as_bank now caller past ≡ true → LodgesDischarge number a
+      → HasMortgage now caller.party number
       → verdict_of now at caller a past ≡ Allowed
   pub denied : (verdict_of now at caller a past ≡ Denied 9) ↔ DischargesWhatIsNotItsOwn now caller a past
 
+-- the law on rule 9
 abbrev pub BanksDischargeTheirOwnMortgages : Type 0
-BanksDischargeTheirOwnMortgages = (now at : Register) (caller : Caller) (a : Ask) (past : Bool) → DischargeIsItsOwn now at caller a past
+BanksDischargeTheirOwnMortgages =
+    (now at : Register) (caller : Caller) (a : Ask) (past : Bool) → DischargeIsItsOwn now at caller a past
 
--- ---- rules 28 and 29: citizens give mandates, and withdraw those of which they are principal or agent
+-- ---- rules 28 and 29: citizens give mandates, and withdraw those of which they are the principal or the
+-- agent
 
--- what is asked for is to give a mandate, or to withdraw one
+-- the request gives a mandate
 abbrev pub GivesMandate : Ask → Type 0
 GivesMandate a = (it : NewMandate) × (a ≡ ask.Do (act.Mandate it))
 
+-- the request withdraws this mandate
 abbrev pub WithdrawsMandate : Mandate → Ask → Type 0
 WithdrawsMandate it a = a ≡ ask.Do (act.Withdraw it)
 
+-- the request gives or withdraws a mandate
 abbrev pub IsOnMandate : Ask → Type 0
 IsOnMandate a = GivesMandate a ⊎ ((it : Mandate) × WithdrawsMandate it a)
 
@@ -246,11 +281,11 @@ IsOnMandate a = GivesMandate a ⊎ ((it : Mandate) × WithdrawsMandate it a)
 abbrev pub IsPartyTo : (party : ℕ) → Mandate → Type 0
 IsPartyTo party it = (it.principal ≡ party) ⊎ (it.agent ≡ party)
 
--- a party gives a mandate, or withdraws one of which it is the principal or the agent
+-- the request gives a mandate, or withdraws one of which the party is the principal or the agent
 abbrev pub IsOnItsMandate : (party : ℕ) → Ask → Type 0
 IsOnItsMandate party a = GivesMandate a ⊎ ((it : Mandate) × WithdrawsMandate it a × IsPartyTo party it)
 
--- a citizen that may ask withdraws a mandate between others
+-- a citizen that may make requests withdraws a mandate between others
 pub record WithdrawsForOthers (now : Register) (caller : Caller) (a : Ask) (past : Bool) : Type 0 where
   pub asker : may_ask now caller past ≡ true
   pub citizen : asks_in (Citizen ∷ []) caller ≡ true
@@ -258,13 +293,15 @@ pub record WithdrawsForOthers (now : Register) (caller : Caller) (a : Ask) (past
   pub asked : WithdrawsMandate mandate a
   pub others : IsPartyTo caller.party mandate → ⊥
 
--- to give and to withdraw mandates is left to citizens by rule 28. To give them is given to each, whoever the agent is, and to
--- withdraw them to the principal and to the agent, whether they stand or not; to other citizens rule 29 denies it, and it denies
--- nothing else
+-- rules 28 and 29: giving and withdrawing mandates is reserved to citizens. Each citizen is allowed to give a
+-- mandate to any agent, and to withdraw a mandate of which it is the principal or the agent, even if the
+-- mandate does not exist. Rule 29 denies other withdrawals to citizens, and denies nothing else
 pub record MandateIsItsOwn (now at : Register) (caller : Caller) (a : Ask) (past : Bool) : Type 0 where
   pub left : IsLeftTo (Citizen ∷ []) 28 IsOnMandate now at caller a past
   pub given : IsGivenTo (Citizen ∷ []) (IsOnItsMandate caller.party) now at caller a past
   pub denied : (verdict_of now at caller a past ≡ Denied 29) ↔ WithdrawsForOthers now caller a past
 
+-- the law on rules 28 and 29
 abbrev pub CitizensGiveMandates : Type 0
-CitizensGiveMandates = (now at : Register) (caller : Caller) (a : Ask) (past : Bool) → MandateIsItsOwn now at caller a past
+CitizensGiveMandates =
+    (now at : Register) (caller : Caller) (a : Ask) (past : Bool) → MandateIsItsOwn now at caller a past

@@ -1,8 +1,10 @@
-//! The circle of a party in a register: the party itself and its principals, which are those whose mandate it holds there; and what one of
-//! the circle is to the objects of the register.
+//! The circle of a party: the party itself and its principals, which are the parties whose mandates it has as
+//! agent. Most functions here return whether one member of the circle has a relation to an object of the
+//! register.
 ghost use Rattle.std.specs.Prelude.{◌≡◌, ℕ, nat_eq, IfOk};
 ghost use Rattle.std.specs.List.{list_any};
-ghost use Rattle.land_rules.specs.Circles.{circle_of, is_group_of, is_held_by, is_in_circle, is_owned_by, is_told_to_circle, names_held_by, principals_of};
+ghost use Rattle.land_rules.specs.Circles.{circle_of, is_group_of, is_held_by, is_in_circle, is_owned_by};
+ghost use Rattle.land_rules.specs.Circles.{is_told_to_circle, names_held_by, principals_of};
 ghost use Rattle.land_rules.specs.Holdings.{has_number};
 
 use crate::relations::{is_holder, is_member_of, is_mortgage, is_owner};
@@ -14,7 +16,7 @@ use land_core::rrr::RrrRecord;
 use std::alloc::{AllocError, Global};
 use std::collections::BTreeSet;
 
-/// The circle of a party, collected in one pass over the mandates.
+/// Returns the circle of a party, in one pass over the mandates. The only error is out of memory.
 pub(crate) fn circle_of(
     alloc: Global,
     at: &Register,
@@ -32,7 +34,7 @@ pub(crate) fn circle_of(
     Ok(circle)
 }
 
-/// Whether a party holds the mandate of another.
+/// Returns whether `number` has given a mandate to `party`.
 fn is_principal(at: &Register, party: u64, number: u64) -> bool
     ensures { result ≡ list_any (nat_eq number) (principals_of at.now party) }
 {
@@ -42,7 +44,7 @@ fn is_principal(at: &Register, party: u64, number: u64) -> bool
     })
 }
 
-/// Whether a number is that of one of the circle of a party.
+/// Returns whether a number belongs to a member of the circle of a party.
 pub(crate) fn is_in_circle(at: &Register, party: u64, number: u64) -> bool
     ensures { result ≡ is_in_circle at.now party number }
 {
@@ -56,7 +58,7 @@ fn has_member_principal(at: &Register, party: u64, group: u64) -> bool
         && is_member_of(at, mandate.principal, group))
 }
 
-/// Whether one of the circle of a party is a member of a group.
+/// Returns whether a member of the circle of a party is a member of a group.
 pub(crate) fn is_group_of(at: &Register, party: u64, group: u64) -> bool
     ensures { result ≡ is_group_of at.now (circle_of at.now party) group }
 {
@@ -70,7 +72,7 @@ fn has_holding_principal(at: &Register, party: u64, unit: u64) -> bool
         && is_holder(at, mandate.principal, unit))
 }
 
-/// Whether one of the circle of a party is a holder in a unit.
+/// Returns whether a member of the circle of a party is a holder in a unit.
 pub(crate) fn is_held_by(at: &Register, party: u64, unit: u64) -> bool
     ensures { result ≡ is_held_by at.now (circle_of at.now party) unit }
 {
@@ -84,14 +86,15 @@ fn has_owning_principal(at: &Register, party: u64, unit: u64) -> bool
         && is_owner(at, mandate.principal, unit))
 }
 
-/// Whether one of the circle of a party is an owner in a unit.
+/// Returns whether a member of the circle of a party is an owner in a unit.
 fn is_owned_by(at: &Register, party: u64, unit: u64) -> bool
     ensures { result ≡ is_owned_by at.now (circle_of at.now party) unit }
 {
     is_owner(at, party, unit) || has_owning_principal(at, party, unit)
 }
 
-/// Whether the circle of a party may be told an entry: one of it is a holder in its unit, and of a mortgage one is an owner there.
+/// Returns whether the circle of a party sees an entry: a member of it is a holder in the entry's unit and,
+/// if the entry is a mortgage, a member is an owner there.
 pub(crate) fn is_told_to_circle(at: &Register, party: u64, entry: &RrrRecord) -> bool
     ensures { result ≡ is_told_to_circle at.now (circle_of at.now party) entry.now }
 {
@@ -99,14 +102,14 @@ pub(crate) fn is_told_to_circle(at: &Register, party: u64, entry: &RrrRecord) ->
         && (!is_mortgage(&entry.class) || is_owned_by(at, party, entry.unit))
 }
 
-/// Whether one of the circle of a party is a holder in one of some units.
+/// Returns whether a member of the circle of a party is a holder in one of these units.
 fn is_some_held_by(at: &Register, party: u64, units: &[u64]) -> bool
     ensures { result ≡ list_any (is_held_by at.now (circle_of at.now party)) units.now }
 {
     units.iter().any(|unit| is_held_by(at, party, *unit))
 }
 
-/// Whether a mutation names a unit in which one of the circle of a party is a holder.
+/// Returns whether a mutation refers to a unit in which a member of the circle of a party is a holder.
 pub(crate) fn names_held_by(at: &Register, party: u64, mutation: &MutationRecord) -> bool
     ensures { result ≡ names_held_by at.now (circle_of at.now party) mutation.now }
 {

@@ -1,4 +1,5 @@
-//! Who is denied what, told by the evidence and by what is in sight.
+//! Verdicts from few records: the standing rules from the evidence, and the sight rules from lookups. A
+//! keeper that reads a database uses these instead of a whole register.
 
 pub mod evidence;
 pub mod interests;

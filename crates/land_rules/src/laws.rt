@@ -1,164 +1,190 @@
-//! Laws, each stated over the definitions alone.
-ghost use Rattle.land_rules.specs.ActLaws.{LodgersDoNotDecide, AdministratorsDecideForOthers};
-ghost use Rattle.land_rules.specs.Alike.{VerdictsTellNothingUnseen};
-ghost use Rattle.land_rules.specs.CircleLaws.{AloneWithoutMandates, CirclesAreOfMandates, CirclesSeeTogether, MandatesServeCitizens};
-ghost use Rattle.land_rules.specs.Laws.{RulesRise, VerdictsAreLeast, SeenIsExactly, MembersSeeGroups, DenialsTellSight};
-ghost use Rattle.land_rules.specs.SightLaws.{MembersHold, EndedEntriesGiveNoSight, OwnersAloneSeeMortgages, BanksSeeByTheirMortgages, LodgersSeeTheirMutations, ConveyancersSeeByTheirLodgings};
-ghost use Rattle.land_rules.specs.StandingLaws.{StrangersAreDeniedEverything, RolesAreHeld, ThePastIsClosedToThreeRoles, ActsOfTheOfficeAreReserved};
-ghost use Rattle.land_rules.specs.StandingLaws.{ConveyancersAndNotariesLodgeTransfers, SurveyorsLodgeSubdivisionsAndMergers, BanksAndNotariesLodgeMortgages};
-ghost use Rattle.land_rules.specs.StandingLaws.{BanksLodgeTheirOwnMortgages, BanksDischargeTheirOwnMortgages, CitizensGiveMandates};
+//! The laws of the policy, for a reader who wants to know its consequences. Each is the contract of a
+//! function with an empty body, and is stated only over the definitions.
+ghost use Rattle.land_rules.specs.ActLaws as decisions;
+ghost use Rattle.land_rules.specs.Alike as alike;
+ghost use Rattle.land_rules.specs.CircleLaws as mandates;
+ghost use Rattle.land_rules.specs.Laws as policy;
+ghost use Rattle.land_rules.specs.SightLaws as sight;
+ghost use Rattle.land_rules.specs.StandingLaws as standing;
 
-/// The rules on every ask stand in rising order.
+// ---- verdicts and lists
+
+/// The rules on each request are in ascending order.
 pub fn rules_rise()
-    ensures { RulesRise }
+    ensures { policy.RulesRise }
 {}
 
-/// A verdict names the least rule that denies, and allows exactly where none does.
+/// A verdict is the number of the first rule that denies. It allows exactly if no rule denies.
 pub fn verdicts_are_least()
-    ensures { VerdictsAreLeast }
+    ensures { policy.VerdictsAreLeast }
 {}
 
-/// What is seen ascends, and a number is among it exactly where no rule denies its view.
+/// The list of a kind is ascending, and it has a number exactly if no rule denies the view of that object.
 pub fn seen_is_exact()
-    ensures { SeenIsExactly }
+    ensures { policy.SeenIsExactly }
 {}
 
-/// In the circle of a party is the party itself, and whoever gave it a mandate that stands; the principals of these are not in it.
+// ---- mandates
+
+/// The circle of a party has the party itself and each party that gave it a mandate. The principals of those
+/// are not in it.
 pub fn circles_are_of_mandates()
-    ensures { CirclesAreOfMandates }
+    ensures { mandates.CirclesAreOfMandates }
 {}
 
-/// Where there are no mandates, each party is in its circle alone.
+/// Without mandates, the circle of a party has only the party itself.
 pub fn alone_without_mandates()
-    ensures { AloneWithoutMandates }
+    ensures { mandates.AloneWithoutMandates }
 {}
 
-/// A citizen sees exactly what one of its circle at the asked moment would see without mandates: its lists are the union of theirs.
+/// A citizen sees exactly the objects that a member of its circle at the requested time would see without
+/// mandates. So its lists are the union of their lists.
 pub fn circles_see_together()
-    ensures { CirclesSeeTogether }
+    ensures { mandates.CirclesSeeTogether }
 {}
 
-/// Mandates serve citizens alone: in each other role a caller is denied the same views by the same rules, whatever mandates stand.
+/// Mandates change only what citizens see. In every other role, the same rules deny the same views with and
+/// without mandates.
 pub fn mandates_serve_citizens()
-    ensures { MandatesServeCitizens }
+    ensures { mandates.MandatesServeCitizens }
 {}
 
-/// A group is shown to the citizens that are its members at the asked moment, whatever they are now, and to those who hold their mandate
-/// then.
+// ---- visible objects
+
+/// A citizen sees a group if it is a member at the requested time, or has a mandate of a member then. The
+/// current members do not matter.
 pub fn members_see_their_groups()
-    ensures { MembersSeeGroups }
+    ensures { policy.MembersSeeGroups }
 {}
 
-/// Who holds through a group holds: the members that a group has at the asked moment see the units in which it has a
-/// right then, and their entries that are no mortgages, and so do those who hold their mandate then.
+/// The members of a group have what the group has. The members at the requested time see the units in which
+/// the group has a right then, and the entries of these units that are not mortgages. So do the agents of
+/// their mandates.
 pub fn members_hold()
-    ensures { MembersHold }
+    ensures { sight.MembersHold }
 {}
 
-/// An ended entry gives no sight: rule 11 denies a citizen the units in which none of its circle has a right at the asked moment.
+/// An ended entry gives no sight: rule 11 denies a citizen a unit in which no member of its circle has a
+/// right at the requested time.
 pub fn ended_entries_give_no_sight()
-    ensures { EndedEntriesGiveNoSight }
+    ensures { sight.EndedEntriesGiveNoSight }
 {}
 
-/// A citizen sees the mortgages of the units that it owns, itself or by one of its circle; a lessee, or anyone else, is denied them by rule 12.
+/// A citizen sees the mortgages of a unit if a member of its circle is an owner there. Rule 12 denies them to
+/// every other citizen, for example a lessee.
 pub fn owners_alone_see_mortgages()
-    ensures { OwnersAloneSeeMortgages }
+    ensures { sight.OwnersAloneSeeMortgages }
 {}
 
-/// A bank sees the units of its own mortgages and their entries, but no mortgage of another.
+/// A bank sees the units on which it has a mortgage, and their entries except the mortgages of other
+/// creditors.
 pub fn banks_see_by_their_mortgages()
-    ensures { BanksSeeByTheirMortgages }
+    ensures { sight.BanksSeeByTheirMortgages }
 {}
 
-/// A bank, a conveyancer and a certified surveyor see the mutations that they lodged, decided or not, and no others.
+/// A bank, a conveyancer and a certified surveyor see exactly the mutations that they lodged, decided or not.
 pub fn lodgers_see_their_mutations()
-    ensures { LodgersSeeTheirMutations }
+    ensures { sight.LodgersSeeTheirMutations }
 {}
 
-/// A conveyancer sees the units that its undecided mutations name, as long as they stand, and no others.
+/// A conveyancer sees exactly the units that exist and to which one of its undecided mutations refers.
 pub fn conveyancers_see_by_their_lodgings()
-    ensures { ConveyancersSeeByTheirLodgings }
+    ensures { sight.ConveyancersSeeByTheirLodgings }
 {}
 
-/// In a sound register, and before the office began, what is in sight is shown. The denial of what is not tells by its number the caller's role and the
-/// kind alone, with two exceptions, which are told rule 27: a caller that does not stand and looks for itself, and a
-/// conveyancer's unit that its own undecided mutation names and that does not stand.
+// ---- denials reveal nothing unseen
+
+/// The denial of a view reveals only that the object is not visible. In a sound register, and in the empty
+/// one before the first change, a visible object is allowed, and the number of a denial follows from the
+/// caller's role and the kind. Two cases get rule 27 instead: a caller that does not exist and views itself,
+/// and a conveyancer's view of a unit that does not exist and to which its own undecided mutation refers.
 pub fn denials_tell_sight()
-    ensures { DenialsTellSight }
+    ensures { policy.DenialsTellSight }
 {}
 
-/// Replies tell nothing unseen, as far as the policy goes: where the registers now look alike to a caller, and so do those at the
-/// asked moment, each view, list and sheet has the same verdict in both, the number of a denial included.
+/// Verdicts reveal nothing unseen. If two registers look alike to a caller now, and two look alike at the
+/// requested time, each view, list and sheet gets the same verdict in both, with the same number.
 pub fn verdicts_tell_nothing_unseen()
-    ensures { VerdictsTellNothingUnseen }
+    ensures { alike.VerdictsTellNothingUnseen }
 {}
 
-/// Whoever lodged a mutation may neither approve nor refuse it, in no role.
+// ---- decisions
+
+/// A party that lodged a mutation may neither approve nor refuse it, in any role.
 pub fn lodgers_do_not_decide()
-    ensures { LodgersDoNotDecide }
+    ensures { decisions.LodgersDoNotDecide }
 {}
 
-/// A state administrator may approve and refuse the mutations that it did not lodge; those that it lodged, rule 10 denies it.
+/// A state administrator may approve and refuse the mutations that other parties lodged. Rule 10 denies it
+/// the decision on its own.
 pub fn administrators_decide_for_others()
-    ensures { AdministratorsDecideForOthers }
+    ensures { decisions.AdministratorsDecideForOthers }
 {}
 
-/// A stranger, at whose number no party of the register stands now, is denied everything by rule 1, whatever it asks and in
-/// whatever role, and nobody else is denied anything by it.
+// ---- callers, roles and times
+
+/// Rule 1 denies every request of a caller that is not a party of the register now, in any role. It denies
+/// nothing to any other caller.
 pub fn strangers_are_denied_everything()
-    ensures { StrangersAreDeniedEverything }
+    ensures { standing.StrangersAreDeniedEverything }
 {}
 
-/// A party is denied everything by rule 2 in a role that it does not hold now, and nothing in one that it holds: so whatever
-/// is allowed is allowed to a party of the register in a role that it holds now.
+/// Rule 2 denies every request in a role that the caller does not hold now, and denies nothing in a role that
+/// it holds. So only a party of the register, in a role that it holds now, is ever allowed anything.
 pub fn roles_are_held()
-    ensures { RolesAreHeld }
+    ensures { standing.RolesAreHeld }
 {}
 
-/// Citizens, notaries and state administrators are judged of a past moment as of the present. Banks, conveyancers and
-/// certified surveyors are allowed nothing of the past: rule 3 denies it to those that hold their role, and nothing else.
+/// Citizens, notaries and state administrators get the same verdict on the past as on the present. Rule 3
+/// denies the past to banks, conveyancers and certified surveyors that hold their role, and it denies nothing
+/// else.
 pub fn the_past_is_closed_to_three_roles()
-    ensures { ThePastIsClosedToThreeRoles }
+    ensures { standing.ThePastIsClosedToThreeRoles }
 {}
 
-/// Acts of the office, which are all but lodgings and mandates, are for state administrators alone, and for them all but decisions on
-/// what they lodged. In other roles rule 4 denies them to whoever may ask, and nothing else.
+// ---- acts that are reserved to roles
+
+/// Only state administrators do acts of the office, which are all acts except lodgings and mandates. They may
+/// do each of them, except decide on a mutation that they lodged. Rule 4 denies these acts in other roles,
+/// and it denies nothing else.
 pub fn acts_of_the_office_are_reserved()
-    ensures { ActsOfTheOfficeAreReserved }
+    ensures { standing.ActsOfTheOfficeAreReserved }
 {}
 
-/// Transfers are lodged by conveyancers and notaries alone, and by both whichever they ask for. In other roles rule 5 denies
-/// them to whoever may ask, and nothing else.
+/// Only conveyancers and notaries lodge transfers, and both may lodge any transfer. Rule 5 denies it in other
+/// roles, and it denies nothing else.
 pub fn conveyancers_and_notaries_lodge_transfers()
-    ensures { ConveyancersAndNotariesLodgeTransfers }
+    ensures { standing.ConveyancersAndNotariesLodgeTransfers }
 {}
 
-/// Subdivisions and mergers are lodged by certified surveyors alone, whichever they ask for. In other roles rule 6 denies
-/// them to whoever may ask, and nothing else.
+/// Only certified surveyors lodge subdivisions and mergers, and they may lodge any of them. Rule 6 denies it
+/// in other roles, and it denies nothing else.
 pub fn surveyors_lodge_subdivisions_and_mergers()
-    ensures { SurveyorsLodgeSubdivisionsAndMergers }
+    ensures { standing.SurveyorsLodgeSubdivisionsAndMergers }
 {}
 
-/// Mortgages and discharges are lodged by banks and notaries alone, and by notaries whoever the creditor is. In other roles
-/// rule 7 denies them to whoever may ask, and nothing else.
+/// Only banks and notaries lodge mortgages and discharges, and notaries may lodge them for any creditor. Rule
+/// 7 denies it in other roles, and it denies nothing else.
 pub fn banks_and_notaries_lodge_mortgages()
-    ensures { BanksAndNotariesLodgeMortgages }
+    ensures { standing.BanksAndNotariesLodgeMortgages }
 {}
 
-/// A bank lodges the mortgages of which it is the creditor itself. Those of others rule 8 denies it, and nothing else.
+/// A bank may lodge the mortgages of which it is the creditor. Rule 8 denies it the mortgages of other
+/// creditors, and it denies nothing else.
 pub fn banks_lodge_their_own_mortgages()
-    ensures { BanksLodgeTheirOwnMortgages }
+    ensures { standing.BanksLodgeTheirOwnMortgages }
 {}
 
-/// A bank lodges the discharges of the mortgages of which it is the creditor now, whichever unit they name. Those of what is
-/// absent, no mortgage or the mortgage of another rule 9 denies it, and nothing else.
+/// A bank may lodge the discharge of a mortgage of which it is the creditor now, and name any unit. Rule 9
+/// denies it the discharge of any other number: no entry, an entry that is not a mortgage, or the mortgage of
+/// another creditor. It denies nothing else.
 pub fn banks_discharge_their_own_mortgages()
-    ensures { BanksDischargeTheirOwnMortgages }
+    ensures { standing.BanksDischargeTheirOwnMortgages }
 {}
 
-/// Mandates are given and withdrawn by citizens alone; in other roles rule 28 denies it to whoever may ask, and nothing else. Each
-/// citizen may give one, and withdraw those of which it is the principal or the agent; those between others rule 29 denies it, and
-/// nothing else.
+/// Only citizens give and withdraw mandates; rule 28 denies it in other roles, and it denies nothing else.
+/// Each citizen may give a mandate, and withdraw a mandate of which it is the principal or the agent; rule 29
+/// denies it the withdrawal of any other mandate, and it denies nothing else.
 pub fn citizens_give_mandates()
-    ensures { CitizensGiveMandates }
+    ensures { standing.CitizensGiveMandates }
 {}

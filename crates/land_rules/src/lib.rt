@@ -1,4 +1,5 @@
-//! The policy: who may see and do what, rule by rule.
+//! The policy: 29 numbered rules that determine which requests are allowed, and the objects that a caller
+//! sees.
 #![tactic(auto)]
 
 mod circles;

@@ -1,7 +1,10 @@
-//! What a party is to the objects of a register.
+//! The relations between a party and the objects of a register: holder, owner, creditor, lodger.
 ghost use Rattle.std.specs.Prelude.{◌≡◌};
 ghost use Rattle.land_core.specs.Entries.{some};
-ghost use Rattle.land_rules.specs.Relations.{has_lodged, holds_as, is_credit, is_creditor_on, is_held_ownership, is_held_right, is_holder, is_lodger_of, is_lodger_on, is_member_of, is_mortgage, is_owner, is_pending_of, is_pending_on, is_right, is_told_to_creditor};
+ghost use Rattle.land_rules.specs.Relations.{has_lodged, holds_as, is_credit, is_creditor_on};
+ghost use Rattle.land_rules.specs.Relations.{is_held_ownership, is_held_right, is_holder, is_lodger_of};
+ghost use Rattle.land_rules.specs.Relations.{is_lodger_on, is_member_of, is_mortgage, is_owner};
+ghost use Rattle.land_rules.specs.Relations.{is_pending_of, is_pending_on, is_right, is_told_to_creditor};
 
 use land_core::kind::Kind;
 use land_core::mutation::MutationRecord;
@@ -20,14 +23,15 @@ pub(crate) fn is_mortgage(class: &Class) -> bool
     class.rank().is_some()
 }
 
-/// Whether a group is one of which the party is a member.
+/// Returns whether a party is a member of a group.
 pub(crate) fn is_member_of(at: &Register, party: u64, group: u64) -> bool
     ensures { result ≡ is_member_of at.now party group }
 {
     at.is_member(group, party)
 }
 
-/// Whether a party holds what is held in a name: it is named itself, or is a member of the group that is named.
+/// Returns whether a party has the rights that are registered under a name: the name is its own, or that of a
+/// group of which it is a member.
 fn holds_as(at: &Register, party: u64, named: u64) -> bool
     ensures { result ≡ holds_as at.now party named }
 {
@@ -76,35 +80,35 @@ fn has_credit(at: &Register, party: u64, unit: u64) -> bool
         .any(|(_, entry)| is_credit(party, unit, entry))
 }
 
-/// Whether a party has one of the rights in a unit, itself or as a member of a group.
+/// Returns whether a party has a right in a unit, directly or as a member of a group.
 pub(crate) fn is_holder(at: &Register, party: u64, unit: u64) -> bool
     ensures { result ≡ is_holder at.now party unit }
 {
     at.stands(Kind::Unit, unit) && has_held_right(at, party, unit)
 }
 
-/// Whether a party owns a unit or a share of it, itself or as a member of a group.
+/// Returns whether a party owns a unit or a share of it, directly or as a member of a group.
 pub(crate) fn is_owner(at: &Register, party: u64, unit: u64) -> bool
     ensures { result ≡ is_owner at.now party unit }
 {
     at.stands(Kind::Unit, unit) && has_held_ownership(at, party, unit)
 }
 
-/// Whether a party is the creditor of a mortgage on a unit.
+/// Returns whether a party is the creditor of a mortgage on a unit.
 pub(crate) fn is_creditor_on(at: &Register, party: u64, unit: u64) -> bool
     ensures { result ≡ is_creditor_on at.now party unit }
 {
     at.stands(Kind::Unit, unit) && has_credit(at, party, unit)
 }
 
-/// Whether a party lodged a mutation.
+/// Returns whether a party lodged a mutation.
 fn is_lodger_of(party: u64, mutation: &MutationRecord) -> bool
     ensures { result ≡ is_lodger_of party mutation.now }
 {
     mutation.lodger == party
 }
 
-/// Whether a mutation stands, and a party lodged it, be it decided or not.
+/// Returns whether a mutation exists and a party lodged it. It may be decided.
 pub(crate) fn has_lodged(at: &Register, party: u64, number: u64) -> bool
     ensures { result ≡ has_lodged at.now party number }
 {
@@ -113,7 +117,7 @@ pub(crate) fn has_lodged(at: &Register, party: u64, number: u64) -> bool
         .is_some_and(|mutation| is_lodger_of(party, mutation))
 }
 
-/// Whether a mutation of a party is undecided.
+/// Returns whether a mutation is undecided and a party lodged it.
 pub(crate) fn is_pending_of(party: u64, mutation: &MutationRecord) -> bool
     ensures { result ≡ is_pending_of party mutation.now }
 {
@@ -126,7 +130,8 @@ fn is_pending_on(party: u64, unit: u64, mutation: &MutationRecord) -> bool
     is_pending_of(party, mutation) && mutation.content.names_unit(unit)
 }
 
-/// Whether an undecided mutation of a party names a unit, which may have ended or never have stood.
+/// Returns whether an undecided mutation of a party refers to a unit. The unit may have ended, or may never
+/// have existed.
 pub(crate) fn is_lodger_on(at: &Register, party: u64, unit: u64) -> bool
     ensures { result ≡ is_lodger_on at.now party unit }
 {
@@ -135,7 +140,7 @@ pub(crate) fn is_lodger_on(at: &Register, party: u64, unit: u64) -> bool
         .any(|(_, mutation)| is_pending_on(party, unit, mutation))
 }
 
-/// Whether a party may be told an entry as a creditor: no mortgage of another.
+/// Returns whether a creditor sees an entry: it is not a mortgage, or the party is its creditor.
 pub(crate) fn is_told_to_creditor(party: u64, entry: &RrrRecord) -> bool
     ensures { result ≡ is_told_to_creditor party entry.now }
 {

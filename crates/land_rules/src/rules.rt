@@ -1,4 +1,4 @@
-//! The verdict on an ask, rule by rule, and what a caller sees.
+//! The verdict on a request, rule by rule, and the lists of objects that a caller sees.
 ghost use Rattle.std.specs.Prelude.{◌≡◌, IfOk};
 ghost use Rattle.land_core.specs.Entries.{numbers_where};
 ghost use Rattle.land_rules.specs.Rules.{verdict_of, first_denial, sight_rules, sees, seen_of};
@@ -17,8 +17,9 @@ mod lists;
 mod sight;
 mod standing;
 
-/// What the policy says of an ask: the least rule that denies it, or that it is allowed. Standing rules read the
-/// register now, sight rules the register at the asked moment; `past` says that this moment is before now.
+/// Returns the verdict on a request: the number of the first rule that denies it, or `Allowed`. Standing
+/// rules read the register `now`, sight rules the register `at` the requested time. `past` is whether that
+/// time is before now.
 pub fn verdict(now: &Register, at: &Register, caller: Caller, ask: &Ask, past: bool) -> Verdict
     ensures { result ≡ verdict_of now.now at.now caller ask.now past }
 {
@@ -38,8 +39,9 @@ fn sight_verdict(at: &Register, caller: Caller, ask: &Ask) -> Verdict
     }
 }
 
-/// The numbers of a kind that the caller sees in a register, ascending. What the caller's circle holds and the caller lodged is collected
-/// once, in passes over the mandates, the groups, the entries and the mutations, and then each object is asked for by look-ups.
+/// Returns the numbers of a kind that the caller sees in a register, ascending. The holdings and lodgings of
+/// the caller's circle are collected once, in passes over the mandates, groups, entries and mutations; then
+/// each object is one lookup, so that a list takes no quadratic time. The only error is out of memory.
 pub fn seen(
     alloc: Global,
     at: &Register,
@@ -58,8 +60,8 @@ pub fn seen(
     }
 }
 
-/// The numbers among those of records of a kind that the caller sees, ascending: for kinds and roles whose sight takes no
-/// search of the entries.
+/// Returns those numbers of a map that the caller sees, ascending. Only for kinds and roles whose rules
+/// search no entries.
 fn seen_among<V>(
     alloc: Global,
     records: &Records<V>,
@@ -78,7 +80,7 @@ fn seen_among<V>(
     Ok(seen)
 }
 
-/// Whether no sight rule denies the view of an object.
+/// Returns whether no sight rule denies the view of an object.
 pub fn sees(at: &Register, caller: Caller, kind: Kind, number: u64) -> bool
     ensures { result ≡ sees at.now caller kind number }
 {

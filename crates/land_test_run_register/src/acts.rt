@@ -1,4 +1,5 @@
-//! Acts over registers that are put together by hand: what their callers are told, and what stands then.
+//! Acts on registers that are built by hand: their receipts or refusals, and the objects that exist
+//! afterwards.
 ghost use Rattle.std.specs.Prelude.{◌≡◌, true, IfOk};
 ghost use Rattle.land_core.specs.Acts.{is_well_formed};
 ghost use Rattle.land_core.specs.Soundness.{IsSound};
@@ -34,32 +35,32 @@ mod parcels;
 mod registering;
 mod roles;
 
-/// What is done to a register in turn, and looked at.
+/// A step of a test: it changes the register, or checks it.
 enum Step {
-    /// An act, its stamp, and what its caller is told in one line.
+    /// An act, its stamp, and its receipt or refusal as a line.
     Row(RowAct, Option<i64>, &'static str),
-    /// The unit 6 gets so many restrictions, under the numbers from 20 on, and the next number is 1000.
+    /// Gives unit 6 this number of restrictions, numbered from 20, and sets the next number to 1000.
     Crowd(u64),
-    /// The unit 6 gets so many parcels, likewise.
+    /// Gives unit 6 this number of parcels, numbered from 20, and sets the next number to 1000.
     Parcels(u64),
-    /// Whether a party holds a role.
+    /// Checks whether a party holds a role.
     Holds(u64, Role, bool),
-    /// Whether a group has a member.
+    /// Checks whether a group has a member.
     Has(u64, u64, bool),
-    /// Whether an object stands.
+    /// Checks whether an object exists.
     Stands(Kind, u64, bool),
-    /// The next number.
+    /// Checks the next number.
     Next(u64),
-    /// The register is sound.
+    /// Checks that the register is sound.
     Sound,
 }
 
 const STAMP: Option<i64> = Some(1000);
 
-/// The number after the three persons.
+/// The first number after the three persons.
 const FIRST: u64 = 5;
 
-/// Enters a citizen.
+/// Adds a citizen to the register.
 fn enter(alloc: Global, register: &mut Register, party: u64, name: &str) -> Result<(), AllocError> {
     let role = Role::Citizen;
     register.roles.insert(Grant { party, role })?;
@@ -112,7 +113,7 @@ fn is_refused_line(alloc: Global, number: u16, line: &str) -> Result<bool, Alloc
     Ok(told.as_str() == line)
 }
 
-/// Makes a change, and answers whether this is what its caller is told.
+/// Applies a change, and returns whether its receipt is this line.
 fn is_applied(
     alloc: Global,
     register: &mut Register,
@@ -124,7 +125,7 @@ fn is_applied(
     is_done_line(alloc, done, line)
 }
 
-/// Makes the change of an outcome, and answers whether its caller is told this line.
+/// Applies the change of an outcome, and returns whether its receipt or refusal is this line.
 fn is_outcome(
     alloc: Global,
     register: &mut Register,
@@ -139,7 +140,7 @@ fn is_outcome(
     }
 }
 
-/// Does an act, and answers whether its caller is told this line.
+/// Executes an act, and returns whether its receipt or refusal is this line.
 fn is_made(
     alloc: Global,
     register: &mut Register,
@@ -154,7 +155,8 @@ fn is_made(
     is_outcome(alloc, register, &outcome, line)
 }
 
-/// Does an act over a sound register where it is well formed, and answers whether its caller is told this line.
+/// Executes an act if the register is sound and the act well formed, and returns whether its receipt or
+/// refusal is this line.
 fn is_told(
     alloc: Global,
     register: &mut Register,
@@ -171,7 +173,7 @@ fn is_told(
     Ok(is_made(alloc, register, act, stamp, line)?)
 }
 
-/// Does the act of a row, and answers whether its caller is told this line.
+/// Executes the act of a row, and returns whether its receipt or refusal is this line.
 fn is_done(
     alloc: Global,
     register: &mut Register,
@@ -183,7 +185,7 @@ fn is_done(
     is_told(alloc, register, &act, stamp, line)
 }
 
-/// Takes a step, and answers whether all is as expected.
+/// Takes a step, and returns whether the result is the expected one.
 fn is_taken(alloc: Global, register: &mut Register, step: &Step) -> Result<bool, Stop> {
     match step {
         Step::Row(it, stamp, line) => is_done(alloc, register, it, *stamp, line),
@@ -197,7 +199,7 @@ fn is_taken(alloc: Global, register: &mut Register, step: &Step) -> Result<bool,
     }
 }
 
-/// Takes steps from a next number on; each has to be as expected.
+/// Sets the next number and takes all steps. The first unexpected result is an error.
 fn take_all(alloc: Global, register: &mut Register, next: u64, steps: &[Step]) -> Result<(), Stop> {
     enter_all(alloc, register)?;
     register.next = next;
@@ -207,13 +209,13 @@ fn take_all(alloc: Global, register: &mut Register, next: u64, steps: &[Step]) -
     Ok(())
 }
 
-/// Takes steps over a register with Anna, Ben and Sam as parties 2 to 4, citizens.
+/// Takes all steps on a register with the citizens Anna, Ben and Sam as parties 2 to 4.
 fn take_anew(alloc: Global, next: u64, steps: &[Step]) -> Result<(), Stop> {
     let mut register = Register::new(alloc)?;
     take_all(alloc, &mut register, next, steps)
 }
 
-/// Takes steps over a register of the three persons and a next number; each has to be as expected.
+/// Takes all steps on a register of the three persons, and asserts that each result is the expected one.
 fn assert_steps(rt: &impl Abort, alloc: Global, next: u64, steps: &[Step]) -> Result<(), Fail> {
     conclude(rt, take_anew(alloc, next, steps))
 }

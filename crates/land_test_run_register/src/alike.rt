@@ -1,4 +1,4 @@
-//! Worlds that look alike to a caller: it is told the same of both.
+//! Worlds that look alike to a caller give it the same replies.
 use crate::conclusion::conclude;
 use land_core::kind::Kind::{Mutation, Parcel, Party, Rrr, Source, Unit};
 use land_test_cases::asked::RowAsk::{List, View};
@@ -9,7 +9,7 @@ use land_test_cases::worlds::{
 };
 use std::test::Fail;
 
-/// What Nora, who holds nothing, is told as a citizen.
+/// The replies to Nora, who has no rights, in the role citizen.
 const OF_NEITHER: &[Row] = &[
     Row(2000, NORA_HERSELF, List(Party, None), "numbers [5]"),
     Row(2000, NORA_HERSELF, List(Unit, None), "numbers []"),

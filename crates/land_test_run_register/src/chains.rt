@@ -1,4 +1,4 @@
-//! Lists of rings with the same ground and with other ground, worked out by hand.
+//! Lists of rings with the same ground and with different ground, as examples calculated by hand.
 
 use land_shape::{Ring, ShapeFault, chain_matches, laws, read_wkt};
 use std::alloc::Global;
@@ -6,10 +6,10 @@ use std::test::Fail;
 
 const WHOLE: &str = "POLYGON ((0 0, 10000 0, 10000 10000, 0 10000, 0 0))";
 
-/// The same ring as `WHOLE`, begun at another point.
+/// The same ring as `WHOLE`, starting at another point.
 const BEGUN_LATER: &str = "POLYGON ((10000 10000, 0 10000, 0 0, 10000 0, 10000 10000))";
 
-/// The same, with points on its edges.
+/// The same ring, with more points on its edges.
 const WITH_MORE_POINTS: &str =
     "POLYGON ((0 0, 1 0, 10000 0, 10000 10000, 5000 10000, 4000 10000, 0 10000, 0 0))";
 
@@ -19,18 +19,18 @@ const SOUTH_EAST: &str = "POLYGON ((5000 0, 10000 0, 10000 5000, 5000 5000, 5000
 
 const NORTH_EAST: &str = "POLYGON ((5000 5000, 10000 5000, 10000 10000, 5000 10000, 5000 5000))";
 
-/// As large as both in the east, and a metre further east.
+/// Has the area of both eastern parts, and lies a metre further east.
 const BEYOND: &str = "POLYGON ((6000 0, 11000 0, 11000 10000, 6000 10000, 6000 0))";
 
-/// As large as both in the east, and over the west.
+/// Has the area of both eastern parts, and overlaps the west.
 const OVER: &str = "POLYGON ((4000 0, 9000 0, 9000 10000, 4000 10000, 4000 0))";
 
-/// Both halves of the whole along a slanted line through (2500 0) and (7500 10000), with a point on it.
+/// The halves of the whole, divided by a slanted line through (2500 0) and (7500 10000) with a point on it.
 const LEFT: &str = "POLYGON ((0 0, 2500 0, 5000 5000, 7500 10000, 0 10000, 0 0))";
 
 const RIGHT: &str = "POLYGON ((2500 0, 10000 0, 10000 10000, 7500 10000, 2500 0))";
 
-/// The right half where its line is a millimetre off at one end.
+/// The right half with one end of the line a millimetre off.
 const RIGHT_BUT_ONE: &str = "POLYGON ((2501 0, 10000 0, 10000 10000, 7500 10000, 2501 0))";
 
 /// Four parcels around a hole of 2 by 2.
@@ -53,7 +53,8 @@ fn rings(alloc: Global, texts: &[&str]) -> Result<Vec<Ring>, ShapeFault> {
     Ok(all)
 }
 
-/// Whether the rings of some texts have the ground of those of others, asked in both orders.
+/// Returns whether the rings of two lists of texts have the same ground, if both orders of the arguments
+/// agree.
 fn match_texts(alloc: Global, texts: &[&str], others: &[&str]) -> Result<Option<bool>, ShapeFault> {
     let ours = rings(alloc, texts)?;
     let theirs = rings(alloc, others)?;
@@ -141,14 +142,14 @@ fn match_around(alloc: Global, hole: &str) -> Result<bool, ShapeFault> {
     Ok(!before && chain_matches(alloc, &parts, &whole)?)
 }
 
-/// Parts that leave a hole do not match what is around them, and with the hole they do.
+/// Parts that leave a hole do not match the outline around them; with the hole they do.
 #[test]
 fn holes_are_missed(rt: HostRuntime) -> Result<(), Fail> {
     assert!(&rt; match_around(rt.alloc(), HOLE)?);
     Ok(())
 }
 
-/// The laws are contracts of functions that do nothing.
+/// The laws are contracts of functions with empty bodies. This only calls them.
 #[test]
 fn laws_of_matching(_rt: HostRuntime) -> Result<(), Fail> {
     laws::places_on_edges();

@@ -1,9 +1,10 @@
-//! How a test ends.
+//! The end of a test.
 use land_test_cases::stop::Stop;
 use std::process::Abort;
 use std::test::Fail;
 
-/// Ends a test: by an assertion where something is not as the test has it, and by an `Err` where there was no memory, and only there.
+/// Ends a test by the outcome of its trial: fails an assertion if a result is wrong, and returns `Err` only
+/// if memory ran out.
 pub fn conclude(rt: &impl Abort, outcome: Result<(), Stop>) -> Result<(), Fail> {
     match outcome {
         Ok(()) => Ok(()),

@@ -15,7 +15,7 @@ const SAM: u64 = 4;
 
 const GARDEN: u64 = 7;
 
-/// Anna owns a half.
+/// Anna's half of the garden.
 const ANNAS: u64 = 10;
 
 /// A restriction of Anna.
@@ -24,10 +24,10 @@ const PATH: u64 = 13;
 /// A mortgage of Sam.
 const LOAN: u64 = 15;
 
-/// A party's number, the type of its right, and the numerator and denominator of its share.
+/// A party, the type of its right, and the numerator and denominator of its share.
 type Right = (u64, RightType, u64, u64);
 
-/// Whether an act may be asked for.
+/// Returns whether an act is well formed.
 fn is_good(act: Act) -> bool {
     act.is_well_formed()
 }

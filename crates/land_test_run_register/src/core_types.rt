@@ -1,4 +1,4 @@
-//! The small types give back what they were made of.
+//! The small types return the values from which they were built.
 use land_core::duplicate::Duplicate;
 use land_core::mandates::{Mandate, Mandates};
 use land_core::records::Records;
@@ -40,7 +40,7 @@ fn a_list_is_given_back(rt: HostRuntime) -> Result<(), Fail> {
     Ok(())
 }
 
-/// Records of which one has ended.
+/// Returns records, one of which has ended.
 fn records(alloc: Global) -> Result<Records<u64>, AllocError> {
     let mut records = Records::new(alloc);
     records.insert(7, 70)?;

@@ -1,8 +1,10 @@
-//! Enrolments and reads: who may ask, stamps and their end, and the past.
+//! Enrolments and reads: allowed callers, stamps and the last one, and reads of the past.
 use crate::conclusion::conclude;
+use crate::end_of_time::END;
 use land_core::caller::Caller;
 use land_core::kind::Kind::Party;
 use land_core::kind::PartyKind::NaturalPerson;
+use land_core::limits::LAST_MOMENT;
 use land_core::role::Role::{Citizen, StateAdministrator};
 use land_test_cases::asked::RowAct::Enrol;
 use land_test_cases::asked::RowAsk::{Do, List, View};
@@ -44,9 +46,9 @@ const RISING: &[Row] = &[
     Row(5000, OFFICE, ENROL, "done 2 made [2] at 5000"),
     Row(4000, OFFICE, ENROL, "done 3 made [3] at 5001"),
     Row(4000, OFFICE, List(Party, Some(5002)), "fault 135"),
-    Row(4_102_444_800_000, OFFICE, ENROL, "refused 217"),
+    Row(END, OFFICE, ENROL, "refused 217"),
     Row(
-        4_102_444_799_999,
+        LAST_MOMENT,
         OFFICE,
         ENROL,
         "done 4 made [4] at 4102444799999",

@@ -1,11 +1,11 @@
-//! Fractions, worked out by hand. They are written as pairs of a numerator and a denominator.
+//! Fractions, as examples calculated by hand. A fraction is written as a pair of numerator and denominator.
 use land_fraction::{Fraction, FractionFault, Whole, common, is_whole};
 use std::alloc::{AllocError, Global};
 use std::test::Fail;
 
 type Pair = (u64, u64);
 
-/// The pair of the answer, or the number of its fault.
+/// Returns the pair of a result, or the number of its fault.
 fn shown(answer: Result<Fraction, FractionFault>) -> Result<Pair, u16> {
     match answer {
         Ok(f) => Ok((f.numerator(), f.denominator())),
@@ -17,7 +17,7 @@ fn fraction(pair: Pair) -> Result<Fraction, FractionFault> {
     Fraction::new(pair.0, pair.1)
 }
 
-/// A pair, and what is made of it.
+/// A pair, and the result of reducing it.
 struct Reduced(Pair, Result<Pair, u16>);
 
 const REDUCED: &[Reduced] = &[
@@ -36,7 +36,7 @@ const REDUCED: &[Reduced] = &[
     Reduced((2, 2000000002), Err(103)),
     Reduced((999999999, 1000000000), Ok((999999999, 1000000000))),
     Reduced((1000000001, 1000000001), Ok((1, 1))),
-    // 2^64 - 1 is 3 * 6148914691236517205 and odd, so it shares no divisor with 2^63
+    // 2^64 - 1 is 3 * 6148914691236517205 and odd, so it has no common divisor with 2^63
     Reduced((18446744073709551615, 18446744073709551615), Ok((1, 1))),
     Reduced((6148914691236517205, 18446744073709551615), Ok((1, 3))),
     Reduced((18446744073709551615, 18446744073709551614), Err(102)),
@@ -57,7 +57,7 @@ fn pairs_are_reduced_or_refused(rt: HostRuntime) {
     }
 }
 
-/// Two pairs, and what is made of them.
+/// Two pairs, and the result of an operation on them.
 struct Joined(Pair, Pair, Result<Pair, u16>);
 
 const SUMS: &[Joined] = &[
@@ -72,7 +72,7 @@ const SUMS: &[Joined] = &[
     Joined((1, 500000000), (1, 1000000000), Ok((3, 1000000000))),
     Joined((1, 999999999), (999999998, 999999999), Ok((1, 1))),
     Joined((999999998, 999999999), (999999999, 1000000000), Err(102)),
-    // 31622 * 31623 is 999982506 and 31623 * 31624 is 1000045752; neighbours share no divisor
+    // 31622 * 31623 is 999982506 and 31623 * 31624 is 1000045752; neighbours have no common divisor
     Joined((1, 31622), (1, 31623), Ok((63245, 999982506))),
     Joined((1, 31623), (1, 31624), Err(103)),
 ];
@@ -112,7 +112,7 @@ fn differences_are_exact(rt: HostRuntime) -> Result<(), Fail> {
     Ok(())
 }
 
-/// Shares, their least common multiple, and whether they are whole.
+/// Shares, their least common multiple, and whether they sum to one.
 struct Listed(&'static [Pair], Option<u64>, Whole);
 
 const NEARLY_ONE: Pair = (999999999, 1000000000);
@@ -147,7 +147,7 @@ const LISTS: &[Listed] = &[
     ),
 ];
 
-/// Whether a list is as its row says.
+/// Returns whether a list has the results of its row.
 fn is_listed(alloc: Global, row: &Listed) -> Result<bool, Fail> {
     let mut shares = Vec::new(alloc);
     for pair in row.0 {
@@ -185,7 +185,7 @@ const RISING: &[Pair] = &[
     (1, 1),
 ];
 
-/// Whether each pair of a list is below the next one.
+/// Returns whether each pair of a list is below the next one.
 fn rise(pairs: &[Pair]) -> Result<bool, FractionFault> {
     let mut below = None;
     for pair in pairs {
@@ -208,13 +208,13 @@ fn equal_and_ordered(rt: HostRuntime) -> Result<(), Fail> {
     Ok(())
 }
 
-/// Whether a fraction is printed so.
+/// Returns whether a fraction is printed as this text.
 fn is_printed(alloc: Global, pair: Pair, text: &str) -> Result<bool, Fail> {
     let share = fraction(pair)?;
     Ok(format!(in alloc; "{share}")?.as_str() == text)
 }
 
-/// Whether a fault has this text.
+/// Returns whether a fault has this text.
 fn is_told(alloc: Global, fault: FractionFault, text: &str) -> Result<bool, AllocError> {
     Ok(format!(in alloc; "{fault}")?.as_str() == text)
 }
@@ -232,7 +232,7 @@ const FAULTS: &[Told] = &[
     ),
 ];
 
-/// Whether the faults have their numbers and texts.
+/// Returns whether the faults have their numbers and texts.
 fn are_told(alloc: Global) -> Result<bool, AllocError> {
     for row in FAULTS {
         if row.0.number() != row.1 || !is_told(alloc, row.0, row.2)? {

@@ -1,5 +1,6 @@
 //! Groups and their members, and roles that are granted and revoked.
 use crate::conclusion::conclude;
+use crate::end_of_time::END;
 use land_core::caller::Caller;
 use land_core::kind::Kind::Party;
 use land_core::role::Role::{Bank, Citizen, Notary, StateAdministrator};
@@ -174,9 +175,6 @@ const ANOTHER: &[Row] = &[
 fn another_administrator_may_go_first(rt: HostRuntime) -> Result<(), Fail> {
     conclude(&rt, play_with_group(rt.alloc(), ANOTHER))
 }
-
-/// The first moment that is none.
-const END: i64 = 4_102_444_800_000;
 
 const AT_THE_END: &[Row] = &[
     Row(END, OFFICE, Do(Group("Group", ONE_TWICE)), "refused 217"),

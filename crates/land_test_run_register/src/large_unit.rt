@@ -1,4 +1,4 @@
-//! A unit of 64 parcels and 64 rights: as many as a first registration may have.
+//! A unit of 64 parcels and 64 rights, the maximum of a first registration.
 use crate::conclusion::conclude;
 use land_core::act::{Act, NewRight, NewUnit};
 use land_core::ask::{Ask, Request};
@@ -19,10 +19,10 @@ use std::test::Fail;
 
 const ENROL: RowAsk = Do(Enrol(NaturalPerson, "Anna"));
 
-/// How many parties have the rights: each an ownership and a lease, and all but two a usufruct.
+/// The number of parties with rights: each has an ownership and a lease, and all but two have a usufruct.
 const HOLDERS: u64 = 22;
 
-/// Adds rights of one type, whose shares make a whole.
+/// Adds rights of one type whose shares sum to one.
 fn add_rights(
     rights: &mut Sequence<NewRight>,
     right_type: RightType,
@@ -53,7 +53,8 @@ fn registration(alloc: Global) -> Result<NewUnit, Stop> {
     Ok(unit)
 }
 
-/// The office enrols the holders, registers the unit, and asks for its title sheet.
+/// Returns the requests: the Land Office enrols the parties, registers the unit, and requests its title
+/// sheet.
 fn requests(alloc: Global) -> Result<Vec<Request>, Stop> {
     let mut requests = Vec::new(alloc);
     for _ in 0..HOLDERS {
@@ -67,7 +68,7 @@ fn requests(alloc: Global) -> Result<Vec<Request>, Stop> {
     Ok(requests)
 }
 
-/// Whether numbers are those from the first one on.
+/// Returns whether numbers are consecutive from the first one.
 fn count_on(numbers: &[u64], first: u64) -> bool {
     let mut next = first;
     for number in numbers {
@@ -85,7 +86,8 @@ fn is_made(done: &Done) -> bool {
     done.number == 25 && done.stamp == 23 && made.len() == 130 && count_on(made, 24)
 }
 
-/// Whether the entries are those of the list, in its order: numbers from 90 on, of parties 2 to 23 in turn.
+/// Returns whether the entries are those of the list, in its order: numbers from 90, of the parties 2 to 23,
+/// repeatedly.
 fn are_held(entries: &[NamedRrr]) -> bool {
     let mut number = 90u64;
     let mut party = 2u64;
@@ -108,7 +110,7 @@ fn is_shown(view: &View) -> bool {
     view.parcels.as_slice().len() == 64 && entries.len() == 64 && are_held(entries)
 }
 
-/// Whether the last two replies are the registration's and the sheet. A reply of 501 is want of memory.
+/// Returns whether the last two replies are the receipt and the sheet. If a reply is 501, memory ran out.
 fn are_told(replies: &[Reply]) -> Result<bool, AllocError> {
     for reply in replies {
         if let Reply::Store(501) = reply {

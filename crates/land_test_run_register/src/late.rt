@@ -1,6 +1,8 @@
-//! Reads long after the last change, and sights that are easily taken for others.
+//! Reads long after the last change, and rules on visibility that are easily confused.
 use crate::conclusion::conclude;
+use crate::end_of_time::END;
 use land_core::kind::Kind::{Party, Rrr, Unit};
+use land_core::limits::LAST_MOMENT;
 use land_core::rrr::RightType::{Ownership, Usufruct};
 use land_test_cases::asked::RowAct::{Approve, Group, RegisterAs};
 use land_test_cases::asked::RowAsk::{Do, List, Sheet, View};
@@ -9,7 +11,8 @@ use land_test_cases::rows::{Row, play_rows};
 use land_test_cases::steps::{ANNA, BANK, BANK_ITSELF, LOAN, SAM, WITH_GARDEN, play_with_group};
 use std::test::Fail;
 
-/// Now is the clock's reading where that is after the last stamp: 1500 is past then, though nothing has changed since.
+/// If the clock is after the last stamp, its reading is now. So 1500 is in the past, although nothing has
+/// changed since.
 const LATE: &[Row] = &[
     Row(2000, BANK, View(Unit, 9, Some(1500)), "denied 3"),
     Row(2000, BANK, View(Unit, 9, Some(2000)), "unit 9 Garden true"),
@@ -21,16 +24,11 @@ const LATE: &[Row] = &[
         Sheet(9, None),
         "sheet 9 Garden at 2000: parcel 10 rrr 11 Anna rrr 12 Anna and Ben rrr 13 Sam rrr 16 Bank, \"North\"",
     ),
+    Row(END, OFFICE, View(Unit, 9, Some(END)), "fault 135"),
     Row(
-        4_102_444_800_000,
+        END,
         OFFICE,
-        View(Unit, 9, Some(4_102_444_800_000)),
-        "fault 135",
-    ),
-    Row(
-        4_102_444_800_000,
-        OFFICE,
-        View(Unit, 9, Some(4_102_444_799_999)),
+        View(Unit, 9, Some(LAST_MOMENT)),
         "unit 9 Garden true",
     ),
 ];
@@ -46,7 +44,7 @@ const WITH_USUFRUCT: &[Right] = &[
     (6, Usufruct, 1, 1),
 ];
 
-/// Who has the fruits of a unit is no owner of it: its mortgages are not shown.
+/// A usufruct is not an ownership, so its holder does not see the mortgages.
 const USUFRUCT: &[Row] = &[
     Row(
         1000,
@@ -68,7 +66,7 @@ fn who_has_the_fruits_is_no_owner(rt: HostRuntime) -> Result<(), Fail> {
 
 const HALVES: &[Share] = &[(2, 1, 2), (4, 1, 2)];
 
-/// A bank sees its groups as a citizen, and not in the role of a bank.
+/// A bank sees its groups only in the role citizen, and not in the role bank.
 const BANK_IN_GROUP: &[Row] = &[
     Row(
         1000,

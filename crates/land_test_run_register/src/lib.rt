@@ -1,11 +1,12 @@
-//! The tests of what needs no store: shares, outlines, spans of time, records, acts over registers that are put together by hand, the policy,
-//! and runs of the register machine. Those of whole registers and of the policy are calls of trials in `land_test_register`. There is
-//! nothing else here: a crate that has tests is proved twice, and its program is compiled with all that it stands on.
+//! The tests that need no database: shares, outlines, intervals, records, acts on registers that are built by
+//! hand, the policy, and runs of the register machine. The tests of whole registers and of the policy call
+//! trials in `land_test_register`. There is no other code here, because a crate with tests is proved twice,
+//! and its program is compiled with all its dependencies.
 //!
-//! The tests hold what no clause says: that the calls succeed up to the limits, worked examples with their full replies, and what a refused
-//! allocation leaves. Want of memory ends a test with an `Err`, so that it fails unless an allocation was refused; all else that is wrong
-//! fails an assertion. `.ci/oom-tests` runs these tests with each allocation refused in turn: a test may then end for want of memory, and
-//! no assertion may fail.
+//! The tests check only what no clause states: that calls succeed up to the limits, worked examples with full
+//! replies, and the state after an allocation failed. A test returns `Err` only if memory ran out; every
+//! other wrong result fails an assertion. So a test succeeds unless an allocation fails. `.ci/oom-tests` runs
+//! these tests with each allocation failing in turn: a test may then return `Err`, and no assertion may fail.
 #![tactic(auto)]
 
 #[cfg(test)]
@@ -20,6 +21,8 @@ mod conclusion;
 mod core_acts;
 #[cfg(test)]
 mod core_types;
+#[cfg(test)]
+mod end_of_time;
 #[cfg(test)]
 mod first_rows;
 #[cfg(test)]

@@ -1,5 +1,6 @@
-//! Mandates: given and withdrawn, and what citizens see by them, by moment.
+//! Mandates: given and withdrawn, and what citizens see by them at each time.
 use crate::conclusion::conclude;
+use crate::end_of_time::END;
 use land_core::kind::Kind::{Party, Rrr, Unit};
 use land_core::role::Role::{Citizen, Notary};
 use land_test_cases::asked::RowAct::{Grant, Mandate, Revoke, Withdraw};
@@ -50,8 +51,8 @@ fn mandates(rt: HostRuntime) -> Result<(), Fail> {
     conclude(&rt, play_with_mortgage(rt.alloc(), MANDATES))
 }
 
-/// What stands in the way, by the least number: a mandate is looked at where its agent is a single party, a moment is left and the agent is
-/// another.
+/// The refusals in ascending order: the agent is a single party, a stamp exists, the agent is another party,
+/// and the mandate is new.
 const REFUSED: &[Row] = &[
     Row(1000, ANNA, Do(Mandate(9)), "refused 205"),
     Row(END, ANNA, Do(Mandate(7)), "refused 205"),
@@ -70,9 +71,6 @@ const REFUSED: &[Row] = &[
     Row(END, ANNA, Do(Mandate(3)), "refused 217"),
 ];
 
-/// The first moment that is none.
-const END: i64 = 4_102_444_800_000;
-
 #[test]
 fn a_mandate_is_given_once_and_withdrawn_once(rt: HostRuntime) -> Result<(), Fail> {
     conclude(&rt, play_with_group(rt.alloc(), REFUSED))
@@ -80,7 +78,7 @@ fn a_mandate_is_given_once_and_withdrawn_once(rt: HostRuntime) -> Result<(), Fai
 
 const TO_BEN: RowAct = Mandate(3);
 
-/// In other roles than that of a citizen no mandate is given or withdrawn, whatever else would be told.
+/// Only citizens give or withdraw mandates. The policy decides before any refusal.
 const ROLES: &[Row] = &[
     Row(1000, OFFICE, Do(TO_BEN), "denied 28"),
     Row(1000, BANK, Do(TO_BEN), "denied 28"),
@@ -97,8 +95,8 @@ fn mandates_are_of_citizens(rt: HostRuntime) -> Result<(), Fail> {
     conclude(&rt, play_with_group(rt.alloc(), ROLES))
 }
 
-/// Anna's mandate to Nora stands, whichever role of theirs is revoked. Who is no citizen any more sees nothing by it, and sees by it again
-/// once it is one.
+/// Revoking a role does not end Anna's mandate to Nora. A party that is no longer a citizen sees nothing by
+/// it, and sees by it again once it is a citizen again.
 const REVOKED: &[Row] = &[
     Row(1000, ANNA, Do(Mandate(5)), "done 5 made [] at 1012"),
     Row(

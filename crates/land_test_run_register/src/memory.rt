@@ -1,5 +1,5 @@
-//! What is prepared changes nothing, and what a refused allocation leaves: where memory was refused, the same request is
-//! asked again and has its reply.
+//! A prepared act changes nothing, and after an allocation failure the same request gets its reply when it is
+//! repeated.
 ghost use Rattle.std.specs.Prelude.{◌≡◌, true};
 ghost use Rattle.land_core.specs.Acts.{is_well_formed_request};
 
@@ -40,7 +40,8 @@ const OWNED: &[Right] = &[(2, Ownership, 1, 1)];
 
 const ENROLLED: &str = "done 2 made [2] at 1000";
 
-/// What a call that failed before the first stamp leads to: want of memory where nothing has changed, else a wrong answer.
+/// Returns out of memory for a call that failed before the first stamp if nothing has changed, and a wrong
+/// result otherwise.
 fn failed(last: i64, fault: StoreFault) -> Result<bool, AllocError> {
     if fault == StoreFault::NoMemory && last == 0 {
         Err(AllocError)
@@ -49,12 +50,12 @@ fn failed(last: i64, fault: StoreFault) -> Result<bool, AllocError> {
     }
 }
 
-/// Whether a reply is that of the enrolment, told at the moment of the last change.
+/// Returns whether a reply is that of the enrolment, with the moment of the last change as its stamp.
 fn is_enrolled(alloc: Global, reply: &Reply, last: i64, moment: i64) -> Result<bool, AllocError> {
     Ok(is_told(alloc, reply, ENROLLED)? && last == moment)
 }
 
-/// Whether an enrolment waited, and is done now.
+/// Returns whether an enrolment was prepared without a change, and is executed now.
 fn is_done(
     alloc: Global,
     waited: Result<bool, AllocError>,
@@ -67,7 +68,7 @@ fn is_done(
     }
 }
 
-/// Whether an enrolment is prepared, which changes nothing, and then finished.
+/// Returns whether an enrolment is prepared, which changes nothing, and then finished.
 fn is_finished(
     alloc: Global,
     keeper: &mut PlainKeeper,
@@ -95,7 +96,7 @@ fn is_prepared(alloc: Global, request: &Request) -> Result<bool, AllocError>
     is_finished(alloc, &mut keeper, request)
 }
 
-/// Whether an enrolment over a new register changes nothing before it is finished.
+/// Returns whether an enrolment in a new register changes nothing before it is finished.
 fn is_enrolled_late(alloc: Global) -> Result<bool, Stop> {
     let request = request(alloc, OFFICE, &ENROL)?;
     Ok(request.is_well_formed() && is_prepared(alloc, &request)?)
@@ -110,17 +111,17 @@ fn what_is_prepared_changes_nothing_before_it_is_finished(rt: HostRuntime) -> Re
     conclude(&rt, enrol_late(rt.alloc()))
 }
 
-/// How a request was answered.
+/// The result of a request.
 #[derive(Drop)]
 enum Outcome {
     AtOnce,
-    /// Memory was refused, nothing had changed, and the reply came the second time.
+    /// An allocation failed, nothing had changed, and the repeated request got its reply.
     Late,
-    /// Something had changed, or the reply is another one.
+    /// Something had changed, or the reply is a different one.
     Wrong,
 }
 
-/// Whether a reply is this line; nothing where memory was refused.
+/// Returns whether a reply is this line, or `None` if memory ran out.
 fn answered_so(alloc: Global, reply: &Reply, line: &str) -> Result<Option<bool>, AllocError> {
     match reply {
         Reply::Store(501) => Ok(None),
@@ -128,7 +129,7 @@ fn answered_so(alloc: Global, reply: &Reply, line: &str) -> Result<Option<bool>,
     }
 }
 
-/// Whether a request has this reply; nothing where memory was refused.
+/// Returns whether a request gets this reply, or `None` if memory ran out.
 fn asked_once(
     alloc: Global,
     keeper: &mut PlainKeeper,
@@ -141,7 +142,7 @@ fn asked_once(
     answered_so(alloc, &reply, line)
 }
 
-/// Asks a second time: nothing has changed before.
+/// Repeats a request. Checks that nothing has changed before.
 fn asked_again(
     alloc: Global,
     keeper: &mut PlainKeeper,
@@ -161,7 +162,7 @@ fn asked_again(
     }
 }
 
-/// Asks, and where memory was refused once more.
+/// Sends a request, and repeats it if memory ran out.
 fn asked(
     alloc: Global,
     keeper: &mut PlainKeeper,
@@ -178,10 +179,10 @@ fn asked(
     }
 }
 
-/// Who asks what, and the reply in one line.
+/// A caller, its request, and the reply as a line.
 struct Row(Caller, RowAsk, &'static str);
 
-/// Asks what is well formed.
+/// Sends a request that is well formed.
 fn asked_well(
     alloc: Global,
     keeper: &mut PlainKeeper,
@@ -199,7 +200,7 @@ fn asked_row(alloc: Global, keeper: &mut PlainKeeper, row: &Row) -> Result<Outco
     asked_well(alloc, keeper, &request, row.2)
 }
 
-/// Asks the rows in turn, and answers whether a reply came late.
+/// Sends the requests in order, and returns whether one had to be repeated.
 fn is_late(alloc: Global, keeper: &mut PlainKeeper, rows: &[Row]) -> Result<bool, Stop> {
     let mut late = false;
     for (place, row) in rows.iter().enumerate() {
@@ -217,7 +218,8 @@ fn is_late_anew(alloc: Global, rows: &[Row]) -> Result<bool, Stop> {
     is_late(alloc, &mut keeper, rows)
 }
 
-/// Asks over a new register, where each reply has to be right. Where one came late this ends in want of memory.
+/// Sends the requests to a new register, where each reply has to be the expected one. If one had to be
+/// repeated, returns out of memory.
 fn ask_anew(alloc: Global, rows: &[Row]) -> Result<(), Stop> {
     if is_late_anew(alloc, rows)? {
         Err(Stop::Memory)
@@ -226,7 +228,7 @@ fn ask_anew(alloc: Global, rows: &[Row]) -> Result<(), Stop> {
     }
 }
 
-/// Asks over a new register, and compares the replies in full.
+/// Sends the requests to a new register, and compares the replies in full.
 fn assert_told(rt: &impl Abort, alloc: Global, rows: &[Row]) -> Result<(), Fail> {
     conclude(rt, ask_anew(alloc, rows))
 }
@@ -315,7 +317,7 @@ const ANNA_AS_NOTARY: Caller = Caller {
     role: Notary,
 };
 
-/// Anna owns a unit, becomes a notary, and lodges that half of it goes to the office.
+/// Anna owns a unit, becomes a notary, and lodges the transfer of half of it to the Land Office.
 const GIVING: RowAsk = Do(Lodge("T1", "Deed 2", Transfer(4, 6, 1, 1, 2)));
 
 const LODGING: &[Row] = &[
@@ -379,7 +381,7 @@ const ANNA_AS_SURVEYOR: Caller = Caller {
     role: CertifiedSurveyor,
 };
 
-/// Anna's unit is cut into halves, one of which goes to a new unit, and the halves become one parcel again.
+/// Anna's unit is cut into halves, one of which becomes a new unit, and the halves are merged again.
 const SURVEYING: &[Row] = &[
     Row(OFFICE, ENROL, "done 2 made [2] at 1000"),
     Row(

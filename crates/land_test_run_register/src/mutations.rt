@@ -1,4 +1,4 @@
-//! Mutations: lodged and lodged again, approved or refused, and seen by role and moment.
+//! Mutations: lodged and repeated, approved or refused, and seen by role and time.
 
 use land_test_cases::asked::OFFICE;
 use land_test_cases::asked::RowAct::Approve;

@@ -1,4 +1,4 @@
-//! Parcels that are cut into parts, and that become one again, with their units and the entries of these.
+//! Parcels that are cut into parts and merged again, with their units and entries.
 
 use land_test_cases::asked::OFFICE;
 use land_test_cases::asked::RowAct::{Approve, Lodge};

@@ -1,4 +1,4 @@
-//! The policy.
+//! The policy: each test calls the cases of one rule or of one group of rules.
 use crate::conclusion::conclude;
 use land_test_register::policy;
 use land_test_register::policy::{

@@ -1,4 +1,4 @@
-//! Registers with their faults, the objects that they show, and changes.
+//! Registers with each fault of soundness, their objects, and changes of them.
 use crate::conclusion::conclude;
 use land_test_register::records::{
     changing, copies, crowds, faults, mandates, mutation_faults, objects, right_faults, unit_faults,

@@ -1,19 +1,19 @@
-//! What no clause says: worked rows, and texts of the faults. Want of memory ends a test with an `Err`, so that it fails
-//! unless an allocation was refused.
+//! Outlines: worked examples, and the texts of the faults, which no clause states. A test returns `Err` if
+//! memory ran out, and so fails only if an allocation was made to fail.
 
 use land_shape::{Point, Ring, ShapeFault, laws, read_wkt};
 use std::alloc::{AllocError, Global};
 use std::process::Abort;
 use std::test::Fail;
 
-/// A text, its doubled area and its printed form.
+/// A text, its doubled area and its canonical form.
 struct Row(&'static str, u64, &'static str);
 
 pub(super) const SQUARE: &str = "POLYGON ((0 0, 10 0, 10 10, 0 10, 0 0))";
 
 const CORNER: &str = "POLYGON ((0 0, 1 0, 0 1, 0 0))";
 
-/// The ring of a text, or the number of its fault.
+/// Returns the ring of a text, or the number of its fault.
 fn read(alloc: Global, text: &str) -> Result<Result<Ring, u16>, AllocError> {
     match read_wkt(alloc, text) {
         Ok(ring) => Ok(Ok(ring)),
@@ -22,19 +22,19 @@ fn read(alloc: Global, text: &str) -> Result<Result<Ring, u16>, AllocError> {
     }
 }
 
-/// Whether a ring has the doubled area of a row, and is printed as there.
+/// Returns whether a ring has the doubled area and the canonical form of a row.
 fn is_ring(ring: &Ring, row: &Row) -> Result<bool, AllocError> {
     let written = ring.write_wkt()?;
     Ok(ring.doubled_area() == row.1 && written.as_str() == row.2)
 }
 
-/// Whether a copy of a ring is as its row says.
+/// Returns whether a copy of a ring has the results of its row.
 fn is_copied(ring: &Ring, row: &Row) -> Result<bool, AllocError> {
     let copy = ring.copy()?;
     is_ring(&copy, row)
 }
 
-/// Whether a text is read as its row says.
+/// Returns whether a text has the results of its row.
 fn is_read(alloc: Global, row: &Row) -> Result<bool, AllocError> {
     match read(alloc, row.0)? {
         Ok(ring) => Ok(is_ring(&ring, row)? && is_copied(&ring, row)?),
@@ -42,7 +42,7 @@ fn is_read(alloc: Global, row: &Row) -> Result<bool, AllocError> {
     }
 }
 
-/// A fault's number, and a text that has it.
+/// The number of a fault, and a text that has it.
 struct Faulty(u16, &'static str);
 
 fn has_fault(alloc: Global, number: u16, text: &str) -> Result<bool, AllocError> {
@@ -89,7 +89,7 @@ const OUTLINES: &[Row] = &[
         20_000_000_000,
         "POLYGON ((0 -10000000000, 1 0, 0 10000000000, 0 -10000000000))",
     ),
-    // clockwise, begun at another corner
+    // clockwise, starting at another corner
     Row(
         "POLYGON ((7 -3, 2 -3, 2 4, 7 4, 7 -3))",
         70,
@@ -201,7 +201,7 @@ const WITH_A_FAULT: &[Faulty] = &[
     Faulty(119, "POLYGON ((0 0, 1 0, 1 0, 0 1, 0 0))"),
     Faulty(119, "POLYGON ((0 0, 10 0, 5 0, 0 0))"),
     Faulty(119, "POLYGON ((0 0, 0 0, 0 0, 0 0))"),
-    // the last edge runs over the first
+    // the last edge lies on the first
     Faulty(119, "POLYGON ((0 0, 4 0, 4 4, 2 0, 0 0))"),
     // its doubled area is too large as well
     Faulty(
@@ -220,7 +220,7 @@ fn bodies_with_a_fault(rt: HostRuntime) -> Result<(), Fail> {
     Ok(assert_faults(&rt, rt.alloc(), WITH_A_FAULT)?)
 }
 
-/// A ring of `count` points on a parabola, closed.
+/// Returns the text of a closed ring of `count` points on a parabola.
 fn parabola(alloc: Global, count: u64) -> Result<String, AllocError> {
     let mut text = String::from_str(alloc, "POLYGON ((")?;
     for i in 0..count {
@@ -232,7 +232,7 @@ fn parabola(alloc: Global, count: u64) -> Result<String, AllocError> {
     Ok(text)
 }
 
-/// Whether the ring of a text has 200 points and is printed as the text.
+/// Returns whether the ring of a text has 200 points and is printed as the text.
 fn is_many(ring: &Ring, text: &str) -> Result<bool, AllocError> {
     let written = ring.write_wkt()?;
     // the sum of i * (i + 1) from 1 to 198, which is 198 * 199 * 200 / 3
@@ -261,7 +261,7 @@ fn rings_of_many_points(rt: HostRuntime) -> Result<(), Fail> {
 
 const CORNERS: &[(i64, i64)] = &[(7, -3), (7, 4), (2, 4), (2, -3)];
 
-/// Whether points are those of a list, in its order.
+/// Returns whether points are those of a list, in its order.
 fn are_points(points: &[Point], expected: &[(i64, i64)]) -> bool {
     for (point, (x, y)) in points.iter().zip(expected) {
         if point.x != *x || point.y != *y {
@@ -280,7 +280,7 @@ fn points_begin_with_the_first_one(rt: HostRuntime) -> Result<(), Fail> {
 
 const TURNED: Row = Row("POLYGON ((0 0, 0 10, 10 10, 10 0, 0 0))", 200, SQUARE);
 
-/// With an allocation that fails (`--fail-alloc N`), each call answers want of memory or what it answers else.
+/// If an allocation fails (`--fail-alloc N`), each call returns out of memory, or its ordinary result.
 #[test]
 fn memory_runs_out(rt: HostRuntime) -> Result<(), Fail> {
     assert!(&rt; is_read(rt.alloc(), &TURNED)?);

@@ -1,4 +1,5 @@
-//! Spans of time, worked out by hand: what is asked for while it is offered, what stands together, and what is apart.
+//! Sweeps over intervals of time, as examples calculated by hand: required intervals that are covered,
+//! records that are current together, and disjoint intervals.
 ghost use Rattle.std.proofs.Common.{ap, sym};
 ghost use Rattle.std.proofs.lemmas.List.Sorted.{length_permutation};
 ghost use Rattle.std.specs.List.{list_all};
@@ -10,7 +11,7 @@ use land_tables_history::sweeps::sweep::{Judged, Lived, are_sound};
 use std::alloc::{AllocError, Global};
 use std::test::Fail;
 
-// ---- what is asked for while it is offered
+// ---- required intervals that are covered
 
 fn offered(key: u64, since: i64, until: i64) -> Piece
     ensures { result ≡ record { first = key; second = 0; since = since; asked = false; until = until } }
@@ -36,7 +37,7 @@ fn asked(key: u64, since: i64, until: i64) -> Piece
     }
 }
 
-/// Whether each key is offered whenever it is asked for.
+/// Returns whether each key is provided whenever it is required.
 fn covers(alloc: Global, pieces: &[Piece]) -> Result<bool, AllocError>
     requires { list_all (λ x. int_lt x.since x.until) pieces.now ≡ true }
 {
@@ -52,7 +53,7 @@ fn nothing_is_asked_for(rt: HostRuntime) -> Result<(), Fail> {
     Ok(())
 }
 
-/// An offer begins with what is asked for and ends with it, or a millisecond late or early.
+/// A provided interval starts and ends with the required one, or a millisecond too late or too early.
 #[test]
 fn offers_begin_and_end_with_what_is_asked_for(rt: HostRuntime) -> Result<(), Fail> {
     assert!(&rt; covers(rt.alloc(), &[asked(1, 10, 20), offered(1, 10, 20)])?);
@@ -62,7 +63,7 @@ fn offers_begin_and_end_with_what_is_asked_for(rt: HostRuntime) -> Result<(), Fa
     Ok(())
 }
 
-/// Offers that touch leave no gap. A gap of a millisecond is seen where it is asked for, and only there.
+/// Provided intervals that touch leave no gap. A gap of a millisecond matters only if the time is required.
 #[test]
 fn gaps_between_offers(rt: HostRuntime) -> Result<(), Fail> {
     let (early, late) = (offered(1, 10, 15), offered(1, 15, 20));
@@ -79,7 +80,7 @@ fn gaps_between_offers(rt: HostRuntime) -> Result<(), Fail> {
     Ok(())
 }
 
-/// What is offered of one key is not offered of another.
+/// An interval that one key provides does not cover another key.
 #[test]
 fn offers_of_two_keys(rt: HostRuntime) -> Result<(), Fail> {
     assert!(&rt;
@@ -103,9 +104,9 @@ fn offers_of_two_keys(rt: HostRuntime) -> Result<(), Fail> {
     Ok(())
 }
 
-// ---- what stands together
+// ---- records that are current together
 
-/// Of which at most two are sound together.
+/// At most two of these are sound together.
 #[derive(Clone, Copy, Debug, PartialEq, Eq, PartialOrd, Ord)]
 struct Seat(u64);
 
@@ -130,7 +131,7 @@ fn taken(key: u64, since: i64, until: i64) -> Lived<Seat> {
     }
 }
 
-/// Whether at most two stand together under each key.
+/// Returns whether at most two are current together under each key.
 fn are_few(alloc: Global, seats: &[Lived<Seat>]) -> Result<bool, AllocError> {
     let mut copies = seats.to_vec(alloc)?;
     are_sound(alloc, &mut copies)
@@ -143,7 +144,7 @@ fn nothing_stands(rt: HostRuntime) -> Result<(), Fail> {
     Ok(())
 }
 
-/// What has ended when the third begins does not stand beside it, and a millisecond more is too much.
+/// A record that ends when the third starts is not current with it, and one that ends a millisecond later is.
 #[test]
 fn a_third_begins_when_the_first_ends(rt: HostRuntime) -> Result<(), Fail> {
     assert!(&rt;
@@ -161,7 +162,7 @@ fn a_third_begins_when_the_first_ends(rt: HostRuntime) -> Result<(), Fail> {
     Ok(())
 }
 
-/// Three stand at one time under three keys, and under two.
+/// Three are current at one time under three keys, and under two.
 #[test]
 fn keys_are_judged_apart(rt: HostRuntime) -> Result<(), Fail> {
     assert!(&rt;
@@ -190,9 +191,9 @@ fn keys_are_judged_apart(rt: HostRuntime) -> Result<(), Fail> {
     Ok(())
 }
 
-// ---- what is apart
+// ---- disjoint intervals
 
-/// The span of a pair of a number and a text.
+/// Returns the interval of a pair of a number and a text.
 fn span(number: u64, text: &'static str, since: i64, until: i64) -> Span<(u64, &'static str)>
     ensures since { result.since ≡ since }
     ensures until { result.until ≡ until }
@@ -204,7 +205,7 @@ fn span(number: u64, text: &'static str, since: i64, until: i64) -> Span<(u64, &
     }
 }
 
-/// Whether no two of one key have a moment in common.
+/// Returns whether no two intervals of one key have a moment in common.
 fn apart(alloc: Global, spans: &[Span<(u64, &'static str)>]) -> Result<bool, AllocError>
     requires { list_all (λ x. int_lt x.since x.until) spans.now ≡ true }
 {
@@ -221,7 +222,7 @@ fn spans_touch_or_overlap(rt: HostRuntime) -> Result<(), Fail> {
     Ok(())
 }
 
-/// Spans of two keys may have moments in common, whichever half of the key tells them apart.
+/// Intervals of two keys may have moments in common, whichever half of the keys differs.
 #[test]
 fn spans_of_two_keys(rt: HostRuntime) -> Result<(), Fail> {
     assert!(&rt;

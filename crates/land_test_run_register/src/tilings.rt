@@ -1,12 +1,13 @@
-//! Random tilings: a rectangle cut along straight lines between points of its parcels' edges, again and again. What matches is
-//! known from how the parcels were made. Every cut ends at a quarter, a half or three quarters of an edge, and the rectangle is
-//! so large that all points are whole millimetres, sixteen or more apart.
+//! Random tilings: a rectangle is cut along straight lines between points of the edges of its parcels,
+//! repeatedly. The expected result follows from the way in which the parcels were made. Every cut ends at a
+//! quarter, a half or three quarters of an edge, and the rectangle is so large that all points are whole
+//! millimetres, at least sixteen apart.
 
 use land_shape::{Ring, ShapeFault, chain_matches, read_wkt};
 use std::alloc::{AllocError, Global};
 use std::test::Fail;
 
-/// How many tilings are made, and how many times each rectangle is cut.
+/// The number of tilings, and the number of cuts of each rectangle.
 const TILINGS: u64 = 5;
 
 const CUTS: u32 = 6;
@@ -31,12 +32,12 @@ const RECTANGLE: &[Spot] = &[
     Spot { x: 0, y: HIGH },
 ];
 
-/// Numbers that look random, and are the same for the same beginning.
+/// Pseudo-random numbers, which are the same for the same seed.
 #[derive(Drop)]
 struct Dice(u64);
 
 impl Dice {
-    /// A number below another, which is not 0.
+    /// Returns a number below `count`, which is not 0.
     fn below(&mut self, count: usize) -> usize {
         self.0 = self
             .0
@@ -48,7 +49,7 @@ impl Dice {
         (self.0 >> 33) as usize % count
     }
 
-    /// One, two or three quarters.
+    /// Returns one, two or three quarters.
     fn quarters(&mut self) -> i64 {
         match self.below(3) {
             0 => 1,
@@ -65,7 +66,7 @@ fn weighed(from: i64, to: i64, quarters: i64) -> i64 {
         >> 2
 }
 
-/// The point so many quarters of the way from one spot to another.
+/// Returns the point at this number of quarters of the way between two spots.
 fn between(from: Spot, to: Spot, quarters: i64) -> Spot {
     Spot {
         x: weighed(from.x, to.x, quarters),
@@ -73,7 +74,7 @@ fn between(from: Spot, to: Spot, quarters: i64) -> Spot {
     }
 }
 
-/// The spot at an index, counted on from the first again after the last.
+/// Returns the spot at an index, modulo the number of spots.
 fn corner_at(parcel: &[Spot], index: usize) -> Spot {
     if parcel.is_empty() {
         return ORIGIN;
@@ -89,7 +90,7 @@ fn on_edge(parcel: &[Spot], index: usize, quarters: i64) -> Spot {
     )
 }
 
-/// The two parts of a parcel along a line from one of its edges to a later one.
+/// Returns the two parts of a parcel along a line from one of its edges to a later one.
 fn cut(
     alloc: Global,
     parcel: &[Spot],
@@ -117,7 +118,7 @@ fn cut(
     Ok((inner, outer))
 }
 
-/// The parcels, of which one is cut in two.
+/// Returns the parcels with one of them cut in two.
 fn cut_once(
     alloc: Global,
     so_far: Vec<Vec<Spot>>,
@@ -137,7 +138,7 @@ fn cut_once(
     Ok(parcels)
 }
 
-/// The parcels of a rectangle.
+/// Returns the parcels of a rectangle.
 fn tiling(alloc: Global, dice: &mut Dice) -> Result<Vec<Vec<Spot>>, AllocError> {
     let mut parcels = Vec::new(alloc);
     parcels.push(RECTANGLE.to_vec(alloc)?)?;
@@ -147,7 +148,7 @@ fn tiling(alloc: Global, dice: &mut Dice) -> Result<Vec<Vec<Spot>>, AllocError> 
     Ok(parcels)
 }
 
-/// The ring of some spots.
+/// Returns the ring of these spots.
 fn ring_of(alloc: Global, parcel: &[Spot]) -> Result<Ring, ShapeFault> {
     let mut text = String::from_str(alloc, "POLYGON ((")?;
     for corner in parcel {
@@ -172,7 +173,7 @@ fn rings_of(alloc: Global, parcels: &[Vec<Spot>]) -> Result<Vec<Ring>, ShapeFaul
     Ok(rings)
 }
 
-/// The parcel begun at another corner, with more points on some of its edges.
+/// Returns the parcel starting at another corner, with more points on some of its edges.
 fn rewritten(alloc: Global, parcel: &[Spot], dice: &mut Dice) -> Result<Vec<Spot>, AllocError> {
     let begin = dice.below(parcel.len());
     let mut spots = Vec::new(alloc);
@@ -186,7 +187,7 @@ fn rewritten(alloc: Global, parcel: &[Spot], dice: &mut Dice) -> Result<Vec<Spot
     Ok(spots)
 }
 
-/// The parcels in another order, each begun at another corner and with more points on its edges.
+/// Returns the parcels in another order, each starting at another corner and with more points on its edges.
 fn all_rewritten(
     alloc: Global,
     parcels: &[Vec<Spot>],
@@ -205,7 +206,7 @@ fn all_rewritten(
     Ok(all)
 }
 
-/// The parcel with all or the first of its corners moved to the right.
+/// Returns the parcel with its first corner, or all of them, moved to the right.
 fn moved(alloc: Global, parcel: &[Spot], corners: usize, by: i64) -> Result<Vec<Spot>, AllocError> {
     let mut spots = Vec::new(alloc);
     for (i, corner) in parcel.iter().enumerate() {
@@ -218,7 +219,7 @@ fn moved(alloc: Global, parcel: &[Spot], corners: usize, by: i64) -> Result<Vec<
     Ok(spots)
 }
 
-/// Whether the parcels match the rectangle, and themselves in another writing.
+/// Returns whether the parcels match the rectangle, and match themselves in another representation.
 fn are_matched(alloc: Global, parcels: &[Vec<Spot>], dice: &mut Dice) -> Result<bool, ShapeFault> {
     let rings = rings_of(alloc, parcels)?;
     let others = rings_of(alloc, &all_rewritten(alloc, parcels, dice)?)?;
@@ -231,7 +232,7 @@ fn are_matched(alloc: Global, parcels: &[Vec<Spot>], dice: &mut Dice) -> Result<
     )
 }
 
-/// Whether a tiling matches itself with another ring in place of its first.
+/// Returns whether a tiling matches itself with another ring in place of its first.
 fn matches_with(
     alloc: Global,
     parcels: &[Vec<Spot>],
@@ -252,8 +253,8 @@ fn matches_with(
     Ok(chain_matches(alloc, &rings, &others)? || chain_matches(alloc, &others, &rings)?)
 }
 
-/// Whether other ground is told apart: a corner is a millimetre off, a parcel lies over one neighbour and leaves as large a gap
-/// at another, or is missing.
+/// Returns whether different ground is detected: a corner is a millimetre off, a parcel overlaps one
+/// neighbour and leaves an equal gap at another, or is missing.
 fn are_told_apart(alloc: Global, parcels: &[Vec<Spot>]) -> Result<bool, ShapeFault> {
     match parcels.first() {
         None => Ok(false),

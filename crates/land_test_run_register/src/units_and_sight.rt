@@ -1,4 +1,4 @@
-//! Units with their parcels and entries: registered, burdened, and seen by role and moment.
+//! Units with their parcels and entries: registered, burdened, and seen by role and time.
 use crate::conclusion::conclude;
 use land_core::act::BurdenClass::{Responsibility, Restriction};
 use land_core::caller::Caller;
@@ -22,7 +22,7 @@ const UNIT: &str = "unit 9 Garden true";
 
 const RESTRICTION: &str = "rrr 15 in 9 of 1: Restriction No well from 14";
 
-/// A restriction of the office on the garden.
+/// A restriction of the Land Office on the garden.
 const BURDEN: Row = Row(
     1000,
     OFFICE,

@@ -1,10 +1,13 @@
--- What a mutation asks for, by its content: when that is refused, what it changes, and what it makes.
+-- The contents of mutations: for each, its refusals, its change, and the numbers that it creates.
 use Rattle.std.specs.Prelude.{ℕ, ◌+◌, ◌≡◌, ◌≤◌, ℤ, Bool, ◌&&◌, List, [], ◌∷◌, Option, Some, None, nat_lt}
 use Rattle.land_acts.specs.Mutations.Discharging.{discharge_refusals, discharge_change}
 use Rattle.land_acts.specs.Mutations.Merging.{merger_refusals, merger_change}
-use Rattle.land_acts.specs.Mutations.Mortgaging.{greatest, mortgage_refusals, mortgage_change, next_rank, ranks_in}
-use Rattle.land_acts.specs.Mutations.Subdividing.{subdivision_refusals, subdivision_change, subdivision_count, subdivision_made}
-use Rattle.land_acts.specs.Mutations.Transferring.{transfer_refusals, move_change, grows_at, held_at, new_rights, number_after}
+use Rattle.land_acts.specs.Mutations.Mortgaging.{greatest, mortgage_refusals, mortgage_change, next_rank}
+use Rattle.land_acts.specs.Mutations.Mortgaging.{ranks_in}
+use Rattle.land_acts.specs.Mutations.Subdividing.{subdivision_refusals, subdivision_change, subdivision_count}
+use Rattle.land_acts.specs.Mutations.Subdividing.{subdivision_made}
+use Rattle.land_acts.specs.Mutations.Transferring.{transfer_refusals, move_change, grows_at, held_at}
+use Rattle.land_acts.specs.Mutations.Transferring.{new_rights, number_after}
 use Rattle.land_acts.specs.declared.mutations.refusal.Refusal.{Refusal}
 use Rattle.land_acts.specs.declared.mutations.transfer.Held.{Held}
 use Rattle.land_core.specs.Changes.{no_change}
@@ -13,8 +16,9 @@ use Rattle.land_core.specs.declared.content.Content.{Content}
 use Rattle.land_core.specs.declared.content.Content.TheVariants as content
 use Rattle.land_core.specs.declared.content.Transfer.{Transfer}
 use Rattle.land_core.specs.declared.register.Register.{Register}
+use Rattle.land_acts.specs.Mutations.Planning.{numbers_end}
 
--- the refusals of what a content asks for, each with whether its condition holds, the least number first
+-- the refusals of a content with their conditions, in ascending order
 abbrev pub content_refusals : Register → Content → Option ℤ → List (Refusal × Bool)
 content_refusals r (content.Transfer it) stamp = transfer_refusals r it stamp
 content_refusals r (content.Subdivision it) stamp = subdivision_refusals r it stamp
@@ -22,12 +26,12 @@ content_refusals r (content.Merger it) stamp = merger_refusals r it stamp
 content_refusals r (content.Mortgage it) stamp = mortgage_refusals r it stamp
 content_refusals r (content.Discharge it) stamp = discharge_refusals r it stamp
 
--- what comes of a transfer whose right stands
+-- the change of a transfer from a right, if the right exists
 abbrev pub transfer_change : Register → (source : ℕ) → Transfer → Option Held → Change
 transfer_change r source it None = no_change r.next
 transfer_change r source it (Some from) = move_change r source it from
 
--- what a content changes, where nothing refuses it
+-- the change of a content to which no refusal applies
 abbrev pub content_change : Register → (source : ℕ) → Content → Change
 content_change r source (content.Transfer it) = transfer_change r source it (held_at r it.unit it.right)
 content_change r source (content.Subdivision it) = subdivision_change r source it
@@ -35,12 +39,12 @@ content_change r source (content.Merger it) = merger_change r source it
 content_change r source (content.Mortgage it) = mortgage_change r source it
 content_change r source (content.Discharge it) = discharge_change r it
 
--- the numbers of the objects that a transfer makes, where its right stands
+-- the numbers of the objects that a transfer creates, if its right exists
 abbrev pub transfer_made : Register → Transfer → Option Held → List ℕ
 transfer_made r it None = []
 transfer_made r it (Some from) = new_rights r (grows_at r it from)
 
--- and those of the objects that a content makes
+-- the numbers of the objects that a content creates
 abbrev pub content_made : Register → Content → List ℕ
 content_made r (content.Transfer it) = transfer_made r it (held_at r it.unit it.right)
 content_made r (content.Subdivision it) = subdivision_made r it
@@ -48,18 +52,23 @@ content_made r (content.Merger it) = r.next ∷ []
 content_made r (content.Mortgage it) = r.next ∷ []
 content_made r (content.Discharge it) = []
 
--- what it makes has a number and a rank within their bounds
+-- the numbers and the rank that a content creates are in range
 abbrev pub Fits : Register → Content → Type 0
-Fits r (content.Transfer it) = (from : Held) → held_at r it.unit it.right ≡ Some from → number_after r (grows_at r it from) ≤ 1000000001
-Fits r (content.Subdivision it) = r.next + subdivision_count r it ≤ 1000000001
+Fits r (content.Transfer it) =
+    (from : Held) → held_at r it.unit it.right ≡ Some from → number_after r (grows_at r it from) ≤ numbers_end
+Fits r (content.Subdivision it) = r.next + subdivision_count r it ≤ numbers_end
 Fits r (content.Merger it) = r.next ≤ 1000000000
 Fits r (content.Mortgage it) = (r.next ≤ 1000000000) × (next_rank r it.unit ≤ 1000000000)
 Fits r (content.Discharge it) = Unit
 
--- the numbers that a register holds leave room for what a content makes: those of a sound register always do
+-- whether the next number is one of an object, or the first one after them
+abbrev pub is_next_in_range : Register → Bool
+is_next_in_range r = nat_lt r.next 1000000002
+
+-- whether they are, decided from the numbers of the register; a sound register always satisfies it
 abbrev pub has_room : Register → Content → Bool
-has_room r (content.Transfer it) = nat_lt r.next 1000000002
-has_room r (content.Subdivision it) = nat_lt r.next 1000000002
-has_room r (content.Merger it) = nat_lt r.next 1000000002
-has_room r (content.Mortgage it) = nat_lt r.next 1000000002 && nat_lt (greatest (ranks_in r it.unit)) 1000000000
-has_room r (content.Discharge it) = nat_lt r.next 1000000002
+has_room r (content.Transfer it) = is_next_in_range r
+has_room r (content.Subdivision it) = is_next_in_range r
+has_room r (content.Merger it) = is_next_in_range r
+has_room r (content.Mortgage it) = is_next_in_range r && nat_lt (greatest (ranks_in r it.unit)) 1000000000
+has_room r (content.Discharge it) = is_next_in_range r

@@ -1,9 +1,10 @@
--- Discharging: a mortgage ends.
+-- The content `discharge`: a mortgage ends.
 use Rattle.std.specs.Prelude.{ℕ, ℤ, Bool, false, not, nat_eq, List, [], ◌∷◌, Option, is_none, is_some}
 use Rattle.std.specs.Option.{option_map_or}
 use Rattle.std.specs.FinMap as map
 use Rattle.land_acts.specs.declared.mutations.refusal.Refusal.{Refusal}
-use Rattle.land_acts.specs.declared.mutations.refusal.Refusal.TheVariants.{NoSuchUnit, NoSuchRight, NotMortgage, ClockOut}
+use Rattle.land_acts.specs.declared.mutations.refusal.Refusal.TheVariants.{NoSuchUnit, NoSuchRight}
+use Rattle.land_acts.specs.declared.mutations.refusal.Refusal.TheVariants.{NotMortgage, ClockOut}
 use Rattle.land_core.specs.Changes.{no_put, no_ended}
 use Rattle.land_core.specs.Entries.{has}
 use Rattle.land_core.specs.Units.{rank_of}
@@ -11,15 +12,15 @@ use Rattle.land_core.specs.declared.change.Change.{Change}
 use Rattle.land_core.specs.declared.content.Discharge.{Discharge}
 use Rattle.land_core.specs.declared.register.Register.{Register}
 
--- whether an entry of a unit stands at a number
+-- whether an entry of this unit exists at a number
 abbrev pub has_entry_in : Register → (unit number : ℕ) → Bool
 has_entry_in r unit n = option_map_or (λ e. nat_eq e.unit unit) (map.get r.rrrs n) false
 
--- whether a mortgage stands at a number
+-- whether a mortgage exists at a number
 abbrev pub has_mortgage : Register → ℕ → Bool
 has_mortgage r n = option_map_or (λ e. is_some (rank_of e.class)) (map.get r.rrrs n) false
 
--- its refusals, each with whether its condition holds, the least number first
+-- the refusals with their conditions, in ascending order
 abbrev pub discharge_refusals : Register → Discharge → Option ℤ → List (Refusal × Bool)
 discharge_refusals r it stamp =
     (NoSuchUnit, not (has r.units it.unit))

@@ -1,5 +1,7 @@
--- Merging: parcels of a unit, and of others that have the same entries, become one parcel of the unit; the others end.
-use Rattle.std.specs.Prelude.{ℕ, ◌+◌, ℤ, Bool, true, false, not, ◌&&◌, ◌||◌, nat_eq, nat_lt, List, [], ◌∷◌, ◌++◌, filter, length, Option, is_none}
+-- The content `merger`: parcels of a unit, and of other units with the same entries, become one parcel of the
+-- unit; the other units end.
+use Rattle.std.specs.Prelude.{ℕ, ◌+◌, ℤ, Bool, true, false, not, ◌&&◌, ◌||◌, nat_eq, nat_lt, List, [], ◌∷◌}
+use Rattle.std.specs.Prelude.{◌++◌, filter, length, Option, is_none}
 use Rattle.std.specs.List.{list_all, list_any}
 use Rattle.std.specs.Option.{option_map_or}
 use Rattle.std.specs.Str.{bytes_eq}
@@ -10,7 +12,9 @@ use Rattle.land_acts.specs.Mutations.Planning.{lacks_numbers}
 use Rattle.land_acts.specs.Mutations.Subdividing.{entries_of, parcels_beside}
 use Rattle.land_acts.specs.Mutations.Transferring.{is_checked}
 use Rattle.land_acts.specs.declared.mutations.refusal.Refusal.{Refusal}
-use Rattle.land_acts.specs.declared.mutations.refusal.Refusal.TheVariants.{NoSuchUnit, NoSuchParcel, UnitsUnlike, TooMany, ClockOut, NotMatched}
+use Rattle.land_acts.specs.declared.mutations.refusal.Refusal.TheVariants.{NoSuchUnit, NoSuchParcel}
+use Rattle.land_acts.specs.declared.mutations.refusal.Refusal.TheVariants.{UnitsUnlike, TooMany, ClockOut}
+use Rattle.land_acts.specs.declared.mutations.refusal.Refusal.TheVariants.{NotMatched}
 use Rattle.land_core.specs.Changes.{no_put, no_ended}
 use Rattle.land_core.specs.Contents.{is_same_share}
 use Rattle.land_core.specs.Entries.{has, numbers_where}
@@ -23,11 +27,12 @@ use Rattle.land_core.specs.declared.rrr.Class.{Class}
 use Rattle.land_core.specs.declared.rrr.Class.TheVariants as class
 use Rattle.land_core.specs.declared.rrr.RrrRecord.{RrrRecord}
 
--- ---- which units are alike
+-- ---- units that can be merged
 
--- whether two entries say the same: all but number, unit and source
+-- whether two classes are equal
 abbrev pub is_same_class : Class → Class → Bool
-is_same_class (class.Right type share) (class.Right other part) = is_type type other && is_same_share share part
+is_same_class (class.Right type share) (class.Right other part) =
+    is_type type other && is_same_share share part
 is_same_class (class.Right type share) (class.Restriction other) = false
 is_same_class (class.Right type share) (class.Responsibility other) = false
 is_same_class (class.Right type share) (class.Mortgage sum coin place) = false
@@ -42,53 +47,58 @@ is_same_class (class.Responsibility words) (class.Mortgage sum coin place) = fal
 is_same_class (class.Mortgage amount currency rank) (class.Right other part) = false
 is_same_class (class.Mortgage amount currency rank) (class.Restriction other) = false
 is_same_class (class.Mortgage amount currency rank) (class.Responsibility other) = false
-is_same_class (class.Mortgage amount currency rank) (class.Mortgage sum coin place) = nat_eq amount sum && bytes_eq currency coin && nat_eq rank place
+is_same_class (class.Mortgage amount currency rank) (class.Mortgage sum coin place) =
+    nat_eq amount sum && bytes_eq currency coin && nat_eq rank place
 
+-- whether two entries are equal, except for number, unit and source
 abbrev pub is_same_entry : RrrRecord → RrrRecord → Bool
 is_same_entry e f = nat_eq e.party f.party && is_same_class e.class f.class
 
--- how often an entry stands in a list
+-- the number of times that an entry occurs in a list
 abbrev pub times_in : List RrrRecord → RrrRecord → ℕ
 times_in entries e = length (filter (is_same_entry e) entries)
 
--- whether two lists have the same entries, each as often
+-- whether two lists have the same entries, each the same number of times
 abbrev pub are_same_entries : List RrrRecord → List RrrRecord → Bool
-are_same_entries entries others = list_all (λ e. nat_eq (times_in entries e) (times_in others e)) (entries ++ others)
+are_same_entries entries others =
+    list_all (λ e. nat_eq (times_in entries e) (times_in others e)) (entries ++ others)
 
--- ---- its refusals
+-- ---- the refusals
 
--- whether a unit that is named does not stand
+-- whether the unit or one of the others does not exist
 abbrev pub lacks_unit : Register → Merger → Bool
 lacks_unit r it = not (has r.units it.unit) || list_any (λ n. not (has r.units n)) it.others
 
--- whether a unit is named
+-- whether a unit is one of the units of the merger
 abbrev pub is_named : Merger → (unit : ℕ) → Bool
 is_named it n = nat_eq n it.unit || lists_number it.others n
 
--- whether a parcel of a unit that is named stands at a number
+-- whether a parcel of one of these units exists at a number
 abbrev pub is_parcel_named : Register → Merger → (number : ℕ) → Bool
 is_parcel_named r it n = option_map_or (λ p. is_named it p.unit) (map.get r.parcels n) false
 
+-- whether a listed number is not a parcel of these units
 abbrev pub lacks_parcel : Register → Merger → Bool
 lacks_parcel r it = list_any (λ n. not (is_parcel_named r it n)) it.parcels
 
--- whether a unit would keep a parcel
+-- whether a unit has a parcel that is not listed
 abbrev pub keeps_parcel : Register → Merger → (unit : ℕ) → Bool
 keeps_parcel r it unit = nat_lt 0 (parcels_beside r unit it.parcels)
 
--- whether two units are both checked, or both not
+-- whether two units are both checked or both not
 abbrev pub is_same_mark : (checked other : Bool) → Bool
 is_same_mark true other = other
 is_same_mark false other = not other
 
--- whether another unit can not end with the unit: it would keep a parcel, is checked where the unit is not or not where it is, or has
--- other entries
+-- whether another unit cannot be merged with the unit: a parcel of it is not listed, only one of the two is
+-- checked, or their entries differ
 abbrev pub is_unlike : Register → Merger → (other : ℕ) → Bool
 is_unlike r it other =
     keeps_parcel r it other
     || not (is_same_mark (is_checked r other) (is_checked r it.unit))
     || not (are_same_entries (entries_of r other) (entries_of r it.unit))
 
+-- whether one of the other units cannot be merged with the unit
 abbrev pub has_unlike : Register → Merger → Bool
 has_unlike r it = list_any (λ other. is_unlike r it other) it.others
 
@@ -96,7 +106,7 @@ has_unlike r it = list_any (λ other. is_unlike r it other) it.others
 abbrev pub would_have_more_parcels : Register → Merger → Bool
 would_have_more_parcels r it = nat_lt 256 (parcels_beside r it.unit it.parcels + 1)
 
--- each with whether its condition holds, the least number first
+-- the refusals with their conditions, in ascending order
 abbrev pub merger_refusals : Register → Merger → Option ℤ → List (Refusal × Bool)
 merger_refusals r it stamp =
     (NoSuchUnit, lacks_unit r it)
@@ -113,10 +123,14 @@ merger_refusals r it stamp =
 abbrev pub entries_of_others : Register → Merger → List ℕ
 entries_of_others r it = numbers_where (λ n e. lists_number it.others e.unit) r.rrrs
 
--- the parcels, the other units and their entries end; the new parcel stands under the next number, from the mutation's source
+-- the parcels, the other units and their entries end; the new parcel gets the next number, and its source is
+-- that of the mutation
 abbrev pub merger_change : Register → (source : ℕ) → Merger → Change
 merger_change r source it = record {
-  put = record no_put { parcels = (r.next, record { unit = it.unit; label = it.label; outline = it.outline; source = source }) ∷ [] };
+  put = record no_put {
+    parcels =
+        (r.next, record { unit = it.unit; label = it.label; outline = it.outline; source = source }) ∷ [];
+  };
   ended = record no_ended { units = it.others; parcels = it.parcels; rrrs = entries_of_others r it };
   next = r.next + 1;
 }

@@ -1,55 +1,65 @@
--- What planning reads of a register, and what all plans have in common.
-use Rattle.std.specs.Prelude.{ℕ, ◌+◌, ℤ, Bool, List, [], ◌∷◌, Option, Some, None, nat_lt, if◌then◌else◌}
+-- The parts that all plans share.
+use Rattle.std.specs.Prelude.{◌≡◌, ℕ, ◌+◌, ℤ, Bool, List, [], ◌∷◌, Option, Some, None, nat_lt}
+use Rattle.std.specs.Prelude.{if◌then◌else◌}
 use Rattle.land_acts.specs.declared.mutations.refusal.Refusal.{Refusal}
-use Rattle.land_acts.specs.declared.mutations.refusal.Refusal.TheVariants.{NotLodged, NoSuchUnit, NoSuchParcel, NoSuchRight, NoSuchParty, ShareTooLarge, SharesTooFine, UnitsUnlike, TooMany, NotBank, NotMortgage, SharesNotWhole, ReferenceUsed, RoleHeld, RoleNotHeld, ClockOut, LastAdministrator, SameParty, NotMatched, MandateHeld, NoMandate, NoMemory}
+use Rattle.land_acts.specs.declared.mutations.refusal.Refusal.TheVariants as refusal
 use Rattle.land_core.specs.Units.{rrr_count}
+use Rattle.land_core.specs.declared.change.Change.{Change}
 use Rattle.land_core.specs.declared.change.Done.{Done}
 use Rattle.land_core.specs.declared.register.Register.{Register}
 use Rattle.land_core.specs.declared.source.SourceKind.{SourceKind}
 use Rattle.land_core.specs.declared.source.SourceRecord.{SourceRecord}
 
--- the number that a caller is told for a refusal
+-- the number of a refusal in replies
 abbrev pub number_of : Refusal → ℕ
-number_of NotLodged = 201
-number_of NoSuchUnit = 202
-number_of NoSuchParcel = 203
-number_of NoSuchRight = 204
-number_of NoSuchParty = 205
-number_of ShareTooLarge = 206
-number_of SharesTooFine = 207
-number_of UnitsUnlike = 209
-number_of TooMany = 210
-number_of NotBank = 211
-number_of NotMortgage = 212
-number_of SharesNotWhole = 213
-number_of ReferenceUsed = 214
-number_of RoleHeld = 215
-number_of RoleNotHeld = 216
-number_of ClockOut = 217
-number_of LastAdministrator = 218
-number_of SameParty = 219
-number_of NotMatched = 220
-number_of MandateHeld = 221
-number_of NoMandate = 222
-number_of NoMemory = 501
+number_of refusal.NotLodged = 201
+number_of refusal.NoSuchUnit = 202
+number_of refusal.NoSuchParcel = 203
+number_of refusal.NoSuchRight = 204
+number_of refusal.NoSuchParty = 205
+number_of refusal.ShareTooLarge = 206
+number_of refusal.SharesTooFine = 207
+number_of refusal.UnitsUnlike = 209
+number_of refusal.TooMany = 210
+number_of refusal.NotBank = 211
+number_of refusal.NotMortgage = 212
+number_of refusal.SharesNotWhole = 213
+number_of refusal.ReferenceUsed = 214
+number_of refusal.RoleHeld = 215
+number_of refusal.RoleNotHeld = 216
+number_of refusal.ClockOut = 217
+number_of refusal.LastAdministrator = 218
+number_of refusal.SameParty = 219
+number_of refusal.NotMatched = 220
+number_of refusal.MandateHeld = 221
+number_of refusal.NoMandate = 222
+number_of refusal.NoMemory = 501
 
--- whether there are too few numbers left for so many new objects: 1_000_000_000 is the last one
+-- a plan is this change with this receipt
+abbrev pub IsPlanOf : Change → Done → Change × Done → Type 0
+IsPlanOf change done plan = (plan.0 ≡ change) × (plan.1 ≡ done)
+
+-- objects have numbers below this one
+abbrev pub numbers_end : ℕ
+numbers_end = 1000000001
+
+-- whether `count` new objects would need more numbers
 abbrev pub lacks_numbers : Register → ℕ → Bool
-lacks_numbers r count = nat_lt 1000000001 (r.next + count)
+lacks_numbers r count = nat_lt numbers_end (r.next + count)
 
--- whether a unit would have more than 256 entries with so many more
+-- whether a unit would have more than 256 entries with `more` new ones
 abbrev pub would_crowd : Register → (unit more : ℕ) → Bool
 would_crowd r unit more = nat_lt 256 (rrr_count r unit + more)
 
--- the source that a document is, under its number (LA_AdministrativeSource, LA_SpatialSource)
+-- the source that represents a document, under its number (LA_AdministrativeSource, LA_SpatialSource)
 abbrev pub document_source : (number : ℕ) → SourceKind → (document : List ℕ) → List (ℕ × SourceRecord)
 document_source number kind document = (number, record { kind = kind; title = document }) ∷ []
 
--- the reply to an act that was done on an object and made nothing
+-- the receipt of an act that is about an object and created none
 abbrev pub done_on : (number : ℕ) → ℤ → Done
 done_on number stamp = record { number = number; made = []; stamp = stamp }
 
--- of refusals, each with whether its condition holds, the first whose condition holds
+-- the first refusal whose condition holds
 abbrev pub first_that_holds : List (Refusal × Bool) → Option Refusal
 first_that_holds [] = None
 first_that_holds (line ∷ lines) = if line.1 then Some line.0 else first_that_holds lines

@@ -1,6 +1,7 @@
--- Subdividing: a parcel of a unit ends, and its parts take its place. A part stays in the unit, or goes to a new unit that has all
--- the entries of the old one.
-use Rattle.std.specs.Prelude.{ℕ, ◌+◌, ℤ, Bool, false, not, ◌&&◌, ◌||◌, nat_eq, nat_lt, List, [], ◌∷◌, ◌++◌, map as map_list, filter, length, Option, Some, None, is_none}
+-- The content `subdivision`: a parcel of a unit ends, and its parts replace it. A part stays in the unit, or
+-- becomes the parcel of a new unit that gets copies of all entries of the old one.
+use Rattle.std.specs.Prelude.{ℕ, ◌+◌, ℤ, Bool, false, not, ◌&&◌, ◌||◌, nat_eq, nat_lt, List, [], ◌∷◌, ◌++◌}
+use Rattle.std.specs.Prelude.{map as map_list, filter, length, Option, Some, None, is_none}
 use Rattle.std.specs.Option.{option_map_or}
 use Rattle.std.specs.FinMap as map
 use Rattle.land_acts.specs.Mutations.Areas.{outlines_at}
@@ -9,7 +10,8 @@ use Rattle.land_acts.specs.Mutations.Numbering.{numbered, numbers_from}
 use Rattle.land_acts.specs.Mutations.Planning.{lacks_numbers}
 use Rattle.land_acts.specs.Mutations.Transferring.{is_checked}
 use Rattle.land_acts.specs.declared.mutations.refusal.Refusal.{Refusal}
-use Rattle.land_acts.specs.declared.mutations.refusal.Refusal.TheVariants.{NoSuchUnit, NoSuchParcel, TooMany, ClockOut, NotMatched}
+use Rattle.land_acts.specs.declared.mutations.refusal.Refusal.TheVariants.{NoSuchUnit, NoSuchParcel, TooMany}
+use Rattle.land_acts.specs.declared.mutations.refusal.Refusal.TheVariants.{ClockOut, NotMatched}
 use Rattle.land_core.specs.Changes.{no_put, no_ended}
 use Rattle.land_core.specs.Entries.{count_where, has}
 use Rattle.land_core.specs.Mergers.{lists_number}
@@ -22,33 +24,37 @@ use Rattle.land_core.specs.declared.subdivision.Subdivision.{Subdivision}
 use Rattle.land_core.specs.declared.unit.UnitRecord.{UnitRecord}
 use Rattle.land_shape.specs.Place.{Place}
 
--- ---- what the parts take over
+-- ---- the unit of the parcel
 
 -- the entries of a unit, by ascending numbers
 abbrev pub entries_of : Register → (unit : ℕ) → List RrrRecord
 entries_of r unit = map_list (λ e. e.1) (filter (λ e. nat_eq e.1.unit unit) (map.entries r.rrrs))
 
--- the unit of the parcel, whether it is checked, its entries, and the mutation's source
+-- the data that new units take over: the unit, whether it is checked, its entries, and the source of the
+-- mutation
 pub record Origin : Type 0 where
   pub unit : ℕ
   pub checked : Bool
   pub entries : List RrrRecord
   pub source : ℕ
 
+-- this data of the unit of a subdivision
 abbrev pub origin_of : Register → (source : ℕ) → Subdivision → Origin
-origin_of r source it = record { unit = it.unit; checked = is_checked r it.unit; entries = entries_of r it.unit; source = source }
+origin_of r source it =
+    record { unit = it.unit; checked = is_checked r it.unit; entries = entries_of r it.unit; source = source }
 
--- an entry as it stands in another unit: of the same party, with the same contents and from its own source
+-- a copy of an entry for another unit, with the same party, class and source
 abbrev pub in_unit : (unit : ℕ) → RrrRecord → RrrRecord
 in_unit unit e = record e { unit = unit }
 
--- ---- what comes of a part
+-- ---- the objects of one part
 
 -- the first part, which stays in the unit, and the others
 abbrev pub all_parts : Subdivision → List Part
 all_parts it = record { label = it.first.label; outline = it.first.outline; unit = None } ∷ it.rest
 
--- how many numbers a part takes: its parcel's, and with a new unit, the unit's and those of the copied entries
+-- the count of numbers that a part takes: one for its parcel and, with a new unit, one for the unit and one
+-- for each copied entry
 abbrev pub numbers_for : Origin → (new_unit : Option (List ℕ)) → ℕ
 numbers_for origin None = 1
 numbers_for origin (Some name) = 2 + length origin.entries
@@ -58,10 +64,12 @@ abbrev pub unit_made : Origin → (first : ℕ) → (new_unit : Option (List ℕ
 unit_made origin first None = []
 unit_made origin first (Some name) = (first, record { name = name; checked = origin.checked }) ∷ []
 
--- then the parcel in it, from the mutation's source
+-- then the parcel, with the source of the mutation
 abbrev pub parcel_in : Origin → (unit : ℕ) → Part → ParcelRecord
-parcel_in origin unit part = record { unit = unit; label = part.label; outline = part.outline; source = origin.source }
+parcel_in origin unit part =
+    record { unit = unit; label = part.label; outline = part.outline; source = origin.source }
 
+-- the parcel of a part, under its number
 abbrev pub parcel_made : Origin → (first : ℕ) → Part → (new_unit : Option (List ℕ)) → List (ℕ × ParcelRecord)
 parcel_made origin first part None = (first, parcel_in origin origin.unit part) ∷ []
 parcel_made origin first part (Some name) = (first + 1, parcel_in origin first part) ∷ []
@@ -71,26 +79,35 @@ abbrev pub entries_made : Origin → (first : ℕ) → (new_unit : Option (List 
 entries_made origin first None = []
 entries_made origin first (Some name) = numbered (first + 2) (map_list (in_unit first) origin.entries)
 
--- ---- what comes of all parts: each takes its numbers after those of the part before it
+-- ---- the objects of all parts, in their order
 
+-- the next number after these parts
 abbrev pub next_after : Origin → (first : ℕ) → List Part → ℕ
 next_after origin first [] = first
 next_after origin first (part ∷ parts) = next_after origin (first + numbers_for origin part.unit) parts
 
+-- the new units
 abbrev pub units_made : Origin → (first : ℕ) → List Part → List (ℕ × UnitRecord)
 units_made origin first [] = []
-units_made origin first (part ∷ parts) = unit_made origin first part.unit ++ units_made origin (first + numbers_for origin part.unit) parts
+units_made origin first (part ∷ parts) =
+    unit_made origin first part.unit ++ units_made origin (first + numbers_for origin part.unit) parts
 
+-- the parcels of the parts
 abbrev pub parcels_made : Origin → (first : ℕ) → List Part → List (ℕ × ParcelRecord)
 parcels_made origin first [] = []
-parcels_made origin first (part ∷ parts) = parcel_made origin first part part.unit ++ parcels_made origin (first + numbers_for origin part.unit) parts
+parcels_made origin first (part ∷ parts) =
+    parcel_made origin first part part.unit
+    ++ parcels_made origin (first + numbers_for origin part.unit) parts
 
+-- the entries of the new units
 abbrev pub copies_made : Origin → (first : ℕ) → List Part → List (ℕ × RrrRecord)
 copies_made origin first [] = []
-copies_made origin first (part ∷ parts) = entries_made origin first part.unit ++ copies_made origin (first + numbers_for origin part.unit) parts
+copies_made origin first (part ∷ parts) =
+    entries_made origin first part.unit ++ copies_made origin (first + numbers_for origin part.unit) parts
 
 -- ---- the change
 
+-- the change, from the data of the unit
 abbrev pub cut_change : Register → Subdivision → Origin → Change
 cut_change r it origin = record {
   put = record no_put {
@@ -102,42 +119,47 @@ cut_change r it origin = record {
   next = next_after origin r.next (all_parts it);
 }
 
+-- the change of a subdivision
 abbrev pub subdivision_change : Register → (source : ℕ) → Subdivision → Change
 subdivision_change r source it = cut_change r it (origin_of r source it)
 
--- how many objects are new
+-- the number of new objects of these parts
 abbrev pub count_for : Origin → List Part → ℕ
 count_for origin [] = 0
 count_for origin (part ∷ parts) = numbers_for origin part.unit + count_for origin parts
 
+-- the number of new objects of a subdivision
 abbrev pub subdivision_count : Register → Subdivision → ℕ
 subdivision_count r it = count_for (origin_of r 0 it) (all_parts it)
 
+-- the numbers of the new objects
 abbrev pub subdivision_made : Register → Subdivision → List ℕ
 subdivision_made r it = numbers_from r.next (subdivision_count r it)
 
--- ---- its refusals
+-- ---- the refusals
 
--- whether a parcel of a unit stands at a number
+-- whether a parcel of this unit exists at a number
 abbrev pub has_parcel_in : Register → (unit number : ℕ) → Bool
 has_parcel_in r unit n = option_map_or (λ p. nat_eq p.unit unit) (map.get r.parcels n) false
 
+-- the outlines of these parts
 abbrev pub outlines_of : List Part → List (List Place)
 outlines_of parts = map_list (λ part. part.outline) parts
 
--- how many parcels of a unit stand, beside some that end
+-- the number of parcels of a unit, except those that end
 abbrev pub parcels_beside : Register → (unit : ℕ) → (ended : List ℕ) → ℕ
 parcels_beside r unit ended = count_where (λ n p. nat_eq p.unit unit && not (lists_number ended n)) r.parcels
 
--- how many parts stay in the unit
+-- the number of parts that stay in the unit
 abbrev pub staying : List Part → ℕ
 staying parts = length (filter (λ part. is_none part.unit) parts)
 
--- whether the unit would have more than 256 parcels. A new unit has one, and as many entries as the old one
+-- whether the unit would have more than 256 parcels; a new unit has one parcel, and no more entries than the
+-- old one
 abbrev pub would_have_many_parcels : Register → Subdivision → Bool
 would_have_many_parcels r it = nat_lt 256 (parcels_beside r it.unit (it.parcel ∷ []) + staying (all_parts it))
 
--- each with whether its condition holds, the least number first
+-- the refusals with their conditions, in ascending order
 abbrev pub subdivision_refusals : Register → Subdivision → Option ℤ → List (Refusal × Bool)
 subdivision_refusals r it stamp =
     (NoSuchUnit, not (has r.units it.unit))

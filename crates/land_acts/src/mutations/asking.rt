@@ -1,9 +1,10 @@
-//! What a mutation asks for, by its content: when that is refused, what it changes, and what it makes.
+//! Dispatches on the content of a mutation: its refusals, its change, and the numbers that it creates.
 ghost use Rattle.std.specs.Prelude.{◌≡◌, IfOk};
-ghost use Rattle.land_acts.specs.Mutations.Asking.{Fits, content_change, content_made, content_refusals, has_room};
+ghost use Rattle.land_acts.specs.Mutations.Asking.{Fits, content_change, content_made, content_refusals};
+ghost use Rattle.land_acts.specs.Mutations.Asking.{has_room};
 ghost use Rattle.land_acts.specs.Mutations.Planning.{first_that_holds};
 
-use crate::mutations::planning::{Slice, numbers_from};
+use crate::mutations::planning::{NUMBERS_END, Slice, numbers_from};
 use crate::mutations::refusal::Refusal;
 use crate::mutations::{discharge, merge, mortgage, subdivide, transfer};
 use land_core::change::Change;
@@ -11,8 +12,8 @@ use land_core::content::Content;
 use land_core::sequence::{NumberList, Sequence};
 use std::alloc::{AllocError, Global};
 
-/// The least refusal of what a content asks for whose condition holds. `stamp` is the moment of the change, in milliseconds
-/// since 1970 UTC; where there is none left, that is a refusal (217).
+/// Returns the first refusal of a content whose condition holds. `stamp` is the Unix time of the change in
+/// milliseconds; without one, refusal 217 applies. The other error is out of memory.
 pub fn refusal(
     alloc: Global,
     slice: &Slice,
@@ -30,7 +31,8 @@ pub fn refusal(
     }
 }
 
-/// What a content changes, with the mutation's source, where nothing refuses it.
+/// Returns the change that a content requests, if no refusal applies. `source` is the source of the mutation.
+/// The only error is out of memory.
 pub fn change(
     alloc: Global,
     slice: &Slice,
@@ -52,7 +54,8 @@ pub fn change(
     }
 }
 
-/// The numbers of the objects that a content makes, where nothing refuses it.
+/// Returns the numbers of the objects that a content creates, if no refusal applies. The only error is out of
+/// memory.
 pub fn made(alloc: Global, slice: &Slice, content: &Content) -> Result<NumberList, AllocError>
     requires { Fits slice.now content.now }
     ensures { IfOk result (λ made. made ≡ content_made slice.now content.now) }
@@ -70,12 +73,12 @@ pub fn made(alloc: Global, slice: &Slice, content: &Content) -> Result<NumberLis
     }
 }
 
-/// Whether the numbers that a register holds leave room for what a content makes. Those of a sound register always do;
-/// those that somebody wrote into a file may not.
+/// Returns whether the numbers and ranks that a content creates stay in range. In a sound register they do;
+/// in a file that another program wrote they may not.
 pub fn has_room(slice: &Slice, content: &Content) -> bool
     ensures { result ≡ has_room slice.now content.now }
 {
-    slice.next <= 1_000_000_001
+    slice.next <= NUMBERS_END
         && match content {
             Content::Mortgage(it) => mortgage::greatest_rank(slice, it.unit) < 1_000_000_000,
             _ => true,

@@ -1,6 +1,7 @@
-//! Discharging a mortgage.
+//! The content `discharge`: a mortgage ends.
 ghost use Rattle.std.specs.Prelude.{◌≡◌, IfOk};
-ghost use Rattle.land_acts.specs.Mutations.Discharging.{discharge_change, discharge_refusals, has_entry_in, has_mortgage};
+ghost use Rattle.land_acts.specs.Mutations.Discharging.{discharge_change, discharge_refusals, has_entry_in};
+ghost use Rattle.land_acts.specs.Mutations.Discharging.{has_mortgage};
 ghost use Rattle.land_acts.specs.Mutations.Planning.{first_that_holds};
 
 use crate::mutations::planning::Slice;
@@ -11,7 +12,7 @@ use land_core::kind::Kind;
 use land_core::sequence::Sequence;
 use std::alloc::{AllocError, Global};
 
-/// The least refusal of a discharge whose condition holds.
+/// Returns the first refusal of a discharge whose condition holds: 202, 204, 212 or 217.
 pub(crate) fn refusal(slice: &Slice, it: &Discharge, stamp: Option<i64>) -> Option<Refusal>
     ensures { result ≡ first_that_holds (discharge_refusals slice.now it.now stamp) }
 {
@@ -28,7 +29,7 @@ pub(crate) fn refusal(slice: &Slice, it: &Discharge, stamp: Option<i64>) -> Opti
     }
 }
 
-/// Whether an entry of a unit stands at a number.
+/// Returns whether an entry of this unit exists at a number.
 fn has_entry_in(slice: &Slice, unit: u64, number: u64) -> bool
     ensures { result ≡ has_entry_in slice.now unit number }
 {
@@ -38,7 +39,7 @@ fn has_entry_in(slice: &Slice, unit: u64, number: u64) -> bool
     }
 }
 
-/// Whether a mortgage stands at a number.
+/// Returns whether a mortgage exists at a number.
 fn has_mortgage(slice: &Slice, number: u64) -> bool
     ensures { result ≡ has_mortgage slice.now number }
 {
@@ -48,7 +49,7 @@ fn has_mortgage(slice: &Slice, number: u64) -> bool
     }
 }
 
-/// The end of the mortgage.
+/// Returns the change, which ends the mortgage.
 pub(crate) fn change(alloc: Global, slice: &Slice, it: &Discharge) -> Result<Change, AllocError>
     ensures { IfOk result (λ change. change ≡ discharge_change slice.now it.now) }
 {

@@ -1,4 +1,4 @@
-//! The ground of outlines: whether new ones have that of old ones.
+//! Compares the ground of outlines: whether new outlines cover exactly what old ones cover.
 ghost use Rattle.std.specs.Prelude.{◌≡◌, true, IfOk};
 ghost use Rattle.std.specs.List.{list_all};
 ghost use Rattle.land_acts.specs.Mutations.Areas.{outlines_at};
@@ -12,7 +12,7 @@ use land_core::subdivision::Subdivision;
 use land_shape::{Ring, chain_matches};
 use std::alloc::{AllocError, Global};
 
-/// The outlines of the parcels that stand at some numbers.
+/// Returns the outlines of the parcels that exist at these numbers.
 pub(crate) fn outlines_at(
     alloc: Global,
     slice: &Slice,
@@ -29,7 +29,7 @@ pub(crate) fn outlines_at(
     Ok(rings)
 }
 
-/// The outlines of the parts of a subdivision.
+/// Returns the outlines of the parts of a subdivision.
 pub(crate) fn outlines_of_parts(
     alloc: Global,
     it: &Subdivision,
@@ -43,7 +43,7 @@ pub(crate) fn outlines_of_parts(
     Ok(rings)
 }
 
-/// Whether new outlines are the ground of the old ones.
+/// Returns whether new outlines cover exactly the ground of the old ones. The only error is out of memory.
 pub(crate) fn are_same_ground(alloc: Global, old: &[Ring], new: &[Ring]) -> Result<bool, AllocError>
     ensures { IfOk result (λ same. same ≡ are_same_ground old.now new.now) }
 {
@@ -52,7 +52,7 @@ pub(crate) fn are_same_ground(alloc: Global, old: &[Ring], new: &[Ring]) -> Resu
     chain_matches(alloc, old, new)
 }
 
-/// All outlines run counterclockwise.
+/// Proves that all outlines run counterclockwise: each ring has this invariant.
 fn run_counterclockwise(rings: &[Ring])
     ensures { list_all runs_counterclockwise rings.now ≡ true }
 {

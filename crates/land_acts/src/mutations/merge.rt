@@ -1,9 +1,13 @@
-//! Merging parcels, and units with them.
+//! The content `merger`: parcels become one, and units with the same entries end in another.
 ghost use Rattle.std.specs.Prelude.{◌≡◌, ◌≤◌, ◌∷◌, [], not, nat_eq, IfOk};
 ghost use Rattle.std.specs.List.{list_all, list_any};
 ghost use Rattle.land_acts.specs.Mutations.Areas.{outlines_at};
 ghost use Rattle.land_acts.specs.Mutations.Grounds.{are_same_ground};
-ghost use Rattle.land_acts.specs.Mutations.Merging.{are_same_entries, entries_of_others, has_unlike, is_named, is_parcel_named, is_same_class, is_same_entry, is_same_mark, is_unlike, keeps_parcel, lacks_parcel, lacks_unit, merger_change, merger_refusals, times_in, would_have_more_parcels};
+ghost use Rattle.land_acts.specs.Mutations.Merging.{are_same_entries, entries_of_others, has_unlike};
+ghost use Rattle.land_acts.specs.Mutations.Merging.{is_named, is_parcel_named, is_same_class, is_same_entry};
+ghost use Rattle.land_acts.specs.Mutations.Merging.{is_same_mark, is_unlike, keeps_parcel, lacks_parcel};
+ghost use Rattle.land_acts.specs.Mutations.Merging.{lacks_unit, merger_change, merger_refusals, times_in};
+ghost use Rattle.land_acts.specs.Mutations.Merging.{would_have_more_parcels};
 ghost use Rattle.land_acts.specs.Mutations.Planning.{first_that_holds};
 ghost use Rattle.land_acts.specs.Mutations.Subdividing.{entries_of};
 ghost use Rattle.land_core.specs.Contents.{is_same_share};
@@ -25,7 +29,8 @@ use land_fraction::Fraction;
 use land_shape::Ring;
 use std::alloc::{AllocError, Global};
 
-/// The least refusal of a merger whose condition holds.
+/// Returns the first refusal of a merger whose condition holds: 202, 203, 209, 210, 217 or 220. The other
+/// error is out of memory.
 pub(crate) fn refusal(
     alloc: Global,
     slice: &Slice,
@@ -52,21 +57,21 @@ pub(crate) fn refusal(
     Ok(first)
 }
 
-/// Whether a unit that is named does not stand.
+/// Returns whether the unit or one of the others does not exist.
 fn lacks_unit(slice: &Slice, it: &Merger) -> bool
     ensures { result ≡ lacks_unit slice.now it.now }
 {
     !slice.stands(Kind::Unit, it.unit) || lacks_other(slice, it.others.as_slice())
 }
 
-/// Whether one of some units does not stand.
+/// Returns whether one of these units does not exist.
 fn lacks_other(slice: &Slice, others: &[u64]) -> bool
     ensures { result ≡ list_any (λ n. not (has slice.now.units n)) others.now }
 {
     others.iter().any(|other| !slice.stands(Kind::Unit, *other))
 }
 
-/// Whether a number that is named has no parcel of a unit that is named.
+/// Returns whether a listed number is not a parcel of the units of the merger.
 fn lacks_parcel(slice: &Slice, it: &Merger) -> bool
     ensures { result ≡ lacks_parcel slice.now it.now }
 {
@@ -76,7 +81,7 @@ fn lacks_parcel(slice: &Slice, it: &Merger) -> bool
         .any(|number| !is_parcel_named(slice, it, *number))
 }
 
-/// Whether a parcel of a unit that is named stands at a number.
+/// Returns whether a parcel of one of the units of the merger exists at a number.
 fn is_parcel_named(slice: &Slice, it: &Merger, number: u64) -> bool
     ensures { result ≡ is_parcel_named slice.now it.now number }
 {
@@ -86,23 +91,24 @@ fn is_parcel_named(slice: &Slice, it: &Merger, number: u64) -> bool
     }
 }
 
-/// Whether a unit is named.
+/// Returns whether a unit is one of the units of the merger.
 fn is_named(it: &Merger, unit: u64) -> bool
     ensures { result ≡ is_named it.now unit }
 {
     unit == it.unit || lists_number(it.others.as_slice(), unit)
 }
 
-/// Whether the new outline is the ground of the parcels.
+/// Returns whether the new outline covers exactly the ground of the parcels. The only error is out of memory.
 fn keeps_ground(alloc: Global, slice: &Slice, it: &Merger) -> Result<bool, AllocError>
-    ensures { IfOk result (λ same. same ≡ are_same_ground (outlines_at slice.now it.now.parcels) (it.now.outline ∷ [])) }
+    ensures { IfOk result (λ same. same ≡ are_same_ground (outlines_at slice.now it.now.parcels)
+        (it.now.outline ∷ [])) }
 {
     let old = outlines_at(alloc, slice, it.parcels.as_slice())?;
     let new = Sequence::of_one(alloc, Ring::copy(&it.outline)?)?;
     are_same_ground(alloc, old.as_slice(), new.as_slice())
 }
 
-/// Whether another unit can not end with the unit.
+/// Returns whether one of the other units cannot be merged with the unit.
 fn has_unlike(slice: &Slice, it: &Merger) -> bool
     ensures { result ≡ has_unlike slice.now it.now }
 {
@@ -112,7 +118,8 @@ fn has_unlike(slice: &Slice, it: &Merger) -> bool
         .any(|other| is_unlike(slice, it, *other))
 }
 
-/// Whether another unit would keep a parcel, is checked where the unit is not or not where it is, or has other entries.
+/// Returns whether another unit cannot be merged with the unit: a parcel of it is not listed, only one of the
+/// two is checked, or their entries differ.
 fn is_unlike(slice: &Slice, it: &Merger, other: u64) -> bool
     ensures { result ≡ is_unlike slice.now it.now other }
 {
@@ -121,30 +128,31 @@ fn is_unlike(slice: &Slice, it: &Merger, other: u64) -> bool
         || !are_same_entries(slice, other, it.unit)
 }
 
-/// Whether a unit would keep a parcel.
+/// Returns whether a parcel of the unit is not listed.
 fn keeps_parcel(slice: &Slice, it: &Merger, unit: u64) -> bool
     ensures { result ≡ keeps_parcel slice.now it.now unit }
 {
     0 < parcels_beside(slice, unit, it.parcels.as_slice())
 }
 
-/// Whether two units are both checked, or both not.
+/// Returns whether two units are both checked or both not.
 fn is_same_mark(checked: bool, other: bool) -> bool
     ensures { result ≡ is_same_mark checked other }
 {
     checked == other
 }
 
-/// Whether two units have the same entries, each as often.
+/// Returns whether two units have the same entries, each the same number of times.
 fn are_same_entries(slice: &Slice, unit: u64, other: u64) -> bool
     ensures { result ≡ are_same_entries (entries_of slice.now unit) (entries_of slice.now other) }
 {
     are_as_often(slice, unit, unit, other) && are_as_often(slice, other, unit, other)
 }
 
-/// Whether each entry of a unit stands as often in one unit as in another.
+/// Returns whether each entry of the unit `listed` occurs the same number of times in `unit` and in `other`.
 fn are_as_often(slice: &Slice, listed: u64, unit: u64, other: u64) -> bool
-    ensures { result ≡ list_all (λ e. nat_eq (times_in (entries_of slice.now unit) e) (times_in (entries_of slice.now other) e)) (entries_of slice.now listed) }
+    ensures { result ≡ list_all (λ e. nat_eq (times_in (entries_of slice.now unit) e)
+        (times_in (entries_of slice.now other) e)) (entries_of slice.now listed) }
 {
     slice
         .rrrs
@@ -153,7 +161,7 @@ fn are_as_often(slice: &Slice, listed: u64, unit: u64, other: u64) -> bool
         .all(|(_, entry)| times_in(slice, unit, entry) == times_in(slice, other, entry))
 }
 
-/// How often an entry stands in a unit.
+/// Returns the number of times that an entry occurs in a unit.
 fn times_in(slice: &Slice, unit: u64, it: &RrrRecord) -> usize
     ensures { result ≡ times_in (entries_of slice.now unit) it.now }
 {
@@ -164,7 +172,7 @@ fn times_in(slice: &Slice, unit: u64, it: &RrrRecord) -> usize
         .count()
 }
 
-/// Whether two entries say the same: all but number, unit and source.
+/// Returns whether two entries are equal, except for number, unit and source.
 fn is_same_entry(it: &RrrRecord, other: &RrrRecord) -> bool
     ensures { result ≡ is_same_entry it.now other.now }
 {
@@ -204,21 +212,22 @@ fn is_same_class(class: &Class, other: &Class) -> bool
     }
 }
 
-/// Whether two shares are the same: they are in lowest terms.
+/// Returns whether two shares are equal. Shares are in lowest terms.
 fn is_same_share(share: Fraction, other: Fraction) -> bool
     ensures { result ≡ is_same_share share other }
 {
     share.numerator() == other.numerator() && share.denominator() == other.denominator()
 }
 
-/// Whether the unit would have more than 256 parcels.
+/// Returns whether the unit would have more than 256 parcels.
 fn would_have_more_parcels(slice: &Slice, it: &Merger) -> bool
     ensures { result ≡ would_have_more_parcels slice.now it.now }
 {
     256 <= parcels_beside(slice, it.unit, it.parcels.as_slice())
 }
 
-/// The new parcel in place of the parcels; the other units end with their entries.
+/// Returns the change: the new parcel replaces the listed ones, and the other units end with their entries.
+/// The only error is out of memory.
 pub(crate) fn change(
     alloc: Global,
     slice: &Slice,
@@ -246,7 +255,7 @@ pub(crate) fn change(
     Ok(change)
 }
 
-/// The numbers of the entries of the other units.
+/// Returns the numbers of the entries of the other units.
 fn entries_of_others(alloc: Global, slice: &Slice, it: &Merger) -> Result<NumberList, AllocError>
     ensures { IfOk result (λ ended. ended ≡ entries_of_others slice.now it.now) }
 {

@@ -1,6 +1,7 @@
-//! Mortgaging a unit.
+//! The content `mortgage`: a unit becomes the security of a loan.
 ghost use Rattle.std.specs.Prelude.{◌≡◌, ◌≤◌, IfOk};
-ghost use Rattle.land_acts.specs.Mutations.Mortgaging.{greatest, mortgage_change, mortgage_refusals, next_rank, rank_in, ranks_in};
+ghost use Rattle.land_acts.specs.Mutations.Mortgaging.{greatest, mortgage_change, mortgage_refusals};
+ghost use Rattle.land_acts.specs.Mutations.Mortgaging.{next_rank, rank_in, ranks_in};
 ghost use Rattle.land_acts.specs.Mutations.Planning.{would_crowd, first_that_holds};
 
 use crate::mutations::planning::{Slice, lacks_numbers, would_crowd};
@@ -14,7 +15,7 @@ use land_core::rrr::{Class, RrrRecord};
 use land_core::sequence::Sequence;
 use std::alloc::{AllocError, Global};
 
-/// The least refusal of a mortgage whose condition holds.
+/// Returns the first refusal of a mortgage whose condition holds: 202, 205, 210, 211 or 217.
 pub(crate) fn refusal(slice: &Slice, it: &Mortgage, stamp: Option<i64>) -> Option<Refusal>
     ensures { result ≡ first_that_holds (mortgage_refusals slice.now it.now stamp) }
 {
@@ -33,7 +34,7 @@ pub(crate) fn refusal(slice: &Slice, it: &Mortgage, stamp: Option<i64>) -> Optio
     }
 }
 
-/// The mortgage, under the next number and of the next rank.
+/// Returns the change, with the mortgage under the next number and with the next rank.
 pub(crate) fn change(
     alloc: Global,
     slice: &Slice,
@@ -60,7 +61,7 @@ pub(crate) fn change(
     Ok(change)
 }
 
-/// The greatest rank of the mortgages on a unit, 0 where there is none.
+/// Returns the greatest rank of the mortgages on a unit, or 0 if there are none.
 pub(crate) fn greatest_rank(slice: &Slice, unit: u64) -> u64
     ensures { result ≡ greatest (ranks_in slice.now unit) }
 {
@@ -75,7 +76,7 @@ pub(crate) fn greatest_rank(slice: &Slice, unit: u64) -> u64
     greatest
 }
 
-/// The rank of an entry, where it is a mortgage on a unit.
+/// Returns the rank of an entry if it is a mortgage on the unit.
 fn rank_in(unit: u64, entry: &RrrRecord) -> Option<u64>
     ensures { result ≡ rank_in unit entry.now }
 {

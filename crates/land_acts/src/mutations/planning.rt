@@ -1,7 +1,8 @@
-//! What all plans have in common.
+//! The parts that all plans share.
 ghost use Rattle.std.specs.Prelude.{◌≡◌, ◌≤◌, ◌+◌, IfOk};
 ghost use Rattle.land_acts.specs.Mutations.Numbering.{numbers_from};
-ghost use Rattle.land_acts.specs.Mutations.Planning.{document_source, done_on, lacks_numbers, would_crowd};
+ghost use Rattle.land_acts.specs.Mutations.Planning.{document_source, done_on, lacks_numbers, numbers_end};
+ghost use Rattle.land_acts.specs.Mutations.Planning.{would_crowd};
 
 use land_core::change::Done;
 use land_core::contents::rrr_count;
@@ -12,33 +13,36 @@ use land_core::source::{SourceKind, SourceRecord};
 use land_core::text::Text;
 use std::alloc::{AllocError, Global};
 
-/// A register with only the records that planning may look at.
+/// Objects have numbers below this one.
+pub(crate) const NUMBERS_END: u64 = 1_000_000_001;
+
+/// The records of a register that planning an act may read.
 pub type Slice = Register;
 
-/// Whether there are too few numbers left for so many new objects.
+/// Returns whether `count` new objects would need more numbers.
 pub fn lacks_numbers(slice: &Slice, count: u128) -> bool
     ensures { result ≡ lacks_numbers slice.now count }
 {
-    1_000_000_001 < u128::from(slice.next).saturating_add(count)
+    u128::from(NUMBERS_END) < u128::from(slice.next).saturating_add(count)
 }
 
-/// Whether a unit would have more than 256 entries with one more.
+/// Returns whether a unit would have more than 256 entries with one more.
 pub fn would_crowd(slice: &Slice, unit: u64) -> bool
     ensures { result ≡ would_crowd slice.now unit 1 }
 {
     256 <= rrr_count(slice, unit)
 }
 
-/// So many numbers from `first` on.
+/// Returns `count` numbers, starting at `first`. The only error is out of memory.
 pub fn numbers_from(alloc: Global, first: u64, count: u64) -> Result<NumberList, AllocError>
-    requires { first + count ≤ 1_000_000_001 }
+    requires { first + count ≤ numbers_end }
     ensures { IfOk result (λ it. it ≡ numbers_from first count) }
 {
     let numbers = (first..first + count).collect::<Vec<u64>>(alloc)?;
     Ok(Sequence::from_vec(numbers))
 }
 
-/// The source that a document is, under its number.
+/// Returns the source that represents a document, under its number.
 pub fn document_source(
     alloc: Global,
     number: u64,
@@ -54,7 +58,7 @@ pub fn document_source(
     Sequence::of_one(alloc, (number, record))
 }
 
-/// The reply to an act that was done on an object and made nothing. It takes no memory.
+/// Returns the receipt of an act that is about an object and creates none. It allocates nothing.
 pub fn done_on(alloc: Global, number: u64, stamp: i64) -> Done
     ensures { result ≡ done_on number stamp }
 {

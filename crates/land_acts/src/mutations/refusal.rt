@@ -1,63 +1,63 @@
-//! Why an act is refused, and what it leads to.
+//! The refusals of acts, and the plan of an act that is not refused.
 ghost use Rattle.std.specs.Prelude.{◌≡◌};
 
 use land_core::change::{Change, Done};
 use std::alloc::AllocError;
 
-/// Why an act is refused.
+/// The reason for which an act is refused. Each condition has its number in replies.
 #[derive(Clone, Copy, Debug, PartialEq, Eq)]
 pub enum Refusal {
-    /// 201: no mutation that is undecided stands at the number.
+    /// 201: there is no undecided mutation at the number.
     NotLodged,
-    /// 202: a unit that is named does not stand.
+    /// 202: a unit to which the act refers does not exist.
     NoSuchUnit,
-    /// 203: a parcel that is named does not stand in a unit that is named.
+    /// 203: a parcel to which the act refers does not exist in these units.
     NoSuchParcel,
-    /// 204: an entry that is named does not stand, or is not of the class that is asked for.
+    /// 204: an entry to which the act refers does not exist, or has another class.
     NoSuchRight,
-    /// 205: a party that is named does not stand, or is not of the kind that is asked for.
+    /// 205: a party to which the act refers does not exist, or has another kind.
     NoSuchParty,
-    /// 206: the share is above that of the right, or the receiver would have more than the whole.
+    /// 206: the share is above that of the right, or the receiver would have more than one.
     ShareTooLarge,
-    /// 207: the shares have no common denominator up to 1_000_000_000.
+    /// 207: the shares have no common denominator up to 1,000,000,000.
     SharesTooFine,
-    /// 209: a unit that is to end would keep a parcel, or is not checked alike, or has other entries.
+    /// 209: a unit that is to end has a parcel that is not listed, differs in being checked, or has other
+    /// entries.
     UnitsUnlike,
-    /// 210: a new number would be above 1_000_000_000, or a unit would have more than 256 parcels or entries.
+    /// 210: a new number would be above 1,000,000,000, or a unit would have more than 256 parcels or entries.
     TooMany,
-    /// 211: the creditor does not hold the role of a bank.
+    /// 211: the creditor does not hold the role bank.
     NotBank,
-    /// 212: the entry is no mortgage.
+    /// 212: the entry is not a mortgage.
     NotMortgage,
     /// 213: the shares do not sum to one.
     SharesNotWhole,
     /// 214: the caller has lodged another document or content under the reference.
     ReferenceUsed,
-    /// 215: the party holds the role already.
+    /// 215: the party already holds the role.
     RoleHeld,
     /// 216: the party does not hold the role.
     RoleNotHeld,
-    /// 217: there is no moment left for the change.
+    /// 217: no later stamp exists.
     ClockOut,
-    /// 218: nobody else is state administrator.
+    /// 218: no other party is state administrator.
     LastAdministrator,
-    /// 219: a party is named twice.
+    /// 219: a party occurs twice.
     SameParty,
-    /// 220: the new outlines are not the ground of the old ones: parts and old parcel, or listed parcels and outline, do not
-    /// match.
+    /// 220: the new outlines do not cover exactly the ground of the old ones.
     NotMatched,
-    /// 221: the mandate stands already.
+    /// 221: the mandate exists already.
     MandateHeld,
-    /// 222: the mandate does not stand.
+    /// 222: the mandate does not exist.
     NoMandate,
-    /// 501: there was no memory for the plan.
+    /// 501: out of memory.
     NoMemory,
 }
 
 impl Refusal {
     ghost use Rattle.land_acts.specs.Mutations.Planning.{number_of};
 
-    /// The number that the caller is told.
+    /// Returns the number of the refusal in replies.
     pub fn number(self) -> u16
         ensures { result ≡ number_of self }
     {
@@ -98,11 +98,11 @@ impl From<AllocError> for Refusal {
     }
 }
 
-/// What an act that is not refused leads to.
+/// The plan of an act that is not refused.
 #[derive(Debug, Drop)]
 pub enum Planned {
-    /// A change, and what the caller is told.
+    /// A change, and the receipt.
     New(Change, Done),
-    /// What the caller was told before: the act was done already.
+    /// The receipt of the first time: the act repeats an earlier one.
     Repeat(Done),
 }

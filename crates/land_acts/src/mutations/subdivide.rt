@@ -1,11 +1,16 @@
-//! Subdividing a parcel.
-ghost use Rattle.std.specs.Prelude.{◌≡◌, ◌≤◌, ◌<◌, ◌+◌, ◌^◌, ◌∷◌, ◌++◌, [], length, map as map_list, IfOk, OnOk};
+//! The content `subdivision`: a parcel is replaced by its parts.
+ghost use Rattle.std.specs.Prelude.{◌≡◌, ◌≤◌, ◌<◌, ◌+◌, ◌^◌, ◌∷◌, ◌++◌, [], length, map as map_list, IfOk};
+ghost use Rattle.std.specs.Prelude.{OnOk};
 ghost use Rattle.std.specs.Option.{option_map_or};
 ghost use Rattle.land_acts.specs.Mutations.Areas.{outlines_at};
 ghost use Rattle.land_acts.specs.Mutations.Grounds.{are_same_ground};
 ghost use Rattle.land_acts.specs.Mutations.Numbering.{numbered};
-ghost use Rattle.land_acts.specs.Mutations.Planning.{first_that_holds};
-ghost use Rattle.land_acts.specs.Mutations.Subdividing.{all_parts, copies_made, entries_of, has_parcel_in, in_unit, origin_of, outlines_of, parcels_beside, parcels_made, staying, subdivision_change, subdivision_count, subdivision_refusals, units_made, would_have_many_parcels};
+ghost use Rattle.land_acts.specs.Mutations.Planning.{first_that_holds, numbers_end};
+ghost use Rattle.land_acts.specs.Mutations.Subdividing.{all_parts, copies_made, entries_of, has_parcel_in};
+ghost use Rattle.land_acts.specs.Mutations.Subdividing.{in_unit, origin_of, outlines_of, parcels_beside};
+ghost use Rattle.land_acts.specs.Mutations.Subdividing.{parcels_made, staying, subdivision_change};
+ghost use Rattle.land_acts.specs.Mutations.Subdividing.{subdivision_count, subdivision_refusals, units_made};
+ghost use Rattle.land_acts.specs.Mutations.Subdividing.{would_have_many_parcels};
 
 use crate::mutations::grounds::{are_same_ground, outlines_at, outlines_of_parts};
 use crate::mutations::planning::{Slice, lacks_numbers};
@@ -25,7 +30,8 @@ use land_core::unit::UnitRecord;
 use land_shape::Ring;
 use std::alloc::{AllocError, Global};
 
-/// The least refusal of a subdivision whose condition holds.
+/// Returns the first refusal of a subdivision whose condition holds: 202, 203, 210, 217 or 220. The other
+/// error is out of memory.
 pub(crate) fn refusal(
     alloc: Global,
     slice: &Slice,
@@ -50,7 +56,7 @@ pub(crate) fn refusal(
     Ok(first)
 }
 
-/// Whether a parcel of a unit stands at a number.
+/// Returns whether a parcel of this unit exists at a number.
 fn has_parcel_in(slice: &Slice, unit: u64, number: u64) -> bool
     ensures { result ≡ has_parcel_in slice.now unit number }
 {
@@ -60,16 +66,17 @@ fn has_parcel_in(slice: &Slice, unit: u64, number: u64) -> bool
     }
 }
 
-/// Whether the parts are the ground of the parcel.
+/// Returns whether the parts cover exactly the ground of the parcel. The only error is out of memory.
 fn keeps_ground(alloc: Global, slice: &Slice, it: &Subdivision) -> Result<bool, AllocError>
-    ensures { IfOk result (λ same. same ≡ are_same_ground (outlines_at slice.now (it.now.parcel ∷ [])) (outlines_of (all_parts it.now))) }
+    ensures { IfOk result (λ same. same ≡ are_same_ground (outlines_at slice.now (it.now.parcel ∷ []))
+        (outlines_of (all_parts it.now))) }
 {
     let old = outlines_at(alloc, slice, &[it.parcel])?;
     let new = outlines_of_parts(alloc, it)?;
     are_same_ground(alloc, old.as_slice(), new.as_slice())
 }
 
-/// How many objects are new.
+/// Returns the number of new objects.
 pub(crate) fn count(slice: &Slice, it: &Subdivision) -> u128
     ensures { result ≡ subdivision_count slice.now it.now }
 {
@@ -81,7 +88,8 @@ pub(crate) fn count(slice: &Slice, it: &Subdivision) -> u128
     count
 }
 
-/// How many numbers a part takes: its parcel's, and with a new unit, the unit's and those of the copied entries.
+/// Returns the count of numbers that a part takes: one for its parcel and, with a new unit, one for the unit
+/// and one for each copied entry.
 fn numbers_for(copies: u128, new_unit: &Option<Text>) -> u128
     requires { copies < 2 ^ 64 }
     ensures { result ≡ option_map_or (λ name. 2 + copies) new_unit.now 1 }
@@ -92,7 +100,7 @@ fn numbers_for(copies: u128, new_unit: &Option<Text>) -> u128
     }
 }
 
-/// Whether the unit would have more than 256 parcels.
+/// Returns whether the unit would have more than 256 parcels.
 fn would_have_many_parcels(slice: &Slice, it: &Subdivision) -> bool
     ensures { result ≡ would_have_many_parcels slice.now it.now }
 {
@@ -100,14 +108,14 @@ fn would_have_many_parcels(slice: &Slice, it: &Subdivision) -> bool
     256 < standing + (staying(it.rest.as_slice()) as u128 + 1)
 }
 
-/// How many parts stay in the unit.
+/// Returns the number of parts that stay in the unit.
 fn staying(parts: &[Part]) -> usize
     ensures { result ≡ staying parts.now }
 {
     parts.iter().filter(|part| part.unit.is_none()).count()
 }
 
-/// How many parcels of a unit stand, beside some that end.
+/// Returns the number of parcels of a unit, except those that end.
 pub(crate) fn parcels_beside(slice: &Slice, unit: u64, ended: &[u64]) -> usize
     ensures { result ≡ parcels_beside slice.now unit ended.now }
 {
@@ -118,14 +126,15 @@ pub(crate) fn parcels_beside(slice: &Slice, unit: u64, ended: &[u64]) -> usize
         .count()
 }
 
-/// The parts in place of the parcel, with their units and the entries of these.
+/// Returns the change: the parts replace the parcel, in new units with copies of the entries where requested.
+/// The only error is out of memory.
 pub(crate) fn change(
     alloc: Global,
     slice: &Slice,
     source: u64,
     it: &Subdivision,
 ) -> Result<Change, AllocError>
-    requires { slice.now.next + subdivision_count slice.now it.now ≤ 1_000_000_001 }
+    requires { slice.now.next + subdivision_count slice.now it.now ≤ numbers_end }
     ensures { IfOk result (λ change. change ≡ subdivision_change slice.now source it.now) }
 {
     let units = units_made(alloc, slice, it)?;
@@ -140,14 +149,15 @@ pub(crate) fn change(
     Ok(change)
 }
 
-/// The new units.
+/// Returns the new units.
 fn units_made(
     alloc: Global,
     slice: &Slice,
     it: &Subdivision,
 ) -> Result<Sequence<(u64, UnitRecord)>, AllocError>
-    requires { slice.now.next + subdivision_count slice.now it.now ≤ 1_000_000_001 }
-    ensures { IfOk result (λ units. units ≡ units_made (origin_of slice.now 0 it.now) slice.now.next (all_parts it.now)) }
+    requires { slice.now.next + subdivision_count slice.now it.now ≤ numbers_end }
+    ensures { IfOk result (λ units. units ≡ units_made (origin_of slice.now 0 it.now) slice.now.next
+        (all_parts it.now)) }
 {
     let checked = is_checked(slice, it.unit);
     let copies = rrr_count(slice, it.unit) as u128;
@@ -163,15 +173,16 @@ fn units_made(
     Ok(units)
 }
 
-/// The parts, each in its unit.
+/// Returns the parts as parcels, each in its unit.
 fn parcels_made(
     alloc: Global,
     slice: &Slice,
     source: u64,
     it: &Subdivision,
 ) -> Result<Sequence<(u64, ParcelRecord)>, AllocError>
-    requires { slice.now.next + subdivision_count slice.now it.now ≤ 1_000_000_001 }
-    ensures { IfOk result (λ parcels. parcels ≡ parcels_made (origin_of slice.now source it.now) slice.now.next (all_parts it.now)) }
+    requires { slice.now.next + subdivision_count slice.now it.now ≤ numbers_end }
+    ensures { IfOk result (λ parcels. parcels
+        ≡ parcels_made (origin_of slice.now source it.now) slice.now.next (all_parts it.now)) }
 {
     let copies = rrr_count(slice, it.unit) as u128;
     let first = parcel_in(alloc, it.unit, source, &it.first.label, &it.first.outline)?;
@@ -189,7 +200,7 @@ fn parcels_made(
     Ok(parcels)
 }
 
-/// A parcel in a unit, from a source.
+/// Returns a parcel in a unit, with its source.
 fn parcel_in(
     alloc: Global,
     unit: u64,
@@ -197,7 +208,8 @@ fn parcel_in(
     label: &Text,
     outline: &Ring,
 ) -> Result<ParcelRecord, AllocError>
-    ensures { IfOk result (λ parcel. parcel ≡ record { unit = unit; label = label.now; outline = outline.now; source = source }) }
+    ensures { IfOk result (λ parcel. parcel
+        ≡ record { unit = unit; label = label.now; outline = outline.now; source = source }) }
 {
     Ok(ParcelRecord {
         unit,
@@ -207,14 +219,15 @@ fn parcel_in(
     })
 }
 
-/// The entries of the new units.
+/// Returns the entries of the new units.
 fn copies_made(
     alloc: Global,
     slice: &Slice,
     it: &Subdivision,
 ) -> Result<Sequence<(u64, RrrRecord)>, AllocError>
-    requires { slice.now.next + subdivision_count slice.now it.now ≤ 1_000_000_001 }
-    ensures { IfOk result (λ copies. copies ≡ copies_made (origin_of slice.now 0 it.now) slice.now.next (all_parts it.now)) }
+    requires { slice.now.next + subdivision_count slice.now it.now ≤ numbers_end }
+    ensures { IfOk result (λ copies. copies
+        ≡ copies_made (origin_of slice.now 0 it.now) slice.now.next (all_parts it.now)) }
 {
     let copies = rrr_count(slice, it.unit) as u128;
     let mut rrrs = Sequence::new(alloc);
@@ -228,7 +241,7 @@ fn copies_made(
     Ok(rrrs)
 }
 
-/// Appends copies of the entries of a unit as they stand in a new one, under the numbers after those of the new unit and its
+/// Appends copies of the entries of a unit for a new unit. Their numbers follow those of the new unit and its
 /// parcel.
 fn push_copies(
     alloc: Global,
@@ -237,8 +250,9 @@ fn push_copies(
     unit: u64,
     new_unit: u64,
 ) -> Result<(), AllocError>
-    requires { new_unit + 2 + length (entries_of slice.now unit) ≤ 1_000_000_001 }
-    ensures { OnOk result (rrrs.new ≡ rrrs.old ++ numbered (new_unit + 2) (map_list (in_unit new_unit) (entries_of slice.now unit))) }
+    requires { new_unit + 2 + length (entries_of slice.now unit) ≤ numbers_end }
+    ensures { OnOk result (rrrs.new ≡ rrrs.old
+        ++ numbered (new_unit + 2) (map_list (in_unit new_unit) (entries_of slice.now unit))) }
 {
     let mut number = new_unit + 2;
     for (_, entry) in slice.rrrs.iter() {
@@ -250,7 +264,7 @@ fn push_copies(
     Ok(())
 }
 
-/// A copy of an entry, as it stands in another unit.
+/// Returns a copy of an entry for another unit.
 fn in_unit(alloc: Global, unit: u64, entry: &RrrRecord) -> Result<RrrRecord, AllocError>
     ensures { IfOk result (λ copy. copy ≡ in_unit unit entry.now) }
 {

@@ -1,8 +1,14 @@
-//! Transferring a share of a unit.
+//! The content `transfer`: a share of a right goes to another party.
 ghost use Rattle.std.specs.Prelude.{◌≡◌, ◌≤◌, ◌++◌, ◌∷◌, [], nat_lt, false, is_none, IfOk, OnOk};
 ghost use Rattle.std.specs.Option.{option_map_or};
-ghost use Rattle.land_acts.specs.Mutations.Planning.{first_that_holds};
-ghost use Rattle.land_acts.specs.Mutations.Transferring.{are_too_fine, are_too_fine_after, are_too_many, given_up, grows_at, held_at, held_by, held_in, held_of, is_above, is_above_one, is_checked, is_held_by, is_itself, is_too_fine, is_too_large, kept, move_change, new_rights, number_after, received, right_entry, share_grown, share_left, transfer_refusals};
+ghost use Rattle.land_acts.specs.Mutations.Planning.{first_that_holds, numbers_end};
+ghost use Rattle.land_acts.specs.Mutations.Transferring.{are_too_fine, are_too_fine_after, are_too_many};
+ghost use Rattle.land_acts.specs.Mutations.Transferring.{given_up, grows_at, held_at, held_by, held_in};
+ghost use Rattle.land_acts.specs.Mutations.Transferring.{held_of, is_above, is_above_one, is_checked};
+ghost use Rattle.land_acts.specs.Mutations.Transferring.{is_held_by, is_itself, is_too_fine, is_too_large};
+ghost use Rattle.land_acts.specs.Mutations.Transferring.{kept, move_change, new_rights, number_after};
+ghost use Rattle.land_acts.specs.Mutations.Transferring.{received, right_entry, share_grown, share_left};
+ghost use Rattle.land_acts.specs.Mutations.Transferring.{transfer_refusals};
 ghost use Rattle.land_acts.specs.declared.mutations.refusal.Refusal.TheVariants.{ClockOut, SameParty};
 ghost use Rattle.land_core.specs.Changes.{after};
 ghost use Rattle.land_core.specs.Units.{rrr_count, type_shares};
@@ -20,12 +26,12 @@ use land_fraction::{Fraction, FractionFault, common};
 use std::alloc::{AllocError, Global};
 use std::cmp::Ordering;
 
-/// A right as a transfer meets it.
+/// A right in a unit.
 #[derive(Clone, Copy, Debug)]
 pub struct Held {
     /// The number of the entry.
     pub number: u64,
-    /// Who holds it.
+    /// The party that has the right.
     pub party: u64,
     /// Its type.
     pub right_type: RightType,
@@ -33,7 +39,8 @@ pub struct Held {
     pub share: Fraction,
 }
 
-/// The least refusal of a transfer whose condition holds.
+/// Returns the first refusal of a transfer whose condition holds: 202, 204, 205, 206, 207, 210, 217 or 219.
+/// The other error is out of memory.
 pub(crate) fn refusal(
     alloc: Global,
     slice: &Slice,
@@ -63,9 +70,10 @@ pub(crate) fn refusal(
     Ok(last_refusal(it, &from, stamp))
 }
 
-/// The refusals that come after the count of objects.
+/// Returns the refusals after 210: 217 or 219.
 fn last_refusal(it: &Transfer, from: &Held, stamp: Option<i64>) -> Option<Refusal>
-    ensures { result ≡ first_that_holds ((ClockOut, is_none stamp) ∷ (SameParty, is_itself it.now from.now) ∷ []) }
+    ensures { result ≡ first_that_holds ((ClockOut, is_none stamp) ∷ (SameParty, is_itself it.now from.now)
+        ∷ []) }
 {
     if stamp.is_none() {
         Some(Refusal::ClockOut)
@@ -76,9 +84,9 @@ fn last_refusal(it: &Transfer, from: &Held, stamp: Option<i64>) -> Option<Refusa
     }
 }
 
-// ---- the rights that a transfer meets
+// ---- the rights of giver and receiver
 
-/// The right of a unit that stands at a number.
+/// Returns the right of this unit that exists at a number.
 pub(crate) fn held_at(slice: &Slice, unit: u64, number: u64) -> Option<Held>
     ensures { result ≡ held_at slice.now unit number }
 {
@@ -88,7 +96,7 @@ pub(crate) fn held_at(slice: &Slice, unit: u64, number: u64) -> Option<Held>
     }
 }
 
-/// The right that an entry is, where it is one of the unit.
+/// Returns an entry as a right, if it is a right of this unit.
 fn held_in(unit: u64, number: u64, entry: &RrrRecord) -> Option<Held>
     ensures { result ≡ held_in unit number entry.now }
 {
@@ -99,7 +107,7 @@ fn held_in(unit: u64, number: u64, entry: &RrrRecord) -> Option<Held>
     }
 }
 
-/// The right that an entry is, where it is one.
+/// Returns an entry as a right, if it is one.
 fn held_of(number: u64, party: u64, class: &Class) -> Option<Held>
     ensures { result ≡ held_of number party class.now }
 {
@@ -114,14 +122,14 @@ fn held_of(number: u64, party: u64, class: &Class) -> Option<Held>
     }
 }
 
-/// The right of the type that the receiver has already.
+/// Returns the right of the same type that the receiver already has.
 fn grows_at(slice: &Slice, it: &Transfer, from: &Held) -> Option<Held>
     ensures { result ≡ grows_at slice.now it.now from.now }
 {
     held_by(slice, it.unit, it.receiver, from.right_type)
 }
 
-/// The right of a type that a party has in a unit: it has at most one.
+/// Returns the right of a type that a party has in a unit. There is at most one.
 fn held_by(slice: &Slice, unit: u64, party: u64, right_type: RightType) -> Option<Held>
     ensures { result ≡ held_by slice.now unit party right_type }
 {
@@ -143,21 +151,21 @@ fn is_held_by(held: &Held, party: u64, right_type: RightType) -> bool
 
 // ---- the refusals
 
-/// Whether the receiver is the holder.
+/// Returns whether the receiver is the party that gives.
 fn is_itself(it: &Transfer, from: &Held) -> bool
     ensures { result ≡ is_itself it.now from.now }
 {
     from.party == it.receiver
 }
 
-/// Whether the share is above the right's, or another receiver would have more than the whole.
+/// Returns whether the share is above that of the right, or another receiver would have more than one.
 fn is_too_large(slice: &Slice, it: &Transfer, from: &Held) -> bool
     ensures { result ≡ is_too_large slice.now it.now from.now }
 {
     is_above(it, from) || !is_itself(it, from) && grows_above_one(slice, it, from)
 }
 
-/// Whether the share is above that of the right.
+/// Returns whether the share is above that of the right.
 fn is_above(it: &Transfer, from: &Held) -> bool
     ensures { result ≡ is_above it.now from.now }
 {
@@ -167,9 +175,10 @@ fn is_above(it: &Transfer, from: &Held) -> bool
     }
 }
 
-/// Whether the receiver would have more than the whole.
+/// Returns whether the receiver would have more than one.
 fn grows_above_one(slice: &Slice, it: &Transfer, from: &Held) -> bool
-    ensures { result ≡ option_map_or (λ to. is_above_one (share_grown it.now to)) (grows_at slice.now it.now from.now) false }
+    ensures { result ≡ option_map_or (λ to. is_above_one (share_grown it.now to))
+        (grows_at slice.now it.now from.now) false }
 {
     match grows_at(slice, it, from) {
         Some(to) => is_above_one(to.share.plus(it.share)),
@@ -177,7 +186,7 @@ fn grows_above_one(slice: &Slice, it: &Transfer, from: &Held) -> bool
     }
 }
 
-/// Whether a sum of two shares is above one; it is never zero.
+/// Returns whether a sum of two shares is above one. Such a sum is never zero.
 fn is_above_one(share: Result<Fraction, FractionFault>) -> bool
     ensures { result ≡ is_above_one share }
 {
@@ -187,7 +196,7 @@ fn is_above_one(share: Result<Fraction, FractionFault>) -> bool
     }
 }
 
-/// Whether a changed share has too fine a denominator.
+/// Returns whether the denominator of a changed share is above 1,000,000,000.
 fn is_too_fine(share: Result<Fraction, FractionFault>) -> bool
     ensures { result ≡ is_too_fine share }
 {
@@ -197,9 +206,10 @@ fn is_too_fine(share: Result<Fraction, FractionFault>) -> bool
     }
 }
 
-/// Whether what the receiver would have is too fine.
+/// Returns whether the denominator of the receiver's new share is above 1,000,000,000.
 fn grows_too_fine(slice: &Slice, it: &Transfer, from: &Held) -> bool
-    ensures { result ≡ option_map_or (λ to. is_too_fine (share_grown it.now to)) (grows_at slice.now it.now from.now) false }
+    ensures { result ≡ option_map_or (λ to. is_too_fine (share_grown it.now to))
+        (grows_at slice.now it.now from.now) false }
 {
     match grows_at(slice, it, from) {
         Some(to) => is_too_fine(to.share.plus(it.share)),
@@ -207,7 +217,7 @@ fn grows_too_fine(slice: &Slice, it: &Transfer, from: &Held) -> bool
     }
 }
 
-/// Whether a changed share is too fine, or the unit is checked and the shares of the type would be.
+/// Returns whether a changed share is too fine, or the unit is checked and its shares of the type would be.
 fn are_too_fine(
     alloc: Global,
     slice: &Slice,
@@ -228,7 +238,7 @@ fn are_too_fine(
     are_too_fine_after(alloc, slice, it, from)
 }
 
-/// Whether a unit that stands is checked.
+/// Returns whether a unit exists and is checked.
 pub(crate) fn is_checked(slice: &Slice, unit: u64) -> bool
     ensures { result ≡ is_checked slice.now unit }
 {
@@ -238,7 +248,8 @@ pub(crate) fn is_checked(slice: &Slice, unit: u64) -> bool
     }
 }
 
-/// Whether the shares of the type in the unit have no common denominator after the transfer.
+/// Returns whether the shares of the type in the unit have no common denominator up to 1,000,000,000 after
+/// the transfer. The only error is out of memory.
 fn are_too_fine_after(
     alloc: Global,
     slice: &Slice,
@@ -251,15 +262,16 @@ fn are_too_fine_after(
     lack_common(alloc, &changed, it.unit, from.right_type)
 }
 
-/// The slice after the transfer, but for its next number.
+/// Returns the slice after the transfer, except for its next number. The only error is out of memory.
 fn after_move(alloc: Global, slice: &Slice, it: &Transfer, from: &Held) -> Result<Slice, AllocError>
-    ensures { IfOk result (λ changed. changed ≡ after (record (move_change slice.now 0 it.now from.now) { next = slice.now.next }) slice.now) }
+    ensures { IfOk result (λ changed. changed
+        ≡ after (record (move_change slice.now 0 it.now from.now) { next = slice.now.next }) slice.now) }
 {
     let change = change_of_entries(alloc, slice, 0, it, from)?;
     slice.changed(alloc, &change)
 }
 
-/// Whether the shares of a type in a unit have no common denominator.
+/// Returns whether the shares of a type in a unit have no common denominator up to 1,000,000,000.
 fn lack_common(
     alloc: Global,
     slice: &Slice,
@@ -272,7 +284,8 @@ fn lack_common(
     Ok(common(shares.as_slice()).is_none())
 }
 
-/// Whether a right is to be made, and there is no number for it or the unit would have more than 256 entries.
+/// Returns whether the receiver needs a new right, and either no number is left for it or the unit would have
+/// more than 256 entries.
 fn are_too_many(
     alloc: Global,
     slice: &Slice,
@@ -290,14 +303,15 @@ fn are_too_many(
     is_crowded_after(alloc, slice, it, from)
 }
 
-/// Whether the unit has more than 256 entries after the transfer.
+/// Returns whether the unit has more than 256 entries after the transfer. The only error is out of memory.
 fn is_crowded_after(
     alloc: Global,
     slice: &Slice,
     it: &Transfer,
     from: &Held,
 ) -> Result<bool, AllocError>
-    ensures { IfOk result (λ is_crowded. is_crowded ≡ nat_lt 256 (rrr_count (after (move_change slice.now 0 it.now from.now) slice.now) it.now.unit)) }
+    ensures { IfOk result (λ is_crowded. is_crowded
+        ≡ nat_lt 256 (rrr_count (after (move_change slice.now 0 it.now from.now) slice.now) it.now.unit)) }
 {
     let changed = after_move(alloc, slice, it, from)?;
     Ok(256 < rrr_count(&changed, it.unit))
@@ -305,7 +319,7 @@ fn is_crowded_after(
 
 // ---- the effect
 
-/// What a transfer from a right changes.
+/// Returns the change of a transfer from a right. The only error is out of memory.
 pub(crate) fn change(
     alloc: Global,
     slice: &Slice,
@@ -313,7 +327,7 @@ pub(crate) fn change(
     it: &Transfer,
     from: &Held,
 ) -> Result<Change, AllocError>
-    requires { number_after slice.now (grows_at slice.now it.now from.now) ≤ 1_000_000_001 }
+    requires { number_after slice.now (grows_at slice.now it.now from.now) ≤ numbers_end }
     ensures { IfOk result (λ change. change ≡ move_change slice.now source it.now from.now) }
 {
     let mut change = change_of_entries(alloc, slice, source, it, from)?;
@@ -323,7 +337,7 @@ pub(crate) fn change(
     Ok(change)
 }
 
-/// What a transfer from a right changes, but for the next number.
+/// Returns the same change without its next number.
 fn change_of_entries(
     alloc: Global,
     slice: &Slice,
@@ -331,7 +345,8 @@ fn change_of_entries(
     it: &Transfer,
     from: &Held,
 ) -> Result<Change, AllocError>
-    ensures { IfOk result (λ change. change ≡ record (move_change slice.now source it.now from.now) { next = slice.now.next }) }
+    ensures { IfOk result (λ change. change
+        ≡ record (move_change slice.now source it.now from.now) { next = slice.now.next }) }
 {
     let ended = given_up(alloc, it, from)?;
     let mut rrrs = kept(alloc, source, it, from)?;
@@ -342,7 +357,7 @@ fn change_of_entries(
     Ok(change)
 }
 
-/// The right with the rest, where there is one.
+/// Returns the right with its remaining share, or nothing if no share remains.
 fn kept(
     alloc: Global,
     source: u64,
@@ -360,7 +375,7 @@ fn kept(
     }
 }
 
-/// The number of the right, where no rest is left.
+/// Returns the number of the right if no share remains, because the right ends then.
 fn given_up(alloc: Global, it: &Transfer, from: &Held) -> Result<NumberList, AllocError>
     ensures { IfOk result (λ ended. ended ≡ given_up from.now (share_left it.now from.now)) }
 {
@@ -370,7 +385,7 @@ fn given_up(alloc: Global, it: &Transfer, from: &Held) -> Result<NumberList, All
     }
 }
 
-/// Appends the receiver's right of the type as it is grown, or a new one.
+/// Appends the receiver's right with its increased share, or a new right.
 fn receive(
     rrrs: &mut Sequence<(u64, RrrRecord)>,
     slice: &Slice,
@@ -378,7 +393,8 @@ fn receive(
     it: &Transfer,
     from: &Held,
 ) -> Result<(), AllocError>
-    ensures { OnOk result (rrrs.new ≡ rrrs.old ++ received slice.now source it.now from.now (grows_at slice.now it.now from.now)) }
+    ensures { OnOk result (rrrs.new ≡ rrrs.old
+        ++ received slice.now source it.now from.now (grows_at slice.now it.now from.now)) }
 {
     let Some(to) = grows_at(slice, it, from) else {
         let entry = right_entry(it.unit, it.receiver, from.right_type, it.share, source);
@@ -391,7 +407,7 @@ fn receive(
     Ok(())
 }
 
-/// A right with its source.
+/// Returns a right as an entry, with its source.
 fn right_entry(
     unit: u64,
     party: u64,
@@ -409,7 +425,7 @@ fn right_entry(
     }
 }
 
-/// The number of the right that a transfer makes, where the receiver has none of the type.
+/// Returns the number of the new right, if the receiver has none of the type.
 pub(crate) fn made(
     alloc: Global,
     slice: &Slice,

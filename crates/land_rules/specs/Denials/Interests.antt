@@ -1,5 +1,5 @@
--- What interest a citizen or a bank has in a unit, by the entries of the unit and the names in which the citizen holds alone, and what is
--- shown by such an interest.
+-- The interest of a citizen or a bank in a unit, and the objects that it makes visible. An interest follows
+-- from the entries of the unit and from the names under which a citizen has rights.
 use Rattle.std.specs.Prelude.{◌≡◌, ◌↔◌, ℕ, Bool, true, false, not, ◌&&◌, ◌||◌, nat_eq, List, if◌then◌else◌}
 use Rattle.std.specs.FinMap.{FinMap}
 use Rattle.std.specs.List.{Contains, list_any}
@@ -19,53 +19,63 @@ use Rattle.land_core.specs.declared.rrr.RightType.TheVariants.{Ownership}
 use Rattle.land_core.specs.declared.rrr.RrrRecord.{RrrRecord}
 use Rattle.land_rules.specs.Circles.{circle_of, is_name_of}
 use Rattle.land_rules.specs.Laws.{IsSoundOrNothing}
-use Rattle.land_rules.specs.Relations.{is_mortgage, is_mutation_where, is_right, is_rrr_where, is_told_to_creditor}
+use Rattle.land_rules.specs.Relations.{is_mortgage, is_mutation_where, is_right, is_rrr_where}
+use Rattle.land_rules.specs.Relations.{is_told_to_creditor}
 use Rattle.land_rules.specs.Rules.{sees}
 use Rattle.land_rules.specs.declared.denials.interests.Interest.{Interest}
-use Rattle.land_rules.specs.declared.denials.interests.Interest.TheVariants.{Stranger, Holder, Owner, Creditor}
+use Rattle.land_rules.specs.declared.denials.interests.Interest.TheVariants.{Stranger, Holder, Owner}
+use Rattle.land_rules.specs.declared.denials.interests.Interest.TheVariants.{Creditor}
 
--- ---- an interest, by the entries of a unit
+-- ---- the interest, from the entries of a unit
 
--- entries under their numbers, and those of a unit
+-- a map of entries by number
 abbrev pub Entries : Type 0
 Entries = FinMap nat_cmp RrrRecord
 
+-- the entries of a unit
 abbrev pub entries_of : Register → (unit : ℕ) → Entries
 entries_of at unit = only (λ n e. nat_eq e.unit unit) at.rrrs
 
--- whether an entry is a right, an ownership, in one of some names; and a mortgage of which a party is the creditor
+-- whether an entry is a right under one of these names
 abbrev pub is_right_in : (is_name : ℕ → Bool) → RrrRecord → Bool
 is_right_in is_name e = is_right e.class && is_name e.party
 
+-- whether an entry is an ownership under one of these names
 abbrev pub is_ownership_in : (is_name : ℕ → Bool) → RrrRecord → Bool
 is_ownership_in is_name e = is_right_of Ownership e.class && is_name e.party
 
+-- whether an entry is a mortgage of which the party is the creditor
 abbrev pub is_mortgage_for : (party : ℕ) → RrrRecord → Bool
 is_mortgage_for party e = is_mortgage e.class && nat_eq e.party party
 
--- a citizen that has one of the rights of a unit, in one of its names, is a holder in it, and an owner if it has an ownership
+-- a citizen that has a right in a unit, under one of its names, is a holder; if one of its rights is an
+-- ownership, it is an owner
 abbrev pub interest_of_citizen : (is_name : ℕ → Bool) → Entries → Interest
 interest_of_citizen is_name entries =
-    if some (λ n e. is_right_in is_name e) entries then (if some (λ n e. is_ownership_in is_name e) entries then Owner else Holder) else Stranger
+    if some (λ n e. is_right_in is_name e) entries
+    then (if some (λ n e. is_ownership_in is_name e) entries then Owner else Holder) else Stranger
 
--- a bank that has one of the mortgages on a unit is a creditor
+-- a bank that has a mortgage on a unit is a creditor
 abbrev pub interest_of_bank : (party : ℕ) → Entries → Interest
 interest_of_bank party entries = if some (λ n e. is_mortgage_for party e) entries then Creditor else Stranger
 
--- no other role sees by such an interest
+-- the interest of a caller; roles other than citizen and bank have no such interest
 abbrev pub interest_of : (is_name : ℕ → Bool) → Caller → Entries → Interest
-interest_of is_name caller entries = if is_role caller.role Citizen then interest_of_citizen is_name entries else (if is_role caller.role Bank then interest_of_bank caller.party entries else Stranger)
+interest_of is_name caller entries =
+    if is_role caller.role Citizen then interest_of_citizen is_name entries
+    else (if is_role caller.role Bank then interest_of_bank caller.party entries else Stranger)
 
--- ---- what an interest shows
+-- ---- the objects that an interest makes visible
 
--- a unit is shown to all but strangers
+-- any interest makes the unit visible
 abbrev pub shows_unit : Interest → Bool
 shows_unit Stranger = false
 shows_unit Holder = true
 shows_unit Owner = true
 shows_unit Creditor = true
 
--- of its entries a holder is shown all but mortgages, an owner all, and a creditor all but the mortgages of others
+-- of the entries of the unit, a holder sees all except mortgages, an owner sees all, and a creditor sees all
+-- except the mortgages of other creditors
 abbrev pub shows_entry : Interest → (party : ℕ) → RrrRecord → Bool
 shows_entry Stranger party e = false
 shows_entry Holder party e = not (is_mortgage e.class)
@@ -74,25 +84,28 @@ shows_entry Creditor party e = is_told_to_creditor party e
 
 -- ---- in a register
 
--- the interest of a caller in a unit: a citizen holds in the names of its circle and of the groups of which one of it is a member
+-- the interest of a caller in a unit; the names of a citizen are the members of its circle and the groups of
+-- which one of them is a member
 abbrev pub interest_at : Register → Caller → (unit : ℕ) → Interest
-interest_at at caller unit = interest_of (is_name_of at (circle_of at caller.party)) caller (entries_of at unit)
+interest_at at caller unit =
+    interest_of (is_name_of at (circle_of at caller.party)) caller (entries_of at unit)
 
--- whether a mutation names a unit that is shown by the caller's interest in it
+-- whether a mutation refers to a unit that the caller's interest makes visible
 abbrev pub names_shown : Register → Caller → MutationRecord → Bool
 names_shown at caller m = names_where (λ unit. shows_unit (interest_at at caller unit)) m.content
 
--- whether an object is shown by an interest: a unit by the caller's in it, an entry that stands by that in its unit, a mutation that stands
--- by that in a unit that it names
+-- whether an interest makes an object visible: a unit by the interest in it; an entry that exists by the
+-- interest in its unit; a mutation that exists by the interest in a unit to which it refers
 abbrev pub is_shown_by_interest : Register → Caller → Kind → (number : ℕ) → Bool
 is_shown_by_interest at caller kind.Party number = false
 is_shown_by_interest at caller kind.Unit number = shows_unit (interest_at at caller number)
 is_shown_by_interest at caller kind.Parcel number = false
-is_shown_by_interest at caller kind.Rrr number = is_rrr_where (λ e. shows_entry (interest_at at caller e.unit) caller.party e) at number
+is_shown_by_interest at caller kind.Rrr number =
+    is_rrr_where (λ e. shows_entry (interest_at at caller e.unit) caller.party e) at number
 is_shown_by_interest at caller kind.Source number = false
 is_shown_by_interest at caller kind.Mutation number = is_mutation_where (names_shown at caller) at number
 
--- citizens and banks see units and entries so, and citizens mutations
+-- citizens and banks see units and entries by interest, and citizens see mutations by interest
 abbrev pub sees_by_interest : Role → Kind → Bool
 sees_by_interest role kind.Party = false
 sees_by_interest role kind.Unit = is_role role Citizen || is_role role Bank
@@ -101,19 +114,24 @@ sees_by_interest role kind.Rrr = is_role role Citizen || is_role role Bank
 sees_by_interest role kind.Source = false
 sees_by_interest role kind.Mutation = is_role role Citizen
 
--- in a register that is sound, or that has nothing in it, what they see is what is shown by interests
+-- in a register that is sound or empty, these roles see an object of these kinds exactly if an interest makes
+-- it visible
 abbrev pub InterestsTellSight : Type 0
-InterestsTellSight = (at : Register) → IsSoundOrNothing at → (caller : Caller) (k : Kind) (number : ℕ) → sees_by_interest caller.role k ≡ true
+InterestsTellSight = (at : Register) → IsSoundOrNothing at → (caller : Caller) (k : Kind) (number : ℕ)
+    → sees_by_interest caller.role k ≡ true
     → sees at caller k number ≡ is_shown_by_interest at caller k number
 
 -- ---- the names
 
--- these are the names in which a citizen holds, those of its circle and of the groups of which one of it is a member; of another caller
--- none need be known
+-- these are exactly the names under which a citizen has rights; for callers in other roles any list is
+-- correct
 abbrev pub AreNamesOf : Register → Caller → (names : List ℕ) → Type 0
-AreNamesOf at caller names = is_role caller.role Citizen ≡ true → (named : ℕ) → Contains names named ↔ (is_name_of at (circle_of at caller.party) named ≡ true)
+AreNamesOf at caller names = is_role caller.role Citizen ≡ true → (named : ℕ)
+    → Contains names named ↔ (is_name_of at (circle_of at caller.party) named ≡ true)
 
--- so the list of its names and the entries of a unit tell the caller's interest in it
+-- the interest of a caller follows from such a list of names and the entries of the unit
 abbrev pub NamesTellInterests : Type 0
-NamesTellInterests = (at : Register) (caller : Caller) (names : List ℕ) → AreNamesOf at caller names → (entries : Entries)
-    → interest_of (λ named. list_any (nat_eq named) names) caller entries ≡ interest_of (is_name_of at (circle_of at caller.party)) caller entries
+NamesTellInterests =
+    (at : Register) (caller : Caller) (names : List ℕ) → AreNamesOf at caller names → (entries : Entries)
+    → interest_of (λ named. list_any (nat_eq named) names) caller entries
+    ≡ interest_of (is_name_of at (circle_of at caller.party)) caller entries

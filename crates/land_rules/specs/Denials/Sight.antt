@@ -1,4 +1,4 @@
--- What is told of a view, by what is in sight alone.
+-- The verdict on the view of an object, given whether the object is visible.
 use Rattle.std.specs.Prelude.{◌≡◌, ℕ, Bool, true, false, ◌&&◌, ◌||◌, if◌then◌else◌}
 use Rattle.land_core.specs.Register.{stands}
 use Rattle.land_core.specs.Role.{is_role}
@@ -7,14 +7,15 @@ use Rattle.land_core.specs.declared.kind.Kind.{Kind}
 use Rattle.land_core.specs.declared.kind.Kind.TheVariants as kind
 use Rattle.land_core.specs.declared.register.Register.{Register}
 use Rattle.land_core.specs.declared.role.Role.{Role}
-use Rattle.land_core.specs.declared.role.Role.TheVariants.{Bank, CertifiedSurveyor, Conveyancer, Notary, StateAdministrator}
+use Rattle.land_core.specs.declared.role.Role.TheVariants.{Bank, CertifiedSurveyor, Conveyancer, Notary}
+use Rattle.land_core.specs.declared.role.Role.TheVariants.{StateAdministrator}
 use Rattle.land_rules.specs.Laws.{IsSoundOrNothing, is_itself, rule_of_role}
 use Rattle.land_rules.specs.Relations.{has_lodged, is_lodger_on, is_rrr_where}
 use Rattle.land_rules.specs.Rules.{first_denial, sees, view_rules}
 use Rattle.land_rules.specs.declared.verdict.Verdict.{Verdict}
 use Rattle.land_rules.specs.declared.verdict.Verdict.TheVariants.{Allowed, Denied}
 
--- a conveyancer that views a unit
+-- whether a conveyancer views a unit
 abbrev pub is_unit_of_conveyancer : Role → Kind → Bool
 is_unit_of_conveyancer role kind.Party = false
 is_unit_of_conveyancer role kind.Unit = is_role role Conveyancer
@@ -23,18 +24,21 @@ is_unit_of_conveyancer role kind.Rrr = false
 is_unit_of_conveyancer role kind.Source = false
 is_unit_of_conveyancer role kind.Mutation = false
 
--- what is in sight is shown. What is not is denied by the rule of the caller's role and the kind, but for two cases, in which it is
--- rule 27: a caller looks for itself, and a conveyancer for a unit that its own undecided mutation names
+-- a visible object is allowed. The rule of the caller's role and the kind denies every other object, but two
+-- cases get rule 27: a caller that views itself, and a conveyancer's unit to which its own undecided mutation
+-- refers
 abbrev pub told_by : (in_sight awaited : Bool) → Caller → Kind → (number : ℕ) → Verdict
 told_by in_sight awaited caller k number = if in_sight then Allowed
-    else Denied (if is_unit_of_conveyancer caller.role k && awaited || is_itself caller k number then 27 else rule_of_role caller.role k)
+    else Denied (if is_unit_of_conveyancer caller.role k && awaited || is_itself caller k number then 27
+    else rule_of_role caller.role k)
 
--- so the verdict on a view follows from the sight of a register that is sound, or that has nothing in it
+-- in a register that is sound or empty, the verdict on a view follows from the visibility of the object
 abbrev pub SightTellsVerdicts : Type 0
 SightTellsVerdicts = (at : Register) → IsSoundOrNothing at → (caller : Caller) (k : Kind) (number : ℕ)
-    → first_denial (view_rules at caller k number) ≡ told_by (sees at caller k number) (is_lodger_on at caller.party number) caller k number
+    → first_denial (view_rules at caller k number)
+    ≡ told_by (sees at caller k number) (is_lodger_on at caller.party number) caller k number
 
--- parcels are shown to all, and notaries and state administrators are shown all
+-- all roles see all parcels, and notaries and state administrators see all objects of all kinds
 abbrev pub sees_all : Role → Kind → Bool
 sees_all role kind.Party = is_role role Notary || is_role role StateAdministrator
 sees_all role kind.Unit = is_role role Notary || is_role role StateAdministrator
@@ -43,25 +47,28 @@ sees_all role kind.Rrr = is_role role Notary || is_role role StateAdministrator
 sees_all role kind.Source = is_role role Notary || is_role role StateAdministrator
 sees_all role kind.Mutation = is_role role Notary || is_role role StateAdministrator
 
--- who is shown all objects of a kind sees each that stands, and no other
+-- a role that sees all objects of a kind sees exactly the objects that exist
 abbrev pub AllThatStandsIsSeen : Type 0
-AllThatStandsIsSeen = (at : Register) (caller : Caller) (k : Kind) (number : ℕ) → sees_all caller.role k ≡ true → sees at caller k number ≡ stands at k number
+AllThatStandsIsSeen = (at : Register) (caller : Caller) (k : Kind) (number : ℕ)
+    → sees_all caller.role k ≡ true → sees at caller k number ≡ stands at k number
 
--- banks, conveyancers and certified surveyors are shown the mutations that they lodged
+-- banks, conveyancers and certified surveyors see the mutations that they lodged
 abbrev pub sees_own_lodgings : Role → Kind → Bool
 sees_own_lodgings role kind.Party = false
 sees_own_lodgings role kind.Unit = false
 sees_own_lodgings role kind.Parcel = false
 sees_own_lodgings role kind.Rrr = false
 sees_own_lodgings role kind.Source = false
-sees_own_lodgings role kind.Mutation = is_role role Bank || is_role role Conveyancer || is_role role CertifiedSurveyor
+sees_own_lodgings role kind.Mutation =
+    is_role role Bank || is_role role Conveyancer || is_role role CertifiedSurveyor
 
--- such a caller sees a mutation exactly where it stands and the caller lodged it, be it decided or not
+-- such a caller sees a mutation exactly if it exists and the caller lodged it, decided or not
 abbrev pub LodgersSeeTheirOwn : Type 0
-LodgersSeeTheirOwn = (at : Register) (caller : Caller) (k : Kind) (number : ℕ) → sees_own_lodgings caller.role k ≡ true
+LodgersSeeTheirOwn =
+    (at : Register) (caller : Caller) (k : Kind) (number : ℕ) → sees_own_lodgings caller.role k ≡ true
     → sees at caller k number ≡ has_lodged at caller.party number
 
--- conveyancers are shown units, and entries, by what they await
+-- conveyancers see units and entries by their undecided mutations
 abbrev pub sees_by_awaiting : Role → Kind → Bool
 sees_by_awaiting role kind.Party = false
 sees_by_awaiting role kind.Unit = is_role role Conveyancer
@@ -70,7 +77,8 @@ sees_by_awaiting role kind.Rrr = is_role role Conveyancer
 sees_by_awaiting role kind.Source = false
 sees_by_awaiting role kind.Mutation = false
 
--- a unit that stands and that an undecided mutation of the caller names, and an entry of a unit that it names
+-- a unit that exists and to which an undecided mutation of the caller refers, and the entries of a unit to
+-- which one refers
 abbrev pub is_awaited : Register → Caller → Kind → (number : ℕ) → Bool
 is_awaited at caller kind.Party number = false
 is_awaited at caller kind.Unit number = is_lodger_on at caller.party number && stands at kind.Unit number
@@ -79,7 +87,8 @@ is_awaited at caller kind.Rrr number = is_rrr_where (λ e. is_lodger_on at calle
 is_awaited at caller kind.Source number = false
 is_awaited at caller kind.Mutation number = false
 
--- in a register that is sound, or that has nothing in it, this is what they see of units and entries
+-- in a register that is sound or empty, a conveyancer sees exactly these units and entries
 abbrev pub WhatIsAwaitedIsSeen : Type 0
-WhatIsAwaitedIsSeen = (at : Register) → IsSoundOrNothing at → (caller : Caller) (k : Kind) (number : ℕ) → sees_by_awaiting caller.role k ≡ true
+WhatIsAwaitedIsSeen = (at : Register) → IsSoundOrNothing at → (caller : Caller) (k : Kind) (number : ℕ)
+    → sees_by_awaiting caller.role k ≡ true
     → sees at caller k number ≡ is_awaited at caller k number

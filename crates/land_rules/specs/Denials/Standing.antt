@@ -1,4 +1,4 @@
--- What the standing rules look at.
+-- The evidence: the records that the standing rules read.
 use Rattle.std.specs.Prelude.{◌≡◌, ℕ, Bool, Option, None, Some, IfSome, nat_eq}
 use Rattle.std.specs.FinMap as map
 use Rattle.std.specs.FinMap.{FinMap}
@@ -20,7 +20,7 @@ use Rattle.land_core.specs.declared.register.Register.{Register}
 use Rattle.land_core.specs.declared.rrr.RrrRecord.{RrrRecord}
 use Rattle.land_rules.specs.Rules.{first_denial, standing_rules}
 
--- the entry that a discharge names
+-- the entry to which a discharge refers
 abbrev pub entry_of_content : Content → Option ℕ
 entry_of_content (content.Transfer it) = None
 entry_of_content (content.Subdivision it) = None
@@ -28,6 +28,7 @@ entry_of_content (content.Merger it) = None
 entry_of_content (content.Mortgage it) = None
 entry_of_content (content.Discharge it) = Some it.mortgage
 
+-- the same for an act
 abbrev pub entry_of_act : Act → Option ℕ
 entry_of_act (act.Enrol it) = None
 entry_of_act (act.Group it) = None
@@ -43,7 +44,7 @@ entry_of_act (act.Lodge it) = entry_of_content it.content
 entry_of_act (act.Approve it) = None
 entry_of_act (act.Refuse it) = None
 
--- the mutation that is approved or refused
+-- the mutation that an act approves or refuses
 abbrev pub mutation_of_act : Act → Option ℕ
 mutation_of_act (act.Enrol it) = None
 mutation_of_act (act.Group it) = None
@@ -59,40 +60,43 @@ mutation_of_act (act.Lodge it) = None
 mutation_of_act (act.Approve it) = Some it.mutation
 mutation_of_act (act.Refuse it) = Some it.mutation
 
--- of what is asked, which is no act where something is to be seen
+-- the entry that a request would discharge; a request that only reads has none
 abbrev pub discharged : Ask → Option ℕ
 discharged (ask.View k number moment) = None
 discharged (ask.List k moment) = None
 discharged (ask.Sheet unit moment) = None
 discharged (ask.Do it) = entry_of_act it
 
+-- the mutation that a request would decide; a request that only reads has none
 abbrev pub decided : Ask → Option ℕ
 decided (ask.View k number moment) = None
 decided (ask.List k moment) = None
 decided (ask.Sheet unit moment) = None
 decided (ask.Do it) = mutation_of_act it
 
--- this evidence is enough to judge who asks: it has the caller, the role that it names, the entry that it would discharge and the mutation
--- that it would decide, each as the register has it
+-- evidence is sufficient for a request if it agrees with the register on the caller, on the role that it
+-- claims, on the entry that it would discharge and on the mutation that it would decide
 pub record IsEnough (evidence now : Register) (caller : Caller) (a : Ask) : Type 0 where
   pub party : stands evidence kind.Party caller.party ≡ stands now kind.Party caller.party
   pub role : holds evidence caller.party caller.role ≡ holds now caller.party caller.role
   pub entry : IfSome (discharged a) (λ n. map.get evidence.rrrs n ≡ map.get now.rrrs n)
   pub mutation : IfSome (decided a) (λ n. map.get evidence.mutations n ≡ map.get now.mutations n)
 
--- so the standing rules deny by such evidence what they deny by the whole register, by the same rule
+-- from sufficient evidence, the first standing rule that denies is the same as from the whole register
 abbrev pub EvidenceIsEnough : Type 0
-EvidenceIsEnough = (evidence now : Register) (caller : Caller) (a : Ask) (past : Bool) → IsEnough evidence now caller a
+EvidenceIsEnough =
+    (evidence now : Register) (caller : Caller) (a : Ask) (past : Bool) → IsEnough evidence now caller a
     → first_denial (standing_rules evidence caller a past) ≡ first_denial (standing_rules now caller a past)
 
--- at most one record, under a number if there is one
+-- a map that has at most one record, under its number
 abbrev pub one_at : {V : Type 0} → Option ℕ → Option V → FinMap nat_cmp V
 one_at None found = map.empty
 one_at (Some n) None = map.empty
 one_at (Some n) (Some value) = map.insert map.empty n value
 
--- the evidence: the records as they are looked up one by one, and no others
-abbrev pub evidence_of : Caller → Ask → Option PartyRecord → Grants → Option RrrRecord → Option MutationRecord → Register
+-- the evidence that consists of exactly these records
+abbrev pub evidence_of : Caller → Ask → Option PartyRecord → Grants → Option RrrRecord → Option MutationRecord
+    → Register
 evidence_of caller a party roles entry mutation = record nothing {
   parties = one_at (Some caller.party) party;
   roles = roles;
@@ -100,14 +104,19 @@ evidence_of caller a party roles entry mutation = record nothing {
   mutations = one_at (decided a) mutation;
 }
 
--- what was looked up is what the register has: the caller with its roles, and what the ask names
-pub record AreLookedUp (now : Register) (caller : Caller) (a : Ask) (party : Option PartyRecord) (roles : Grants) (entry : Option RrrRecord) (mutation : Option MutationRecord) : Type 0 where
+-- the records are the register's: the caller with its roles, and the entry and the mutation to which the
+-- request refers
+pub record AreLookedUp (now : Register) (caller : Caller) (a : Ask) (party : Option PartyRecord)
+    (roles : Grants) (entry : Option RrrRecord) (mutation : Option MutationRecord) : Type 0 where
   pub party_is : party ≡ map.get now.parties caller.party
   pub roles_are : roles ≡ only (λ grant u. nat_eq grant.party caller.party) now.roles
   pub entry_is : IfSome (discharged a) (λ n. entry ≡ map.get now.rrrs n)
   pub mutation_is : IfSome (decided a) (λ n. mutation ≡ map.get now.mutations n)
 
--- so this evidence is enough
+-- evidence from such records is sufficient
 abbrev pub LookedUpIsEnough : Type 0
-LookedUpIsEnough = (now : Register) (caller : Caller) (a : Ask) (party : Option PartyRecord) (roles : Grants) (entry : Option RrrRecord) (mutation : Option MutationRecord)
-    → AreLookedUp now caller a party roles entry mutation → IsEnough (evidence_of caller a party roles entry mutation) now caller a
+LookedUpIsEnough =
+    (now : Register) (caller : Caller) (a : Ask) (party : Option PartyRecord) (roles : Grants)
+    (entry : Option RrrRecord) (mutation : Option MutationRecord)
+    → AreLookedUp now caller a party roles entry mutation
+    → IsEnough (evidence_of caller a party roles entry mutation) now caller a

@@ -1,4 +1,4 @@
-//! The evidence: the records by which who asks is judged.
+//! The evidence: the few records from which the standing rules are decided.
 ghost use Rattle.std.specs.Prelude.{◌≡◌, Some, IfOk};
 ghost use Rattle.land_rules.specs.Denials.Standing.{evidence_of, one_at};
 
@@ -13,7 +13,7 @@ use land_core::roles::Roles;
 use land_core::rrr::RrrRecord;
 use std::alloc::{AllocError, Global};
 
-/// At most one record, under a number if there is one.
+/// Returns a map that has at most one record, under its number.
 fn one_at<V: Drop>(
     alloc: Global,
     number: Option<u64>,
@@ -28,8 +28,9 @@ fn one_at<V: Drop>(
     Ok(records)
 }
 
-/// The evidence as a register, of the records that are looked up to judge who asks: the caller and its roles, the entry that the ask would
-/// discharge and the mutation that it would decide.
+/// Returns the evidence as a register. It has the records that were read by key: the caller with its roles,
+/// the entry that the request would discharge, and the mutation that it would decide. The only error is out
+/// of memory.
 pub fn evidence_of(
     alloc: Global,
     caller: Caller,

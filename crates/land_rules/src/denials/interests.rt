@@ -1,9 +1,12 @@
-//! What interest a citizen or a bank has in a unit, by the entries of the unit, and what is shown by it. A citizen holds in its own name
-//! and in those of its groups: one list of names says which.
+//! The interest of a citizen or a bank in a unit, and the objects that it makes visible. An interest follows
+//! from the entries of the unit. A citizen has rights under its own name and under the names of its groups,
+//! so these functions take a list of names.
 ghost use Rattle.std.specs.List.{list_any};
 ghost use Rattle.std.specs.Prelude.{◌≡◌, nat_eq};
 ghost use Rattle.land_core.specs.Entries.{some};
-ghost use Rattle.land_rules.specs.Denials.Interests.{interest_of, interest_of_bank, interest_of_citizen, is_mortgage_for, is_ownership_in, is_right_in, sees_by_interest};
+ghost use Rattle.land_rules.specs.Denials.Interests.{interest_of, interest_of_bank, interest_of_citizen};
+ghost use Rattle.land_rules.specs.Denials.Interests.{is_mortgage_for, is_ownership_in, is_right_in};
+ghost use Rattle.land_rules.specs.Denials.Interests.{sees_by_interest};
 ghost use Rattle.land_rules.specs.Relations.{is_mortgage, is_told_to_creditor};
 
 use land_core::caller::Caller;
@@ -15,11 +18,11 @@ use land_core::rrr::{Class, RightType, RrrRecord};
 /// The interest of a citizen or a bank in a unit.
 #[derive(Clone, Copy, Debug)]
 pub enum Interest {
-    /// It has none.
+    /// There is none.
     Stranger,
-    /// A citizen has a right in it, itself or through a group, but no ownership.
+    /// A citizen has a right in it, directly or through a group, but no ownership.
     Holder,
-    /// A citizen owns it or a share of it, itself or through a group.
+    /// A citizen owns it or a share of it, directly or through a group.
     Owner,
     /// A bank is the creditor of a mortgage on it.
     Creditor,
@@ -28,7 +31,7 @@ pub enum Interest {
 impl Interest {
     ghost use Rattle.land_rules.specs.Denials.Interests.{shows_entry, shows_unit};
 
-    /// Whether the unit is shown.
+    /// Returns whether this interest makes the unit visible.
     pub fn shows_unit(self) -> bool
         ensures { result ≡ shows_unit self }
     {
@@ -38,7 +41,7 @@ impl Interest {
         }
     }
 
-    /// Whether an entry of the unit is shown to the party that has this interest.
+    /// Returns whether this interest of `party` makes an entry of the unit visible.
     pub fn shows_entry(self, party: u64, entry: &RrrRecord) -> bool
         ensures { result ≡ shows_entry self party entry.now }
     {
@@ -51,7 +54,8 @@ impl Interest {
     }
 }
 
-/// Whether a role sees the objects of a kind by its interest in their units, or in the units that they name.
+/// Returns whether a role sees the objects of a kind by its interest in their units or, for mutations, in the
+/// units that they refer to.
 pub fn sees_by_interest(role: Role, kind: Kind) -> bool
     ensures { result ≡ sees_by_interest role kind }
 {
@@ -105,7 +109,8 @@ fn has_right(names: &[u64], entries: &Records<RrrRecord>) -> bool
 }
 
 fn has_ownership(names: &[u64], entries: &Records<RrrRecord>) -> bool
-    ensures { result ≡ some (λ n e. is_ownership_in (λ named. list_any (nat_eq named) names.now) e) entries.now }
+    ensures { result ≡ some (λ n e. is_ownership_in
+        (λ named. list_any (nat_eq named) names.now) e) entries.now }
 {
     entries
         .iter()
@@ -142,7 +147,8 @@ fn interest_of_bank(party: u64, entries: &Records<RrrRecord>) -> Interest
     }
 }
 
-/// The interest of a caller in a unit, by the entries of the unit and, where the caller is a citizen, the names in which it holds.
+/// Returns the interest of a caller in a unit with these entries. `names` are the names under which a citizen
+/// has rights; for other roles they are not read.
 pub fn interest_of(caller: Caller, names: &[u64], entries: &Records<RrrRecord>) -> Interest
     ensures { result ≡ interest_of (λ named. list_any (nat_eq named) names.now) caller entries.now }
 {

@@ -1,7 +1,8 @@
-//! The verdict on a view, by what is in sight.
+//! The verdict on the view of an object, given whether the object is visible.
 ghost use Rattle.std.specs.Prelude.{◌≡◌};
 ghost use Rattle.land_core.specs.declared.role.Role.TheVariants as roles;
-ghost use Rattle.land_rules.specs.Denials.Sight.{is_unit_of_conveyancer, sees_all, sees_by_awaiting, sees_own_lodgings, told_by};
+ghost use Rattle.land_rules.specs.Denials.Sight.{is_unit_of_conveyancer, sees_all, sees_by_awaiting};
+ghost use Rattle.land_rules.specs.Denials.Sight.{sees_own_lodgings, told_by};
 ghost use Rattle.land_rules.specs.Laws.{is_itself, rule_of_role};
 
 use crate::verdict::Verdict;
@@ -9,14 +10,16 @@ use land_core::caller::Caller;
 use land_core::kind::Kind;
 use land_core::role::Role;
 
-/// Whether a role is shown all objects of a kind: all are shown the parcels, and notaries and state administrators are shown all.
+/// Returns whether a role sees all objects of a kind. All roles see the parcels; notaries and state
+/// administrators see everything.
 pub fn sees_all(role: Role, kind: Kind) -> bool
     ensures { result ≡ sees_all role kind }
 {
     kind == Kind::Parcel || role == Role::Notary || role == Role::StateAdministrator
 }
 
-/// Whether a role is shown of the objects of a kind those that the caller lodged: so banks, conveyancers and certified surveyors see mutations.
+/// Returns whether a role sees the objects of a kind only if the caller lodged them. Banks, conveyancers and
+/// certified surveyors see mutations by this rule.
 pub fn sees_own_lodgings(role: Role, kind: Kind) -> bool
     ensures { result ≡ sees_own_lodgings role kind }
 {
@@ -24,14 +27,16 @@ pub fn sees_own_lodgings(role: Role, kind: Kind) -> bool
         && (role == Role::Bank || role == Role::Conveyancer || role == Role::CertifiedSurveyor)
 }
 
-/// Whether a role is shown the objects of a kind by what the caller awaits: so conveyancers see units and entries, by their undecided mutations.
+/// Returns whether a role sees the objects of a kind by its undecided mutations. Conveyancers see units and
+/// entries by this rule.
 pub fn sees_by_awaiting(role: Role, kind: Kind) -> bool
     ensures { result ≡ sees_by_awaiting role kind }
 {
     (kind == Kind::Unit || kind == Kind::Rrr) && role == Role::Conveyancer
 }
 
-/// The verdict on a view of an object that is in sight or is not; `awaited` says whether an undecided mutation of the caller names it.
+/// Returns the verdict on the view of an object. `in_sight` is whether the object is visible, and `awaited`
+/// is whether an undecided mutation of the caller refers to it.
 pub fn view_verdict(
     in_sight: bool,
     awaited: bool,
@@ -52,21 +57,22 @@ pub fn view_verdict(
     }
 }
 
-/// Whether a conveyancer views a unit, which an undecided mutation of its own may name.
+/// Returns whether a conveyancer views a unit. An undecided mutation of the caller may refer to the unit, and
+/// then another rule denies.
 pub fn is_unit_of_conveyancer(role: Role, kind: Kind) -> bool
     ensures { result ≡ is_unit_of_conveyancer role kind }
 {
     kind == Kind::Unit && role == Role::Conveyancer
 }
 
-/// Whether a caller looks for itself.
+/// Returns whether a caller views the party that it is itself.
 fn is_itself(caller: Caller, kind: Kind, number: u64) -> bool
     ensures { result ≡ is_itself caller kind number }
 {
     kind == Kind::Party && number == caller.party
 }
 
-/// The rule that denies a role the view of what is out of its sight.
+/// Returns the number of the rule that denies a role the view of an object that is not visible.
 fn rule_of_role(role: Role, kind: Kind) -> u8
     ensures { result ≡ rule_of_role role kind }
 {

@@ -1,6 +1,7 @@
-//! The standing rules, judged by the evidence.
+//! The standing rules, decided from the evidence.
 ghost use Rattle.std.specs.Prelude.{◌≡◌};
-ghost use Rattle.land_rules.specs.Denials.Standing.{decided, discharged, entry_of_act, entry_of_content, mutation_of_act};
+ghost use Rattle.land_rules.specs.Denials.Standing.{decided, discharged, entry_of_act, entry_of_content};
+ghost use Rattle.land_rules.specs.Denials.Standing.{mutation_of_act};
 ghost use Rattle.land_rules.specs.Rules.{first_denial, standing_rules};
 
 use crate::rules::verdict;
@@ -12,7 +13,7 @@ use land_core::content::Content;
 use land_core::kind::Kind;
 use land_core::register::Register;
 
-/// The entry that what is asked would discharge, if any.
+/// Returns the number of the entry that a request would discharge, if there is one.
 pub fn discharged(ask: &Ask) -> Option<u64>
     ensures { result ≡ discharged ask.now }
 {
@@ -37,7 +38,7 @@ fn entry_of_act(act: &Act) -> Option<u64>
     }
 }
 
-/// The mutation that what is asked would approve or refuse, if any.
+/// Returns the number of the mutation that a request would approve or refuse, if there is one.
 pub fn decided(ask: &Ask) -> Option<u64>
     ensures { result ≡ decided ask.now }
 {
@@ -47,7 +48,8 @@ pub fn decided(ask: &Ask) -> Option<u64>
     }
 }
 
-/// The least standing rule that denies an ask, by a register or by the evidence that is enough.
+/// Returns the first standing rule that denies a request. `now` is the register now, or sufficient evidence
+/// of it.
 pub fn standing_verdict(now: &Register, caller: Caller, ask: &Ask, past: bool) -> Verdict
     ensures { result ≡ first_denial (standing_rules now.now caller ask.now past) }
 {

@@ -1,9 +1,11 @@
-//! What a caller holds and lodged in a register. A list collects it once, in passes over the entries and the mutations, and
-//! then asks for each object.
+//! The holdings and lodgings of a caller in a register. A list collects them once, in passes over the entries
+//! and the mutations; then it decides on each object with lookups.
 ghost use Rattle.std.specs.Prelude.{◌≡◌, ℕ, ◌||◌, nat_eq, IfOk, OnOk};
 ghost use Rattle.land_core.specs.Contents.{names_unit};
 ghost use Rattle.land_core.specs.Mergers.{lists_number};
-ghost use Rattle.land_rules.specs.Holdings.{AreHoldings, AreLodgedOn, AreNames, AreOfInterest, gives_interest, has_interest_by, has_member_among, has_number, is_name_among};
+ghost use Rattle.land_rules.specs.Holdings.{AreHoldings, AreLodgedOn, AreNames, AreOfInterest};
+ghost use Rattle.land_rules.specs.Holdings.{gives_interest, has_interest_by, has_member_among, has_number};
+ghost use Rattle.land_rules.specs.Holdings.{is_name_among};
 ghost use Rattle.land_rules.specs.declared.rules.holdings.Interest.TheVariants as interests;
 
 use crate::circles::circle_of;
@@ -18,34 +20,35 @@ use land_core::rrr::{Class, RightType, RrrRecord};
 use std::alloc::{AllocError, Global};
 use std::collections::BTreeSet;
 
-/// An interest of a party in a unit.
+/// The kind of interest of a party in a unit.
 #[derive(Clone, Copy)]
 enum Interest {
-    /// A right that it holds.
+    /// The party has a right in it.
     Holder,
-    /// An ownership that it holds.
+    /// The party has an ownership in it.
     Owner,
-    /// A mortgage of which it is the creditor.
+    /// The party is the creditor of a mortgage on it.
     Creditor,
 }
 
-/// The units in which a caller has an interest or on which it lodged, as far as the sight of its role depends on them.
+/// The units in which a caller has an interest, or to which its mutations refer. Only the sets that the
+/// caller's role needs are filled.
 #[derive(Drop)]
 pub(crate) struct Holdings {
-    /// A citizen's: the names of its circle, and of the groups that have one of it for a member.
+    /// Of a citizen: the members of its circle, and the groups of which one of them is a member.
     pub(crate) names: BTreeSet<u64>,
-    /// A citizen's: the units in which one of its circle is a holder.
+    /// Of a citizen: the units in which a member of its circle is a holder.
     pub(crate) held: BTreeSet<u64>,
-    /// A citizen's: the units in which one of its circle is an owner.
+    /// Of a citizen: the units in which a member of its circle is an owner.
     pub(crate) owned: BTreeSet<u64>,
-    /// A bank's: the units on which it is a creditor.
+    /// Of a bank: the units on which it is a creditor.
     pub(crate) credited: BTreeSet<u64>,
-    /// A conveyancer's: the units that its undecided mutations name. They need not stand.
+    /// Of a conveyancer: the units to which its undecided mutations refer. They need not exist.
     pub(crate) lodged_on: BTreeSet<u64>,
 }
 
 impl Holdings {
-    /// The holdings of a caller.
+    /// Collects the holdings of a caller. The only error is out of memory.
     pub(crate) fn of(alloc: Global, at: &Register, caller: Caller) -> Result<Holdings, AllocError>
         ensures { IfOk result (λ it. AreHoldings at.now caller it) }
     {
@@ -73,7 +76,8 @@ impl Holdings {
     }
 }
 
-/// The names in which a citizen has rights: those of its circle, and of the groups that have one of it for a member.
+/// Returns the names under which a citizen has rights: the members of its circle, and the groups of which one
+/// of them is a member.
 fn names_of_citizen(alloc: Global, at: &Register, party: u64) -> Result<BTreeSet<u64>, AllocError>
     ensures { IfOk result (λ it. AreNames interests.Holder at.now party it) }
 {
@@ -81,9 +85,10 @@ fn names_of_citizen(alloc: Global, at: &Register, party: u64) -> Result<BTreeSet
     names_of(at, &circle)
 }
 
-/// The names of some parties, and of the groups that have one of them for a member.
+/// Returns some parties, and the groups of which one of them is a member.
 fn names_of(at: &Register, parties: &BTreeSet<u64>) -> Result<BTreeSet<u64>, AllocError>
-    ensures { IfOk result (λ it. (named : ℕ) → has_number it named ≡ is_name_among at.now (has_number parties.now) named) }
+    ensures { IfOk result (λ it. (named : ℕ)
+        → has_number it named ≡ is_name_among at.now (has_number parties.now) named) }
 {
     let mut names = parties.clone()?;
     for (group, members) in at.members.iter() {
@@ -94,14 +99,14 @@ fn names_of(at: &Register, parties: &BTreeSet<u64>) -> Result<BTreeSet<u64>, All
     Ok(names)
 }
 
-/// Whether one of some parties is among the members of a group.
+/// Returns whether one of these parties is a member of a group.
 fn has_member_among(members: &Members, parties: &BTreeSet<u64>) -> bool
     ensures { result ≡ has_member_among (has_number parties.now) members.now }
 {
     members.iter().any(|(party, _)| parties.contains(party))
 }
 
-/// The name in which a bank is a creditor: its own.
+/// Returns the name under which a bank is a creditor: its own.
 fn names_of_bank(alloc: Global, party: u64) -> Result<BTreeSet<u64>, AllocError>
     ensures { IfOk result (λ it. (named : ℕ) → has_number it named ≡ nat_eq named party) }
 {
@@ -110,14 +115,15 @@ fn names_of_bank(alloc: Global, party: u64) -> Result<BTreeSet<u64>, AllocError>
     Ok(names)
 }
 
-/// The units that stand and in which entries in some names give the interest to whoever has these names.
+/// Returns the units that exist and in which an entry under one of these names gives the interest.
 fn units_of_interest(
     alloc: Global,
     at: &Register,
     names: &BTreeSet<u64>,
     interest: Interest,
 ) -> Result<BTreeSet<u64>, AllocError>
-    ensures { IfOk result (λ it. (party : ℕ) → AreNames interest at.now party names.now → AreOfInterest interest at.now party it) }
+    ensures { IfOk result (λ it. (party : ℕ) → AreNames interest at.now party names.now
+        → AreOfInterest interest at.now party it) }
 {
     let mut units = BTreeSet::new(alloc);
     for (_, entry) in at.rrrs.iter() {
@@ -128,7 +134,7 @@ fn units_of_interest(
     Ok(units)
 }
 
-/// Whether an entry in one of some names gives the interest in its unit, which stands, to whoever has these names.
+/// Returns whether the unit of an entry exists and the entry gives the interest under one of these names.
 fn has_interest_by(
     at: &Register,
     names: &BTreeSet<u64>,
@@ -142,7 +148,7 @@ fn has_interest_by(
         && names.contains(&entry.party)
 }
 
-/// Whether entries of a class give the interest.
+/// Returns whether entries of a class give the interest.
 fn gives_interest(interest: Interest, class: &Class) -> bool
     ensures { result ≡ gives_interest interest class.now }
 {
@@ -153,7 +159,7 @@ fn gives_interest(interest: Interest, class: &Class) -> bool
     }
 }
 
-/// The units that the undecided mutations of a party name.
+/// Returns the units to which the undecided mutations of a party refer.
 fn lodged_units(alloc: Global, at: &Register, party: u64) -> Result<BTreeSet<u64>, AllocError>
     ensures { IfOk result (λ it. AreLodgedOn at.now party it) }
 {
@@ -166,9 +172,10 @@ fn lodged_units(alloc: Global, at: &Register, party: u64) -> Result<BTreeSet<u64
     Ok(units)
 }
 
-/// Puts the units that a content names among others.
+/// Inserts the units to which a content refers.
 fn insert_named(units: &mut BTreeSet<u64>, content: &Content) -> Result<(), AllocError>
-    ensures { OnOk result ((unit : ℕ) → has_number units.new unit ≡ (has_number units.old unit || names_unit unit content.now)) }
+    ensures { OnOk result ((unit : ℕ) → has_number units.new unit
+        ≡ (has_number units.old unit || names_unit unit content.now)) }
 {
     match content {
         Content::Transfer(it) => insert_unit(units, it.unit),
@@ -182,17 +189,19 @@ fn insert_named(units: &mut BTreeSet<u64>, content: &Content) -> Result<(), Allo
     }
 }
 
-/// Puts a unit among others.
+/// Inserts a unit.
 fn insert_unit(units: &mut BTreeSet<u64>, unit: u64) -> Result<(), AllocError>
-    ensures { OnOk result ((other : ℕ) → has_number units.new other ≡ (has_number units.old other || nat_eq unit other)) }
+    ensures { OnOk result ((other : ℕ) → has_number units.new other
+        ≡ (has_number units.old other || nat_eq unit other)) }
 {
     units.insert(unit)?;
     Ok(())
 }
 
-/// Puts some units among others.
+/// Inserts these units.
 fn insert_units(units: &mut BTreeSet<u64>, more: &[u64]) -> Result<(), AllocError>
-    ensures { OnOk result ((unit : ℕ) → has_number units.new unit ≡ (has_number units.old unit || lists_number more.now unit)) }
+    ensures { OnOk result ((unit : ℕ) → has_number units.new unit
+        ≡ (has_number units.old unit || lists_number more.now unit)) }
 {
     for unit in more {
         insert_unit(units, *unit)?;

@@ -1,5 +1,5 @@
-//! What a caller sees of units, entries, parties and mutations. What its sight of them depends on is collected once, then each
-//! object is asked for by look-ups.
+//! The lists of units, entries, parties and mutations that a caller sees. The holdings of the caller are
+//! collected once, then each object takes only lookups.
 ghost use Rattle.std.specs.Prelude.{◌≡◌, IfOk, true};
 ghost use Rattle.std.specs.List.{list_any};
 ghost use Rattle.land_core.specs.Contents.{names_where};
@@ -21,7 +21,7 @@ use land_core::sequence::{NumberList, Sequence};
 use std::alloc::{AllocError, Global};
 use std::collections::BTreeSet;
 
-/// The units that a caller sees, ascending.
+/// Returns the units that a caller sees, ascending. The only error is out of memory.
 pub(crate) fn units(alloc: Global, at: &Register, caller: Caller) -> Result<NumberList, AllocError>
     ensures { IfOk result (λ it. it ≡ seen_of at.now caller kind.Unit) }
 {
@@ -35,7 +35,7 @@ pub(crate) fn units(alloc: Global, at: &Register, caller: Caller) -> Result<Numb
     Ok(seen)
 }
 
-/// The entries that a caller sees, ascending.
+/// Returns the entries that a caller sees, ascending. The only error is out of memory.
 pub(crate) fn entries(
     alloc: Global,
     at: &Register,
@@ -53,7 +53,7 @@ pub(crate) fn entries(
     Ok(seen)
 }
 
-/// The parties that a caller sees, ascending.
+/// Returns the parties that a caller sees, ascending. The only error is out of memory.
 pub(crate) fn parties(
     alloc: Global,
     at: &Register,
@@ -69,14 +69,14 @@ pub(crate) fn parties(
     parties_by(alloc, at, caller, &holdings, &met)
 }
 
-/// Whether a role sees the parties of the entries in its sight.
+/// Returns whether a role sees the parties of the entries that it sees.
 fn meets_parties(caller: Caller) -> bool
     ensures { result ≡ meets_parties caller }
 {
     caller.role == Role::Citizen || caller.role == Role::Bank || caller.role == Role::Conveyancer
 }
 
-/// The parties of the entries in the sight of a caller with these holdings.
+/// Returns the parties of the entries that a caller with these holdings sees.
 fn met_parties(
     alloc: Global,
     at: &Register,
@@ -95,7 +95,7 @@ fn met_parties(
     Ok(met)
 }
 
-/// The parties that a caller with these holdings sees, which met these in the entries that it sees.
+/// Returns the parties that a caller sees, ascending. `met` are the parties of the entries that it sees.
 fn parties_by(
     alloc: Global,
     at: &Register,
@@ -117,7 +117,7 @@ fn parties_by(
     Ok(seen)
 }
 
-/// The mutations that a caller sees, ascending.
+/// Returns the mutations that a caller sees, ascending. The only error is out of memory.
 pub(crate) fn mutations(
     alloc: Global,
     at: &Register,
@@ -135,7 +135,7 @@ pub(crate) fn mutations(
     Ok(seen)
 }
 
-/// Whether a caller with these holdings sees a unit. The sight of other roles searches nothing.
+/// Returns whether a caller sees a unit. Roles without holdings need no search.
 fn sees_unit(at: &Register, caller: Caller, holdings: &Holdings, number: u64) -> bool
     requires { AreHoldings at.now caller holdings.now }
     ensures { result ≡ sees at.now caller kind.Unit number }
@@ -150,7 +150,7 @@ fn sees_unit(at: &Register, caller: Caller, holdings: &Holdings, number: u64) ->
     }
 }
 
-/// Whether a caller with these holdings sees an entry. The sight of other roles searches nothing.
+/// Returns whether a caller sees an entry. Roles without holdings need no search.
 fn sees_entry(at: &Register, caller: Caller, holdings: &Holdings, number: u64) -> bool
     requires { AreHoldings at.now caller holdings.now }
     ensures { result ≡ sees at.now caller kind.Rrr number }
@@ -203,7 +203,7 @@ fn conveyancer_sees_entry(at: &Register, caller: Caller, holdings: &Holdings, nu
     }
 }
 
-/// Whether a caller with these holdings sees a mutation. The sight of other roles searches nothing.
+/// Returns whether a caller sees a mutation. Only a citizen needs its holdings.
 fn sees_mutation(at: &Register, caller: Caller, holdings: &Holdings, number: u64) -> bool
     requires { AreHoldings at.now caller holdings.now }
     ensures { result ≡ sees at.now caller kind.Mutation number }
@@ -225,7 +225,7 @@ fn citizen_sees_mutation(at: &Register, caller: Caller, holdings: &Holdings, num
     }
 }
 
-/// Whether one of the circle of a party is a holder in one of some units.
+/// Returns whether a member of the circle of a party is a holder in one of these units.
 fn holds_some(at: &Register, party: u64, held: &BTreeSet<u64>, units: &[u64]) -> bool
     requires { AreOfInterest Holder at.now party held.now }
     ensures { result ≡ list_any (is_held_by at.now (circle_of at.now party)) units.now }
@@ -233,7 +233,7 @@ fn holds_some(at: &Register, party: u64, held: &BTreeSet<u64>, units: &[u64]) ->
     units.iter().any(|unit| held.contains(unit))
 }
 
-/// Whether a content names one of the units in which one of the circle of a party is a holder.
+/// Returns whether a content refers to a unit in which a member of the circle of a party is a holder.
 fn names_held(at: &Register, party: u64, held: &BTreeSet<u64>, content: &Content) -> bool
     requires { AreOfInterest Holder at.now party held.now }
     ensures { result ≡ names_where (is_held_by at.now (circle_of at.now party)) content.now }
@@ -249,7 +249,8 @@ fn names_held(at: &Register, party: u64, held: &BTreeSet<u64>, content: &Content
     }
 }
 
-/// Whether a number is a name of a caller with these holdings: of a citizen one in which one of its circle holds, of another its own.
+/// Returns whether a number is a name of the caller: of a citizen a name under which its circle has rights,
+/// in another role its own.
 fn is_its_name(at: &Register, caller: Caller, holdings: &Holdings, number: u64) -> bool
     requires { AreHoldings at.now caller holdings.now }
     ensures { result ≡ is_its_name caller.role at.now caller.party number }
@@ -264,7 +265,7 @@ fn is_its_name(at: &Register, caller: Caller, holdings: &Holdings, number: u64) 
     }
 }
 
-/// Whether a caller with these holdings, which met these parties in the entries that it sees, sees a party.
+/// Returns whether a caller sees a party. `met` are the parties of the entries that it sees.
 fn sees_party(
     at: &Register,
     caller: Caller,

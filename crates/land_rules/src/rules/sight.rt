@@ -1,4 +1,4 @@
-//! Sight rules: what may be seen, by the register at the asked moment.
+//! Sight rules: the visible objects, by the register at the requested time.
 ghost use Rattle.std.specs.Prelude.{◌≡◌};
 ghost use Rattle.land_rules.specs.Rules.{first_denial, view_rules};
 
@@ -14,7 +14,7 @@ mod rrr;
 mod source;
 mod unit;
 
-/// The least sight rule that denies a view.
+/// Returns the first sight rule that denies the view of an object.
 pub(crate) fn verdict(at: &Register, caller: Caller, kind: Kind, number: u64) -> Verdict
     ensures { result ≡ first_denial (view_rules at.now caller kind number) }
 {

@@ -1,4 +1,4 @@
-//! Standing rules: who may ask, by the register now.
+//! Standing rules: the rules on callers and acts, by the register now.
 ghost use Rattle.std.specs.Prelude.{◌≡◌};
 ghost use Rattle.land_rules.specs.Rules.{first_denial, standing_rules, caller_rules, is_of_the_present};
 
@@ -11,7 +11,7 @@ use land_core::role::Role;
 
 mod act;
 
-/// The least standing rule that denies an ask.
+/// Returns the first standing rule that denies a request.
 pub(crate) fn verdict(now: &Register, caller: Caller, ask: &Ask, past: bool) -> Verdict
     ensures { result ≡ first_denial (standing_rules now.now caller ask.now past) }
 {
@@ -38,7 +38,7 @@ fn caller_verdict(now: &Register, caller: Caller, past: bool) -> Verdict
     }
 }
 
-/// Whether the caller's role is told of the present alone.
+/// Returns whether the caller's role sees only the present.
 fn is_of_the_present(caller: Caller) -> bool
     ensures { result ≡ is_of_the_present caller }
 {

@@ -1,4 +1,4 @@
-//! Burdens: on a unit, and lifted.
+//! Burdens on a unit, and lifts.
 use super::Step::{self, Crowd, Row, Stands};
 use super::{FIRST, STAMP, assert_steps};
 use land_core::act::BurdenClass::{Responsibility, Restriction};
@@ -13,7 +13,7 @@ pub(super) const UNIT: Step = Row(
     "done 6 made [5, 6, 7, 8] at 1000",
 );
 
-/// A burden has ended then, and its source and the right stand.
+/// Afterwards the burden has ended, and its source and the right exist.
 const LIFTED: &[Step] = &[
     UNIT,
     Row(Burden(Restriction, 5, 1), STAMP, "refused 202"),

@@ -1,4 +1,4 @@
-//! A unit with as many entries, or parcels, as it may have.
+//! Fills a unit with the maximum number of entries or parcels.
 use land_core::parcel::ParcelRecord;
 use land_core::register::Register;
 use land_core::rrr::{Class, RrrRecord};
@@ -7,7 +7,7 @@ use land_test_cases::asked::text;
 use land_test_cases::stop::Stop;
 use std::alloc::{AllocError, Global};
 
-/// A restriction of Anna on the unit 6.
+/// Returns a restriction of Anna on unit 6.
 fn restriction(alloc: Global) -> Result<RrrRecord, AllocError> {
     Ok(RrrRecord {
         unit: 6,
@@ -19,7 +19,7 @@ fn restriction(alloc: Global) -> Result<RrrRecord, AllocError> {
     })
 }
 
-/// Puts so many restrictions into a register, under the numbers from 20 on, and makes 1000 the next number.
+/// Adds this number of restrictions to a register, numbered from 20, and sets the next number to 1000.
 pub(super) fn crowd(alloc: Global, register: &mut Register, count: u64) -> Result<bool, Stop> {
     for place in 0..count {
         register
@@ -30,7 +30,7 @@ pub(super) fn crowd(alloc: Global, register: &mut Register, count: u64) -> Resul
     Ok(true)
 }
 
-/// A square of ten metres in a row of them.
+/// Returns the text of a square of ten metres, at this place of a row of squares.
 fn square_at(alloc: Global, place: u64) -> Result<String, AllocError> {
     let left = place.saturating_mul(10_000);
     let right = left.saturating_add(10_000);
@@ -42,7 +42,7 @@ fn square_at(alloc: Global, place: u64) -> Result<String, AllocError> {
     Ok(outline)
 }
 
-/// A parcel of the unit 6, in a row of them.
+/// Returns a parcel of unit 6, at this place of a row of squares.
 fn parcel(alloc: Global, place: u64) -> Result<ParcelRecord, Stop> {
     let outline = square_at(alloc, place)?;
     Ok(ParcelRecord {
@@ -53,7 +53,7 @@ fn parcel(alloc: Global, place: u64) -> Result<ParcelRecord, Stop> {
     })
 }
 
-/// Puts so many parcels, side by side, into a register, under the numbers from 20 on, and makes 1000 the next number.
+/// Adds this number of adjacent parcels to a register, numbered from 20, and sets the next number to 1000.
 pub(super) fn crowd_parcels(
     alloc: Global,
     register: &mut Register,

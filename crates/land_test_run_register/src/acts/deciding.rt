@@ -1,4 +1,4 @@
-//! Lodging and deciding where there is hardly room: in a unit of 256 entries, and at the last numbers.
+//! Lodgings and approvals near the limits: in a unit of 256 entries, and at the last numbers.
 use super::Step::{self, Crowd, Row};
 use super::burdens::UNIT;
 use super::{FIRST, STAMP, assert_steps};
@@ -8,7 +8,7 @@ use land_test_cases::asked::RowAct::{Approve, Grant, Lift, Lodge, Refuse, Regist
 use land_test_cases::lodged::RowContent::{Mortgage, Transfer};
 use std::test::Fail;
 
-/// In a unit with a right and 255 restrictions the right moves as a whole, or grows, and no other comes.
+/// In a unit with a right and 255 restrictions, the right may move or grow, but no other may be added.
 const FULL: &[Step] = &[
     UNIT,
     Crowd(255),
@@ -57,7 +57,7 @@ fn the_whole_of_a_right_moves_in_a_unit_of_256_entries(rt: HostRuntime) -> Resul
     assert_steps(&rt, rt.alloc(), FIRST, FULL)
 }
 
-/// Unit 999999991 with right 999999993; what is lodged leaves one number.
+/// Unit 999999991 with right 999999993. The lodging leaves one number.
 const LAST_NUMBERS: &[Step] = &[
     Row(
         Register(true, 1, &[(2, Ownership, 1, 1)]),

@@ -1,4 +1,4 @@
-//! Enrolling, up to the last number and the end of time.
+//! Enrolments up to the last number and the last moment.
 use super::Step::{self, Holds, Row, Sound};
 use super::{STAMP, assert_steps};
 use land_core::kind::PartyKind::NaturalPerson;
@@ -8,7 +8,7 @@ use std::test::Fail;
 
 const ANNA: RowAct = Enrol(NaturalPerson, "Anna");
 
-/// The party with the last number is a citizen then, in a sound register.
+/// Afterwards the party with the last number is a citizen, and the register is sound.
 const STEPS: &[Step] = &[
     Row(ANNA, None, "refused 217"),
     Row(ANNA, STAMP, "done 1000000000 made [1000000000] at 1000"),

@@ -1,4 +1,4 @@
-//! Groups: made, given other members, and refused.
+//! Groups: created, given other members, and refused.
 use super::Step::{self, Has, Row, Sound};
 use super::{FIRST, STAMP, assert_steps};
 use land_test_cases::asked::RowAct::{Group, Regroup};
@@ -62,7 +62,7 @@ fn a_group_takes_the_last_number(rt: HostRuntime) -> Result<(), Fail> {
     assert_steps(&rt, rt.alloc(), LAST, LAST_NUMBER)
 }
 
-/// Anna and Sam are members then and Ben is none, in a sound register.
+/// Afterwards Anna and Sam are members, Ben is not, and the register is sound.
 const REGROUPED: &[Step] = &[
     Row(Group("All", THIRDS), STAMP, "done 5 made [5] at 1000"),
     Row(Regroup(5, HALVES), STAMP, "done 5 made [] at 1000"),

@@ -1,5 +1,5 @@
-//! Parcels that are cut and merged where there is hardly room: parts and parcels up to their counts, in a unit of 256 parcels,
-//! and at the last numbers.
+//! Subdivisions and mergers near the limits: the maximum number of parts and parcels, a unit of 256 parcels,
+//! and the last numbers.
 use super::Step::{self, Next, Parcels, Row, Sound, Stands};
 use super::burdens::UNIT;
 use super::{FIRST, STAMP, assert_steps};
@@ -12,14 +12,14 @@ use std::test::Fail;
 
 const SQUARE: &str = "POLYGON ((0 0, 10000 0, 10000 10000, 0 10000, 0 0))";
 
-/// Two squares.
+/// A rectangle of two squares.
 const DOUBLE: &str = "POLYGON ((0 0, 20000 0, 20000 10000, 0 10000, 0 0))";
 
 const LEFT: &str = "POLYGON ((0 0, 5000 0, 5000 10000, 0 10000, 0 0))";
 
 const RIGHT: &str = "POLYGON ((5000 0, 10000 0, 10000 10000, 5000 10000, 5000 0))";
 
-/// A sixteenth of the square, and the others to its right.
+/// A sixteenth of the square, and the other sixteenths to its right.
 const STRIP: &str = "POLYGON ((0 0, 625 0, 625 10000, 0 10000, 0 0))";
 
 const SECOND: &str = "POLYGON ((625 0, 1250 0, 1250 10000, 625 10000, 625 0))";
@@ -56,7 +56,7 @@ const FIRST_STRIP: RowParcel = RowParcel("12", STRIP);
 
 const FIRST_HALF: RowParcel = RowParcel("12a", LEFT);
 
-/// A unit of 256 parcels has no room for one more, but a part may go to a new unit, and parcels may become one.
+/// A unit of 256 parcels may have no more, but a part may become a new unit, and parcels may be merged.
 const FULL: &[Step] = &[
     UNIT,
     Parcels(255),
@@ -128,7 +128,7 @@ const NEW_UNITS: &[RowPart] = &[
     RowPart("12", SIXTEENTH, Some("Strip")),
 ];
 
-/// A source, a parcel and fifteen times a unit, a parcel and a right.
+/// A source, a parcel and, fifteen times, a unit, a parcel and a right.
 const SIXTEEN_PARTS: &[Step] = &[
     UNIT,
     Row(
@@ -176,7 +176,7 @@ const STRIPS: &[RowPart] = &[
     RowPart("12", SIXTEENTH, None),
 ];
 
-/// Sixteen strips stay in the unit, and become one parcel again.
+/// Sixteen strips stay in the unit, and are merged again.
 const SIXTEEN_PARCELS: &[Step] = &[
     UNIT,
     Row(
@@ -217,7 +217,7 @@ fn sixteen_parcels_become_one(rt: HostRuntime) -> Result<(), Fail> {
     assert_steps(&rt, rt.alloc(), FIRST, SIXTEEN_PARCELS)
 }
 
-/// Ground is looked at last: after the counts, and after the moment.
+/// The ground is checked last: after the counts, and after the stamp.
 const OTHER_GROUND: &[Step] = &[
     UNIT,
     Parcels(255),
@@ -402,7 +402,7 @@ const OWNED: Step = Row(
     "done 10 made [9, 10, 11, 12] at 1000",
 );
 
-/// The unit 10 is not checked, as the unit 6 is; the unit 18, which is cut off from 6, is.
+/// Units 6 and 10 are not checked, and unit 18, which is a part of unit 6, is.
 const MARKS: &[Step] = &[
     UNIT,
     OWNED,
@@ -451,7 +451,7 @@ fn units_are_merged_where_both_are_checked_or_neither(rt: HostRuntime) -> Result
     assert_steps(&rt, rt.alloc(), FIRST, MARKS)
 }
 
-/// Unit 999999991 with parcel 999999992; after two lodgings three numbers are left.
+/// Unit 999999991 with parcel 999999992. After two lodgings three numbers are left.
 const LAST_NUMBERS: &[Step] = &[
     Row(
         Register(true, 1, &[(2, Ownership, 1, 1)]),

@@ -1,4 +1,4 @@
-//! Registering units.
+//! Registrations of units.
 use super::Step::{self, Next, Row, Sound, Stands};
 use super::{FIRST, STAMP, assert_steps};
 use land_core::kind::Kind;
@@ -11,7 +11,7 @@ const SHARED: &[Right] = &[(2, Ownership, 1, 4), (3, Ownership, 3, 4), (4, Lease
 
 const HALVES: &[Right] = &[(2, Ownership, 1, 2), (3, Ownership, 1, 2)];
 
-/// Both units stand then with all that they have, in a sound register.
+/// Afterwards both units exist with all their parcels and rights, and the register is sound.
 const WITH_ALL: &[Step] = &[
     Row(
         Register(true, 1, SHARED),

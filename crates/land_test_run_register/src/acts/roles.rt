@@ -5,7 +5,7 @@ use land_core::role::Role::{Bank, Citizen, Notary, StateAdministrator};
 use land_test_cases::asked::RowAct::{Grant, Group, Revoke};
 use std::test::Fail;
 
-/// Anna is a bank then and no notary, and Ben is one.
+/// Afterwards Anna is a bank and not a notary, and Ben is a notary.
 const ONCE: &[Step] = &[
     Row(Grant(2, Notary), None, "refused 217"),
     Row(Grant(2, Notary), STAMP, "done 2 made [] at 1000"),

@@ -1,4 +1,4 @@
-//! What is asked for by a lodging.
+//! The contents of lodgings.
 use crate::core_types::text;
 use land_core::content::{Content, Discharge, Mortgage, Transfer};
 use land_core::text::Text;
@@ -6,12 +6,12 @@ use land_fraction::{Fraction, FractionFault};
 use std::alloc::{AllocError, Global};
 use std::test::Fail;
 
-/// What a mutation asks for.
+/// The content of a mutation.
 #[derive(Drop)]
 pub(super) enum Asked {
     /// A unit, a right, a receiver, and the numerator and denominator of a share.
     Transfer(u64, u64, u64, u64, u64),
-    /// A unit, a creditor, an amount and a currency.
+    /// A unit, a creditor, an amount in minor units, and a currency.
     Mortgage(u64, u64, u64, &'static str),
     /// A unit and a mortgage.
     Discharge(u64, u64),

@@ -1,4 +1,4 @@
-//! Acts whose limits are tried.
+//! Acts for the tests of limits.
 use super::asked::{Asked, content};
 use super::{ANNA, GARDEN, Right};
 use crate::core_types::text;
@@ -10,8 +10,8 @@ use land_shape::read_wkt;
 use std::alloc::{AllocError, Global};
 use std::test::Fail;
 
-/// What is written in a first registration: the unit's name, its document's title, and the label of its parcels, with the
-/// number of these.
+/// The texts of a first registration: the name of the unit, the title of the document, and the label of the
+/// parcels; and the number of parcels.
 #[derive(Clone, Copy)]
 pub(super) struct Draft<'a> {
     pub name: &'a str,
@@ -35,7 +35,7 @@ fn parcels(alloc: Global, draft: &Draft<'_>) -> Result<Sequence<NewParcel>, Fail
     Ok(Sequence::from_vec(parcels))
 }
 
-/// A first registration by a draft, without rights.
+/// Returns a first registration from a draft, without rights.
 fn without_rights(alloc: Global, draft: &Draft<'_>) -> Result<NewUnit, Fail> {
     Ok(NewUnit {
         name: text(alloc, draft.name)?,
@@ -71,7 +71,7 @@ pub(super) fn registration(
     Ok(unit)
 }
 
-/// A burden of Anna on the garden by these words and a document with this title.
+/// Returns a burden of Anna on the garden with these words and this title of the document.
 pub(super) fn burden(
     alloc: Global,
     class: BurdenClass,
@@ -87,7 +87,7 @@ pub(super) fn burden(
     })
 }
 
-/// A lodging under this reference, of a document with this title.
+/// Returns a lodging under this reference, with this title of the document.
 pub(super) fn lodging(
     alloc: Global,
     reference: &str,

@@ -19,7 +19,7 @@ use std::alloc::{AllocError, Global};
 use std::process::Abort;
 use std::test::Fail;
 
-/// So many members with a share each, named by numbers from `first` on.
+/// Returns `count` members with numbers from `first`, each with a share.
 fn members(alloc: Global, first: u64, count: u64) -> Result<Sequence<Member>, Fail> {
     let share = Fraction::new(1, 64)?;
     let mut members = Sequence::new(alloc);
@@ -32,7 +32,7 @@ fn members(alloc: Global, first: u64, count: u64) -> Result<Sequence<Member>, Fa
     Ok(members)
 }
 
-/// A group of so many members, named by numbers from `first` on.
+/// Returns the act that creates a group of `count` members with numbers from `first`.
 fn group(alloc: Global, first: u64, count: u64) -> Result<Act, Fail> {
     Ok(Act::Group(NewGroup {
         name: text(alloc, "Anna and Ben")?,
@@ -40,7 +40,7 @@ fn group(alloc: Global, first: u64, count: u64) -> Result<Act, Fail> {
     }))
 }
 
-/// So many other members for a group.
+/// Returns the act that gives a group `count` other members.
 fn regroup(alloc: Global, group: u64, count: u64) -> Result<Act, Fail> {
     Ok(Act::Regroup(Regroup {
         group,
@@ -48,7 +48,7 @@ fn regroup(alloc: Global, group: u64, count: u64) -> Result<Act, Fail> {
     }))
 }
 
-/// A number, how many members, and whether that may be asked for.
+/// A number, a count of members, and whether the act is well formed.
 struct Numbered(u64, u64, bool);
 
 fn keeps_group(alloc: Global, row: &Numbered) -> Result<bool, Fail> {
@@ -95,11 +95,11 @@ fn regroupings_keep_their_limits(rt: HostRuntime) -> Result<(), Fail> {
     Ok(())
 }
 
-/// An act that is tried.
+/// An act to check.
 enum Tried {
-    /// A party's kind.
+    /// The kind of a party.
     Enrol(PartyKind),
-    /// A unit with so many parcels and these rights.
+    /// A unit with this number of parcels and these rights.
     Register(usize, &'static [Right]),
     /// The class of a burden, its unit and its party.
     Burden(BurdenClass, u64, u64),
@@ -107,7 +107,7 @@ enum Tried {
     Lift(u64),
 }
 
-/// An act, and whether it may be asked for.
+/// An act, and whether it is well formed.
 struct Limit(Tried, bool);
 
 fn enrols(alloc: Global, kind: PartyKind) -> Result<bool, Fail> {
@@ -226,7 +226,7 @@ fn add_leases(rights: &mut Vec<Right>, count: usize) -> Result<(), AllocError> {
     Ok(())
 }
 
-/// Whether a unit may be registered with so many leases and an ownership.
+/// Returns whether a registration with `count` leases and an ownership is well formed.
 fn leases(alloc: Global, count: usize) -> Result<bool, Fail> {
     let mut rights = Vec::new(alloc);
     add_leases(&mut rights, count)?;
@@ -271,7 +271,7 @@ fn lifts_name_an_entry_by_a_number(rt: HostRuntime) -> Result<(), Fail> {
     assert_limits(&rt, rt.alloc(), LIFTS)
 }
 
-/// Whether the office may ask so.
+/// Returns whether a request of the Land Office is well formed.
 fn is_good_ask(ask: Ask) -> bool {
     let caller = Caller {
         party: 1,

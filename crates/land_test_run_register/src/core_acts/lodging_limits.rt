@@ -1,4 +1,4 @@
-//! The limits of what is lodged, and of decisions.
+//! The limits of lodgings and of decisions.
 use super::asked::Asked::{self, Discharge, Mortgage, Transfer};
 use super::drafts::lodging;
 use super::{ANNA, ANNAS, GARDEN, LOAN, SAM, is_good};
@@ -7,7 +7,7 @@ use std::alloc::Global;
 use std::process::Abort;
 use std::test::Fail;
 
-/// What is asked for, and whether that may be lodged.
+/// A content, and whether its lodging is well formed.
 struct Limit(Asked, bool);
 
 fn lodges(alloc: Global, it: &Asked) -> Result<bool, Fail> {
@@ -100,7 +100,7 @@ fn discharges_name_a_unit_and_a_mortgage_by_numbers(rt: HostRuntime) -> Result<(
     assert_limits(&rt, rt.alloc(), DISCHARGES)
 }
 
-/// Whether a mutation with this number may be approved, and whether it may be refused.
+/// Returns whether the approval and the refusal of this mutation number are well formed.
 fn decides(mutation: u64) -> (bool, bool) {
     let it = Decision { mutation };
     (is_good(Act::Approve(it)), is_good(Act::Refuse(it)))

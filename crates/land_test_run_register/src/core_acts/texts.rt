@@ -1,4 +1,4 @@
-//! How long the texts of acts may be, and what may stand in them.
+//! The lengths of the texts of acts, and the characters that they may have.
 use super::asked::Asked;
 use super::drafts::{Draft, burden, lodging, registration};
 use super::{ANNA, GARDEN, LOAN, Right, is_good};
@@ -11,10 +11,10 @@ use std::alloc::Global;
 use std::process::Abort;
 use std::test::Fail;
 
-/// A character, how often it stands in a text, and whether an act may have that.
+/// A character, the number of times that it occurs in a text, and whether an act may have that text.
 struct Row(&'static str, usize, bool);
 
-/// Where a text stands in an act.
+/// The place of a text in an act.
 enum Place {
     PartyName,
     UnitName,
@@ -51,7 +51,7 @@ fn lodging_letter(alloc: Global, reference: &str, document: &str) -> Result<Act,
     Ok(Act::Lodge(lodging(alloc, reference, document, &LETTER)?))
 }
 
-/// An act with a text in its place, and all else within the limits.
+/// Returns an act that has a text at a place, and is otherwise within the limits.
 fn with_text(alloc: Global, place: &Place, given: &str) -> Result<Act, Fail> {
     match place {
         Place::PartyName => enrolment(alloc, given),
@@ -69,7 +69,7 @@ const LETTER: Asked = Asked::Discharge(GARDEN, LOAN);
 
 const OWNED: &[Right] = &[(ANNA, Ownership, 1, 1)];
 
-/// Whether an act may have a text in its place.
+/// Returns whether an act may have a text at a place.
 fn may_have(alloc: Global, place: &Place, given: &str) -> Result<bool, Fail> {
     Ok(is_good(with_text(alloc, place, given)?))
 }

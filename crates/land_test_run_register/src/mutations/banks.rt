@@ -1,4 +1,5 @@
-//! Two banks lend on one unit: ranks, what each sees, and who discharges what.
+//! Two banks lend on one unit: the ranks, the mortgages that each sees, and the discharges that each may
+//! lodge.
 use crate::conclusion::conclude;
 use land_core::caller::Caller;
 use land_core::kind::Kind::{Mutation, Rrr};
@@ -131,7 +132,7 @@ fn banks_lodge_for_themselves_alone(rt: HostRuntime) -> Result<(), Fail> {
     conclude(&rt, play_with_mortgage(rt.alloc(), OTHERS))
 }
 
-/// After a discharge the next mortgage comes after those that stand.
+/// After a discharge, the next mortgage gets the rank after the remaining ones.
 const RANKS: &[Row] = &[
     ENROLLED,
     GRANTED,

@@ -1,4 +1,4 @@
-//! A conveyancer sees a unit while a mutation that it lodged names the unit and is undecided.
+//! A conveyancer sees a unit while a mutation that it lodged refers to the unit and is undecided.
 use super::UNIT;
 use crate::conclusion::conclude;
 use land_core::caller::Caller;
@@ -118,7 +118,7 @@ fn conveyancers_lodge_transfers_alone(rt: HostRuntime) -> Result<(), Fail> {
     conclude(&rt, play_with_mortgage(rt.alloc(), WHO_LODGES))
 }
 
-/// Lodging looks at no unit. A unit that does not stand is in nobody's sight.
+/// Lodging reads no unit. No caller sees a unit that does not exist.
 const NO_UNIT: &[Row] = &[
     GRANTED,
     Row(1000, BEN, View(Unit, 77, None), "denied 19"),

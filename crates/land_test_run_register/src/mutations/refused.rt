@@ -1,7 +1,9 @@
-//! Approvals that are refused: what is named does not stand or is of another kind, or no moment is left.
+//! Approvals that are refused: an object does not exist or is of another kind, or no stamp is left.
 use super::QUARTER_LODGED;
 use crate::conclusion::conclude;
+use crate::end_of_time::END;
 use land_core::kind::Kind::{Mutation, Rrr};
+use land_core::limits::LAST_MOMENT;
 use land_core::role::Role::Bank;
 use land_core::rrr::RightType::Ownership;
 use land_test_cases::asked::RowAct::{Approve, Grant, Lodge, Refuse, Register};
@@ -200,9 +202,6 @@ fn discharges_are_of_mortgages_of_the_unit(rt: HostRuntime) -> Result<(), Fail> 
     conclude(&rt, play_with_mortgage(rt.alloc(), DISCHARGES))
 }
 
-/// The first moment that is none.
-const END: i64 = 4_102_444_800_000;
-
 /// A repeat needs no stamp.
 const NO_MOMENT: &[Row] = &[
     Row(END, OFFICE, Do(Approve(15)), "refused 217"),
@@ -227,7 +226,7 @@ const NO_MOMENT: &[Row] = &[
     Row(1000, OFFICE, Do(Approve(19)), "refused 219"),
     Row(1000, OFFICE, Do(Approve(17)), "done 17 made [] at 1013"),
     Row(
-        4_102_444_799_999,
+        LAST_MOMENT,
         OFFICE,
         Do(Approve(15)),
         "done 15 made [20] at 4102444799999",

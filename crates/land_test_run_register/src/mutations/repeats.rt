@@ -1,4 +1,5 @@
-//! Lodgings that are sent again: as they were, in another spelling, and with something else under the reference.
+//! Lodgings that are repeated: unchanged, in another representation, and with another content under the
+//! reference.
 use super::{QUARTER_APPROVED, QUARTER_LODGED};
 use crate::conclusion::conclude;
 use land_core::caller::Caller;
@@ -12,7 +13,7 @@ use land_test_cases::rows::Row;
 use land_test_cases::steps::{BANK, LOAN, NORA, QUARTER, play_with_loan, play_with_mortgage};
 use std::test::Fail;
 
-/// The loan with a cent more.
+/// The loan with one cent more.
 const LARGER: RowAsk = Do(Lodge("M1", "Loan 1", Mortgage(9, 4, 2_500_001)));
 
 const LOANS: &[Row] = &[
@@ -112,7 +113,7 @@ fn a_share_in_another_spelling_is_the_same(rt: HostRuntime) -> Result<(), Fail> 
     conclude(&rt, play_with_mortgage(rt.alloc(), SPELLINGS))
 }
 
-/// What is refused is not lodged anew under its reference.
+/// A refused mutation cannot be lodged again under its reference.
 const REFUSED: &[Row] = &[
     QUARTER_LODGED,
     Row(1000, OFFICE, Do(Refuse(18)), "done 18 made [] at 1013"),
@@ -149,7 +150,7 @@ const OFFICE_AS_NOTARY: Caller = Caller {
     role: Notary,
 };
 
-/// A reference is the lodger's, in whatever role; another lodger may have the same.
+/// A reference belongs to its lodger in all roles; another lodger may use the same.
 const LODGERS: &[Row] = &[
     QUARTER_LODGED,
     Row(
@@ -174,7 +175,7 @@ fn a_reference_is_that_of_its_lodger(rt: HostRuntime) -> Result<(), Fail> {
     conclude(&rt, play_with_mortgage(rt.alloc(), LODGERS))
 }
 
-/// The office as a notary lodges, and then has to leave the decision to others.
+/// The Land Office lodges as a notary, and then may not decide on it.
 const ITS_OWN: &[Row] = &[
     Row(1000, OFFICE, Do(Grant(1, Notary)), "done 1 made [] at 1012"),
     Row(

@@ -1,4 +1,4 @@
-//! The garden is mortgaged and changes hands, step by step; each lodging is sent twice.
+//! The garden is mortgaged and transferred, step by step; each lodging is sent twice.
 use super::{QUARTER_APPROVED, QUARTER_LODGED, UNIT};
 use crate::conclusion::conclude;
 use land_core::kind::Kind::{Mutation, Party, Rrr, Source, Unit};
@@ -20,7 +20,7 @@ const WHOLE_LODGED: Row = Row(1000, NORA, WHOLE, "done 20 made [19, 20] at 1014"
 
 const WHOLE_APPROVED: Row = Row(1000, OFFICE, Do(Approve(20)), "done 20 made [21] at 1015");
 
-/// What stands after each step is told where a lodging is sent again; sheets are told with the last stamp.
+/// A repeated lodging returns the objects that existed after the first one; sheets show the last stamp.
 const STEPS: &[Row] = &[
     LOAN_LODGED,
     LOAN_LODGED,

@@ -1,4 +1,5 @@
-//! Transfers at the bounds of shares: all of a right and the finest part of it, what is too fine, and what is too much.
+//! Transfers at the limits of shares: the whole right, the finest part of it, shares that are too fine, and
+//! shares that are too large.
 use crate::conclusion::conclude;
 use land_core::kind::Kind::Rrr;
 use land_core::rrr::RightType::{Lease, Ownership};
@@ -12,7 +13,7 @@ use std::test::Fail;
 
 const ANNAS: &[Right] = &[(2, Ownership, 1, 1), (6, Lease, 1, 1)];
 
-/// A checked unit 9, which is Anna's by right 11 and leased to Sam by right 12.
+/// A checked unit 9, which Anna owns by right 11 and leases to Sam by right 12.
 const OWNED: Row = Row(
     1000,
     OFFICE,
@@ -82,7 +83,7 @@ fn the_whole_of_a_right_goes_to_a_party_or_a_group(rt: HostRuntime) -> Result<()
     conclude(&rt, play_with_group(rt.alloc(), WHOLES))
 }
 
-/// All but the finest part goes to the bank, and then a third of that is too fine.
+/// All but the finest part goes to the bank; then a third of that is too fine.
 const FINEST: &[Row] = &[
     OWNED,
     Row(
@@ -149,7 +150,7 @@ const THREE: &[Right] = &[
     (4, Ownership, 1, 4),
 ];
 
-/// What is left and what goes are fine enough, each by itself, but not with quarters.
+/// The remaining share and the transferred share are fine enough separately, but not together with quarters.
 const TOGETHER: &[Row] = &[
     Row(
         1000,
@@ -212,7 +213,7 @@ fn shares_of_a_checked_unit_have_a_common_denominator(rt: HostRuntime) -> Result
 
 const HALVES: &[Right] = &[(2, Ownership, 1, 2), (3, Ownership, 1, 2)];
 
-/// To the holder itself nothing is too fine, but it has no more to give than its share.
+/// A transfer to the holder itself is never too fine, but its share may not be above that of the right.
 const ITSELF: &[Row] = &[
     Row(
         1000,
@@ -269,7 +270,7 @@ const NOT_WHOLE: &[Right] = &[
     (4, Ownership, 999_999_999, 1_000_000_000),
 ];
 
-/// In an unchecked unit the shares may be more than a whole, but nobody has more than that.
+/// In a unit that is not checked, the shares may sum to more than one, but no party has more than one.
 const UNCHECKED: &[Row] = &[
     Row(
         1000,

@@ -12,7 +12,7 @@ use land_test_cases::rows::Row;
 use land_test_cases::steps::{BEN, NORA, SURVEYOR, play_with_sale};
 use std::test::Fail;
 
-/// The garden's parcel and the orchard's become one.
+/// The parcels of the garden and the orchard become one.
 const JOINED: RowAsk = Do(Lodge(
     "G1",
     "Plan 2",
@@ -76,7 +76,7 @@ fn parcels_become_one_and_the_other_unit_ends(rt: HostRuntime) -> Result<(), Fai
     conclude(&rt, play_with_sale(rt.alloc(), MERGED))
 }
 
-/// The orchard has an entry that the garden has not.
+/// The orchard has an entry that the garden does not have.
 const BURDENED: &[Row] = &[
     ORCHARD_LODGED,
     ORCHARD_APPROVED,
@@ -97,7 +97,7 @@ fn units_with_other_entries_stay_apart(rt: HostRuntime) -> Result<(), Fail> {
     conclude(&rt, play_with_sale(rt.alloc(), BURDENED))
 }
 
-/// The same burden on both: the entries are the same, though they come from other sources.
+/// Both have the same burden: their entries are equal, although the sources differ.
 const BURDENED_ALIKE: &[Row] = &[
     ORCHARD_LODGED,
     ORCHARD_APPROVED,

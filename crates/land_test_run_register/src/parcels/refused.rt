@@ -15,7 +15,7 @@ use std::test::Fail;
 const DENTED: &str =
     "POLYGON ((5000 0, 10000 0, 10000 10000, 9999 10001, 9998 10000, 5000 10000, 5000 0))";
 
-/// A part of the right half's area that reaches beyond the garden, and leaves a strip of it to nobody.
+/// A part with the area of the right half that reaches beyond the garden, and leaves out a strip of it.
 const BESIDE: &str = "POLYGON ((6000 0, 11000 0, 11000 10000, 6000 10000, 6000 0))";
 
 const GROUNDS: &[Row] = &[
@@ -85,7 +85,8 @@ fn parts_are_the_ground_of_the_parcel(rt: HostRuntime) -> Result<(), Fail> {
     conclude(&rt, play_with_sale(rt.alloc(), GROUNDS))
 }
 
-/// Who is no surveyor lodges none; a lodging looks at nothing that it names, and its approval does.
+/// Only surveyors lodge these contents. A lodging does not read the objects to which it refers, and its
+/// approval does.
 const NAMED: &[Row] = &[
     Row(1000, NORA, ORCHARD, "denied 6"),
     Row(1000, OFFICE, ORCHARD, "denied 6"),
@@ -150,8 +151,9 @@ fn what_is_named_stands_when_it_is_approved(rt: HostRuntime) -> Result<(), Fail>
     conclude(&rt, play_with_sale(rt.alloc(), NAMED))
 }
 
-/// The garden's right half is cut into quarters, of which the outer one goes to the orchard. That the orchard would keep it is told
-/// before the ground is looked at: so whoever is told 220 knows that the units are alike.
+/// The right half of the garden is cut into quarters, and the outer one goes to the orchard. A parcel that
+/// the orchard would keep is reported before the ground is checked: refusal 220 implies that the units can be
+/// merged.
 const KEPT: &[Row] = &[
     Row(
         1000,

@@ -1,4 +1,4 @@
-//! Subdivisions and mergers that are lodged again: as they were, and with something else under the reference.
+//! Subdivisions and mergers that are repeated: unchanged, and with another content under the reference.
 use super::{FIRST, LEFT, ORCHARD_APPROVED, ORCHARD_LODGED, RIGHT, WHOLE};
 use crate::conclusion::conclude;
 use land_test_cases::asked::RowAct::Lodge;
@@ -9,14 +9,14 @@ use land_test_cases::rows::Row;
 use land_test_cases::steps::{SURVEYOR, play_with_sale};
 use std::test::Fail;
 
-/// The right half, from the same point the other way round: the same outline.
+/// The right half from the same point in the opposite direction: the same outline.
 const TURNED: &[RowPart] = &[RowPart(
     "12b",
     "POLYGON ((5000 0, 5000 10000, 10000 10000, 10000 0, 5000 0))",
     Some("Orchard"),
 )];
 
-/// The right half begun at another point: another outline.
+/// The right half starting at another point: a different outline.
 const BEGUN_ABOVE: &[RowPart] = &[RowPart(
     "12b",
     "POLYGON ((10000 10000, 5000 10000, 5000 0, 10000 0, 10000 10000))",

@@ -11,7 +11,8 @@ use land_test_cases::rows::Row;
 use land_test_cases::steps::{BEN, NORA, SAM, SURVEYOR, play_with_sale};
 use std::test::Fail;
 
-/// The orchard's parcel, unit and entries take the next numbers in this order; the first part stays in the garden.
+/// The parcel, the unit and the entries of the orchard get the next numbers in this order; the first part
+/// stays in the garden.
 const CUT: &[Row] = &[
     ORCHARD_LODGED,
     ORCHARD_LODGED,
@@ -105,7 +106,7 @@ fn holders_see_what_a_parcel_was_cut_into(rt: HostRuntime) -> Result<(), Fail> {
     conclude(&rt, play_with_sale(rt.alloc(), SEEN))
 }
 
-/// The right half is cut once more, and each quarter goes to a unit of its own.
+/// The right half is cut again, and each quarter becomes a unit of its own.
 const QUARTERS: RowAsk = Do(Lodge(
     "S1",
     "Plan 1",
@@ -268,7 +269,8 @@ fn a_corner_may_lie_within_an_edge(rt: HostRuntime) -> Result<(), Fail> {
     conclude(&rt, play_with_sale(rt.alloc(), CUT_ACROSS))
 }
 
-/// The plan once more: with the outline in other words, begun at another point, without the orchard, and with a part more.
+/// The plan again: with the outline written differently, starting at another point, without the orchard, and
+/// with one more part.
 const REPEATS: &[Row] = &[
     ORCHARD_LODGED,
     Row(

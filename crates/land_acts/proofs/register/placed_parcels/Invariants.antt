@@ -4,7 +4,7 @@ use Rattle.land_acts.specs.Mutations.Numbering.{numbered}
 use Rattle.land_acts.specs.Registering.{parcel_of}
 use Rattle.land_acts.proofs.register.placed_parcels.Given as goal
 
--- what is placed, and what is to come under the numbers that follow
+-- the parcels so far, followed by the remaining ones under the next numbers
 abbrev pub invariant-loop-parcel : goal.invariant-loop-parcel
 invariant-loop-parcel l =
     (l.placed ++ numbered l.number (map_list (parcel_of l.unit l.source) (drop l.parcel-index l.parcels)) ≡ numbered l.first (map_list (parcel_of l.unit l.source) l.parcels))

@@ -1,4 +1,4 @@
-//! The sight of mutations.
+//! The sight rules on mutations: 14, 18, 22, 25 and 27.
 ghost use Rattle.std.specs.Prelude.{◌≡◌};
 ghost use Rattle.land_rules.specs.Circles.{circle_of, names_held_by};
 ghost use Rattle.land_rules.specs.Relations.{is_mutation_where};
@@ -12,7 +12,7 @@ use land_core::kind::Kind;
 use land_core::register::Register;
 use land_core::role::Role;
 
-/// The least rule that denies the view of a mutation.
+/// Returns the first rule that denies the view of a mutation.
 pub(crate) fn verdict(at: &Register, caller: Caller, number: u64) -> Verdict
     ensures { result ≡ first_denial (mutation_rules at.now caller number) }
 {
@@ -31,7 +31,8 @@ pub(crate) fn verdict(at: &Register, caller: Caller, number: u64) -> Verdict
     }
 }
 
-/// Whether a mutation stands, and names a unit in which one of the circle of a party is a holder.
+/// Returns whether a mutation exists and refers to a unit in which a member of the circle of a party is a
+/// holder.
 fn is_about_a_holding(at: &Register, party: u64, number: u64) -> bool
     ensures { result ≡ is_mutation_where (names_held_by at.now (circle_of at.now party)) at.now number }
 {

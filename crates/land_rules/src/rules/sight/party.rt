@@ -1,4 +1,4 @@
-//! The sight of parties.
+//! The sight rules on parties: 13, 17, 21, 24 and 27.
 ghost use Rattle.std.specs.Prelude.{◌≡◌};
 ghost use Rattle.land_rules.specs.Rules.{first_denial, is_party_in_sight, party_rules};
 
@@ -10,7 +10,7 @@ use land_core::kind::Kind;
 use land_core::register::Register;
 use land_core::role::Role;
 
-/// The least rule that denies the view of a party.
+/// Returns the first rule that denies the view of a party.
 pub(crate) fn verdict(at: &Register, caller: Caller, number: u64) -> Verdict
     ensures { result ≡ first_denial (party_rules at.now caller number) }
 {
@@ -34,7 +34,7 @@ pub(crate) fn verdict(at: &Register, caller: Caller, number: u64) -> Verdict
     }
 }
 
-/// Whether a party is that of an entry in the caller's sight.
+/// Returns whether an entry that the caller sees is of this party.
 fn is_in_sight(at: &Register, caller: Caller, party: u64) -> bool
     ensures { result ≡ is_party_in_sight at.now caller party }
 {

@@ -1,8 +1,9 @@
-//! The sight of entries.
+//! The sight rules on entries: 12, 16, 20, 23 and 27.
 ghost use Rattle.std.specs.Prelude.{◌≡◌};
 ghost use Rattle.land_rules.specs.Circles.{circle_of, is_told_to_circle};
 ghost use Rattle.land_rules.specs.Relations.{is_rrr_where};
-ghost use Rattle.land_rules.specs.Rules.{first_denial, is_rrr_in_sight, is_told_to_bank, is_told_to_conveyancer, rrr_rules};
+ghost use Rattle.land_rules.specs.Rules.{first_denial, is_rrr_in_sight, is_told_to_bank};
+ghost use Rattle.land_rules.specs.Rules.{is_told_to_conveyancer, rrr_rules};
 
 use super::unit;
 use crate::circles::is_told_to_circle;
@@ -13,7 +14,7 @@ use land_core::kind::Kind;
 use land_core::register::Register;
 use land_core::role::Role;
 
-/// The least rule that denies the view of an entry.
+/// Returns the first rule that denies the view of an entry.
 pub(crate) fn verdict(at: &Register, caller: Caller, number: u64) -> Verdict
     ensures { result ≡ first_denial (rrr_rules at.now caller number) }
 {
@@ -32,7 +33,7 @@ pub(crate) fn verdict(at: &Register, caller: Caller, number: u64) -> Verdict
     }
 }
 
-/// Whether no rule denies the view of an entry.
+/// Returns whether no rule denies the view of an entry.
 pub(crate) fn is_in_sight(at: &Register, caller: Caller, number: u64) -> bool
     ensures { result ≡ is_rrr_in_sight at.now caller number }
 {

@@ -1,4 +1,4 @@
-//! The sight of sources.
+//! The sight rules on sources: 26 and 27.
 ghost use Rattle.std.specs.Prelude.{◌≡◌};
 ghost use Rattle.land_rules.specs.Rules.{first_denial, is_told_sources, source_rules};
 
@@ -8,7 +8,7 @@ use land_core::kind::Kind;
 use land_core::register::Register;
 use land_core::role::Role;
 
-/// The least rule that denies the view of a source.
+/// Returns the first rule that denies the view of a source.
 pub(crate) fn verdict(at: &Register, caller: Caller, number: u64) -> Verdict
     ensures { result ≡ first_denial (source_rules at.now caller number) }
 {
@@ -21,7 +21,7 @@ pub(crate) fn verdict(at: &Register, caller: Caller, number: u64) -> Verdict
     }
 }
 
-/// Whether the caller's role sees sources.
+/// Returns whether the caller's role sees sources.
 fn is_told_sources(caller: Caller) -> bool
     ensures { result ≡ is_told_sources caller }
 {

@@ -1,4 +1,4 @@
-//! The sight of units.
+//! The sight rules on units: 11, 15, 19, 23 and 27.
 ghost use Rattle.std.specs.Prelude.{◌≡◌};
 ghost use Rattle.land_rules.specs.Rules.{first_denial, is_unit_in_sight, unit_rules};
 
@@ -10,7 +10,7 @@ use land_core::kind::Kind;
 use land_core::register::Register;
 use land_core::role::Role;
 
-/// The least rule that denies the view of a unit.
+/// Returns the first rule that denies the view of a unit.
 pub(crate) fn verdict(at: &Register, caller: Caller, number: u64) -> Verdict
     ensures { result ≡ first_denial (unit_rules at.now caller number) }
 {
@@ -29,7 +29,7 @@ pub(crate) fn verdict(at: &Register, caller: Caller, number: u64) -> Verdict
     }
 }
 
-/// Whether no rule denies the view of a unit.
+/// Returns whether no rule denies the view of a unit.
 pub(crate) fn is_in_sight(at: &Register, caller: Caller, number: u64) -> bool
     ensures { result ≡ is_unit_in_sight at.now caller number }
 {

@@ -1,6 +1,9 @@
-//! Standing rules on acts: who may do what the office does, lodge, decide, give and withdraw mandates, by the register now.
+//! Standing rules on acts, by the register now: 4 to 10, 28 and 29.
 ghost use Rattle.std.specs.Prelude.{◌≡◌};
-ghost use Rattle.land_rules.specs.Acts.{decides, is_between_others, is_discharge_of_another, is_mortgage_of, is_mortgage_of_another, is_of_a_mortgage, is_of_mandates, is_of_mortgages, is_of_outlines, is_of_transfers, is_office_act, is_transfer, lodges, withdraws};
+ghost use Rattle.land_rules.specs.Acts.{decides, is_between_others, is_discharge_of_another, is_mortgage_of};
+ghost use Rattle.land_rules.specs.Acts.{is_mortgage_of_another, is_of_a_mortgage, is_of_mandates};
+ghost use Rattle.land_rules.specs.Acts.{is_of_mortgages, is_of_outlines, is_of_transfers, is_office_act};
+ghost use Rattle.land_rules.specs.Acts.{is_transfer, lodges, withdraws};
 ghost use Rattle.land_rules.specs.Relations.{has_lodged, is_rrr_where};
 ghost use Rattle.land_rules.specs.Rules.{first_denial, act_rules};
 
@@ -13,7 +16,7 @@ use land_core::mandates::Mandate;
 use land_core::register::Register;
 use land_core::role::Role;
 
-/// The least rule that denies an act.
+/// Returns the first rule that denies an act.
 pub(crate) fn verdict(now: &Register, caller: Caller, act: &Act) -> Verdict
     ensures { result ≡ first_denial (act_rules now.now caller act.now) }
 {
@@ -58,7 +61,7 @@ fn is_office_act(act: &Act) -> bool
     }
 }
 
-/// Whether an act gives or withdraws a mandate.
+/// Returns whether an act gives or withdraws a mandate.
 fn is_of_mandates(act: &Act) -> bool
     ensures { result ≡ is_of_mandates act.now }
 {
@@ -74,21 +77,21 @@ fn withdraws_between_others(party: u64, act: &Act) -> bool
     }
 }
 
-/// Whether a party is neither the principal nor the agent of a mandate.
+/// Returns whether a party is neither the principal nor the agent of a mandate.
 fn is_between_others(party: u64, mandate: Mandate) -> bool
     ensures { result ≡ is_between_others party mandate }
 {
     !(mandate.principal == party || mandate.agent == party)
 }
 
-/// Whether transfers are lodged in the caller's role.
+/// Returns whether the caller's role may lodge transfers.
 fn is_of_transfers(caller: Caller) -> bool
     ensures { result ≡ is_of_transfers caller }
 {
     caller.role == Role::Conveyancer || caller.role == Role::Notary
 }
 
-/// Whether mortgages and discharges are lodged in the caller's role.
+/// Returns whether the caller's role may lodge mortgages and discharges.
 fn is_of_mortgages(caller: Caller) -> bool
     ensures { result ≡ is_of_mortgages caller }
 {
@@ -125,7 +128,7 @@ fn lodges_outlines(act: &Act) -> bool
     }
 }
 
-/// Whether a content is a subdivision or a merger.
+/// Returns whether a content is a subdivision or a merger.
 fn is_of_outlines(content: &Content) -> bool
     ensures { result ≡ is_of_outlines content.now }
 {
@@ -144,7 +147,7 @@ fn lodges_of_a_mortgage(act: &Act) -> bool
     }
 }
 
-/// Whether a content makes or ends a mortgage.
+/// Returns whether a content creates or ends a mortgage.
 fn is_of_a_mortgage(content: &Content) -> bool
     ensures { result ≡ is_of_a_mortgage content.now }
 {
@@ -163,7 +166,7 @@ fn lodges_mortgage_of_another(party: u64, act: &Act) -> bool
     }
 }
 
-/// Whether a content is a mortgage whose creditor is another than a party.
+/// Returns whether a content is a mortgage of which the party is not the creditor.
 fn is_mortgage_of_another(party: u64, content: &Content) -> bool
     ensures { result ≡ is_mortgage_of_another party content.now }
 {
@@ -185,7 +188,7 @@ fn lodges_discharge_of_another(now: &Register, party: u64, act: &Act) -> bool
     }
 }
 
-/// Whether a content is a discharge of what is no mortgage with a party as creditor.
+/// Returns whether a content is the discharge of a number at which the party has no mortgage as creditor.
 fn is_discharge_of_another(now: &Register, party: u64, content: &Content) -> bool
     ensures { result ≡ is_discharge_of_another now.now party content.now }
 {
@@ -198,7 +201,7 @@ fn is_discharge_of_another(now: &Register, party: u64, content: &Content) -> boo
     }
 }
 
-/// Whether a mortgage stands at a number, and a party is its creditor.
+/// Returns whether a mortgage exists at a number and a party is its creditor.
 fn has_mortgage_of(now: &Register, party: u64, number: u64) -> bool
     ensures { result ≡ is_rrr_where (is_mortgage_of party) now.now number }
 {
@@ -207,7 +210,7 @@ fn has_mortgage_of(now: &Register, party: u64, number: u64) -> bool
         .is_some_and(|entry| is_mortgage(&entry.class) && entry.party == party)
 }
 
-/// Whether an act decides a mutation that a party lodged.
+/// Returns whether an act approves or refuses a mutation that a party lodged.
 fn decides_own(now: &Register, party: u64, act: &Act) -> bool
     ensures { result ≡ decides (has_lodged now.now party) act.now }
 {

@@ -5,7 +5,7 @@ use Rattle.land_acts.specs.Mutations.Grounds.{are_same_ground}
 use Rattle.land_shape.specs.Matching.{Match}
 use Rattle.land_acts.proofs.mutations.grounds.are_same_ground.Goals as goal
 
--- the outlines run counterclockwise, so whether they match is all that is left to tell
+-- the outlines run counterclockwise, so they have the same ground exactly if they match
 pub returns : goal.returns
 returns c =
     let old = c.args.old.now in

@@ -3,6 +3,6 @@ use Rattle.std.specs.List.{list_all}
 use Rattle.land_shape.specs.Matching.{runs_counterclockwise}
 use Rattle.land_acts.proofs.mutations.grounds.run_counterclockwise.Given as goal
 
--- those so far do
+-- all outlines so far run counterclockwise
 abbrev pub invariant-loop-ring : goal.invariant-loop-ring
 invariant-loop-ring l = list_all runs_counterclockwise (take l.ring-index l.rings) ≡ true

@@ -2,7 +2,7 @@ use Rattle.std.proofs.Common.{◌≡◌, ◌≤◌, ◌+◌, ◌++◌, drop}
 use Rattle.land_acts.specs.Mutations.Subdividing.{all_parts, count_for, origin_of, units_made}
 use Rattle.land_acts.proofs.mutations.subdivide.units_made.Given as goal
 
--- the units so far, and those of the parts to come, which take the next numbers
+-- the units so far, followed by those of the remaining parts, which get the next numbers
 abbrev pub invariant-loop-part : goal.invariant-loop-part
 invariant-loop-part l =
     (l.units ++ units_made (origin_of l.slice 0 l.it) l.number (drop l.part-index l.it.rest) ≡ units_made (origin_of l.slice 0 l.it) l.slice.next (all_parts l.it))

@@ -3,6 +3,6 @@ use Rattle.land_core.specs.Mergers.{lists_number}
 use Rattle.land_rules.specs.Holdings.{has_number}
 use Rattle.land_rules.proofs.rules.holdings.insert_units.Given as goal
 
--- one of the others is among the units already, or still to come
+-- each of the numbers is in the set, or has not been read yet
 abbrev pub invariant-loop-unit : goal.invariant-loop-unit
 invariant-loop-unit l = (unit : ℕ) → (has_number l.units unit || lists_number (drop l.unit-index l.more) unit) ≡ (has_number l.fn.units unit || lists_number l.more unit)

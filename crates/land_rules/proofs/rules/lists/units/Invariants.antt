@@ -4,6 +4,6 @@ use Rattle.land_core.specs.declared.kind.Kind.TheVariants as kind
 use Rattle.land_rules.specs.Rules.{seen_of, sees}
 use Rattle.land_rules.proofs.rules.lists.units.Given as goal
 
--- what was seen so far, and what is still to be judged, are what is seen in all
+-- the list, and the visible units that have not been read yet, are the complete list
 abbrev pub invariant-loop-number : goal.invariant-loop-number
 invariant-loop-number l = l.seen ++ map (λ e. e.0) (filter (λ e. sees l.at l.caller kind.Unit e.0) l.number-iterator) ≡ seen_of l.at l.caller kind.Unit
