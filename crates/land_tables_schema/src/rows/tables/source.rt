@@ -1,6 +1,6 @@
 //! The rows of `source`.
-ghost use Rattle.std.specs.Prelude.{◌≡◌, ◌<◌, ◌^◌, false};
-ghost use Rattle.land_tables_schema.specs.Land.{HasFirstTables, IsLand};
+ghost use Rattle.std.specs.Prelude.{◌<◌, ◌^◌};
+ghost use Rattle.land_tables_schema.specs.Connections.{HasRegisterTables, HasV1Tables, LeavesAutocommit, SameReference};
 ghost use Rattle.land_tables_schema.specs.Rows.Forms.{Adds, Turns};
 ghost use Rattle.land_tables_schema.specs.Rows.Looks.{IsLook, AreAll};
 ghost use Rattle.land_tables_schema.specs.Rows.Source.{is_source, sources};
@@ -8,7 +8,6 @@ ghost use Rattle.land_tables_schema.specs.Rows.Versions.{begun, closed};
 ghost use Rattle.land_tables_schema.specs.Steps.{IsStep};
 ghost use Rattle.land_tables_schema.specs.Tables as table;
 ghost use Rattle.sqlite.specs.Held.{state};
-ghost use Rattle.sqlite.specs.State.{HasCleanDisk};
 
 use crate::rows::cells::{of_moment, of_number, of_text};
 use sqlite::{Alter, Connection, Error, Row, Transaction};
@@ -32,8 +31,8 @@ pub fn begin<S: Alter>(
     since: i64,
 ) -> Result<usize, Error>
     requires number_fits { number < 2 ^ 63 }
-    requires land { HasCleanDisk (state S.Store tx.old.conn.now) → IsLand (state S.Store tx.old.conn.now).now.schema }
-    ensures same_reference { tx.new.conn.ghost_name ≡ tx.old.conn.ghost_name }
+    requires land { HasRegisterTables S.Store tx.old.conn.now }
+    ensures same_reference { SameReference tx.old tx.new }
     ensures step { IsStep result (Adds sources (begun (record { number = number; kind = kind.now; title = title.now }) since))
         (state S.Store tx.old.conn.now) (state S.Store tx.new.conn.now) }
 {
@@ -51,8 +50,8 @@ pub fn begin<S: Alter>(
 /// Closes the version of a source that stands.
 pub fn close<S: Alter>(tx: &mut Transaction<'_, S>, number: u64, stamp: i64) -> Result<usize, Error>
     requires number_fits { number < 2 ^ 63 }
-    requires land { HasCleanDisk (state S.Store tx.old.conn.now) → IsLand (state S.Store tx.old.conn.now).now.schema }
-    ensures same_reference { tx.new.conn.ghost_name ≡ tx.old.conn.ghost_name }
+    requires land { HasRegisterTables S.Store tx.old.conn.now }
+    ensures same_reference { SameReference tx.old tx.new }
     ensures step { IsStep result (Turns sources (closed (is_source number) stamp))
         (state S.Store tx.old.conn.now) (state S.Store tx.new.conn.now) }
 {
@@ -61,10 +60,10 @@ pub fn close<S: Alter>(tx: &mut Transaction<'_, S>, number: u64, stamp: i64) -> 
 
 /// All versions, each as the cells of its row with its lifespan, in whatever order.
 pub fn all<S: Alter>(conn: &mut Connection<S>) -> Result<Vec<Row>, Error>
-    requires { HasCleanDisk (state S.Store conn.old) → HasFirstTables (state S.Store conn.old).now.schema }
+    requires { HasV1Tables S.Store conn.old }
     ensures look { IsLook result (λ rows. AreAll table.source 3 (state S.Store conn.old).now.trees rows.items)
         (state S.Store conn.old) (state S.Store conn.new) }
-    ensures mode { conn.old.in_transaction ≡ false → conn.new.in_transaction ≡ false }
+    ensures mode { LeavesAutocommit conn.old conn.new }
 {
     conn.query_all(ALL, &[])
 }
