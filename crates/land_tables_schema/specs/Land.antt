@@ -32,7 +32,7 @@ pub record IsFirst (s : Schema) : Type 0 where
   pub indexes : list_all (refuses_no_more s.tables) s.indexes ≡ true
   pub views : s.views ≡ []
 
--- the first tables are those of schema version 1, any tables may follow, and there are no views
+-- the first tables are those of schema version 1, any tables may follow, and it has no views
 pub record HasFirstTables (s : Schema) : Type 0 where
   pub tables : (more : List Table) × (s.tables ≡ first_tables ++ more)
   pub views : s.views ≡ []
