@@ -1,6 +1,9 @@
 -- Conditions on a connection or a transaction that most functions on the register's tables require or ensure.
-use Rattle.std.specs.Prelude.{◌≡◌, false, IsTrue}
+use Rattle.std.specs.Prelude.{◌≡◌, false, IsTrue, Result}
 use Rattle.land_tables_schema.specs.Land.{HasFirstTables, IsLand}
+use Rattle.land_tables_schema.specs.Rows.Looks.{IsLook}
+use Rattle.land_tables_schema.specs.Steps.{IsStep}
+use Rattle.sqlite.specs.Effect.{Database}
 use Rattle.sqlite.specs.Held.{Held, state}
 use Rattle.sqlite.specs.State.{HasCleanDisk}
 use Rattle.sqlite.specs.declared.transaction.Transaction.{Transaction}
@@ -25,3 +28,12 @@ LeavesAutocommit old new = old.in_transaction ≡ false → new.in_transaction �
 -- a transaction borrows the same connection after a call as before it
 abbrev pub SameReference : {S : Type 0} → (old new : Transaction S) → Type 0
 SameReference old new = new.conn.ghost_name ≡ old.conn.ghost_name
+
+-- a call inside a transaction has this effect if it succeeds, and commits nothing
+abbrev pub InTransaction : {S X E : Type 0} → Ghosts S → Result X E → (Database → Database → Type 0)
+    → (old new : Transaction S) → Type 0
+InTransaction g r Done old new = IsStep r Done (state g old.conn.now) (state g new.conn.now)
+
+-- a call reads the store without a change, and its result satisfies `Given` if it succeeds
+abbrev pub ReadsOnly : {S X E : Type 0} → Ghosts S → Result X E → (X → Type 0) → (old new : Held S) → Type 0
+ReadsOnly g r Given old new = IsLook r Given (state g old) (state g new)

@@ -1,10 +1,9 @@
 //! Runs the statements that create the tables and change the schema.
 ghost use Rattle.std.specs.Prelude.{◌≡◌, map};
-ghost use Rattle.land_tables_schema.specs.Connections.{SameReference};
+ghost use Rattle.land_tables_schema.specs.Connections.{InTransaction, SameReference};
 ghost use Rattle.land_tables_schema.specs.Definitions.{AreReady, IsReady};
 ghost use Rattle.land_tables_schema.specs.Land.{no_schema};
 ghost use Rattle.land_tables_schema.specs.Making.{Defines, DefinesAll, IsMade};
-ghost use Rattle.land_tables_schema.specs.Steps.{IsStep};
 ghost use Rattle.sqlite.specs.Held.{state};
 ghost use Rattle.sqlite.specs.State.{HasCleanDisk};
 
@@ -17,8 +16,7 @@ fn define<S: Alter>(tx: &mut Transaction<'_, S>, text: &str) -> Result<usize, Er
     requires { HasCleanDisk (state S.Store tx.old.conn.now)
         → IsReady (state S.Store tx.old.conn.now).now.schema text.now }
     ensures same_reference { SameReference tx.old tx.new }
-    ensures step { IsStep result (Defines text.now) (state S.Store tx.old.conn.now)
-        (state S.Store tx.new.conn.now) }
+    ensures step { InTransaction S.Store result (Defines text.now) tx.old tx.new }
 {
     tx.execute(text, &[])
 }
@@ -28,8 +26,7 @@ pub(crate) fn define_all<S: Alter>(tx: &mut Transaction<'_, S>, texts: &[&str]) 
     requires { HasCleanDisk (state S.Store tx.old.conn.now)
         → AreReady (state S.Store tx.old.conn.now).now.schema (map (λ t. t.now) texts.now) }
     ensures same_reference { SameReference tx.old tx.new }
-    ensures step { IsStep result (DefinesAll (map (λ t. t.now) texts.now)) (state S.Store tx.old.conn.now)
-        (state S.Store tx.new.conn.now) }
+    ensures step { InTransaction S.Store result (DefinesAll (map (λ t. t.now) texts.now)) tx.old tx.new }
 {
     for text in texts {
         define(tx, text)?;
@@ -43,8 +40,7 @@ pub fn make_tables<S: Alter>(tx: &mut Transaction<'_, S>) -> Result<(), Error>
     requires { HasCleanDisk (state S.Store tx.old.conn.now) → (state S.Store tx.old.conn.now).now.schema
         ≡ no_schema }
     ensures same_reference { SameReference tx.old tx.new }
-    ensures step { IsStep result (λ _ new. IsMade new) (state S.Store tx.old.conn.now)
-        (state S.Store tx.new.conn.now) }
+    ensures step { InTransaction S.Store result (λ _ new. IsMade new) tx.old tx.new }
 {
     texts_make_the_tables();
     define_all(tx, texts())

@@ -1,10 +1,9 @@
 //! Creates a new register.
 ghost use Rattle.std.specs.Prelude.{◌≡◌, false, IsTrue, OnErr, OnOk};
-ghost use Rattle.land_tables_schema.specs.Connections.{SameReference};
+ghost use Rattle.land_tables_schema.specs.Connections.{InTransaction, SameReference};
 ghost use Rattle.land_tables_schema.specs.Land.{no_schema};
 ghost use Rattle.land_tables_schema.specs.Making.{IsMade};
 ghost use Rattle.land_tables_schema.specs.Rows.Held.{HoldsRows, IsNew, new_rows};
-ghost use Rattle.land_tables_schema.specs.Steps.{IsStep};
 ghost use Rattle.sqlite.specs.Held.{state};
 ghost use Rattle.sqlite.specs.State.{HasCleanDisk, Survives};
 
@@ -17,8 +16,7 @@ use sqlite::{Alter, Connection, Error, Transaction};
 fn put_first_rows<S: Alter>(tx: &mut Transaction<'_, S>) -> Result<(), Error>
     requires { HasCleanDisk (state S.Store tx.old.conn.now) → IsMade (state S.Store tx.old.conn.now).now }
     ensures same_reference { SameReference tx.old tx.new }
-    ensures step { IsStep result (λ _ new. IsNew new) (state S.Store tx.old.conn.now)
-        (state S.Store tx.new.conn.now) }
+    ensures step { InTransaction S.Store result (λ _ new. IsNew new) tx.old tx.new }
 {
     edition::insert(tx)?;
     moments::insert(tx, 0, 2)?;

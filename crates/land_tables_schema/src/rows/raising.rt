@@ -1,10 +1,9 @@
 //! Migrates a register from schema version 1 to version 2.
 ghost use Rattle.std.specs.Prelude.{◌≡◌, false, IsTrue, OnErr, OnOk};
-ghost use Rattle.land_tables_schema.specs.Connections.{HasRegisterTables, SameReference};
+ghost use Rattle.land_tables_schema.specs.Connections.{HasRegisterTables, InTransaction, SameReference};
 ghost use Rattle.land_tables_schema.specs.Land.{IsFirst, IsRaisable};
 ghost use Rattle.land_tables_schema.specs.Rows.Raising.{DropsJoins, MakesIndexes, MakesTable, MayRaise};
 ghost use Rattle.land_tables_schema.specs.Rows.Raising.{Raises};
-ghost use Rattle.land_tables_schema.specs.Steps.{IsStep};
 ghost use Rattle.land_tables_schema.specs.Tables as table;
 ghost use Rattle.sqlite.specs.Held.{state};
 ghost use Rattle.sqlite.specs.State.{HasCleanDisk, Survives};
@@ -20,7 +19,7 @@ fn drop_joins<S: Alter>(tx: &mut Transaction<'_, S>) -> Result<(), Error>
     requires { HasCleanDisk (state S.Store tx.old.conn.now)
         → IsRaisable (state S.Store tx.old.conn.now).now.schema }
     ensures same_reference { SameReference tx.old tx.new }
-    ensures step { IsStep result DropsJoins (state S.Store tx.old.conn.now) (state S.Store tx.new.conn.now) }
+    ensures step { InTransaction S.Store result DropsJoins tx.old tx.new }
 {
     define_all(tx, drop_texts())
 }
@@ -32,7 +31,7 @@ fn make_mandates<S: Alter>(tx: &mut Transaction<'_, S>) -> Result<usize, Error>
     requires next { HasCleanDisk (state S.Store tx.old.conn.now)
         → next_tree (state S.Store tx.old.conn.now).now.schema ≡ table.mandate.tree }
     ensures same_reference { SameReference tx.old tx.new }
-    ensures step { IsStep result MakesTable (state S.Store tx.old.conn.now) (state S.Store tx.new.conn.now) }
+    ensures step { InTransaction S.Store result MakesTable tx.old tx.new }
 {
     tx.execute(mandate::CREATE, &[])
 }
@@ -41,8 +40,7 @@ fn make_mandates<S: Alter>(tx: &mut Transaction<'_, S>) -> Result<usize, Error>
 fn make_indexes<S: Alter>(tx: &mut Transaction<'_, S>) -> Result<(), Error>
     requires { HasRegisterTables S.Store tx.old.conn.now }
     ensures same_reference { SameReference tx.old tx.new }
-    ensures step { IsStep result MakesIndexes (state S.Store tx.old.conn.now)
-        (state S.Store tx.new.conn.now) }
+    ensures step { InTransaction S.Store result MakesIndexes tx.old tx.new }
 {
     define_all(tx, index_texts())
 }
@@ -52,7 +50,7 @@ fn raise_all<S: Alter>(tx: &mut Transaction<'_, S>) -> Result<(), Error>
     requires { HasCleanDisk (state S.Store tx.old.conn.now)
         → IsRaisable (state S.Store tx.old.conn.now).now.schema }
     ensures same_reference { SameReference tx.old tx.new }
-    ensures step { IsStep result Raises (state S.Store tx.old.conn.now) (state S.Store tx.new.conn.now) }
+    ensures step { InTransaction S.Store result Raises tx.old tx.new }
 {
     drop_joins(tx)?;
     make_mandates(tx)?;

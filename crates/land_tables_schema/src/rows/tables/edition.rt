@@ -1,11 +1,10 @@
 //! The row of `edition`.
-ghost use Rattle.land_tables_schema.specs.Connections.{HasRegisterTables, HasV1Tables, LeavesAutocommit};
-ghost use Rattle.land_tables_schema.specs.Connections.{SameReference};
+ghost use Rattle.land_tables_schema.specs.Connections.{HasRegisterTables, HasV1Tables, InTransaction};
+ghost use Rattle.land_tables_schema.specs.Connections.{LeavesAutocommit, ReadsOnly, SameReference};
 ghost use Rattle.land_tables_schema.specs.Rows.Edition.{current_edition, edition_row, first_edition};
 ghost use Rattle.land_tables_schema.specs.Rows.Forms.{Appends};
-ghost use Rattle.land_tables_schema.specs.Rows.Looks.{IsLook, AreAllNumbered};
+ghost use Rattle.land_tables_schema.specs.Rows.Looks.{AreAllNumbered};
 ghost use Rattle.land_tables_schema.specs.Rows.Raising.{Rewrites};
-ghost use Rattle.land_tables_schema.specs.Steps.{IsStep};
 ghost use Rattle.land_tables_schema.specs.Tables as table;
 ghost use Rattle.sqlite.specs.Held.{state};
 
@@ -24,8 +23,8 @@ const ALL: &str = "SELECT id, version FROM edition";
 pub fn insert<S: Alter>(tx: &mut Transaction<'_, S>) -> Result<usize, Error>
     requires { HasRegisterTables S.Store tx.old.conn.now }
     ensures same_reference { SameReference tx.old tx.new }
-    ensures step { IsStep result (Appends table.edition edition_row current_edition)
-        (state S.Store tx.old.conn.now) (state S.Store tx.new.conn.now) }
+    ensures step { InTransaction S.Store result
+        (Appends table.edition edition_row current_edition) tx.old tx.new }
 {
     tx.execute(INSERT, &[])
 }
@@ -34,8 +33,7 @@ pub fn insert<S: Alter>(tx: &mut Transaction<'_, S>) -> Result<usize, Error>
 pub fn raise<S: Alter>(tx: &mut Transaction<'_, S>) -> Result<usize, Error>
     requires { HasRegisterTables S.Store tx.old.conn.now }
     ensures same_reference { SameReference tx.old tx.new }
-    ensures step { IsStep result (Rewrites first_edition current_edition)
-        (state S.Store tx.old.conn.now) (state S.Store tx.new.conn.now) }
+    ensures step { InTransaction S.Store result (Rewrites first_edition current_edition) tx.old tx.new }
 {
     tx.execute(RAISE, &[])
 }
@@ -43,9 +41,8 @@ pub fn raise<S: Alter>(tx: &mut Transaction<'_, S>) -> Result<usize, Error>
 /// Returns all rows, in unspecified order.
 pub fn all<S: Alter>(conn: &mut Connection<S>) -> Result<Vec<Row>, Error>
     requires { HasV1Tables S.Store conn.old }
-    ensures look { IsLook result (λ rows. AreAllNumbered table.edition
-        (state S.Store conn.old).now.trees rows.items)
-        (state S.Store conn.old) (state S.Store conn.new) }
+    ensures look { ReadsOnly S.Store result (λ rows. AreAllNumbered table.edition
+        (state S.Store conn.old).now.trees rows.items) conn.old conn.new }
     ensures mode { LeavesAutocommit conn.old conn.new }
 {
     conn.query_all(ALL, &[])

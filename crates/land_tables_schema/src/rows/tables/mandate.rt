@@ -1,11 +1,11 @@
 //! The rows of `mandate`, which schema version 1 does not have.
 ghost use Rattle.std.specs.Prelude.{◌<◌, ◌^◌};
-ghost use Rattle.land_tables_schema.specs.Connections.{HasRegisterTables, LeavesAutocommit, SameReference};
+ghost use Rattle.land_tables_schema.specs.Connections.{HasRegisterTables, InTransaction, LeavesAutocommit};
+ghost use Rattle.land_tables_schema.specs.Connections.{ReadsOnly, SameReference};
 ghost use Rattle.land_tables_schema.specs.Rows.Forms.{Adds, Turns};
-ghost use Rattle.land_tables_schema.specs.Rows.Looks.{IsLook, AreAll};
+ghost use Rattle.land_tables_schema.specs.Rows.Looks.{AreAll};
 ghost use Rattle.land_tables_schema.specs.Rows.Mandate.{is_mandate, mandates};
 ghost use Rattle.land_tables_schema.specs.Rows.Versions.{begun, closed};
-ghost use Rattle.land_tables_schema.specs.Steps.{IsStep};
 ghost use Rattle.land_tables_schema.specs.Tables as table;
 ghost use Rattle.sqlite.specs.Held.{state};
 
@@ -34,9 +34,8 @@ pub fn begin<S: Alter>(
     requires agent_fits { agent < 2 ^ 63 }
     requires land { HasRegisterTables S.Store tx.old.conn.now }
     ensures same_reference { SameReference tx.old tx.new }
-    ensures step { IsStep result (Adds mandates (begun
-        (record { principal = principal; agent = agent }) since))
-        (state S.Store tx.old.conn.now) (state S.Store tx.new.conn.now) }
+    ensures step { InTransaction S.Store result
+        (Adds mandates (begun (record { principal = principal; agent = agent }) since)) tx.old tx.new }
 {
     tx.execute(
         BEGIN,
@@ -55,8 +54,8 @@ pub fn close<S: Alter>(
     requires agent_fits { agent < 2 ^ 63 }
     requires land { HasRegisterTables S.Store tx.old.conn.now }
     ensures same_reference { SameReference tx.old tx.new }
-    ensures step { IsStep result (Turns mandates (closed (is_mandate principal agent) stamp))
-        (state S.Store tx.old.conn.now) (state S.Store tx.new.conn.now) }
+    ensures step { InTransaction S.Store result
+        (Turns mandates (closed (is_mandate principal agent) stamp)) tx.old tx.new }
 {
     tx.execute(
         CLOSE,
@@ -67,9 +66,8 @@ pub fn close<S: Alter>(
 /// Returns all versions, each as the cells of its row with its lifespan, in unspecified order.
 pub fn all<S: Alter>(conn: &mut Connection<S>) -> Result<Vec<Row>, Error>
     requires { HasRegisterTables S.Store conn.old }
-    ensures look { IsLook result (λ rows. AreAll table.mandate 2
-        (state S.Store conn.old).now.trees rows.items)
-        (state S.Store conn.old) (state S.Store conn.new) }
+    ensures look { ReadsOnly S.Store result
+        (λ rows. AreAll table.mandate 2 (state S.Store conn.old).now.trees rows.items) conn.old conn.new }
     ensures mode { LeavesAutocommit conn.old conn.new }
 {
     conn.query_all(ALL, &[])

@@ -1,12 +1,11 @@
 //! The rows of `member`.
 ghost use Rattle.std.specs.Prelude.{◌<◌, ◌^◌};
-ghost use Rattle.land_tables_schema.specs.Connections.{HasRegisterTables, HasV1Tables, LeavesAutocommit};
-ghost use Rattle.land_tables_schema.specs.Connections.{SameReference};
+ghost use Rattle.land_tables_schema.specs.Connections.{HasRegisterTables, HasV1Tables, InTransaction};
+ghost use Rattle.land_tables_schema.specs.Connections.{LeavesAutocommit, ReadsOnly, SameReference};
 ghost use Rattle.land_tables_schema.specs.Rows.Forms.{Adds, Turns};
-ghost use Rattle.land_tables_schema.specs.Rows.Looks.{IsLook, AreAll};
+ghost use Rattle.land_tables_schema.specs.Rows.Looks.{AreAll};
 ghost use Rattle.land_tables_schema.specs.Rows.Member.{is_member_of, members};
 ghost use Rattle.land_tables_schema.specs.Rows.Versions.{begun, closed};
-ghost use Rattle.land_tables_schema.specs.Steps.{IsStep};
 ghost use Rattle.land_tables_schema.specs.Tables as table;
 ghost use Rattle.sqlite.specs.Held.{state};
 
@@ -38,9 +37,8 @@ pub fn begin<S: Alter>(
     requires den_fits { den < 2 ^ 63 }
     requires land { HasRegisterTables S.Store tx.old.conn.now }
     ensures same_reference { SameReference tx.old tx.new }
-    ensures step { IsStep result (Adds members (begun
-        (record { grp = grp; party = party; num = num; den = den }) since))
-        (state S.Store tx.old.conn.now) (state S.Store tx.new.conn.now) }
+    ensures step { InTransaction S.Store result (Adds members
+        (begun (record { grp = grp; party = party; num = num; den = den }) since)) tx.old tx.new }
 {
     tx.execute(
         BEGIN,
@@ -59,8 +57,8 @@ pub fn close<S: Alter>(tx: &mut Transaction<'_, S>, grp: u64, stamp: i64) -> Res
     requires grp_fits { grp < 2 ^ 63 }
     requires land { HasRegisterTables S.Store tx.old.conn.now }
     ensures same_reference { SameReference tx.old tx.new }
-    ensures step { IsStep result (Turns members (closed (is_member_of grp) stamp))
-        (state S.Store tx.old.conn.now) (state S.Store tx.new.conn.now) }
+    ensures step { InTransaction S.Store result
+        (Turns members (closed (is_member_of grp) stamp)) tx.old tx.new }
 {
     tx.execute(CLOSE, &[of_number(grp), of_moment(stamp)])
 }
@@ -68,8 +66,8 @@ pub fn close<S: Alter>(tx: &mut Transaction<'_, S>, grp: u64, stamp: i64) -> Res
 /// Returns all versions, each as the cells of its row with its lifespan, in unspecified order.
 pub fn all<S: Alter>(conn: &mut Connection<S>) -> Result<Vec<Row>, Error>
     requires { HasV1Tables S.Store conn.old }
-    ensures look { IsLook result (λ rows. AreAll table.member 4 (state S.Store conn.old).now.trees rows.items)
-        (state S.Store conn.old) (state S.Store conn.new) }
+    ensures look { ReadsOnly S.Store result
+        (λ rows. AreAll table.member 4 (state S.Store conn.old).now.trees rows.items) conn.old conn.new }
     ensures mode { LeavesAutocommit conn.old conn.new }
 {
     conn.query_all(ALL, &[])

@@ -1,11 +1,10 @@
 //! The rows of `moments`.
 ghost use Rattle.std.specs.Prelude.{◌<◌, ◌^◌};
-ghost use Rattle.land_tables_schema.specs.Connections.{HasRegisterTables, HasV1Tables, LeavesAutocommit};
-ghost use Rattle.land_tables_schema.specs.Connections.{SameReference};
+ghost use Rattle.land_tables_schema.specs.Connections.{HasRegisterTables, HasV1Tables, InTransaction};
+ghost use Rattle.land_tables_schema.specs.Connections.{LeavesAutocommit, ReadsOnly, SameReference};
 ghost use Rattle.land_tables_schema.specs.Rows.Forms.{Appends};
-ghost use Rattle.land_tables_schema.specs.Rows.Looks.{IsLook, AreAllNumbered};
+ghost use Rattle.land_tables_schema.specs.Rows.Looks.{AreAllNumbered};
 ghost use Rattle.land_tables_schema.specs.Rows.Moments.{moment_row};
-ghost use Rattle.land_tables_schema.specs.Steps.{IsStep};
 ghost use Rattle.land_tables_schema.specs.Tables as table;
 ghost use Rattle.sqlite.specs.Held.{state};
 
@@ -23,8 +22,8 @@ pub fn insert<S: Alter>(tx: &mut Transaction<'_, S>, stamp: i64, next: u64) -> R
     requires next_fits { next < 2 ^ 63 }
     requires land { HasRegisterTables S.Store tx.old.conn.now }
     ensures same_reference { SameReference tx.old tx.new }
-    ensures step { IsStep result (Appends table.moments moment_row (record { stamp = stamp; next = next }))
-        (state S.Store tx.old.conn.now) (state S.Store tx.new.conn.now) }
+    ensures step { InTransaction S.Store result
+        (Appends table.moments moment_row (record { stamp = stamp; next = next })) tx.old tx.new }
 {
     tx.execute(INSERT, &[of_moment(stamp), of_number(next)])
 }
@@ -32,9 +31,8 @@ pub fn insert<S: Alter>(tx: &mut Transaction<'_, S>, stamp: i64, next: u64) -> R
 /// Returns all rows, in unspecified order.
 pub fn all<S: Alter>(conn: &mut Connection<S>) -> Result<Vec<Row>, Error>
     requires { HasV1Tables S.Store conn.old }
-    ensures look { IsLook result (λ rows. AreAllNumbered table.moments
-        (state S.Store conn.old).now.trees rows.items)
-        (state S.Store conn.old) (state S.Store conn.new) }
+    ensures look { ReadsOnly S.Store result (λ rows. AreAllNumbered table.moments
+        (state S.Store conn.old).now.trees rows.items) conn.old conn.new }
     ensures mode { LeavesAutocommit conn.old conn.new }
 {
     conn.query_all(ALL, &[])

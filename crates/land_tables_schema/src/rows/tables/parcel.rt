@@ -1,12 +1,11 @@
 //! The rows of `parcel`.
 ghost use Rattle.std.specs.Prelude.{◌<◌, ◌^◌};
-ghost use Rattle.land_tables_schema.specs.Connections.{HasRegisterTables, HasV1Tables, LeavesAutocommit};
-ghost use Rattle.land_tables_schema.specs.Connections.{SameReference};
+ghost use Rattle.land_tables_schema.specs.Connections.{HasRegisterTables, HasV1Tables, InTransaction};
+ghost use Rattle.land_tables_schema.specs.Connections.{LeavesAutocommit, ReadsOnly, SameReference};
 ghost use Rattle.land_tables_schema.specs.Rows.Forms.{Adds, Turns};
-ghost use Rattle.land_tables_schema.specs.Rows.Looks.{IsLook, AreAll};
+ghost use Rattle.land_tables_schema.specs.Rows.Looks.{AreAll};
 ghost use Rattle.land_tables_schema.specs.Rows.Parcel.{is_parcel, parcels};
 ghost use Rattle.land_tables_schema.specs.Rows.Versions.{begun, closed};
-ghost use Rattle.land_tables_schema.specs.Steps.{IsStep};
 ghost use Rattle.land_tables_schema.specs.Tables as table;
 ghost use Rattle.sqlite.specs.Held.{state};
 
@@ -38,15 +37,14 @@ pub fn begin<S: Alter>(
     requires source_fits { source < 2 ^ 63 }
     requires land { HasRegisterTables S.Store tx.old.conn.now }
     ensures same_reference { SameReference tx.old tx.new }
-    ensures step { IsStep result (Adds parcels (begun
-        (record {
+    ensures step { InTransaction S.Store result (Adds parcels
+        (begun (record {
           number = number;
           unit = unit;
           label = label.now;
           outline = outline.now;
           source = source;
-        }) since))
-        (state S.Store tx.old.conn.now) (state S.Store tx.new.conn.now) }
+        }) since)) tx.old tx.new }
 {
     tx.execute(
         BEGIN,
@@ -66,8 +64,8 @@ pub fn close<S: Alter>(tx: &mut Transaction<'_, S>, number: u64, stamp: i64) -> 
     requires number_fits { number < 2 ^ 63 }
     requires land { HasRegisterTables S.Store tx.old.conn.now }
     ensures same_reference { SameReference tx.old tx.new }
-    ensures step { IsStep result (Turns parcels (closed (is_parcel number) stamp))
-        (state S.Store tx.old.conn.now) (state S.Store tx.new.conn.now) }
+    ensures step { InTransaction S.Store result
+        (Turns parcels (closed (is_parcel number) stamp)) tx.old tx.new }
 {
     tx.execute(CLOSE, &[of_number(number), of_moment(stamp)])
 }
@@ -75,8 +73,8 @@ pub fn close<S: Alter>(tx: &mut Transaction<'_, S>, number: u64, stamp: i64) -> 
 /// Returns all versions, each as the cells of its row with its lifespan, in unspecified order.
 pub fn all<S: Alter>(conn: &mut Connection<S>) -> Result<Vec<Row>, Error>
     requires { HasV1Tables S.Store conn.old }
-    ensures look { IsLook result (λ rows. AreAll table.parcel 5 (state S.Store conn.old).now.trees rows.items)
-        (state S.Store conn.old) (state S.Store conn.new) }
+    ensures look { ReadsOnly S.Store result
+        (λ rows. AreAll table.parcel 5 (state S.Store conn.old).now.trees rows.items) conn.old conn.new }
     ensures mode { LeavesAutocommit conn.old conn.new }
 {
     conn.query_all(ALL, &[])

@@ -1,12 +1,11 @@
 //! The rows of `role`.
 ghost use Rattle.std.specs.Prelude.{◌<◌, ◌^◌};
-ghost use Rattle.land_tables_schema.specs.Connections.{HasRegisterTables, HasV1Tables, LeavesAutocommit};
-ghost use Rattle.land_tables_schema.specs.Connections.{SameReference};
+ghost use Rattle.land_tables_schema.specs.Connections.{HasRegisterTables, HasV1Tables, InTransaction};
+ghost use Rattle.land_tables_schema.specs.Connections.{LeavesAutocommit, ReadsOnly, SameReference};
 ghost use Rattle.land_tables_schema.specs.Rows.Forms.{Adds, Turns};
-ghost use Rattle.land_tables_schema.specs.Rows.Looks.{IsLook, AreAll};
+ghost use Rattle.land_tables_schema.specs.Rows.Looks.{AreAll};
 ghost use Rattle.land_tables_schema.specs.Rows.Role.{is_grant, roles};
 ghost use Rattle.land_tables_schema.specs.Rows.Versions.{begun, closed};
-ghost use Rattle.land_tables_schema.specs.Steps.{IsStep};
 ghost use Rattle.land_tables_schema.specs.Tables as table;
 ghost use Rattle.sqlite.specs.Held.{state};
 
@@ -34,8 +33,8 @@ pub fn begin<S: Alter>(
     requires party_fits { party < 2 ^ 63 }
     requires land { HasRegisterTables S.Store tx.old.conn.now }
     ensures same_reference { SameReference tx.old tx.new }
-    ensures step { IsStep result (Adds roles (begun (record { party = party; role = role.now }) since))
-        (state S.Store tx.old.conn.now) (state S.Store tx.new.conn.now) }
+    ensures step { InTransaction S.Store result
+        (Adds roles (begun (record { party = party; role = role.now }) since)) tx.old tx.new }
 {
     tx.execute(BEGIN, &[of_number(party), of_text(role), of_moment(since)])
 }
@@ -50,8 +49,8 @@ pub fn close<S: Alter>(
     requires party_fits { party < 2 ^ 63 }
     requires land { HasRegisterTables S.Store tx.old.conn.now }
     ensures same_reference { SameReference tx.old tx.new }
-    ensures step { IsStep result (Turns roles (closed (is_grant party role.now) stamp))
-        (state S.Store tx.old.conn.now) (state S.Store tx.new.conn.now) }
+    ensures step { InTransaction S.Store result
+        (Turns roles (closed (is_grant party role.now) stamp)) tx.old tx.new }
 {
     tx.execute(CLOSE, &[of_number(party), of_text(role), of_moment(stamp)])
 }
@@ -59,8 +58,8 @@ pub fn close<S: Alter>(
 /// Returns all versions, each as the cells of its row with its lifespan, in unspecified order.
 pub fn all<S: Alter>(conn: &mut Connection<S>) -> Result<Vec<Row>, Error>
     requires { HasV1Tables S.Store conn.old }
-    ensures look { IsLook result (λ rows. AreAll table.role 2 (state S.Store conn.old).now.trees rows.items)
-        (state S.Store conn.old) (state S.Store conn.new) }
+    ensures look { ReadsOnly S.Store result
+        (λ rows. AreAll table.role 2 (state S.Store conn.old).now.trees rows.items) conn.old conn.new }
     ensures mode { LeavesAutocommit conn.old conn.new }
 {
     conn.query_all(ALL, &[])

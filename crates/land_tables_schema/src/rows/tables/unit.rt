@@ -1,12 +1,11 @@
 //! The rows of `unit`.
 ghost use Rattle.std.specs.Prelude.{◌<◌, ◌^◌};
-ghost use Rattle.land_tables_schema.specs.Connections.{HasRegisterTables, HasV1Tables, LeavesAutocommit};
-ghost use Rattle.land_tables_schema.specs.Connections.{SameReference};
+ghost use Rattle.land_tables_schema.specs.Connections.{HasRegisterTables, HasV1Tables, InTransaction};
+ghost use Rattle.land_tables_schema.specs.Connections.{LeavesAutocommit, ReadsOnly, SameReference};
 ghost use Rattle.land_tables_schema.specs.Rows.Forms.{Adds, Turns};
-ghost use Rattle.land_tables_schema.specs.Rows.Looks.{IsLook, AreAll};
+ghost use Rattle.land_tables_schema.specs.Rows.Looks.{AreAll};
 ghost use Rattle.land_tables_schema.specs.Rows.Unit.{is_unit, units};
 ghost use Rattle.land_tables_schema.specs.Rows.Versions.{begun, closed};
-ghost use Rattle.land_tables_schema.specs.Steps.{IsStep};
 ghost use Rattle.land_tables_schema.specs.Tables as table;
 ghost use Rattle.sqlite.specs.Held.{state};
 
@@ -34,9 +33,8 @@ pub fn begin<S: Alter>(
     requires number_fits { number < 2 ^ 63 }
     requires land { HasRegisterTables S.Store tx.old.conn.now }
     ensures same_reference { SameReference tx.old tx.new }
-    ensures step { IsStep result (Adds units (begun
-        (record { number = number; name = name.now; checked = checked }) since))
-        (state S.Store tx.old.conn.now) (state S.Store tx.new.conn.now) }
+    ensures step { InTransaction S.Store result (Adds units
+        (begun (record { number = number; name = name.now; checked = checked }) since)) tx.old tx.new }
 {
     tx.execute(
         BEGIN,
@@ -54,8 +52,7 @@ pub fn close<S: Alter>(tx: &mut Transaction<'_, S>, number: u64, stamp: i64) -> 
     requires number_fits { number < 2 ^ 63 }
     requires land { HasRegisterTables S.Store tx.old.conn.now }
     ensures same_reference { SameReference tx.old tx.new }
-    ensures step { IsStep result (Turns units (closed (is_unit number) stamp))
-        (state S.Store tx.old.conn.now) (state S.Store tx.new.conn.now) }
+    ensures step { InTransaction S.Store result (Turns units (closed (is_unit number) stamp)) tx.old tx.new }
 {
     tx.execute(CLOSE, &[of_number(number), of_moment(stamp)])
 }
@@ -63,8 +60,8 @@ pub fn close<S: Alter>(tx: &mut Transaction<'_, S>, number: u64, stamp: i64) -> 
 /// Returns all versions, each as the cells of its row with its lifespan, in unspecified order.
 pub fn all<S: Alter>(conn: &mut Connection<S>) -> Result<Vec<Row>, Error>
     requires { HasV1Tables S.Store conn.old }
-    ensures look { IsLook result (λ rows. AreAll table.unit 3 (state S.Store conn.old).now.trees rows.items)
-        (state S.Store conn.old) (state S.Store conn.new) }
+    ensures look { ReadsOnly S.Store result
+        (λ rows. AreAll table.unit 3 (state S.Store conn.old).now.trees rows.items) conn.old conn.new }
     ensures mode { LeavesAutocommit conn.old conn.new }
 {
     conn.query_all(ALL, &[])
