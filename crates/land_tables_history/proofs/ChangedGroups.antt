@@ -1,4 +1,4 @@
--- The members of groups that stand after a change.
+-- The members of groups that are current after a change.
 use Rattle.std.proofs.Common.{◌≡◌, ℕ, Bool, true, false, cond, not, List, [], ◌∷◌, ◌++◌, filter, flat_map, map as map_list, refl, sym, ap, subst, ◌∙◌, append_assoc, IsPermutation}
 use Rattle.std.proofs.lemmas.List.Concat.{flat_map-append}
 use Rattle.std.proofs.lemmas.List.Elements.{filter-append}
@@ -20,13 +20,13 @@ use Rattle.land_tables_history.specs.Standing.{standing}
 use Rattle.land_tables_history.specs.declared.group_member.GroupMember.{GroupMember}
 use Rattle.land_tables_history.specs.declared.version.Version.{Version}
 
--- two lists at the head of a third may be exchanged
+-- two lists in front of a third may be exchanged
 pub exchanged_heads : {X : Type 0} (xs ys zs : List X) → IsPermutation (xs ++ (ys ++ zs)) (ys ++ (xs ++ zs))
 exchanged_heads xs ys zs =
     subst (λ l. IsPermutation l (ys ++ (xs ++ zs))) (append_assoc xs ys zs)
     (subst (λ l. IsPermutation ((xs ++ ys) ++ zs) l) (append_assoc ys xs zs) (IsPermutation-append_left zs (xs ++ ys) (ys ++ xs) (IsPermutation-append_comm xs ys)))
 
--- what lists in another order are joined to is the same in another order
+-- lists in another order, each flattened, give the same items in another order
 pub joined_permuted : {X Y : Type 0} (f : X → List Y) (xs ys : List X) → IsPermutation xs ys → IsPermutation (flat_map f xs) (flat_map f ys)
 joined_permuted f = along_permutation (λ xs ys. IsPermutation (flat_map f xs) (flat_map f ys))
     (λ xs. IsPermutation-refl (flat_map f xs))
@@ -34,7 +34,7 @@ joined_permuted f = along_permutation (λ xs ys. IsPermutation (flat_map f xs) (
     (λ x y xs. exchanged_heads (f x) (f y) (flat_map f xs))
     (λ xs ys zs. IsPermutation-trans (flat_map f xs) (flat_map f ys) (flat_map f zs))
 
--- the members of a group pass together, or none does
+-- either all members of a group pass, or none does
 all_or_none : (passes : ℕ → Bool) (group : ℕ) (members : List Member)
     → filter (λ (e : GroupMember). passes e.group) (map_list (λ m. record { group = group; member = m }) members) ≡ cond (passes group) (map_list (λ m. record { group = group; member = m }) members) []
 all_or_none passes group [] = either (passes group)

@@ -1,4 +1,5 @@
--- Which units mutations name after a change: new mutations name units, and those that stood name what they named.
+-- The units that mutations refer to after a change: new mutations refer to their units, and the others to the
+-- same units as before.
 use Rattle.std.proofs.Common.{◌≡◌, ℕ, ◌<◌, ◌≤◌, Bool, true, false, cond, not, List, [], ◌∷◌, ◌++◌, Option, Some, None, map as map_list, refl, sym, ap, subst, ◌∙◌, append_assoc, arith, IsPermutation, ◌⊎◌, inl, inr}
 use Rattle.std.proofs.lemmas.Bool.Decides.{nat_tests}
 use Rattle.std.proofs.lemmas.List.Sorted.{IsPermutation-append_right, IsPermutation-refl, IsPermutation-sym, IsPermutation-trans}
@@ -25,12 +26,12 @@ use Rattle.land_tables_history.specs.Standing.{standing}
 use Rattle.land_tables_history.specs.declared.naming.Naming.{Naming}
 use Rattle.land_tables_history.specs.declared.version.Version.{Version}
 
--- the units that one mutation names
+-- the units that one mutation refers to
 abbrev names : ℕ × MutationRecord → List Naming
 names m = map_list (λ unit. record { mutation = m.0; unit = unit }) (named_units m.1.content)
 
 module _ (next : ℕ) where
-  -- a mutation is new, or it stands and names the same units
+  -- a mutation is new, or it is current and refers to the same units
   data Fits (m : FinMap nat_cmp MutationRecord) (e : ℕ × MutationRecord) : Type 0 where
     new : next ≤ e.0 → map.get m e.0 ≡ None → Fits m e
     known : e.0 < next → (old : MutationRecord) → map.get m e.0 ≡ Some old → named_units e.1.content ≡ named_units old.content → Fits m e
@@ -41,7 +42,7 @@ module _ (next : ℕ) where
   is_known : (n : ℕ) → n < next → nat_le next n ≡ false
   is_known n less = grind (arith, nat_tests)
 
-  -- what is put under one number leaves the others as they were
+  -- an entry inserted under one number leaves the others unchanged
   fits_still : (m : FinMap nat_cmp MutationRecord) (k : ℕ) (v : MutationRecord) (es : List (ℕ × MutationRecord)) → list_any (eq_by_cmp nat_cmp k) (map_list (λ e. e.0) es) ≡ false
       → AllByRecursion (Fits m) es → AllByRecursion (Fits (map.insert m k v)) es
   fits_still m k v [] apart fits = tt
@@ -55,11 +56,11 @@ module _ (next : ℕ) where
       one e same (new le none) = new le (same ∙ none)
       one e same (known less old there units) = known less old (same ∙ there) units
 
-  -- an entry that is put in names its units, beside what the others name
+  -- an inserted entry refers to its units, in addition to those of the other entries
   one_more : (m : FinMap nat_cmp MutationRecord) (k : ℕ) (v : MutationRecord) → IsPermutation (names (k, v) ++ named_by (beside nat_cmp_total nat_cmp-IsAntisymmetric k (map.entries m))) (named_by (map.entries (map.insert m k v)))
   one_more m k v = joined_permuted names ((k, v) ∷ beside nat_cmp_total nat_cmp-IsAntisymmetric k (map.entries m)) (map.entries (map.insert m k v)) (inserted nat_cmp_total nat_cmp-IsAntisymmetric m k v)
 
-  -- a record that stands may be put again
+  -- a current record may be inserted again
   put_again : (m : FinMap nat_cmp MutationRecord) (k : ℕ) (v : MutationRecord) → map.get m k ≡ Some v → map.insert m k v ≡ m
   put_again m k v there = map.same_map nat_cmp_total nat_cmp-IsAntisymmetric (map.insert m k v) m (λ q. map.get-insert nat_cmp_total m k v q ∙ go q (eq_by_cmp nat_cmp q k) refl)
     where
@@ -67,7 +68,7 @@ module _ (next : ℕ) where
       go q true is = sym there ∙ ap (map.get m) (sym (nat_cmp-IsAntisymmetric q k (is_equal (nat_cmp q k) is)))
       go q false is = refl
 
-  -- one that names the same units may take its place
+  -- a mutation that refers to the same units may replace it
   put_alike : (m : FinMap nat_cmp MutationRecord) (k : ℕ) (v old : MutationRecord) → map.get m k ≡ Some old → named_units v.content ≡ named_units old.content
       → IsPermutation (named_by (map.entries m)) (named_by (map.entries (map.insert m k v)))
   put_alike m k v old there units =
@@ -78,7 +79,7 @@ module _ (next : ℕ) where
       (IsPermutation-sym (names (k, old) ++ others) (named_by (map.entries (map.insert m k old))) (one_more m k old))))
       (one_more m k v)
 
-  -- after all are put, new mutations name their units beside what was named
+  -- after all insertions, the new mutations refer to their units, in addition to the previous ones
   namings_grow : (m : FinMap nat_cmp MutationRecord) (es : List (ℕ × MutationRecord)) → are_distinct (eq_by_cmp nat_cmp) (map_list (λ e. e.0) es) ≡ true → AllByRecursion (Fits m) es
       → IsPermutation (named_by (new_mutations next es) ++ named_by (map.entries m)) (named_by (map.entries (with_entries m es)))
   namings_grow m [] once fits = IsPermutation-refl (named_by (map.entries m))
@@ -110,7 +111,7 @@ module _ (next : ℕ) where
           (IsPermutation-trans (later ++ before) (later ++ named_by (map.entries (map.insert m e.0 e.1))) done
           (IsPermutation-append_right later before (named_by (map.entries (map.insert m e.0 e.1))) (put_alike m e.0 e.1 old there units)) rest)
 
--- what a change puts is new, or stands and names the same units
+-- each mutation of a change is new, or current with the same units
 fits_from : (r : Register) (used : (number : ℕ) (m : MutationRecord) → map.get r.mutations number ≡ Some m → number < r.next) (es : List (ℕ × MutationRecord))
     → AllByRecursion (λ e. (r.next ≤ e.0) ⊎ IsAsItWas r e.0 e.1) es → AllByRecursion (Fits r.next r.mutations) es
 fits_from r used [] h = tt

@@ -1,4 +1,4 @@
--- The records, the roles and the mandates that stand after a change.
+-- The records, roles and mandates that are current after a change.
 use Rattle.std.proofs.Common.{◌≡◌, ℕ, Bool, true, false, cond, not, ◌&&◌, ◌||◌, List, [], ◌∷◌, ◌++◌, filter, map as map_list, refl, sym, ap, subst, ◌∙◌, IsPermutation}
 use Rattle.std.proofs.lemmas.List.Sorted.{IsPermutation-append_right, IsPermutation-map, IsPermutation-trans}
 use Rattle.std.specs.Cmp.{IsTotalOrder, nat_cmp_total, unsigned_tied}
@@ -23,7 +23,7 @@ use Rattle.land_tables_history.specs.Open.{has_ended, never}
 use Rattle.land_tables_history.specs.Standing.{AreMandatesAt, AreRolesAt, IsPartAt, standing}
 use Rattle.land_tables_history.specs.declared.version.Version.{Version}
 
--- numbers are compared alike by their order and by their test
+-- numbers are equal by their order if and only if they are equal by the test
 pub same_numbers : eq_by_cmp nat_cmp ≡ nat_eq
 same_numbers = λ i n m. unsigned_tied n m i
 
@@ -41,7 +41,7 @@ distinct_before {K} same (x ∷ xs) ys h =
         go true h rest = h
         go false h rest = rest h
 
--- the entries under numbers that are put, and the others under numbers that are neither put nor ended
+-- the inserted entries, and the others whose numbers are neither inserted nor ended
 pub numbered_entries : {V : Type 0} (m : FinMap nat_cmp V) (put : List (ℕ × V)) (ended : List ℕ) → are_distinct nat_eq (map_list (λ e. e.0) put ++ ended) ≡ true
     → IsPermutation (put ++ filter (λ e. not (is_changed put ended e.0)) (map.entries m)) (map.entries (updated m put ended))
 numbered_entries {V} m put ended once =
@@ -50,7 +50,8 @@ numbered_entries {V} m put ended once =
     (changed_entries nat_cmp_total nat_cmp-IsAntisymmetric m put ended) (distinct_before nat_eq (map_list (λ e. e.0) put) ended once)
 
 module _ (last stamp t : ℤ) (less : last <ℤ stamp) (since : stamp ≤ℤ t) (early : t <ℤ never) where
-  -- what stands of changed versions is what is put, and of what stood, in whatever order, what is not meant
+  -- the current values of changed versions are the inserted ones, and in unspecified order those of the
+  -- current ones that do not end
   pub stand_changed : {X : Type 0} (put : List X) (meant : X → Bool) (versions : List (Version X)) (them : List X) → list_all (has_ended last) versions ≡ true
       → IsPermutation (standing t versions) them → IsPermutation (standing t (changed_versions put meant stamp versions)) (put ++ filter (λ x. not (meant x)) them)
   stand_changed put meant versions them ended p =
@@ -65,7 +66,7 @@ module _ (last stamp t : ℤ) (less : last <ℤ stamp) (since : stamp ≤ℤ t) 
       IsPermutation-trans (standing t (changed_part put ended stamp versions)) (put ++ filter (λ e. not (is_changed put ended e.0)) (map.entries m)) (map.entries (updated m put ended))
       (stand_changed put (λ e. is_changed put ended e.0) versions (map.entries m) by_then p) (numbered_entries m put ended once)
 
-  -- keys of a set, as roles and mandates are
+  -- keys of a set, such as roles and mandates
   module _ {K : Type 0} {R : K → K → Ordering} (o : IsTotalOrder R) (exact : IsAntisymmetric R) where
     keys_change : (put ended : List K) (versions : List (Version K)) (set : FinMap R (Unit {0}))
         → list_all (has_ended last) versions ≡ true → are_distinct (eq_by_cmp R) (put ++ ended) ≡ true → IsPermutation (standing t versions) (map.keys set)

@@ -1,4 +1,5 @@
--- What stands of versions with a change: before its stamp what stood there, and from then on what is put, and of the rest what is not meant.
+-- The current values of versions with a change: before its stamp the same as before, and from then on the
+-- inserted ones, and of the others those that do not end.
 use Rattle.std.proofs.Common.{◌≡◌, Bool, true, false, cond, not, ◌&&◌, ◌||◌, List, [], ◌∷◌, ◌++◌, filter, map as map_list, refl, sym, ap, ◌∙◌, arith}
 use Rattle.std.specs.Prelude.{ℤ, ◌<ℤ◌, ◌≤ℤ◌, int_le, int_lt}
 use Rattle.std.specs.List.{list_all}
@@ -43,7 +44,7 @@ module _ {X : Type 0} where
       go true h = ap (λ l. v.what ∷ l) h
       go false h = h
 
-  -- of a version and others: it is the first that stands, or does not stand
+  -- of a version and others: it is the first current one, or it is not current
   one_stands : (t : ℤ) (v : Version X) (vs : List (Version X)) → standing t (v ∷ vs) ≡ cond (stands t v) (v.what ∷ standing t vs) (standing t vs)
   one_stands t v vs = elim (stands t v) as (λ b. map_list (λ v. v.what) (cond b (v ∷ filter (stands t) vs) (filter (stands t) vs)) ≡ cond b (v.what ∷ standing t vs) (standing t vs)) [ true ↦ refl | false ↦ refl ]
 
@@ -94,7 +95,7 @@ module _ {X : Type 0} where
         ∙ ap (λ l. x ∷ l) (all_begun t since early xs)
 
     module _ (last t : ℤ) (less : last <ℤ stamp) (since : stamp ≤ℤ t) where
-      -- what is meant stands no longer
+      -- an ended version is not current any more
       none_meant : (v : Version X) → has_ended last v ≡ true → meant v.what ≡ true → stands t (closed meant stamp v) ≡ false
       none_meant v ended is = go (int_eq v.until never) refl
         where

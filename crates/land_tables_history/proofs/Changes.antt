@@ -1,4 +1,4 @@
--- What a change leaves of what stands, what stands from then on, and how lifespans end.
+-- The effect of a change on the current values, before and after its stamp, and on the ends of lifespans.
 use Rattle.std.proofs.Common.{◌≡◌, ℕ, ◌++◌, Bool, true, false, ◌&&◌, List, refl, sym, subst, IsPermutation}
 use Rattle.std.specs.Prelude.{ℤ, ◌<ℤ◌}
 use Rattle.std.specs.List.{list_all}
@@ -17,7 +17,7 @@ use Rattle.land_tables_history.specs.Standing.{standing}
 use Rattle.land_tables_history.specs.declared.history.History.{History}
 use Rattle.land_tables_history.specs.declared.version.Version.{Version}
 
--- what stood stands still, under a change of the versions
+-- values that were current stay current under a change of the versions
 still : {X : Type 0} (put : List X) (meant : X → Bool) (stamp t : ℤ) (versions : List (Version X)) (them : List X) → t <ℤ stamp → t <ℤ never
     → IsPermutation (standing t versions) them → IsPermutation (standing t (changed_versions put meant stamp versions)) them
 still put meant stamp t versions them less early p = subst (λ l. IsPermutation l them) (sym (past_versions put meant stamp t less early versions)) p

@@ -1,4 +1,4 @@
--- Pieces in order: how far one reaches tells all that is covered.
+-- Coverage spans in order: the reach of the provided spans determines whether the required ones are covered.
 use Rattle.std.proofs.Common.{◌≡◌, ◌↔◌, ◌⊎◌, inl, inr, IsPermutation, ◌==◌, ℕ, ◌≤◌, Bool, true, false, cond, not, ◌||◌, ◌&&◌, List, [], ◌∷◌, Option, Some, None, refl, sym, ap, subst, ◌∙◌, arith}
 use Rattle.std.proofs.lemmas.Cmp.{on_total, then_total}
 use Rattle.std.proofs.lemmas.List.Sorted.{list_any-IsPermutation}
@@ -17,7 +17,7 @@ use Rattle.land_tables_history.proofs.MomentOrder.{le_itself}
 use Rattle.land_tables_history.proofs.SweepOrders.{Rising, no_earlier, no_less, rising_in_order, then_not, tie}
 use Rattle.land_tables_history.proofs.Permutations.{all_permuted}
 use Rattle.land_tables_history.specs.Sweeps.Cover.{IsCovered, is_asked, is_at, is_offered}
-use Rattle.land_tables_history.specs.Sweeps.CoverSteps.{asked, begun, covered_from, is_same_key, later, offered, piece_cmp}
+use Rattle.land_tables_history.specs.Sweeps.CoverSteps.{asked, first_reach, covered_from, is_same_key, later, offered, piece_cmp}
 use Rattle.land_tables_history.specs.declared.sweeps.cover.Piece.{Piece}
 use Rattle.land_tables_history.specs.declared.sweeps.cover.Reach.{Reach}
 
@@ -26,23 +26,24 @@ use Rattle.land_tables_history.specs.declared.sweeps.cover.Reach.{Reach}
 abbrev at : (f s : ℕ) → (since until : ℤ) → (a b : ℕ) → (t : ℤ) → Bool
 at f s since until a b t = (f == a) && (s == b) && int_le since t && int_lt t until
 
--- what is asked for on from within what is reached is asked for, reached, or was asked for before
+-- a required span that starts within the reach: each of its moments is required, and is reached or was
+-- required before
 more_asked : (f s fx sx a b : ℕ) (since reach need sincex untilx t : ℤ) → ((f == fx) && (s == sx)) ≡ true → int_lt sincex reach ≡ true
     → at f s since (later need untilx) a b t ≡ true
     → (at f s since need a b t || (at fx sx sincex untilx a b t || at f s since reach a b t)) ≡ true
 more_asked f s fx sx a b since reach need sincex untilx t same within h = grind (arith, ints, nat_tests)
 
--- and the other way round
+-- and conversely
 still_asked : (f s fx sx a b : ℕ) (since need sincex untilx t : ℤ) → ((f == fx) && (s == sx)) ≡ true → int_le since sincex ≡ true
     → (at f s since need a b t || at fx sx sincex untilx a b t) ≡ true → at f s since (later need untilx) a b t ≡ true
 still_asked f s fx sx a b since need sincex untilx t same order h = grind (arith, ints, nat_tests)
 
--- what is offered on from what is reached is offered or reached
+-- each moment of a provided span that starts within the reach is provided or reached
 more_offered : (f s fx sx a b : ℕ) (since reach sincex untilx t : ℤ) → ((f == fx) && (s == sx)) ≡ true → int_le since sincex ≡ true → int_le sincex reach ≡ true
     → at f s since (later reach untilx) a b t ≡ (at f s since reach a b t || at fx sx sincex untilx a b t)
 more_offered f s fx sx a b since reach sincex untilx t same order within = grind (arith, ints, nat_tests)
 
--- what is asked for beyond what is reached
+-- the required moments beyond the reach
 beyond : (f s a b : ℕ) (since reach need t : ℤ) → int_le need reach ≡ true → at f s since need a b t ≡ true → at f s since reach a b t ≡ true
 beyond f s a b since reach need t less h = grind (arith, ints, nat_tests)
 
@@ -63,14 +64,14 @@ not_within f s fx sx since reach sincex h = grind (arith, ints, nat_tests)
 
 -- ---- in order
 
--- a piece is not before another
+-- a span does not come before another
 record Follows (x y : Piece) : Type 0 where
   first : x.first ≤ y.first
   second : nat_eq x.first y.first ≡ true → x.second ≤ y.second
   since : nat_eq x.first y.first ≡ true → nat_eq x.second y.second ≡ true → x.since ≤ℤ y.since
   asked : nat_eq x.first y.first ≡ true → nat_eq x.second y.second ≡ true → x.since ≡ y.since → x.asked ≡ true → y.asked ≡ true
 
--- a piece is not before what was reached begins
+-- a span does not start before the reach
 record IsAfter (s : Reach) (y : Piece) : Type 0 where
   first : s.first ≤ y.first
   second : nat_eq s.first y.first ≡ true → s.second ≤ y.second
@@ -79,7 +80,7 @@ record IsAfter (s : Reach) (y : Piece) : Type 0 where
 abbrev is_begun : Piece → Bool
 is_begun x = int_lt x.since x.until
 
--- after a gap nothing more is offered or asked for of what was reached
+-- after a gap, no later span provides or requires the key at a moment of the reach
 far : (f s fx sx fy sy a b : ℕ) (reach sincex sincey untily t : ℤ) → f ≤ fx → (nat_eq f fx ≡ true → s ≤ sx) → fx ≤ fy → (nat_eq fx fy ≡ true → sx ≤ sy)
     → (nat_eq fx fy ≡ true → nat_eq sx sy ≡ true → sincex ≤ℤ sincey) → (((f == fx) && (s == sx)) && int_le sincex reach) ≡ false
     → ((f == a) && (s == b)) ≡ true → at fy sy sincey untily a b t ≡ true → int_lt reach t ≡ true
@@ -87,7 +88,7 @@ far f s fx sx fy sy a b reach sincex sincey untily t p1 p2 q1 q2 q3 gap key h = 
 
 -- ---- tests joined
 
--- ---- one more piece
+-- ---- one more span
 
 asks_more : (x : Piece) (xs : List Piece) (a b : ℕ) (t : ℤ) → x.asked ≡ true → is_asked (x ∷ xs) a b t ≡ (is_at a b t x || is_asked xs a b t)
 asks_more x xs a b t e = ap (λ c. c && is_at a b t x || is_asked xs a b t) e
@@ -101,7 +102,7 @@ asks_as x xs a b t e = ap (λ c. c && is_at a b t x || is_asked xs a b t) e
 offers_more : (x : Piece) (xs : List Piece) (a b : ℕ) (t : ℤ) → x.asked ≡ false → is_offered (x ∷ xs) a b t ≡ (is_at a b t x || is_offered xs a b t)
 offers_more x xs a b t e = ap (λ c. not c && is_at a b t x || is_offered xs a b t) e
 
--- what was reached, as pieces: what is offered, and what is asked for
+-- the reach as spans: the provided one, and the required one
 abbrev reached : Reach → Piece
 reached s = record { first = s.first; second = s.second; since = s.since; asked = false; until = s.reach }
 
@@ -117,7 +118,7 @@ reaches s a b t = at s.first s.second s.since s.reach a b t
 abbrev needs : Reach → (a b : ℕ) → (t : ℤ) → Bool
 needs s a b t = at s.first s.second s.since s.need a b t
 
--- ---- a piece that goes on from what is reached
+-- ---- a span that extends the reach
 
 asked_on : (s : Reach) (x : Piece) (xs : List Piece) → x.asked ≡ true → is_same_key s x ≡ true → int_lt x.since s.reach ≡ true → int_le s.since x.since ≡ true
     → IsCovered (after s (x ∷ xs)) ↔ IsCovered (after (record s { need = later s.need x.until }) xs)
@@ -169,19 +170,19 @@ offered_on s x xs e same within order = (
         ∙ joined (reaches s a b t) (is_at a b t x) (is_offered xs a b t) (at s.first s.second s.since (later s.reach x.until) a b t)
         (more_offered s.first s.second x.first x.second a b s.since s.reach x.since x.until t same order within)
 
--- ---- a piece that begins after a gap
+-- ---- a span after a gap
 
-asks_nothing : (x : Piece) (xs : List Piece) (a b : ℕ) (t : ℤ) → is_asked (after (begun x) xs) a b t ≡ is_asked xs a b t
+asks_nothing : (x : Piece) (xs : List Piece) (a b : ℕ) (t : ℤ) → is_asked (after (first_reach x) xs) a b t ≡ is_asked xs a b t
 asks_nothing x xs a b t = ap (λ c. c || is_asked xs a b t) (nothing x.first x.second a b x.since t)
 
--- a piece that is offered begins
-begun_on : (x : Piece) (xs : List Piece) → x.asked ≡ false → IsCovered (x ∷ xs) ↔ IsCovered (after (begun x) xs)
+-- a provided span is not empty
+begun_on : (x : Piece) (xs : List Piece) → x.asked ≡ false → IsCovered (x ∷ xs) ↔ IsCovered (after (first_reach x) xs)
 begun_on x xs e = (
   λ h a b t asks. sym (offers_more x xs a b t e) ∙ h a b t (asks_as x xs a b t e ∙ sym (asks_nothing x xs a b t) ∙ asks),
   λ h a b t asks. offers_more x xs a b t e ∙ h a b t (asks_nothing x xs a b t ∙ sym (asks_as x xs a b t e) ∙ asks),
 )
 
--- a key that is reached, in a piece after a gap, is later than the reach
+-- the key of a reach, in a span after a gap, comes later than the reach
 beyond_gap : (s : Reach) (x y : Piece) (a b : ℕ) (t : ℤ) → IsAfter s x → (Follows x y ⊎ (x ≡ y)) → (is_same_key s x && int_le x.since s.reach) ≡ false
     → ((s.first == a) && (s.second == b)) ≡ true → is_at a b t y ≡ true → int_lt s.reach t ≡ true
 beyond_gap s x y a b t p (inl q) gap key h =
@@ -190,7 +191,7 @@ beyond_gap s x y a b t p (inr same) gap key h =
     far s.first s.second x.first x.second x.first x.second a b s.reach x.since x.since x.until t p.first p.second (omega arith) (λ _. omega arith) (λ _ _. le_itself x.since) gap key
     (subst (λ (z : Piece). is_at a b t z ≡ true) (sym same) h)
 
--- none of some pieces is of a key at a moment
+-- no span is of this key at this moment
 none_later : (p : Piece → Bool) (xs : List Piece) → AllByRecursion (λ y. p y ≡ false) xs → list_any p xs ≡ false
 none_later p [] all = refl
 none_later p (y ∷ ys) all = ap (λ c. c || list_any p ys) all.0 ∙ none_later p ys all.1
@@ -232,7 +233,7 @@ gap_on s x xs e p later gap less = (there, back)
       | inr it ↦ or_right (reaches s a b t) (is_offered (x ∷ xs) a b t) (h a b t it)
     ]
 
--- what was asked for beyond the gap is not covered
+-- a moment that was required beyond the gap is not covered
 gap_fails : (s : Reach) (x : Piece) (xs : List Piece) → int_lt s.since s.reach ≡ true → IsAfter s x → AllByRecursion (Follows x) xs → (is_same_key s x && int_le x.since s.reach) ≡ false → int_le s.need s.reach ≡ false
     → IsCovered (after s (x ∷ xs)) → ⊥
 gap_fails s x xs some p later gap more h =
@@ -246,7 +247,7 @@ gap_fails s x xs some p later gap more h =
       ]
     ]
 
--- ---- a piece that is asked for and not offered
+-- ---- a required span that is not provided
 
 same_beginning : (fx sx fy sy : ℕ) (sincex sincey untily : ℤ) → (nat_eq fx fy ≡ true → nat_eq sx sy ≡ true → sincex ≤ℤ sincey) → at fy sy sincey untily fx sx sincex ≡ true
     → (nat_eq fx fy ≡ true) × (nat_eq sx sy ≡ true) × (sincex ≡ sincey)
@@ -258,7 +259,7 @@ same_beginning fx sx fy sy sincex sincey untily q h =
     last : sincex ≤ℤ sincey → sincex ≡ sincey
     last less = let le : int_le sincey sincex ≡ true = grind (arith, ints, nat_tests) in omega (arith, ints)
 
--- of what follows, nothing is offered at its beginning
+-- no later span provides the key at the start of this one
 not_offered : (x : Piece) (xs : List Piece) → x.asked ≡ true → AllByRecursion (Follows x) xs → is_offered xs x.first x.second x.since ≡ true → ⊥
 not_offered x xs e later h = some_later (λ y. not y.asked && is_at x.first x.second x.since y) (Follows x) xs h later
     (λ y offered q.
@@ -281,7 +282,7 @@ asked_fails s x xs e some later gap h =
       | inr it ↦ not_offered x xs e later (sym (offers_as x xs x.first x.second x.since e) ∙ it)
     ]
 
--- ---- all of them
+-- ---- all spans
 
 never : {A : Type 0} (b : Bool) → b ≡ false → (A → ⊥) → (b ≡ true) ↔ A
 never b e no_more = (λ h. absurd (conflict h e), λ it. absurd (no_more it))
@@ -295,7 +296,7 @@ turned p = (p.1, p.0)
 by : {b c : Bool} {A : Type 0} → b ≡ c → (c ≡ true) ↔ A → (b ≡ true) ↔ A
 by e p = (λ h. p.0 (sym e ∙ h), λ a. e ∙ p.1 a)
 
--- where nothing is left
+-- no span is left
 ends : (s : Reach) → int_lt s.since s.reach ≡ true → (int_le s.need s.reach ≡ true) ↔ IsCovered (after s [])
 ends s some = (
   λ less a b t asks. elim (or_cases (needs s a b t) false asks) [
@@ -312,7 +313,7 @@ ends s some = (
       | inr no_more ↦ absurd (false≢true no_more)
     ]
 
-follows_on : (x : Piece) (xs : List Piece) → AllByRecursion (Follows x) xs → AllByRecursion (IsAfter (begun x)) xs
+follows_on : (x : Piece) (xs : List Piece) → AllByRecursion (Follows x) xs → AllByRecursion (IsAfter (first_reach x)) xs
 follows_on x [] all = tt
 follows_on x (y ∷ ys) all = (record { first = all.0.first; second = all.0.second; since = all.0.since }, follows_on x ys all.1)
 
@@ -336,7 +337,7 @@ ordered s x p same = let parts = and_parts (s.first == x.first) (s.second == x.s
     told : s.since ≤ℤ x.since → int_le s.since x.since ≡ true
     told h = grind (arith, ints)
 
--- from each reach that the pieces follow they tell what is covered
+-- from each reach that the spans follow, they determine what is covered
 abbrev Rest : List Piece → Type 0
 Rest xs = (u : Reach) → int_lt u.since u.reach ≡ true → AllByRecursion (IsAfter u) xs → (covered_from (Some u) xs ≡ true) ↔ IsCovered (after u xs)
 
@@ -357,14 +358,14 @@ covers s (x ∷ xs) some p rising begins = by_kind (λ u a b. covers u xs a b ri
         (turned (asked_on s x xs e both_hold.0 both_hold.1 (ordered s x p.0 both_hold.0)))
     if_asked rest e false h = never false refl (asked_fails s x xs e parts.0 rising.0 h)
 
-    anew : Rest xs → x.asked ≡ false → (is_same_key s x && int_le x.since s.reach) ≡ false → (c : Bool) → int_le s.need s.reach ≡ c → (stepped xs (cond c (Some (begun x)) None) ≡ true) ↔ IsCovered (after s (x ∷ xs))
+    anew : Rest xs → x.asked ≡ false → (is_same_key s x && int_le x.since s.reach) ≡ false → (c : Bool) → int_le s.need s.reach ≡ c → (stepped xs (cond c (Some (first_reach x)) None) ≡ true) ↔ IsCovered (after s (x ∷ xs))
     anew rest e gap true less =
-        through (rest (begun x) parts.0 (follows_on x xs rising.0))
+        through (rest (first_reach x) parts.0 (follows_on x xs rising.0))
         (through (turned (begun_on x xs e)) (turned (gap_on s x xs e p.0 rising.0 gap less)))
     anew rest e gap false more = never false refl (gap_fails s x xs some p.0 rising.0 gap more)
 
     if_offered : Rest xs → x.asked ≡ false → (c : Bool) → (is_same_key s x && int_le x.since s.reach) ≡ c
-        → (stepped xs (cond c (Some (record s { reach = later s.reach x.until })) (cond (int_le s.need s.reach) (Some (begun x)) None)) ≡ true) ↔ IsCovered (after s (x ∷ xs))
+        → (stepped xs (cond c (Some (record s { reach = later s.reach x.until })) (cond (int_le s.need s.reach) (Some (first_reach x)) None)) ≡ true) ↔ IsCovered (after s (x ∷ xs))
     if_offered rest e true h =
         let both_hold = and_parts (is_same_key s x) (int_le x.since s.reach) h in
         through (rest (record s { reach = later s.reach x.until }) (lasts s.since s.reach x.until some) (still_after s (record s { reach = later s.reach x.until }) refl refl refl xs p.1))
@@ -383,9 +384,9 @@ covers_all (x ∷ xs) rising begins = by_kind x.asked refl
     parts = and_parts (is_begun x) (list_all is_begun xs) begins
 
     by_kind : (c : Bool) → x.asked ≡ c → (covered_from None (x ∷ xs) ≡ true) ↔ IsCovered (x ∷ xs)
-    by_kind true e = by (ap (λ c. stepped xs (cond c None (Some (begun x)))) e) (never false refl (asked_first_fails x xs e parts.0 rising.0))
-    by_kind false e = by (ap (λ c. stepped xs (cond c None (Some (begun x)))) e)
-        (through (covers (begun x) xs parts.0 (follows_on x xs rising.0) rising.1 parts.1) (turned (begun_on x xs e)))
+    by_kind true e = by (ap (λ c. stepped xs (cond c None (Some (first_reach x)))) e) (never false refl (asked_first_fails x xs e parts.0 rising.0))
+    by_kind false e = by (ap (λ c. stepped xs (cond c None (Some (first_reach x)))) e)
+        (through (covers (first_reach x) xs parts.0 (follows_on x xs rising.0) rising.1 parts.1) (turned (begun_on x xs e)))
 
 -- ---- from a sort
 
@@ -420,7 +421,7 @@ follows x y h =
           no_sooner x.asked y.asked (then_not (bool_cmp y.asked x.asked) (int_cmp y.until x.until) (three.1 (tied x.since y.since alike))).0;
     }
 
--- pieces are covered in whatever order they lie
+-- the order of the spans does not matter
 covered_anyhow : (xs ys : List Piece) → IsPermutation xs ys → IsCovered ys → IsCovered xs
 covered_anyhow xs ys p h a b t asks =
     list_any-IsPermutation (λ x. not x.asked && is_at a b t x) xs ys p ∙ h a b t (sym (list_any-IsPermutation (λ x. x.asked && is_at a b t x) xs ys p) ∙ asks)

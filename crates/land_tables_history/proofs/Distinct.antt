@@ -1,4 +1,4 @@
--- Lists without an item twice, and what stands of versions that do not overlap.
+-- Lists without duplicates, and the current values of versions that do not overlap.
 use Rattle.std.proofs.Common.{◌≡◌, ℕ, ◌≤◌, Bool, true, false, cond, not, ◌||◌, ◌&&◌, List, [], ◌∷◌, length, filter, map as map_list, refl, sym, ap, ap₂, ◌∙◌, subst, arith, IsPermutation}
 use Rattle.std.specs.Prelude.{ℤ, int_le, int_lt, nat_eq}
 use Rattle.std.proofs.lemmas.Bool.Decides.{nat_tests}
@@ -15,7 +15,7 @@ use Rattle.land_tables_history.specs.Intervals.{overlap}
 use Rattle.land_tables_history.specs.Standing.{standing, stands}
 use Rattle.land_tables_history.specs.declared.version.Version.{Version}
 
--- ---- what stands at a moment has no key twice
+-- ---- no key is current twice at a moment
 
 both_stand : (t since until since' until' : ℤ) → (int_le since t && int_lt t until) ≡ true → (int_le since' t && int_lt t until') ≡ true → (int_lt since until' && int_lt since' until) ≡ true
 both_stand t since until since' until' h g = grind (arith, ints)
@@ -61,7 +61,7 @@ module _ {X : Type 0} (same : X → X → Bool) (exact : (x y : X) → same x y 
       go false true p q = sym p ∙ subst (λ (z : X). same z y ≡ true) (exact y x q) (itself y)
       go false false p q = refl
 
-  -- the items of a list but one
+  -- the items of a list except one
   abbrev others : X → List X → List X
   others x ys = filter (λ y. not (same x y)) ys
 
@@ -121,7 +121,7 @@ module _ {X : Type 0} (same : X → X → Bool) (exact : (x y : X) → same x y 
       let away = or_parts (same x n) (list_any (same x) ns) apart in
       ap (λ b. b && list_all (λ n. list_any (same n) (others x ys)) ns) (among_others x n ys away.0 parts.0) ∙ all_among_others x ys ns away.1 parts.1
 
-  -- the others are among what is left
+  -- the others are among the remaining ones
   others_among : (x : X) (xs ys : List X) → list_all (λ y. list_any (same y) (x ∷ xs)) ys ≡ true → list_all (λ y. list_any (same y) xs) (others x ys) ≡ true
   others_among x xs [] there = refl
   others_among x xs (y ∷ ys) there =
@@ -144,7 +144,7 @@ module _ {X : Type 0} (same : X → X → Bool) (exact : (x y : X) → same x y 
       (IsPermutation-cons x xs (others x ys) (same_items xs (others x ys) apart.1 (distinct_filter (λ y. not (same x y)) ys dy) (all_among_others x ys xs (not-true (list_any (same x) xs) apart.0) parts.1) (others_among x xs ys here)))
       (one_dropped x ys parts.0 dy)
 
-  -- ---- what is among others, and as many, is the same
+  -- ---- a list among another of the same length has the same items
 
   fewest : (xs ys : List X) → are_distinct same xs ≡ true → are_distinct same ys ≡ true → list_all (λ x. list_any (same x) ys) xs ≡ true → length ys ≤ length xs → IsPermutation xs ys
   fewest [] [] dx dy there few = IsPermutation-refl []
@@ -169,7 +169,8 @@ module _ {X : Type 0} (same : X → X → Bool) (exact : (x y : X) → same x y 
   all_among [] = refl
   all_among (x ∷ xs) = ap (λ b. (b || list_any (same x) xs) && list_all (λ y. list_any (same y) (x ∷ xs)) xs) (itself x) ∙ among_more x xs xs (all_among xs)
 
-  -- where some are among others, and neither stand twice, the others are among them exactly if they are as many
+  -- if one list is among another, and both have no duplicates, then the converse holds if and only if they
+  -- are equally long
   pub as_many : (xs ys : List X) → are_distinct same xs ≡ true → are_distinct same ys ≡ true → list_all (λ x. list_any (same x) ys) xs ≡ true
       → list_all (λ y. list_any (same y) xs) ys ≡ nat_eq (length ys) (length xs)
   as_many xs ys dx dy there = go (list_all (λ y. list_any (same y) xs) ys) (nat_eq (length ys) (length xs)) refl refl
@@ -184,7 +185,7 @@ module _ {X : Type 0} (same : X → X → Bool) (exact : (x y : X) → same x y 
           sym p ∙ all_permuted (λ y. list_any (same y) xs) xs ys (fewest xs ys dx dy there (equal (length ys) (length xs) q)) ∙ all_among xs
       go false false p q = refl
 
--- ---- in whatever order
+-- ---- in any order
 
 both_turned : (a b c d : Bool) → (not (a || c) && (not b && d)) ≡ (not (a || b) && (not c && d))
 both_turned a b c d = grind arith

@@ -1,4 +1,4 @@
--- A finite map that is made of entries has these entries, each once.
+-- A finite map built from entries has exactly these entries.
 use Rattle.std.proofs.Common.{◌≡◌, ℕ, Bool, true, false, cond, not, ◌||◌, ◌&&◌, ◌==◌, List, [], ◌∷◌, ◌++◌, Some, None, map as map_list, refl, sym, ap, ◌∙◌, subst, arith, IsPermutation, append-nil}
 use Rattle.std.proofs.lemmas.Bool.Decides.{nat_tests}
 use Rattle.std.proofs.lemmas.List.Sorted.{IsPermutation-append_left, IsPermutation-cons, IsPermutation-map, IsPermutation-middle, IsPermutation-refl, IsPermutation-sym, IsPermutation-trans}
@@ -24,7 +24,7 @@ pub no_entries : {K : Type 0} (R : K → K → Ordering) (V : Type 0) → map.en
 no_entries R V = nothing_from_length (map.entries (map.empty {X = V} {R = R})) (sym (map.len-entries (map.empty {X = V} {R = R})) ∙ map.len-empty R V)
 
 module _ {K : Type 0} (R : K → K → Ordering) {V : Type 0} where
-  -- an entry at a new key is one more
+  -- an entry with a new key is added
   pub put_new : (k : K) (v : V) (es : List (K × V)) → find R k es ≡ None → IsPermutation (put R k v es) ((k, v) ∷ es)
   put_new k v [] none = IsPermutation-refl ((k, v) ∷ [])
   put_new k v (e ∷ es) none = go (R k e.0) refl (put_new k v es)
@@ -43,11 +43,11 @@ module _ {K : Type 0} {R : K → K → Ordering} (o : IsTotalOrder R) {V : Type 
   insert_new m k v none =
       subst (λ l. IsPermutation l ((k, v) ∷ map.entries m)) (sym (map.entries-insert o m k v)) (put_new R k v (map.entries m) (sym (map.get-entries m k) ∙ none))
 
-  -- two entries have one key
+  -- two entries have the same key
   abbrev pub is_same_key : K × V → K × V → Bool
   is_same_key a b = eq_by_cmp R a.0 b.0
 
-  -- keys that are new to a map stay new after another key
+  -- keys that a map does not have stay so after the insertion of another key
   still_new : (m : FinMap R V) (e : K × V) (es : List (K × V)) → list_any (is_same_key e) es ≡ false → AllByRecursion (λ x. map.get m x.0 ≡ None) es → AllByRecursion (λ x. map.get (map.insert m e.0 e.1) x.0 ≡ None) es
   still_new m e [] apart free = tt
   still_new m e (x ∷ xs) apart free =
@@ -70,13 +70,13 @@ module _ {K : Type 0} {R : K → K → Ordering} (o : IsTotalOrder R) {V : Type 
   all_new [] = tt
   all_new (e ∷ es) = (map.get-empty R e.0, all_new es)
 
-  -- entries whose keys differ are those of the map that is made of them
+  -- entries with distinct keys are the entries of the map built from them
   pub made : (es : List (K × V)) → are_distinct is_same_key es ≡ true → IsPermutation es (map.entries (with_entries (map.empty {X = V} {R = R}) es))
   made es distinct =
       IsPermutation-sym (map.entries (with_entries map.empty es)) es
       (subst (λ l. IsPermutation (map.entries (with_entries (map.empty {X = V} {R = R}) es)) (l ++ es)) (no_entries R V) (made_from map.empty es distinct (all_new es)))
 
--- tests that agree say the same of a list
+-- tests that agree have the same result for a list
 pub distinct_alike : {X : Type 0} (p q : X → X → Bool) → ((x y : X) → p x y ≡ q x y) → (xs : List X) → are_distinct p xs ≡ are_distinct q xs
 distinct_alike p q same [] = refl
 distinct_alike {X} p q same (x ∷ xs) = ap (λ b. not b && are_distinct p xs) (any_alike xs) ∙ ap (λ b. not (list_any (q x) xs) && b) (distinct_alike p q same xs)
@@ -85,7 +85,7 @@ distinct_alike {X} p q same (x ∷ xs) = ap (λ b. not b && are_distinct p xs) (
     any_alike [] = refl
     any_alike (y ∷ ys) = ap (λ b. b || list_any (p x) ys) (same x y) ∙ ap (λ b. q x y || b) (any_alike ys)
 
--- the same of what a function gives
+-- likewise for the images under a function
 pub distinct-map : {X Y : Type 0} (p : Y → Y → Bool) (f : X → Y) (xs : List X) → are_distinct p (map_list f xs) ≡ are_distinct (λ x y. p (f x) (f y)) xs
 distinct-map p f [] = refl
 distinct-map {X} p f (x ∷ xs) = ap (λ b. not b && are_distinct p (map_list f xs)) (any-map xs) ∙ ap (λ b. not (list_any (λ y. p (f x) (f y)) xs) && b) (distinct-map p f xs)
@@ -97,11 +97,11 @@ distinct-map {X} p f (x ∷ xs) = ap (λ b. not b && are_distinct p (map_list f 
 pub same_numbers : (a b : ℕ) → eq_by_cmp nat_cmp a b ≡ (a == b)
 same_numbers a b = grind (arith, nat_tests)
 
--- records whose numbers differ make a part that has them
+-- records with distinct numbers are the entries of the map built from them
 pub made_part : {V : Type 0} (es : List (ℕ × V)) → are_distinct is_same_number es ≡ true → IsPermutation es (map.entries (with_entries (map.empty {X = V} {R = nat_cmp}) es))
 made_part es distinct = made nat_cmp_total es (distinct_alike (is_same_key nat_cmp_total) is_same_number (λ a b. same_numbers a.0 b.0) es ∙ distinct)
 
--- keys that differ make a set that has them
+-- distinct keys are the elements of the set built from them
 made_keys : {K : Type 0} {R : K → K → Ordering} (o : IsTotalOrder R) (ks : List K) → are_distinct (eq_by_cmp R) ks ≡ true
     → IsPermutation ks (map.keys (with_entries (map.empty {X = Unit {0}} {R = R}) (marks ks)))
 made_keys {K} {R} o ks distinct =
@@ -109,12 +109,12 @@ made_keys {K} {R} o ks distinct =
     (IsPermutation-map (λ (e : K × Unit {0}). e.0) (marks ks) (map.entries (with_entries map.empty (marks ks)))
     (made o (marks ks) (distinct-map {Y = K × Unit {0}} (is_same_key o) (λ k. (k, tt)) ks ∙ distinct)))
 
--- grants that differ make roles that have them
+-- distinct grants are the grants of the roles built from them
 pub made_roles : (gs : List Grant) → are_distinct is_same_grant gs ≡ true → IsPermutation gs (grants_in (with_entries map.empty (marks gs)))
 unfolding grants_in
 made_roles gs distinct = made_keys grants_total gs distinct
 
--- and mandates likewise
+-- and likewise for mandates
 pub made_mandates : (ms : List Mandate) → are_distinct is_same_mandate ms ≡ true → IsPermutation ms (mandates_in (with_entries map.empty (marks ms)))
 unfolding mandates_in
 made_mandates ms distinct = made_keys mandates_total ms distinct

@@ -1,4 +1,4 @@
--- Groups made of their members in any order.
+-- Groups built from their members in any order.
 use Rattle.std.proofs.Common.{◌≡◌, ◌≢◌, ◌≤◌, ◌++◌, ℕ, Bool, true, false, cond, List, [], ◌∷◌, Option, Some, None, filter, flat_map, length, map as map_list, refl, sym, ap, subst, ◌∙◌, arith, IsPermutation, append-nil}
 use Rattle.std.proofs.lemmas.List.Sorted.{IsPermutation-map, IsPermutation-refl, length_permutation}
 use Rattle.std.specs.Cmp.{nat_cmp_total}
@@ -19,7 +19,7 @@ use Rattle.land_tables_history.specs.declared.group_member.GroupMember.{GroupMem
 abbrev one_of : ℕ → Member → GroupMember
 one_of group member = record { group = group; member = member }
 
--- those of a list that join one group
+-- the items of a list that join one group
 abbrev joining : ℕ → List GroupMember → List GroupMember
 joining q es = filter (λ e. eq_by_cmp nat_cmp q e.group) es
 
@@ -27,11 +27,11 @@ joining q es = filter (λ e. eq_by_cmp nat_cmp q e.group) es
 abbrev seat : GroupMember → ℕ × Ratio
 seat e = (e.member.party, e.member.share)
 
--- the members of a group, none where there is no group
+-- the members of a group, empty if the group does not exist
 abbrev or_none : Option Members → Members
 or_none o = option_map_or (λ members. members) o map.empty
 
--- a group as some join it
+-- a group after some have joined it
 grown : Option Members → List GroupMember → Option Members
 grown o [] = o
 grown o (e ∷ es) = grown (Some (map.insert (or_none o) e.member.party e.member.share)) es
@@ -56,7 +56,7 @@ unfolding grown
 grown_on members [] = refl
 grown_on members (e ∷ es) = grown_on (map.insert members e.member.party e.member.share) es
 
--- the members of one group among those of some
+-- the members of one group among those of several
 abbrev listed : ℕ × Members → List GroupMember
 listed g = map_list (λ m. one_of g.0 m) (members_in g.1)
 
@@ -81,7 +81,7 @@ all_or_none q k (m ∷ ms) = go (eq_by_cmp nat_cmp q k) (all_or_none q k ms)
     go true h = ap (λ l. one_of k m ∷ l) h
     go false h = h
 
--- who of the members of some groups join one are the members of that one
+-- of the members of several groups, those that join one group are the members of that one
 joining_one : (q : ℕ) (gs : List (ℕ × Members)) → joining q (flat_map listed gs) ≡ flat_map listed (filter (λ g. eq_by_cmp nat_cmp q g.0) gs)
 joining_one q [] = refl
 joining_one q (g ∷ gs) =
@@ -97,7 +97,7 @@ seats : (k : ℕ) (es : List (ℕ × Ratio)) → map_list seat (map_list (λ m. 
 seats k [] = refl
 seats k (e ∷ es) = ap (λ l. e ∷ l) (seats k es)
 
--- members of one group, in any order, make that group, where it has any
+-- the members of one group, in any order, build that group if it has any
 one_grown : (g : ℕ × Members) (es : List GroupMember) → g.1 ≢ map.empty → IsPermutation es (listed g) → grown None es ≡ Some g.1
 unfolding grown
 one_grown g [] some p =
@@ -108,7 +108,7 @@ one_grown g (e ∷ es) some p =
     let seated : IsPermutation (map_list seat (e ∷ es)) (map.entries g.1) = subst (IsPermutation (map_list seat (e ∷ es))) (seats g.0 (map.entries g.1)) (IsPermutation-map seat (e ∷ es) (listed g) p) in
     grown_on (map.insert map.empty e.member.party e.member.share) es ∙ ap (λ m. Some m) (in_any_order nat_cmp_total nat_cmp-IsAntisymmetric g.1 (map_list seat (e ∷ es)) seated)
 
--- the members of groups, in any order, make these groups
+-- the members of groups, in any order, build these groups
 pub grouped : (groups : FinMap nat_cmp Members) (es : List GroupMember) → HaveMembers groups → IsPermutation es (group_members groups) → with_members map.empty es ≡ groups
 unfolding grown first_of
 grouped groups es have p = map.same_map nat_cmp_total nat_cmp-IsAntisymmetric (with_members map.empty es) groups (λ q.

@@ -1,4 +1,4 @@
--- A change of the register keeps lifespans as they may be.
+-- A change of the register keeps all intervals valid.
 use Rattle.std.proofs.Common.{◌≡◌, ℕ, Bool, true, false, ◌&&◌, List, ◌∷◌, ◌++◌, refl, sym, subst, ◌∙◌, arith, IsPermutation}
 use Rattle.std.specs.Prelude.{ℤ, ◌<ℤ◌, ◌≤ℤ◌}
 use Rattle.std.specs.FinMap.{FinMap}
@@ -37,7 +37,7 @@ module _ (moments : List Moment) (last stamp : ℤ) (by : AllByRecursion (λ (m 
     (less : last <ℤ stamp) (early : stamp <ℤ never) where
   -- ---- one kind of versions
 
-  -- what stood at the last stamp stands until the next
+  -- a version that was current at the last stamp is current until the next
   still : {X : Type 0} {same : X → X → Bool} (vs : List (Version X)) (them : List X) → Proper same moments vs
       → IsPermutation (standing last vs) them → IsPermutation (standing stamp vs) them
   still vs them proper p = subst (λ l. IsPermutation l them) (sym (standing_still moments last by stamp less early vs proper.intervals)) p
@@ -46,7 +46,7 @@ module _ (moments : List Moment) (last stamp : ℤ) (by : AllByRecursion (λ (m 
     abbrev more : List Moment
     more = record { stamp = stamp; next = next } ∷ moments
 
-    -- what stands with the change has no key twice, so that lifespans are as they may be
+    -- no key is current twice with the change, so the intervals stay valid
     versions_kept : {X : Type 0} (same : X → X → Bool) → ((x y : X) → same x y ≡ same y x)
         → (put : List X) (meant : X → Bool) (vs : List (Version X)) (them : List X)
         → Proper same moments vs → IsPermutation (standing stamp (changed_versions put meant stamp vs)) them → are_distinct same them ≡ true
@@ -59,7 +59,7 @@ module _ (moments : List Moment) (last stamp : ℤ) (by : AllByRecursion (λ (m 
         → Proper is_same_number moments vs → IsPartAt stamp (changed_part put ended stamp vs) m → are_intervals is_same_number more (changed_part put ended stamp vs) ≡ true
     part_kept put ended vs m proper p = versions_kept is_same_number numbers_flip put (λ e. is_changed put ended e.0) vs _ proper p (numbers_once m)
 
-  -- ---- all of them
+  -- ---- all spans
 
   module _ (h : History) (intervals : has_intervals moments h ≡ true) where
     proper : AllProper moments h

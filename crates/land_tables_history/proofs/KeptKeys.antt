@@ -1,4 +1,4 @@
--- No key stands twice among the records, the roles, the members and the mandates of a register.
+-- No key occurs twice among the records, the roles, the members and the mandates of a register.
 use Rattle.std.proofs.Common.{◌≡◌, ℕ, true, false, not, ◌&&◌, ◌||◌, List, [], ◌∷◌, ◌++◌, flat_map, map as map_list, refl, sym, ap, ap₂, ◌∙◌, arith}
 use Rattle.std.proofs.lemmas.Bool.{and_from, and_parts}
 use Rattle.std.proofs.lemmas.Bool.Decides.{nat_tests}
@@ -73,7 +73,7 @@ members_of g = map_list (λ m. of_group g.0 m) (members_in g.1)
 smaller : (k n : ℕ) → is_lt (nat_cmp k n) ≡ true → nat_eq k n ≡ false
 smaller k n less = grind (arith, nat_tests)
 
--- a member of a smaller number is none of a group's later ones
+-- a member with a smaller number is not among a group's later members
 later_parties : (k n : ℕ) (share : Ratio) (es : List (ℕ × Ratio)) → below_all nat_cmp n es ≡ true
     → list_any (is_same_member (of_group k (member_of n share))) (map_list (λ m. of_group k m) (map_list (λ e. member_of e.0 e.1) es)) ≡ false
 later_parties k n share [] below = refl
@@ -81,7 +81,7 @@ later_parties k n share (e ∷ es) below =
     let parts = and_parts (is_lt (nat_cmp n e.0)) (below_all nat_cmp n es) below in
     ap₂ (λ a b. a || b) (ap (λ b. nat_eq k k && b) (smaller n e.0 parts.0) ∙ and_false (nat_eq k k)) (later_parties k n share es parts.1)
 
--- members of a group before those of others
+-- members of a group before those of other groups
 one_group : (k : ℕ) (es : List (ℕ × Ratio)) (later : List GroupMember) → is_sorted nat_cmp es ≡ true
     → are_distinct is_same_member later ≡ true → list_any (λ e. nat_eq k e.group) later ≡ false
     → are_distinct is_same_member (map_list (λ m. of_group k m) (map_list (λ e. member_of e.0 e.1) es) ++ later) ≡ true

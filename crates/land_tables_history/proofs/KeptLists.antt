@@ -1,10 +1,11 @@
--- What passes a test passes each easier one: where none passes that, none passes the other.
+-- A value that passes a test passes each weaker test: if none passes the weaker one, none passes the stronger
+-- one.
 use Rattle.std.proofs.Common.{◌≡◌, Bool, true, false, not, ◌||◌, List, [], ◌∷◌, refl, sym, ap, ◌∙◌}
 use Rattle.std.specs.List.{AllByRecursion, list_any}
 use Rattle.std.proofs.lemmas.Bool.{false≢true, and_from, and_parts, not-true, or_parts}
 use Rattle.land_core.specs.Entries.{are_distinct}
 
--- where none passes a test, none passes one that is harder on each
+-- if no item passes a test, none passes a stronger one
 pub none_fewer : {X : Type 0} (p q : X → Bool) (xs : List X) → AllByRecursion (λ x. p x ≡ true → q x ≡ true) xs
     → list_any q xs ≡ false → list_any p xs ≡ false
 none_fewer p q [] harder none = refl
@@ -16,7 +17,7 @@ none_fewer p q (x ∷ xs) harder none =
     go true is fails rest = absurd (false≢true (sym fails ∙ harder.0 is))
     go false is fails rest = rest
 
--- where no two pass a test together, no two pass a harder one
+-- if no two items pass a test together, no two pass a stronger one
 pub distinct_fewer : {X : Type 0} (p q : X → X → Bool) → ((x y : X) → p x y ≡ true → q x y ≡ true) → (xs : List X)
     → are_distinct q xs ≡ true → are_distinct p xs ≡ true
 distinct_fewer p q harder [] distinct = refl

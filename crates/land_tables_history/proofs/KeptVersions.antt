@@ -1,4 +1,5 @@
--- Versions whose lifespans are as they may be, with a change and its moment: they are so again, where no key stands twice from then on.
+-- Versions with valid intervals stay valid with a change and its commit, if no key is current twice from then
+-- on.
 use Rattle.std.proofs.Common.{◌≡◌, ℕ, Bool, true, false, cond, not, ◌&&◌, ◌||◌, List, [], ◌∷◌, ◌++◌, filter, map as map_list, refl, sym, ap, ap₂, subst, ◌∙◌, arith}
 use Rattle.std.specs.Prelude.{ℤ, ◌<ℤ◌, ◌≤ℤ◌, int_le, int_lt}
 use Rattle.std.specs.List.{AllByRecursion, list_all, list_any}
@@ -36,7 +37,7 @@ least a b e = omega (arith, ints)
 equal : (a b : ℤ) → int_eq a b ≡ true → a ≡ b
 equal a b e = (Decides-int_eq a b).0 e
 
--- a stamp of some moments is no later than the last one
+-- a stamp of these commits is not later than the last one
 stamp_by : (last t : ℤ) (moments : List Moment) → AllByRecursion (λ (m : Moment). m.stamp ≤ℤ last) moments
     → is_stamp moments t ≡ true → t ≤ℤ last
 stamp_by last t [] by is = absurd (false≢true is)
@@ -46,7 +47,7 @@ stamp_by last t (m ∷ ms) by is = go (int_eq m.stamp t) refl is (stamp_by last 
     go true e h rest = subst (λ u. u ≤ℤ last) (equal m.stamp t e) by.0
     go false e h rest = rest h
 
--- of a version and others: it is the first that stands, or does not stand
+-- of a version and others: it is the first current one, or it is not current
 one_stands : {X : Type 0} (t : ℤ) (v : Version X) (vs : List (Version X))
     → standing t (v ∷ vs) ≡ cond (stands t v) (v.what ∷ standing t vs) (standing t vs)
 one_stands t v vs =
@@ -55,7 +56,7 @@ one_stands t v vs =
       | false ↦ refl
     ]
 
--- what an interval is
+-- the definition of an interval
 record IsFit {X : Type 0} (moments : List Moment) (v : Version X) : Type 0 where
   rises : int_lt v.since v.until ≡ true
   begins : is_stamp moments v.since ≡ true
@@ -84,7 +85,7 @@ module _ (moments : List Moment) (last : ℤ) (by : AllByRecursion (λ (m : Mome
       and_from (has_ended last v) (list_all (has_ended last) vs) (ends_by v parts.0) (all_end_by vs parts.1)
 
   module _ (stamp : ℤ) (less : last <ℤ stamp) (early : stamp <ℤ never) where
-    -- ---- what stands at the last stamp stands until the next
+    -- ---- versions that are current at the last stamp stay current until the next
 
     stands_still : {X : Type 0} (v : Version X) → is_interval moments v ≡ true → stands stamp v ≡ stands last v
     stands_still v h =
@@ -124,7 +125,7 @@ module _ (moments : List Moment) (last : ℤ) (by : AllByRecursion (λ (m : Mome
       the_stamp : is_stamp more stamp ≡ true
       the_stamp = ap (λ b. b || is_stamp moments stamp) (int_eq_equiv.refl stamp)
 
-      -- a stamp of these is no later than the new one
+      -- a stamp of these is not later than the new one
       by_now : (t : ℤ) → is_stamp more t ≡ true → t ≤ℤ stamp
       by_now t h = go (int_eq stamp t) refl h
         where
@@ -172,7 +173,7 @@ module _ (moments : List Moment) (last : ℤ) (by : AllByRecursion (λ (m : Mome
           and_from (is_interval more (closed meant stamp v)) (list_all (is_interval more) (map_list (closed meant stamp) vs))
           (closed_fits meant v parts.0) (all_closed_fit meant vs parts.1)
 
-      -- what begins fits before others that fit
+      -- a new version fits before others that fit
       all_fit : {X : Type 0} (put : List X) (vs : List (Version X)) → list_all (is_interval more) vs ≡ true
           → list_all (is_interval more) (map_list (λ x. begun x stamp) put ++ vs) ≡ true
       all_fit [] vs h = h
@@ -183,7 +184,7 @@ module _ (moments : List Moment) (last : ℤ) (by : AllByRecursion (λ (m : Mome
       -- ---- two lifespans
 
       module _ {X : Type 0} (same : X → X → Bool) where
-        -- a lifespan that overlaps one that begins stands at the stamp
+        -- a lifespan that overlaps a new one is current at the stamp
         meets : (x : X) (vs : List (Version X)) → list_all (is_interval more) vs ≡ true
             → AllByRecursion (λ v. overlap same (begun x stamp) v ≡ true → (stands stamp v && same x v.what) ≡ true) vs
         meets x [] h = tt
@@ -205,7 +206,7 @@ module _ (moments : List Moment) (last : ℤ) (by : AllByRecursion (λ (m : Mome
             ∙ ap (λ b. cond b (x ∷ standing stamp vs) (standing stamp vs))
             (and_from (int_le stamp stamp) (int_lt stamp never) (le_true stamp stamp (least stamp stamp refl)) (lt_true stamp never early))
 
-        -- where no key stands twice, what begins is apart from all else
+        -- if no key is current twice, a new version is disjoint from all others
         begun_apart : (put : List X) (vs : List (Version X)) → list_all (is_interval more) vs ≡ true → are_distinct (overlap same) vs ≡ true
             → are_distinct same (standing stamp (map_list (λ x. begun x stamp) put ++ vs)) ≡ true
             → are_distinct (overlap same) (map_list (λ x. begun x stamp) put ++ vs) ≡ true
@@ -233,7 +234,7 @@ module _ (moments : List Moment) (last : ℤ) (by : AllByRecursion (λ (m : Mome
                 | false ↦ refl
               ]
 
-          -- what is closed ends no later than it did
+          -- a closed version ends no later than before
           sooner : (t : ℤ) (v : Version X) → int_lt t (closed meant stamp v).until ≡ true → int_lt t v.until ≡ true
           sooner t v h = go (meant v.what && int_eq v.until never) refl h
             where
@@ -261,7 +262,7 @@ module _ (moments : List Moment) (last : ℤ) (by : AllByRecursion (λ (m : Mome
               distinct-map (overlap same) (closed meant stamp) vs
               ∙ distinct_fewer (λ v w. overlap same (closed meant stamp v) (closed meant stamp w)) (overlap same) overlapped vs apart
 
-          -- lifespans stay as they may be where no key stands twice at the stamp of the change
+          -- intervals stay valid if no key is current twice at the stamp of the change
           pub kept : (put : List X) (vs : List (Version X)) → Proper same moments vs
               → are_distinct same (standing stamp (changed_versions put meant stamp vs)) ≡ true
               → are_intervals same more (changed_versions put meant stamp vs) ≡ true

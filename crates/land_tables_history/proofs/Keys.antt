@@ -1,4 +1,4 @@
--- Keys are the same whichever is named first.
+-- Equality of keys is symmetric.
 use Rattle.std.proofs.Common.{◌≡◌, ℕ, Bool, ◌&&◌, ap, ap₂, ◌∙◌, arith}
 use Rattle.std.specs.Prelude.{int_lt}
 use Rattle.std.proofs.lemmas.Cmp.{eq_by_cmp_equiv, nat_eq_equiv}

@@ -1,4 +1,4 @@
--- Lemmas of what stands at a moment, and of what a change makes of it.
+-- Lemmas on the current values at a moment, and on the effect of a change.
 pub mod ChangedGroups
 pub mod ChangedNamings
 pub mod ChangedParts

@@ -1,4 +1,4 @@
--- The entries of a map with others put into it: some of them, in any order, and of its own those under other keys.
+-- The entries of a map with insertions: the inserted ones, in any order, and its own under other keys.
 use Rattle.std.proofs.Common.{◌≡◌, Bool, T, true, false, cond, not, ◌&&◌, ◌||◌, List, [], ◌∷◌, ◌++◌, None, Some, filter, map as map_list, refl, sym, ap, subst, ◌∙◌, append-nil, IsPermutation}
 use Rattle.std.proofs.lemmas.Bool.{false≢true, and_parts}
 use Rattle.std.proofs.lemmas.List.Elements.{filter_agree}
@@ -39,7 +39,7 @@ module _ {K : Type 0} {R : K → K → Ordering} (o : IsTotalOrder R) (same : Is
   abbrev pub beside : K → List (K × V) → List (K × V)
   beside k es = where_key R (λ x. not (eq_by_cmp R k x)) es
 
-  -- entries above a key are all under others
+  -- entries above a key are all under other keys
   all_beside : (k : K) (es : List (K × V)) → below_all R k es ≡ true → beside k es ≡ es
   all_beside k [] h = refl
   all_beside k (e ∷ es) h =
@@ -75,7 +75,7 @@ module _ {K : Type 0} {R : K → K → Ordering} (o : IsTotalOrder R) (same : Is
           IsPermutation-trans ((k, v) ∷ e ∷ beside k es) (e ∷ (k, v) ∷ beside k es) (e ∷ put R k v es)
           (IsPermutation-middle ((k, v) ∷ []) e (beside k es)) (IsPermutation-cons e ((k, v) ∷ beside k es) (put R k v es) rest)
 
-  -- where there is no entry under a key, all are under others
+  -- if no entry has a key, all have other keys
   pub none_beside : (k : K) (es : List (K × V)) → find R k es ≡ None → beside k es ≡ es
   none_beside k [] none = refl
   none_beside k (e ∷ es) none = go (eq_by_cmp R k e.0) none (none_beside k es)
@@ -84,7 +84,7 @@ module _ {K : Type 0} {R : K → K → Ordering} (o : IsTotalOrder R) (same : Is
       go true h rest = absurd (none_is_not_some (sym h))
       go false h rest = ap (λ l. e ∷ l) (rest h)
 
-  -- an entry that is put in, and the others under other keys
+  -- an inserted entry, and the others under other keys
   pub inserted : (m : FinMap R V) (k : K) (v : V) → IsPermutation ((k, v) ∷ beside k (map.entries m)) (map.entries (map.insert m k v))
   inserted m k v = subst (IsPermutation ((k, v) ∷ beside k (map.entries m))) (sym (map.entries-insert o m k v)) (put_permuted k v (map.entries m) (T_true _ (map.entries_sorted m)))
 
@@ -105,7 +105,7 @@ module _ {K : Type 0} {R : K → K → Ordering} (o : IsTotalOrder R) (same : Is
           turned true = refl
           turned false = refl
 
-  -- the entries under none of some keys
+  -- the entries under none of these keys
   abbrev pub outside : List K → List (K × V) → List (K × V)
   outside ks es = filter (λ e. not (list_any (eq_by_cmp R e.0) ks)) es
 
@@ -115,7 +115,7 @@ module _ {K : Type 0} {R : K → K → Ordering} (o : IsTotalOrder R) (same : Is
       ∙ filter_agree (λ e. not (eq_by_cmp R k e.0) && not (list_any (eq_by_cmp R e.0) ks)) (λ e. not (eq_by_cmp R e.0 k || list_any (eq_by_cmp R e.0) ks))
       (λ e. ap (λ b. not b && not (list_any (eq_by_cmp R e.0) ks)) ((eq_by_cmp_equiv o).symm k e.0) ∙ none_and_none (eq_by_cmp R e.0 k) (list_any (eq_by_cmp R e.0) ks)) es
 
-  -- no item of what is put stands twice: then the entries are these, and the others under other keys
+  -- if no key is inserted twice, the entries are the inserted ones, and the others under other keys
   pub made : (m : FinMap R V) (es : List (K × V)) → are_distinct (eq_by_cmp R) (map_list (λ e. e.0) es) ≡ true
       → IsPermutation (es ++ outside (map_list (λ e. e.0) es) (map.entries m)) (map.entries (with_entries m es))
   made m [] once = subst (λ l. IsPermutation l (map.entries m)) (sym (all_pass (map.entries m))) (IsPermutation-refl (map.entries m))
@@ -134,7 +134,7 @@ module _ {K : Type 0} {R : K → K → Ordering} (o : IsTotalOrder R) (same : Is
       (IsPermutation-trans (es ++ e ∷ rest) (es ++ outside ks after) (map.entries (with_entries m (e ∷ es)))
       (IsPermutation-append_right es (e ∷ rest) (outside ks after) moved) (made (map.insert m e.0 e.1) es both.1))
 
-  -- a list in which no key stands twice has the entries of the map that is made of it
+  -- a list without duplicate keys has the entries of the map built from it
   pub made_anew : (es : List (K × V)) → are_distinct (eq_by_cmp R) (map_list (λ e. e.0) es) ≡ true → IsPermutation es (map.entries (with_entries {R = R} map.empty es))
   made_anew es once =
       subst (λ l. IsPermutation l (map.entries (with_entries {R = R} map.empty es)))
@@ -169,7 +169,8 @@ module _ {K : Type 0} {R : K → K → Ordering} (o : IsTotalOrder R) (same : Is
               neither false = refl
           one false h = h
 
-  -- after a change the entries are those that are put, and the others under keys that are neither put nor ended
+  -- after a change the entries are the inserted ones, and the others under keys that are neither inserted nor
+  -- ended
   pub changed_entries : (m : FinMap R V) (es : List (K × V)) (ended : List K) → are_distinct (eq_by_cmp R) (map_list (λ e. e.0) es) ≡ true
       → IsPermutation (es ++ outside (map_list (λ e. e.0) es ++ ended) (map.entries m)) (map.entries (updated m es ended))
   changed_entries m es ended once =

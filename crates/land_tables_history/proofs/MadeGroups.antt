@@ -1,4 +1,4 @@
--- Groups that are made of members have these members, each once.
+-- Groups built from members have exactly these members.
 use Rattle.std.proofs.Common.{◌≡◌, ℕ, Bool, true, false, cond, not, ◌==◌, List, [], ◌∷◌, ◌++◌, Option, Some, None, flat_map, map as map_list, refl, sym, ap, ◌∙◌, subst, arith, IsPermutation, append-nil}
 use Rattle.std.proofs.lemmas.Bool.{and_parts, eqb-true, not-true, or_parts}
 use Rattle.std.proofs.lemmas.Bool.Decides.{nat_tests}
@@ -29,7 +29,7 @@ one_of group member = record { group = group; member = member }
 abbrev listed : ℕ × Members → List GroupMember
 listed g = map_list (one_of g.0) (members_in g.1)
 
--- the members of a group, none where there is no group
+-- the members of a group, empty if the group does not exist
 abbrev pub or_none : Option Members → Members
 or_none o = option_map_or (λ members. members) o map.empty
 
@@ -52,7 +52,7 @@ none_before g k (e ∷ es) less below =
     let parts = and_parts (is_lt (nat_cmp k e.0)) (below_all nat_cmp k es) below in
     ap (λ b. cond b (Some e.1) (find nat_cmp g es)) (between g k e.0 less parts.0) ∙ none_before g k es less parts.1
 
--- one more member of some groups
+-- one more member of several groups
 put_member : (g p : ℕ) (s : Ratio) (es : List (ℕ × Members)) (old : Members) → or_none (find nat_cmp g es) ≡ old → is_sorted nat_cmp es ≡ true → map.get old p ≡ None
     → IsPermutation (flat_map listed (put nat_cmp g (map.insert old p s) es)) (one_of g (member_of p s) ∷ flat_map listed es)
 put_member g p s [] old is sorted none =
@@ -63,7 +63,7 @@ put_member g p s (e ∷ es) old is sorted none = go (nat_cmp g e.0) refl (λ sam
     parts : (below_all nat_cmp e.0 es ≡ true) × (is_sorted nat_cmp es ≡ true)
     parts = and_parts (below_all nat_cmp e.0 es) (is_sorted nat_cmp es) sorted
 
-    -- what is found, where it is known how the first number compares
+    -- the lookup of a group, by the comparison of the first number
     found : (r : Ordering) → nat_cmp g e.0 ≡ r → or_none (cond (is_eq r) (Some e.1) (find nat_cmp g es)) ≡ old
     found r at = ap (λ r. or_none (cond (is_eq r) (Some e.1) (find nat_cmp g es))) (sym at) ∙ is
 
@@ -90,7 +90,7 @@ put_member g p s (e ∷ es) old is sorted none = go (nat_cmp g e.0) refl (λ sam
         (IsPermutation-append_right (listed e) (flat_map listed (put nat_cmp g (map.insert old p s) es)) (one_of g (member_of p s) ∷ flat_map listed es) (rest (found Greater at)))
         (IsPermutation-middle (listed e) (one_of g (member_of p s)) (flat_map listed es))
 
--- a member is new to some groups
+-- a member is new to these groups
 abbrev pub IsNew : FinMap nat_cmp Members → GroupMember → Type 0
 IsNew m e = map.get (members_of m e.group) e.member.party ≡ None
 
@@ -102,7 +102,7 @@ joined_one m e new =
 same_numbers : (a b : ℕ) → eq_by_cmp nat_cmp a b ≡ (b == a)
 same_numbers a b = grind (arith, nat_tests)
 
--- a member that is new stays so after another one joined
+-- a new member stays new after another one has joined
 pub new_still : (m : FinMap nat_cmp Members) (e x : GroupMember) → is_same_member e x ≡ false → IsNew m x → IsNew (joined m e) x
 new_still m e x apart new = ap (λ o. map.get (or_none o) x.member.party) (map.get-insert nat_cmp_total m e.group (joined_members m e) x.group) ∙ go (eq_by_cmp nat_cmp x.group e.group) refl
   where
@@ -139,7 +139,7 @@ all_new (e ∷ es) = (new_from_empty e, all_new es)
 pub no_groups : group_members map.empty ≡ []
 no_groups = ap (flat_map listed) (no_entries nat_cmp Members)
 
--- members, no two of one group and party, are those of the groups that are made of them
+-- members without duplicates are those of the groups built from them
 pub made_groups : (es : List GroupMember) → are_distinct is_same_member es ≡ true → IsPermutation es (group_members (with_members map.empty es))
 made_groups es distinct =
     IsPermutation-sym (group_members (with_members map.empty es)) es

@@ -1,4 +1,4 @@
--- The namings of a sound register's mutations, none twice.
+-- The references of a sound register's mutations to units, without duplicates.
 use Rattle.std.proofs.Common.{◌≡◌, ℕ, Bool, true, false, not, ◌||◌, ◌&&◌, ◌==◌, List, [], ◌∷◌, ◌++◌, length, flat_map, map as map_list, refl, sym, ap, ◌∙◌, arith, IsPermutation}
 use Rattle.std.specs.Prelude.{ℤ, nat_eq, nat_lt}
 use Rattle.std.proofs.lemmas.Bool.Decides.{nat_tests}
@@ -41,7 +41,7 @@ below_differs last n less = grind (arith, nat_tests)
 below_more : (k last n : ℕ) → nat_lt k last ≡ true → nat_lt last n ≡ true → nat_lt k n ≡ true
 below_more k last n less more = grind (arith, nat_tests)
 
--- what is below a last number is not among rising ones after it
+-- a number below the last one is not among later, increasing ones
 none_above : (k last : ℕ) (ns : List ℕ) → nat_lt k last ≡ true → rise_above last ns ≡ true → list_any (nat_eq k) ns ≡ false
 none_above k last [] less rises = refl
 none_above k last (n ∷ ns) less rises =
@@ -87,7 +87,7 @@ naming_of mutation unit = record { mutation = mutation; unit = unit }
 abbrev named_by : ℕ × MutationRecord → List Naming
 named_by m = map_list (λ unit. let n : Naming = record { mutation = m.0; unit = unit } in n) (named_units m.1.content)
 
--- a naming of another mutation is none of one's
+-- a reference of another mutation is not among those of this one
 other_mutation : (n : Naming) (k : ℕ) (units : List ℕ) → nat_eq n.mutation k ≡ false → list_any (is_same_naming n) (map_list (λ unit. let n : Naming = record { mutation = k; unit = unit } in n) units) ≡ false
 other_mutation n k [] apart = refl
 other_mutation n k (u ∷ us) apart = ap (λ b. (b && nat_eq n.unit u) || list_any (is_same_naming n) (map_list (λ unit. let n : Naming = record { mutation = k; unit = unit } in n) us)) apart ∙ other_mutation n k us apart
@@ -95,7 +95,7 @@ other_mutation n k (u ∷ us) apart = ap (λ b. (b && nat_eq n.unit u) || list_a
 smaller : (k n : ℕ) → is_lt (nat_cmp k n) ≡ true → nat_eq k n ≡ false
 smaller k n less = grind (arith, nat_tests)
 
--- a naming of an earlier mutation is none of later ones'
+-- a reference of an earlier mutation is not among those of later ones
 later_mutations : (n : Naming) (es : List (ℕ × MutationRecord)) → below_all nat_cmp n.mutation es ≡ true → list_any (is_same_naming n) (flat_map named_by es) ≡ false
 later_mutations n [] below = refl
 later_mutations n (e ∷ es) below =
@@ -103,7 +103,7 @@ later_mutations n (e ∷ es) below =
     list_any-append (is_same_naming n) (named_by e) (flat_map named_by es)
     ∙ ap (λ b. b || list_any (is_same_naming n) (flat_map named_by es)) (other_mutation n e.0 (named_units e.1.content) (smaller n.mutation e.0 parts.0)) ∙ later_mutations n es parts.1
 
--- items that differ, before others of which none is one of them
+-- distinct items, before others that contain none of them
 distinct-append : {X : Type 0} (same : X → X → Bool) (xs ys : List X) → are_distinct same xs ≡ true → are_distinct same ys ≡ true → AllByRecursion (λ x. list_any (same x) ys ≡ false) xs → are_distinct same (xs ++ ys) ≡ true
 distinct-append same [] ys dx dy apart = dy
 distinct-append same (x ∷ xs) ys dx dy apart =
@@ -139,7 +139,7 @@ pub namings_distinct : (r : Register) → IsSound r → are_distinct is_same_nam
 namings_distinct r sound =
     named_distinct (map.entries r.mutations) (T_true (is_sorted nat_cmp (map.entries r.mutations)) (map.entries_sorted r.mutations)) (well_formed r (map.entries r.mutations) (refers r (sound Reference)).mutations)
 
--- ---- namings that are the same, none twice
+-- ---- equal namings without duplicates
 
 one_naming : (a b : Naming) → is_same_naming a b ≡ true → a ≡ b
 one_naming a b is =
@@ -155,7 +155,7 @@ same_namings standing named ds dn same =
     let parts = and_parts (list_all (λ n. list_any (is_same_naming n) named) standing) (list_all (λ n. list_any (is_same_naming n) standing) named) same in
     same_items is_same_naming one_naming naming_itself standing named ds dn parts.0 parts.1
 
--- mutations name those that stand, and as many: then they are the same
+-- if the mutations' references are among the current rows, and equally many, then they are the same
 pub named_both : (t : ℤ) (versions : List (Version Naming)) (mutations : FinMap nat_cmp MutationRecord) → AreApart is_same_naming versions → are_distinct is_same_naming (namings_of mutations) ≡ true
     → (one other : Bool) → one ≡ true → one ≡ list_all (λ v. not (stands t v) || is_told mutations v.what) versions → other ≡ nat_eq (length (namings_of mutations)) (length (standing t versions))
     → other ≡ are_same_namings (standing t versions) (namings_of mutations)

@@ -1,4 +1,4 @@
--- Tests of what stands, and of what mutations name.
+-- Tests of the current values, and of the references of mutations.
 use Rattle.std.proofs.Common.{◌≡◌, ℕ, Bool, true, false, cond, not, ◌||◌, ◌&&◌, List, [], ◌∷◌, Some, flat_map, filter, map as map_list, refl, sym, ap, ◌∙◌, arith}
 use Rattle.std.proofs.lemmas.Bool.Decides.{nat_tests}
 use Rattle.std.proofs.lemmas.List.Folds.{list_any-append}
@@ -23,7 +23,7 @@ use Rattle.land_tables_history.specs.Standing.{standing, stands}
 use Rattle.land_tables_history.specs.declared.naming.Naming.{Naming}
 use Rattle.land_tables_history.specs.declared.version.Version.{Version}
 
--- a test of what some or all of the versions that stand are of
+-- a test of some or all current values
 pub any_standing : {X : Type 0} (t : ℤ) (p : X → Bool) (vs : List (Version X)) → list_any (λ v. stands t v && p v.what) vs ≡ list_any p (standing t vs)
 any_standing t p [] = refl
 any_standing {X} t p (v ∷ vs) = go (stands t v) (any_standing t p vs)
@@ -42,7 +42,7 @@ all_standing {X} t p (v ∷ vs) = go (stands t v) (all_standing t p vs)
     go true rest = ap (λ k. p v.what && k) rest
     go false rest = rest
 
--- the namings of one mutation
+-- the references of one mutation
 abbrev pub naming_of : ℕ → ℕ → Naming
 naming_of mutation unit = record { mutation = mutation; unit = unit }
 
@@ -73,7 +73,7 @@ in_content unit (content.Merger it) = refl
 in_content unit (content.Mortgage it) = or_false (nat_eq it.unit unit)
 in_content unit (content.Discharge it) = or_false (nat_eq it.unit unit)
 
--- some mutation names a naming
+-- some mutation has this reference
 pub any_named : (n : Naming) (es : List (ℕ × MutationRecord)) → list_any (λ e. nat_eq n.mutation e.0 && names_unit n.unit e.1.content) es ≡ list_any (is_same_naming n) (flat_map named_by es)
 any_named n [] = refl
 any_named n (e ∷ es) =
@@ -86,7 +86,7 @@ pub all_alike : {X : Type 0} (p q : X → Bool) → ((x : X) → p x ≡ q x) �
 all_alike p q same [] = refl
 all_alike p q same (x ∷ xs) = ap (λ b. b && list_all p xs) (same x) ∙ ap (λ b. q x && b) (all_alike p q same xs)
 
--- ---- a naming is told by the mutation under its number
+-- ---- the mutation with its number determines a naming
 
 differs : (a b : ℕ) → is_lt (nat_cmp a b) ≡ true → nat_eq a b ≡ false
 differs a b less = grind (arith, nat_tests)
@@ -113,13 +113,13 @@ found_passes {V} n p (e ∷ es) sorted =
     go true is rest = ap (λ b. p e.1 || b) (none_above n p es (ap (λ k. below_all nat_cmp k es) (eqb-true n e.0 is) ∙ parts.0)) ∙ sym (or_false (p e.1))
     go false is rest = rest
 
--- some mutation names a unit where the one under the naming's number does
+-- some mutation refers to a unit if and only if the one of that number does
 pub told_there : (mutations : FinMap nat_cmp MutationRecord) (n : Naming) → is_told mutations n ≡ option_map_or (λ m. names_unit n.unit m.content) (map.get mutations n.mutation) false
 told_there mutations n =
     found_passes n.mutation (λ m. names_unit n.unit m.content) (map.entries mutations) (T_true (is_sorted nat_cmp (map.entries mutations)) (map.entries_sorted mutations))
     ∙ ap (λ o. option_map_or (λ m. names_unit n.unit m.content) o false) (sym (map.get-entries mutations n.mutation))
 
--- ---- namings that stand are those that mutations name
+-- ---- current namings are the references of mutations
 
 module _ (t : ℤ) (versions : List (Version Naming)) (mutations : FinMap nat_cmp MutationRecord) where
   pub told_all : list_all (λ v. not (stands t v) || is_told mutations v.what) versions ≡ list_all (is_among (namings_of mutations)) (standing t versions)

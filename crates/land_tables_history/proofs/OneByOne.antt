@@ -1,4 +1,5 @@
--- Versions that are closed key by key are those that are closed at once, and what begins one after another begins at once, in whatever order.
+-- Closing versions key by key equals closing them in one pass, and inserting versions one by one equals
+-- inserting them in one pass, up to order.
 use Rattle.std.proofs.Common.{◌≡◌, Bool, true, false, cond, ◌&&◌, ◌||◌, List, [], ◌∷◌, ◌++◌, map as map_list, refl, sym, ap, ◌∙◌, arith, IsPermutation}
 use Rattle.std.specs.Prelude.{ℤ, ◌<ℤ◌, fold}
 use Rattle.std.specs.List.{list_any}
@@ -11,7 +12,7 @@ use Rattle.land_tables_history.specs.Changed.{begun, closed}
 use Rattle.land_tables_history.specs.Open.{never}
 use Rattle.land_tables_history.specs.declared.version.Version.{Version}
 
--- a stamp before the end of what stands is another moment
+-- a stamp before `never` is not `never`
 not_never : (stamp : ℤ) → stamp <ℤ never → int_eq stamp never ≡ false
 not_never stamp less = false_from_ne_true (int_eq stamp never) (λ e. let same : stamp ≡ never = (Decides-int_eq stamp never).0 e in absurd (omega (arith, ints)))
 

@@ -1,4 +1,4 @@
--- A finite map made of its entries in any order.
+-- A finite map built from its entries in any order.
 use Rattle.std.proofs.Common.{◌≡◌, ◌≤◌, ◌+◌, ℕ, ℤ, suc, subst, Bool, true, false, cond, not, List, [], ◌∷◌, Option, Some, None, length, refl, sym, ap, ◌∙◌, arith, IsPermutation}
 use Rattle.std.specs.Prelude.{filter}
 use Rattle.std.proofs.lemmas.List.Sorted.{All-permutation, length_permutation, IsPermutation-map}
@@ -47,7 +47,7 @@ one_same x (y ∷ []) h = ap (λ z. z ∷ []) (sym (All-permutation (λ z. z ≡
 one_same x (y ∷ z ∷ ys) h = absurd (omega (arith, length_permutation (x ∷ []) (y ∷ z ∷ ys) h))
 
 module _ {K : Type 0} {R : K → K → Ordering} (o : IsTotalOrder R) (same : IsAntisymmetric R) {V : Type 0} where
-  -- the entries at a key
+  -- the entries of a key
   abbrev pub at_key : K → List (K × V) → List (K × V)
   at_key q es = filter (λ e. eq_by_cmp R q e.0) es
 
@@ -76,7 +76,7 @@ module _ {K : Type 0} {R : K → K → Ordering} (o : IsTotalOrder R) (same : Is
   pub at_once : (m : FinMap R V) (q : K) → length (at_key q (map.entries m)) ≤ 1
   at_once m q = at_most _ _ _ _ (counted q (map.entries m)) (length_without R o q (map.entries m) (map.entries_sorted m))
 
-  -- entries of a map, in any order, make that map
+  -- the entries of a map, in any order, build that map
   pub in_any_order : (m : FinMap R V) (es : List (K × V)) → IsPermutation es (map.entries m) → with_entries map.empty es ≡ m
   in_any_order m es p = map.same_map o same _ m (λ q.
       let turned : IsPermutation (at_key q es) (at_key q (map.entries m)) = filter_permuted (λ e. eq_by_cmp R q e.0) es (map.entries m) p in
@@ -90,11 +90,11 @@ module _ {K : Type 0} {R : K → K → Ordering} (o : IsTotalOrder R) (same : Is
       few_same (x ∷ []) ys few h = one_same x ys h
       few_same (x ∷ y ∷ xs) ys few h = absurd (omega (arith, few))
 
--- versions that are the records at a moment give them
+-- if the current values of versions are the entries of a map, they build it
 pub given : {V : Type 0} (t : ℤ) (versions : List (Version (ℕ × V))) (m : FinMap nat_cmp V) → IsPartAt t versions m → part_at t versions ≡ m
 given t versions m p = in_any_order nat_cmp_total nat_cmp-IsAntisymmetric m (standing t versions) p
 
--- versions that are the grants at a moment give them
+-- if the current values of versions are the grants of roles, they build them
 pub granted : (t : ℤ) (versions : List (Version Grant)) (grants : Grants) → AreRolesAt t versions grants → roles_at t versions ≡ grants
 unfolding grants_in
 granted t versions grants p =
@@ -102,7 +102,7 @@ granted t versions grants p =
     (subst (λ l. IsPermutation (marks (standing t versions)) l) (marks-keys (map.entries grants))
     (IsPermutation-map (λ k. (k, tt)) (standing t versions) (map.keys grants) p))
 
--- versions that are the mandates at a moment give them
+-- if the current values of versions are these mandates, they build them
 pub mandated : (t : ℤ) (versions : List (Version Mandate)) (mandates : Mandates) → AreMandatesAt t versions mandates → mandates_at t versions ≡ mandates
 unfolding mandates_in
 mandated t versions mandates p =

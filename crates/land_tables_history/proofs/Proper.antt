@@ -1,4 +1,4 @@
--- The ten lists of versions of a history whose lifespans are as they may be.
+-- The ten lists of versions of a history with valid intervals.
 use Rattle.std.proofs.Common.{◌≡◌, Bool, true, ◌&&◌, List}
 use Rattle.std.specs.List.{list_all}
 use Rattle.std.proofs.lemmas.Bool.{and_parts}
@@ -8,7 +8,7 @@ use Rattle.land_tables_history.specs.declared.history.History.{History}
 use Rattle.land_tables_history.specs.declared.moment.Moment.{Moment}
 use Rattle.land_tables_history.specs.declared.version.Version.{Version}
 
--- each lifespan of one list is an interval, and no two of one key overlap
+-- each lifespan of a list is an interval, and no two of one key overlap
 pub record Proper {X : Type 0} (same : X → X → Bool) (moments : List Moment) (vs : List (Version X)) : Type 0 where
   pub intervals : list_all (is_interval moments) vs ≡ true
   pub apart : are_distinct (overlap same) vs ≡ true

@@ -1,4 +1,4 @@
--- The register that stands at a moment is the one for which the versions stand.
+-- The register at a moment is the only one that the versions represent.
 use Rattle.std.proofs.Common.{◌≡◌, ◌∙◌, ℕ, ℤ}
 use Rattle.land_core.specs.declared.register.Register.{Register}
 use Rattle.land_tables_history.proofs.GroupOrders.{grouped}

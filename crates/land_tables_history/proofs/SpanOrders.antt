@@ -1,4 +1,4 @@
--- Lifespans of one key that have no moment in common, as spans of time and as versions.
+-- Disjoint lifespans of one key, as spans and as versions.
 use Rattle.std.proofs.Common.{◌≡◌, ℕ, Bool, true, not, ◌&&◌, List, [], ◌∷◌, map as map_list, refl, sym, ap, ◌∙◌}
 use Rattle.std.specs.Prelude.{ℤ, int_lt}
 use Rattle.std.specs.List.{list_all, list_any}
@@ -21,7 +21,7 @@ apart_is_distinct R (x ∷ xs) = ap (λ b. not (list_any (sweep.overlap R x) xs)
 abbrev pub pair_cmp : ℕ × ℕ → ℕ × ℕ → Ordering
 pair_cmp a b = ordering_then (nat_cmp a.0 b.0) (nat_cmp a.1 b.1)
 
--- no two versions of one key have a moment in common exactly where no two spans do
+-- no two versions of one key overlap if and only if no two of their spans do
 pub apart_by_spans : {X : Type 0} (same : X → X → Bool) (key_of : X → ℕ × ℕ) (by_pairs : (a b : X) → same a b ≡ is_same_pair (key_of a) (key_of b)) (versions : List (Version X))
     → sweep.are_apart pair_cmp (map_list (span_of key_of) versions) ≡ are_distinct (overlap same) versions
 apart_by_spans same key_of by_pairs versions =
@@ -36,7 +36,7 @@ spans_begin key_of (v ∷ vs) all =
     let parts = and_parts (int_lt v.since v.until) (list_all (λ v. int_lt v.since v.until) vs) all in
     and_from (int_lt v.since v.until) (list_all (λ x. int_lt x.since x.until) (map_list (span_of key_of) vs)) parts.0 (spans_begin key_of vs parts.1)
 
--- lifespans that are as they may be begin before they end
+-- valid intervals are not empty
 pub all_begun : {X : Type 0} (stamps : List ℤ) (versions : List (Version X)) → list_all (is_interval_of stamps) versions ≡ true → list_all (λ v. int_lt v.since v.until) versions ≡ true
 all_begun stamps [] all = refl
 all_begun stamps (v ∷ vs) all =

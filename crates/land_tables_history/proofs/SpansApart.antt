@@ -1,4 +1,4 @@
--- Of spans in order only neighbours can have a moment in common.
+-- Of sorted spans, only neighbours can overlap.
 use Rattle.std.proofs.Common.{◌≡◌, ◌↔◌, ◌≤◌, Bool, cond, length, filter, true, false, not, ◌||◌, ◌&&◌, List, [], ◌∷◌, refl, sym, ap, ap₂, ◌∙◌, arith, IsPermutation}
 use Rattle.std.proofs.lemmas.Bool.{false≢true, and_parts, not-true, or_parts}
 use Rattle.std.proofs.lemmas.Cmp.{alike_right, eq_by_cmp_equiv, on_total, tied_back, then_total}
@@ -34,7 +34,7 @@ module _ {K : Type 0} (R : K → K → Ordering) (o : IsTotalOrder R) where
   span_total =
       then_total (on_total (λ (s : Span K). s.key) o) (then_total (on_total (λ (s : Span K). s.since) int_cmp_total) (on_total (λ (s : Span K). s.until) int_cmp_total))
 
-  -- a span is not before another
+  -- a span does not come before another
   record Follows (x y : Span K) : Type 0 where
     key : is_gt (R x.key y.key) ≡ false
     since : R x.key y.key ≡ Equal → x.since ≤ℤ y.since
@@ -97,7 +97,7 @@ module _ {K : Type 0} (R : K → K → Ordering) (o : IsTotalOrder R) where
       let rest = and_parts (is_begun x) (list_all is_begun xs) begun in
       ap₂ (λ a b. not a && b) (sym (first_only x xs in_order.0 in_order.1 rest.1)) (neighbours xs in_order.1 rest.1)
 
-  -- ---- in whatever order
+  -- ---- in any order
 
   flipped : (a b : Span K) → overlap R a b ≡ overlap R b a
   flipped a b =
@@ -107,7 +107,7 @@ module _ {K : Type 0} (R : K → K → Ordering) (o : IsTotalOrder R) where
       turned : (a b c : Bool) → (a && b && c) ≡ (a && c && b)
       turned a b c = grind arith
 
-  -- two lists overlap with the same spans, and are apart or not as well
+  -- two lists overlap with the same spans, so both are disjoint or neither is
   record Alike (xs ys : List (Span K)) : Type 0 where
     met : (x : Span K) → list_any (overlap R x) ys ≡ list_any (overlap R x) xs
     apart : are_apart R ys ≡ are_apart R xs
@@ -135,7 +135,7 @@ module _ {K : Type 0} (R : K → K → Ordering) (o : IsTotalOrder R) where
       chained : (xs ys zs : List (Span K)) → Alike xs ys → Alike ys zs → Alike xs zs
       chained xs ys zs g h = record { met = λ q. h.met q ∙ g.met q; apart = h.apart ∙ g.apart }
 
-  -- spans that have been put in order
+  -- spans after sorting
   pub apart_in_order : (spans sorted : List (Span K)) → list_all is_begun spans ≡ true → IsPermutation spans sorted → IsSorted (span_cmp R) sorted
       → are_neighbours_apart R sorted ≡ are_apart R spans
   apart_in_order spans sorted begun p in_order =
@@ -159,7 +159,7 @@ module _ {K : Type 0} (R : K → K → Ordering) (o : IsTotalOrder R) where
   one_key : (a b key : K) → eq_by_cmp R a key ≡ true → eq_by_cmp R b key ≡ true → eq_by_cmp R a b ≡ true
   one_key a b key p q = (eq_by_cmp_equiv o).congr a key b p ∙ (eq_by_cmp_equiv o).symm key b ∙ q
 
-  -- where a span is there, none is that it does not overlap
+  -- if a span holds a moment, no span that is disjoint from it does
   none_else : (key : K) (t : ℤ) (x : Span K) (ys : List (Span K)) → is_at R key t x ≡ true → list_any (overlap R x) ys ≡ false → filter (is_at R key t) ys ≡ []
   none_else key t x [] here apart = refl
   none_else key t x (y ∷ ys) here apart = go (is_at R key t y) refl (none_else key t x ys here parts.1)
@@ -185,7 +185,7 @@ module _ {K : Type 0} (R : K → K → Ordering) (o : IsTotalOrder R) where
           let none : length (filter (is_at R key t) xs) ≡ 0 = ap length (none_else key t x xs here (not-true (list_any (overlap R x) xs) parts.0)) in
           omega (arith, none)
 
-  -- where no other is there while a span is, it overlaps none
+  -- if no other span shares a moment with this one, it overlaps none
   overlaps_none : (x : Span K) (ys : List (Span K)) → int_lt x.since x.until ≡ true → list_all (λ s. int_lt s.since s.until) ys ≡ true
       → ((t : ℤ) → is_at R x.key t x ≡ true → length (filter (is_at R x.key t) ys) ≤ 0) → list_any (overlap R x) ys ≡ false
   overlaps_none x [] begun all alone = refl
@@ -227,6 +227,6 @@ module _ {K : Type 0} (R : K → K → Ordering) (o : IsTotalOrder R) where
       fewer key t true h = omega (arith, h)
       fewer key t false h = h
 
-  -- pairs and moments tell the same
+  -- the two definitions of disjointness agree
   pub by_moments : (xs : List (Span K)) → list_all (λ s. int_lt s.since s.until) xs ≡ true → (are_apart R xs ≡ true) ↔ AreApart R xs
   by_moments xs all = (at_most_one xs, apart_from_moments xs all)

@@ -1,4 +1,4 @@
--- Lifespans are as they may be by moments exactly where they are by their stamps.
+-- Intervals are valid by commits if and only if they are valid by the stamps of the commits.
 use Rattle.std.proofs.Common.{◌≡◌, Bool, ◌&&◌, List, map as map_list, ap, ap₂, IsPermutation}
 use Rattle.std.specs.Prelude.{ℤ}
 use Rattle.land_core.specs.Entries.{are_distinct}

@@ -1,4 +1,4 @@
--- A moment is sought among stamps in order.
+-- Binary search of a moment in sorted stamps.
 use Rattle.std.proofs.Common.{◌≡◌, ℕ, zero, suc, ◌≤◌, ◌<◌, ◌⊎◌, inl, inr, Bool, true, false, ◌||◌, ◌&&◌, List, [], ◌∷◌, length, get_or, map as map_list, Result, Ok, Err, refl, sym, ap, ap₂, ◌∙◌, arith, IsPermutation}
 use Rattle.std.specs.Prelude.{ℤ, pos, int_lt}
 use Rattle.std.proofs.lemmas.Int.{ints}
@@ -46,7 +46,7 @@ found_among stamps t (Err i) sorted bound found =
       | inr after ↦ is_more (get_or stamps k d) t (parted.1 k d after less)
     ]))
 
--- the stamps of moments, in whatever order
+-- the stamps of commits, in unspecified order
 among_stamps : (moments : List Moment) (t : ℤ) → is_among (map_list (λ m. m.stamp) moments) t ≡ is_stamp moments t
 among_stamps [] t = refl
 among_stamps (m ∷ ms) t = ap (λ b. int_eq m.stamp t || b) (among_stamps ms t)

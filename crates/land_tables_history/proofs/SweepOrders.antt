@@ -1,4 +1,4 @@
--- What order tells of a list: each item stands in a relation to all that come later.
+-- Properties of a sorted list: each item is related to all later ones.
 use Rattle.std.proofs.Common.{◌≡◌, ℕ, suc, ◌+◌, ◌≤◌, ◌<◌, true, false, List, [], ◌∷◌, length, get_or, refl, sym, subst, arith}
 use Rattle.std.proofs.lemmas.Bool.{false≢true}
 use Rattle.std.proofs.lemmas.Bool.Decides.{nat_tests}
@@ -12,7 +12,7 @@ use Rattle.std.specs.declared.cmp.Ordering.{Ordering}
 use Rattle.std.specs.declared.cmp.Ordering.TheVariants.{Less, Equal, Greater}
 use Rattle.std.specs.Prelude.{ℤ, ◌≤ℤ◌, nat_eq}
 
--- ---- what is not before another
+-- ---- the order of values
 
 pub then_not : (r s : Ordering) → is_lt (ordering_then r s) ≡ false → (is_lt r ≡ false) × (is_eq r ≡ true → is_lt s ≡ false)
 then_not Less s h = absurd (false≢true (sym h))
@@ -30,7 +30,7 @@ no_earlier s t h = grind (arith, ints)
 
 -- ---- a list in order
 
--- each item stands in a relation to all that come later
+-- each item is related to all later ones
 abbrev pub Rising : {X : Type 0} → (X → X → Type 0) → List X → Type 0
 Rising P [] = Unit {0}
 Rising P (x ∷ xs) = AllByRecursion (P x) xs × Rising P xs
@@ -45,7 +45,7 @@ module _ {X : Type 0} (R : X → X → Ordering) (o : IsTotalOrder R) where
       let moved : suc k + 1 ≡ suc (k + 1) = omega arith in
       subst (λ (n : ℕ). is_lt (R (get_or (x ∷ xs) n d) (get_or xs k d)) ≡ false) moved (sorted (suc k) d (omega arith) (omega (arith, high)))
 
-  -- a sorted list, where what is not before another stands in the relation to it
+  -- in a sorted list, if each pair that is not in descending order is related
   pub rising_in_order : (P : X → X → Type 0) → ((x y : X) → is_lt (R y x) ≡ false → P x y) → (xs : List X) → IsSorted R xs → Rising P xs
   rising_in_order P told [] sorted = tt
   rising_in_order P told (x ∷ xs) sorted = (

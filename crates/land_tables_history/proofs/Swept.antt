@@ -1,4 +1,4 @@
--- Ticks in order: what is judged at each of them is all that ever stands together.
+-- Ticks in order: checking at each tick checks all values that are ever current together.
 use Rattle.std.proofs.Common.{◌≡◌, ◌↔◌, ◌⊎◌, inl, inr, ◌==◌, ℕ, ◌≤◌, Bool, true, false, cond, ◌||◌, ◌&&◌, List, [], ◌∷◌, ◌++◌, filter, map as map_list, refl, sym, ap, ap₂, subst, ◌∙◌, arith, append_assoc, append-nil, IsPermutation}
 use Rattle.std.proofs.lemmas.Bool.{false≢true, and_parts, eqb-true}
 use Rattle.std.proofs.lemmas.Bool.Decides.{nat_tests}
@@ -62,7 +62,7 @@ module _ {T : Type 0} where
     key : x.key ≤ y.key
     since : nat_eq x.key y.key ≡ true → x.since ≤ℤ y.since
 
-  -- ---- what has begun, and what is left
+  -- ---- started values, and the remaining ones
 
   parted : (tick : Tick) (xs : List (Lived T)) → begun_by tick xs ++ left_by tick xs ≡ xs
   parted tick [] = refl
@@ -116,7 +116,7 @@ module _ {T : Type 0} where
   both_parts P [] ys a b = b
   both_parts P (x ∷ xs) ys a b = (a.0, both_parts P xs ys a.1 b)
 
-  -- what stands at a later tick stood at this one, of what has begun
+  -- a value that is current at a later tick was current at this one, if it had started
   stood : (a u : Tick) → TickFollows a u → (xs : List (Lived T)) → AllByRecursion (Begun a) xs → filter (is_at u.key u.at) (filter (is_at a.key a.at) xs) ≡ filter (is_at u.key u.at) xs
   stood a u f [] all = refl
   stood a u f (x ∷ xs) all = go (is_at a.key a.at x) (is_at u.key u.at x) refl refl (stood a u f xs all.1)
@@ -193,7 +193,7 @@ module _ {T : Type 0} where
 
 -- ---- all keys and moments
 
--- of some ticks that pass a test, the latest of a key up to a moment, or none
+-- the latest tick of a key, up to a moment, that passes a test, or none
 record Latest (passes : Tick → Bool) (key : ℕ) (t : ℤ) (us : List Tick) : Type 0 where
   best : ℤ
   before : best ≤ℤ t
@@ -248,7 +248,7 @@ module _ (passes : Tick → Bool) (key : ℕ) (t : ℤ) where
         | inr more ↦ inl (record { best = u.at; before = h; holds = this e; least = (λ k h. le_itself u.at, raised l.best u.at more us l.least) })
       ]
 
--- what holds of each item of two lists joined holds of each of both
+-- a property of all items of two joined lists holds for both
 split_list : {A : Type 0} (P : A → Type 0) (xs ys : List A) → AllByRecursion P (xs ++ ys) → AllByRecursion P xs × AllByRecursion P ys
 split_list P [] ys all = (tt, all)
 split_list P (x ∷ xs) ys all = let rest = split_list P xs ys all.1 in ((all.0, rest.0), rest.1)
@@ -321,7 +321,7 @@ module _ {T : Type 0} (R : T → T → Ordering) (o : IsTotalOrder R) where
       let one = then_not (nat_cmp y.key x.key) (ordering_then (int_cmp y.since x.since) ends) h in
       record { key = no_less x.key y.key one.0; since = λ same. no_earlier x.since y.since (then_not (int_cmp y.since x.since) ends (one.1 (tie x.key y.key same))).0 }
 
-  -- what has been put in order is judged as it lay
+  -- sorting does not change the result
   pub sound_in_order : (is_sound : List T → Bool) → is_sound [] ≡ true → ((xs ys : List T) → IsPermutation xs ys → is_sound xs ≡ is_sound ys)
       → (lived sorted : List (Lived T)) (ticks : List Tick) → IsPermutation lived sorted → IsSorted (lived_cmp R) sorted → IsPermutation (ticks_of lived) ticks → IsSorted tick_cmp ticks
       → (sound_from is_sound [] sorted ticks ≡ true) ↔ AreSound is_sound lived

@@ -1,5 +1,7 @@
--- What a change of the register makes of its versions: what it puts begins to stand at its stamp, and what it ends, or puts in another form, ends there.
-use Rattle.std.specs.Prelude.{ℕ, ℤ, Bool, false, ◌&&◌, nat_eq, nat_le, List, ◌++◌, filter, flat_map, map as map_list, if◌then◌else◌}
+-- The effect of a change of the register on its versions: an inserted value starts at the stamp, and a
+-- version that it ends or replaces ends there.
+use Rattle.std.specs.Prelude.{ℕ, ℤ, Bool, false, ◌&&◌, nat_eq, nat_le, List, ◌++◌, filter, flat_map}
+use Rattle.std.specs.Prelude.{map as map_list, if◌then◌else◌}
 use Rattle.std.specs.List.{list_any}
 use Rattle.std.specs.Ordering.{eq_by_cmp, int_eq}
 use Rattle.land_core.specs.Grants.{grant_cmp}
@@ -16,59 +18,73 @@ use Rattle.land_tables_history.specs.declared.history.History.{History}
 use Rattle.land_tables_history.specs.declared.naming.Naming.{Naming}
 use Rattle.land_tables_history.specs.declared.version.Version.{Version}
 
--- something begins to stand at a stamp, and its lifespan is open
+-- a new version, which is current from `since`
 abbrev pub begun : {X : Type 0} → X → (since : ℤ) → Version X
 begun x since = record { what = x; since = since; until = never }
 
--- what stands ends at a stamp, if it is meant; all else is as it was
+-- ends a version at `stamp` if it is current and meant; leaves other versions unchanged
 abbrev pub closed : {X : Type 0} → (meant : X → Bool) → (stamp : ℤ) → Version X → Version X
 closed meant stamp v = if meant v.what && int_eq v.until never then record v { until = stamp } else v
 
--- what is put begins at a stamp, and what is meant ends there
-abbrev pub changed_versions : {X : Type 0} → (put : List X) → (meant : X → Bool) → (stamp : ℤ) → List (Version X) → List (Version X)
-changed_versions put meant stamp versions = map_list (λ x. begun x stamp) put ++ map_list (closed meant stamp) versions
+-- inserted values start at the stamp, and meant versions end there
+abbrev pub changed_versions : {X : Type 0} → (put : List X) → (meant : X → Bool) → (stamp : ℤ)
+    → List (Version X) → List (Version X)
+changed_versions put meant stamp versions =
+    map_list (λ x. begun x stamp) put ++ map_list (closed meant stamp) versions
 
--- whether a key is among some
+-- whether a key is among these
 abbrev pub is_among : {K : Type 0} → (same : K → K → Bool) → List K → K → Bool
 is_among same keys key = list_any (same key) keys
 
--- whether a number is among those of what is put, and those that end
+-- whether a number is among the inserted or the ended ones
 abbrev pub is_changed : {V : Type 0} → (put : List (ℕ × V)) → (ended : List ℕ) → ℕ → Bool
 is_changed put ended number = is_among nat_eq (map_list (λ e. e.0) put ++ ended) number
 
--- records under numbers: those that are put begin, and whatever stood under a changed number ends
-abbrev pub changed_part : {V : Type 0} → (put : List (ℕ × V)) → (ended : List ℕ) → (stamp : ℤ) → List (Version (ℕ × V)) → List (Version (ℕ × V))
+-- records: inserted ones start, and current versions of a changed number end
+abbrev pub changed_part : {V : Type 0} → (put : List (ℕ × V)) → (ended : List ℕ) → (stamp : ℤ)
+    → List (Version (ℕ × V)) → List (Version (ℕ × V))
 changed_part put ended stamp versions = changed_versions put (λ e. is_changed put ended e.0) stamp versions
 
--- roles: those that are given begin, and those that are given or taken end, where they stood
-abbrev pub changed_roles : (put ended : List Grant) → (stamp : ℤ) → List (Version Grant) → List (Version Grant)
-changed_roles put ended stamp versions = changed_versions put (λ grant. is_among (eq_by_cmp grant_cmp) (put ++ ended) grant) stamp versions
+-- roles: granted ones start, and current versions of granted or revoked ones end
+abbrev pub changed_roles : (put ended : List Grant) → (stamp : ℤ) → List (Version Grant)
+    → List (Version Grant)
+changed_roles put ended stamp versions =
+    changed_versions put (λ grant. is_among (eq_by_cmp grant_cmp) (put ++ ended) grant) stamp versions
 
--- mandates: those that are given begin, and those that are given or withdrawn end, where they stood
-abbrev pub changed_mandates : (put ended : List Mandate) → (stamp : ℤ) → List (Version Mandate) → List (Version Mandate)
-changed_mandates put ended stamp versions = changed_versions put (λ mandate. is_among (eq_by_cmp mandate_cmp) (put ++ ended) mandate) stamp versions
+-- mandates: new ones start, and current versions of new or withdrawn ones end
+abbrev pub changed_mandates : (put ended : List Mandate) → (stamp : ℤ) → List (Version Mandate)
+    → List (Version Mandate)
+changed_mandates put ended stamp versions =
+    changed_versions put (λ mandate. is_among (eq_by_cmp mandate_cmp) (put ++ ended) mandate) stamp versions
 
--- the members of some groups, each with the number of its group
+-- the members of these groups, each with the number of its group
 abbrev pub listed_members : List (ℕ × Members) → List GroupMember
-listed_members groups = flat_map (λ g. map_list (λ m. record { group = g.0; member = m }) (members_in g.1)) groups
+listed_members groups =
+    flat_map (λ g. map_list (λ m. record { group = g.0; member = m }) (members_in g.1)) groups
 
--- members: those of the groups that are put begin, and all that were in a changed group end
-abbrev pub changed_members : (put : List (ℕ × Members)) → (ended : List ℕ) → (stamp : ℤ) → List (Version GroupMember) → List (Version GroupMember)
-changed_members put ended stamp versions = changed_versions (listed_members put) (λ e. is_changed put ended e.group) stamp versions
+-- members: those of inserted groups start, and current members of a changed group end
+abbrev pub changed_members : (put : List (ℕ × Members)) → (ended : List ℕ) → (stamp : ℤ)
+    → List (Version GroupMember) → List (Version GroupMember)
+changed_members put ended stamp versions =
+    changed_versions (listed_members put) (λ e. is_changed put ended e.group) stamp versions
 
--- which of some mutations name which units
+-- the references of these mutations to units
 abbrev pub named_by : List (ℕ × MutationRecord) → List Naming
-named_by mutations = flat_map (λ m. map_list (λ unit. record { mutation = m.0; unit = unit }) (named_units m.1.content)) mutations
+named_by mutations =
+    flat_map (λ m. map_list (λ unit. record { mutation = m.0; unit = unit })
+    (named_units m.1.content)) mutations
 
--- the mutations that are new: their numbers are none before the next one
+-- the new mutations, whose numbers are not below the next number
 abbrev pub new_mutations : (next : ℕ) → List (ℕ × MutationRecord) → List (ℕ × MutationRecord)
 new_mutations next put = filter (λ m. nat_le next m.0) put
 
--- namings: those of new mutations begin, and none ends
-abbrev pub changed_namings : (next : ℕ) → (put : List (ℕ × MutationRecord)) → (stamp : ℤ) → List (Version Naming) → List (Version Naming)
-changed_namings next put stamp versions = changed_versions (named_by (new_mutations next put)) (λ naming. false) stamp versions
+-- references to units: those of new mutations start, and none ends
+abbrev pub changed_namings : (next : ℕ) → (put : List (ℕ × MutationRecord)) → (stamp : ℤ)
+    → List (Version Naming) → List (Version Naming)
+changed_namings next put stamp versions =
+    changed_versions (named_by (new_mutations next put)) (λ naming. false) stamp versions
 
--- the versions with a change of a register, whose next number was this one, from a stamp on
+-- the history with a change of a register that had this next number, from the stamp on
 abbrev pub changed : (next : ℕ) → Change → (stamp : ℤ) → History → History
 changed next change stamp h = record {
   parties = changed_part change.put.parties change.ended.parties stamp h.parties;

@@ -1,4 +1,4 @@
--- The members of groups that stand at a moment.
+-- The members of groups at a moment.
 use Rattle.std.specs.Prelude.{◌≢◌, ℕ, ℤ, List, [], ◌∷◌, Some, flat_map, map as map_list}
 use Rattle.std.specs.FinMap as map
 use Rattle.std.specs.FinMap.{FinMap}
@@ -12,33 +12,34 @@ use Rattle.land_tables_history.specs.declared.version.Version.{Version}
 
 -- the members of all groups, each with the number of its group
 abbrev pub group_members : FinMap nat_cmp Members → List GroupMember
-group_members groups = flat_map (λ g. map_list (λ m. record { group = g.0; member = m }) (members_in g.1)) (map.entries groups)
+group_members groups =
+    flat_map (λ g. map_list (λ m. record { group = g.0; member = m }) (members_in g.1)) (map.entries groups)
 
--- no group is without members
+-- each group has a member
 abbrev pub HaveMembers : FinMap nat_cmp Members → Type 0
 HaveMembers groups = (group : ℕ) → map.get groups group ≢ Some map.empty
 
--- the versions that stand at a moment are the members of these groups, each once
+-- the current versions are exactly the members of these groups
 abbrev pub AreGroupsAt : ℤ → List (Version GroupMember) → FinMap nat_cmp Members → Type 0
 AreGroupsAt t versions groups = IsPermutation (standing t versions) (group_members groups)
 
--- the members of a group, none where there is no group
+-- the members of a group, empty if the group does not exist
 abbrev pub members_of : FinMap nat_cmp Members → ℕ → Members
 members_of groups group = option_map_or (λ members. members) (map.get groups group) map.empty
 
--- the members of a group that another one joins
+-- the members of a group after another one has joined
 abbrev pub joined_members : FinMap nat_cmp Members → GroupMember → Members
 joined_members groups e = map.insert (members_of groups e.group) e.member.party e.member.share
 
--- a member joins a group, which begins with its first member
+-- adds a member to its group, which is created with its first member
 abbrev pub joined : FinMap nat_cmp Members → GroupMember → FinMap nat_cmp Members
 joined groups e = map.insert groups e.group (joined_members groups e)
 
--- some join, one after another
+-- adds these members, in order
 abbrev pub with_members : FinMap nat_cmp Members → List GroupMember → FinMap nat_cmp Members
 with_members groups [] = groups
 with_members groups (e ∷ es) = with_members (joined groups e) es
 
--- the groups whose members stand
+-- the groups whose members are current
 abbrev pub groups_at : ℤ → List (Version GroupMember) → FinMap nat_cmp Members
 groups_at t versions = with_members map.empty (standing t versions)

@@ -1,4 +1,4 @@
--- What of the register's versions stands at a moment is a register.
+-- The register at a moment, from a history.
 use Rattle.std.specs.Prelude.{ℕ, ℤ, List, [], ◌∷◌, flat_map, map as map_list}
 use Rattle.std.specs.FinMap as map
 use Rattle.std.specs.FinMap.{FinMap}
@@ -9,11 +9,12 @@ use Rattle.land_core.specs.declared.content.Content.TheVariants as content
 use Rattle.land_core.specs.declared.mutation.MutationRecord.{MutationRecord}
 use Rattle.land_core.specs.declared.register.Register.{Register}
 use Rattle.land_tables_history.specs.Groups.{AreGroupsAt, groups_at}
-use Rattle.land_tables_history.specs.Standing.{AreMandatesAt, AreRolesAt, IsPartAt, mandates_at, part_at, roles_at, standing}
+use Rattle.land_tables_history.specs.Standing.{AreMandatesAt, AreRolesAt, IsPartAt, mandates_at, part_at}
+use Rattle.land_tables_history.specs.Standing.{roles_at, standing}
 use Rattle.land_tables_history.specs.declared.history.History.{History}
 use Rattle.land_tables_history.specs.declared.naming.Naming.{Naming}
 
--- the units that a content names: its own, and of a merger the others
+-- the units that a content refers to: its own, and for a merger the others too
 abbrev pub named_units : Content → List ℕ
 named_units (content.Transfer it) = it.unit ∷ []
 named_units (content.Subdivision it) = it.unit ∷ []
@@ -21,12 +22,14 @@ named_units (content.Merger it) = it.unit ∷ it.others
 named_units (content.Mortgage it) = it.unit ∷ []
 named_units (content.Discharge it) = it.unit ∷ []
 
--- which mutations name which units
+-- the references of mutations to units
 abbrev pub namings_of : FinMap nat_cmp MutationRecord → List Naming
-namings_of mutations = flat_map (λ m. map_list (λ unit. record { mutation = m.0; unit = unit }) (named_units m.1.content)) (map.entries mutations)
+namings_of mutations =
+    flat_map (λ m. map_list (λ unit. record { mutation = m.0; unit = unit }) (named_units m.1.content))
+    (map.entries mutations)
 
--- the versions that stand at a moment are the register's records, roles, members and mandates, and the units that its mutations name,
--- each once
+-- The current versions are exactly the register's records, roles, members and mandates, and the units that
+-- its mutations refer to.
 pub record StandsAt (t : ℤ) (history : History) (register : Register) : Type 0 where
   pub parties : IsPartAt t history.parties register.parties
   pub roles : AreRolesAt t history.roles register.roles
@@ -39,7 +42,7 @@ pub record StandsAt (t : ℤ) (history : History) (register : Register) : Type 0
   pub namings : IsPermutation (standing t history.namings) (namings_of register.mutations)
   pub mandates : AreMandatesAt t history.mandates register.mandates
 
--- the register that stands at a moment, with the number that the next new object takes then
+-- the register at a moment, with this next number
 abbrev pub register_at : ℤ → History → (next : ℕ) → Register
 register_at t history next = record {
   parties = part_at t history.parties;

@@ -1,4 +1,4 @@
--- Laws over the definitions alone: what a change leaves of what stands, and what stands from then on.
+-- Laws on definitions only: the effect of a change on the register before and after its stamp.
 use Rattle.std.specs.Prelude.{◌≡◌, ℕ, true, List, [], ◌∷◌, Some, ℤ, ◌<◌, ◌≤◌, ◌<ℤ◌, ◌≤ℤ◌, ◌⊎◌}
 use Rattle.std.specs.FinMap as map
 use Rattle.std.specs.List.{AllByRecursion}
@@ -14,38 +14,43 @@ use Rattle.land_tables_history.specs.Open.{have_ended, never}
 use Rattle.land_tables_history.specs.declared.history.History.{History}
 use Rattle.land_tables_history.specs.declared.moment.Moment.{Moment}
 
--- a mutation that is put stands already, and names the same units
+-- an inserted mutation exists already, and refers to the same units
 pub record IsAsItWas (r : Register) (number : ℕ) (m : MutationRecord) : Type 0 where
   pub old : MutationRecord
   pub there : map.get r.mutations number ≡ Some old
   pub units : named_units m.content ≡ named_units old.content
 
--- a change of a register puts mutations that are new, or are as they were but for their state, and ends none
+-- the mutations of a change are new, or exist with the same units, and none is ended
 pub record PutsMutations (r : Register) (change : Change) : Type 0 where
   pub used : (number : ℕ) (m : MutationRecord) → map.get r.mutations number ≡ Some m → number < r.next
   pub put : AllByRecursion (λ e. (r.next ≤ e.0) ⊎ IsAsItWas r e.0 e.1) change.put.mutations
   pub ended : change.ended.mutations ≡ []
 
--- what stood before the stamp of a change stands there still
+-- a change leaves the register at all earlier moments unchanged
 abbrev pub PastStands : Type 0
 PastStands = (next : ℕ) (change : Change) (stamp t : ℤ) (history : History) (r : Register)
     → t <ℤ stamp → t <ℤ never → StandsAt t history r → StandsAt t (changed next change stamp history) r
 
--- from its stamp on the register with the change stands, where the last change was before that
+-- from its stamp on, the register is the one after the change, if the last change was before that
 abbrev pub ChangeStands : Type 0
 ChangeStands = (change : Change) (last stamp t : ℤ) (history : History) (r : Register)
-    → have_ended last history ≡ true → last <ℤ stamp → stamp ≤ℤ t → t <ℤ never → NamesKeysOnce change → PutsMutations r change
+    → have_ended last history ≡ true → last <ℤ stamp → stamp ≤ℤ t → t <ℤ never → NamesKeysOnce change
+    → PutsMutations r change
     → StandsAt t history r → StandsAt t (changed r.next change stamp history) (after change r)
 
 -- then each lifespan is open, or has ended by the stamp
 abbrev pub ChangedHaveEnded : Type 0
 ChangedHaveEnded = (next : ℕ) (change : Change) (last stamp : ℤ) (history : History)
-    → have_ended last history ≡ true → last <ℤ stamp → have_ended stamp (changed next change stamp history) ≡ true
+    → have_ended last history ≡ true → last <ℤ stamp
+    → have_ended stamp (changed next change stamp history) ≡ true
 
--- where lifespans were as they may be, they are so with the change and its moment, if no moment was later than the last and the register
--- with the change is sound
+-- A change and its commit keep all intervals valid, if no commit was later than `last` and the register after
+-- the change is sound.
 abbrev pub ChangesKeepIntervals : Type 0
-ChangesKeepIntervals = (moments : List Moment) (change : Change) (last stamp : ℤ) (history : History) (r : Register)
-    → has_intervals moments history ≡ true → AllByRecursion (λ (m : Moment). m.stamp ≤ℤ last) moments → last <ℤ stamp → stamp <ℤ never
+ChangesKeepIntervals =
+    (moments : List Moment) (change : Change) (last stamp : ℤ) (history : History) (r : Register)
+    → has_intervals moments history ≡ true → AllByRecursion (λ (m : Moment). m.stamp ≤ℤ last) moments
+    → last <ℤ stamp → stamp <ℤ never
     → NamesKeysOnce change → PutsMutations r change → StandsAt last history r → IsSound (after change r)
-    → has_intervals (record { stamp = stamp; next = change.next } ∷ moments) (changed r.next change stamp history) ≡ true
+    → has_intervals (record { stamp = stamp; next = change.next } ∷ moments)
+    (changed r.next change stamp history) ≡ true

@@ -1,4 +1,4 @@
--- Definitions of what stands at a moment, and of what a change makes of it.
+-- Definitions of the register at a moment, and of the effect of a change.
 pub mod Changed
 pub mod Groups
 pub mod History

@@ -1,4 +1,4 @@
--- What stands at a moment.
+-- The versions that are current at a moment.
 use Rattle.std.specs.Prelude.{ℕ, ℤ, Bool, ◌&&◌, int_le, int_lt, List, map as map_list, filter}
 use Rattle.std.specs.List.Sorted.{IsPermutation}
 use Rattle.std.specs.Ordering.{nat_cmp}
@@ -11,34 +11,34 @@ use Rattle.land_core.specs.declared.mandates.Mandate.{Mandate}
 use Rattle.land_core.specs.declared.roles.Grant.{Grant}
 use Rattle.land_tables_history.specs.declared.version.Version.{Version}
 
--- a lifespan has its beginning, and not its end
+-- a lifespan includes its start, and not its end
 abbrev pub stands : {X : Type 0} → ℤ → Version X → Bool
 stands t v = int_le v.since t && int_lt t v.until
 
--- what the versions that stand at a moment are of, in the order in which they lie
+-- the values of the versions that are current at a moment, in the order of the list
 abbrev pub standing : {X : Type 0} → ℤ → List (Version X) → List X
 standing t versions = map_list (λ v. v.what) (filter (stands t) versions)
 
--- the versions that stand at a moment are these records, each once
+-- the current versions are exactly these records
 abbrev pub IsPartAt : {V : Type 0} → ℤ → List (Version (ℕ × V)) → FinMap nat_cmp V → Type 0
 IsPartAt t versions m = IsPermutation (standing t versions) (map.entries m)
 
--- the records that stand, one put in after another
+-- the current records, inserted in order
 abbrev pub part_at : {V : Type 0} → ℤ → List (Version (ℕ × V)) → FinMap nat_cmp V
 part_at t versions = with_entries map.empty (standing t versions)
 
--- the versions that stand at a moment are these grants, each once
+-- the current versions are exactly these grants
 abbrev pub AreRolesAt : ℤ → List (Version Grant) → Grants → Type 0
 AreRolesAt t versions grants = IsPermutation (standing t versions) (grants_in grants)
 
--- the grants that stand, one given after another
+-- the current grants, inserted in order
 abbrev pub roles_at : ℤ → List (Version Grant) → Grants
 roles_at t versions = with_entries map.empty (marks (standing t versions))
 
--- the versions that stand at a moment are these mandates, each once
+-- the current versions are exactly these mandates
 abbrev pub AreMandatesAt : ℤ → List (Version Mandate) → Mandates → Type 0
 AreMandatesAt t versions mandates = IsPermutation (standing t versions) (mandates_in mandates)
 
--- the mandates that stand, one given after another
+-- the current mandates, inserted in order
 abbrev pub mandates_at : ℤ → List (Version Mandate) → Mandates
 mandates_at t versions = with_entries map.empty (marks (standing t versions))

@@ -1,4 +1,4 @@
--- Definitions of what is offered and asked for, of what stands together, and of spans of time apart.
+-- Definitions of coverage, of values that are current together, and of disjoint spans.
 pub mod Apart
 pub mod ApartSteps
 pub mod Cover

@@ -1,9 +1,10 @@
-//! The members of groups that stand at a moment.
+//! The members of groups at a moment.
 ghost use Rattle.std.specs.FinMap.{FinMap};
 ghost use Rattle.std.specs.Ordering.{nat_cmp};
 ghost use Rattle.std.specs.Prelude.{◌≡◌, IfOk};
 ghost use Rattle.land_core.specs.Members.{Members};
-ghost use Rattle.land_tables_history.specs.Groups.{AreGroupsAt, HaveMembers, groups_at, joined_members, members_of};
+ghost use Rattle.land_tables_history.specs.Groups.{AreGroupsAt, HaveMembers, groups_at, joined_members};
+ghost use Rattle.land_tables_history.specs.Groups.{members_of};
 
 use crate::group_member::GroupMember;
 use crate::version::Version;
@@ -12,14 +13,16 @@ use land_core::member::Members;
 use land_core::records::Records;
 use std::alloc::{AllocError, Global};
 
-/// The members of all groups that stand at a moment, under the groups' numbers, however the versions lie.
+/// Returns the members of all groups that are current at a moment, under the groups' numbers. Versions may be
+/// in any order. Returns an error only if it is out of memory.
 pub fn groups_at(
     alloc: Global,
     versions: &[Version<GroupMember>],
     at: i64,
 ) -> Result<Records<Members>, AllocError>
     ensures value { IfOk result (λ it. it ≡ groups_at at versions.now) }
-    ensures stands { IfOk result (λ it. (groups : FinMap nat_cmp Members) → HaveMembers groups → AreGroupsAt at versions.now groups → it ≡ groups) }
+    ensures stands { IfOk result (λ it. (groups : FinMap nat_cmp Members) → HaveMembers groups
+        → AreGroupsAt at versions.now groups → it ≡ groups) }
 {
     let mut groups = Records::new(alloc);
     for version in versions {
@@ -31,7 +34,7 @@ pub fn groups_at(
     Ok(groups)
 }
 
-/// The members of a group that another one joins; a group begins with its first member.
+/// Returns the members of a group after another one has joined. A group is created with its first member.
 fn joined_members(
     alloc: Global,
     groups: &Records<Members>,
@@ -44,7 +47,7 @@ fn joined_members(
     Ok(members)
 }
 
-/// The members of a group, none where there is no group.
+/// Returns the members of a group, none if there is no group.
 fn members_of(alloc: Global, groups: &Records<Members>, group: u64) -> Result<Members, AllocError>
     ensures { IfOk result (λ it. it ≡ members_of groups.now group) }
 {

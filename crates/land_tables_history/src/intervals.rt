@@ -1,19 +1,21 @@
-//! The lifespans that a history may have.
+//! Checks the lifespans of a history.
 ghost use Rattle.std.specs.List.{list_all};
 ghost use Rattle.std.specs.List.Sorted.{IsSorted};
 ghost use Rattle.std.specs.Ordering.{int_cmp};
 ghost use Rattle.std.specs.Prelude.{◌≡◌, IfOk};
-ghost use Rattle.land_tables_history.specs.Intervals.{are_intervals_of, has_intervals, has_intervals_of, is_interval_of};
+ghost use Rattle.land_tables_history.specs.Intervals.{are_intervals_of, has_intervals, has_intervals_of};
+ghost use Rattle.land_tables_history.specs.Intervals.{is_interval_of};
 
 use crate::history::History;
 use crate::keyed::Keyed;
 use crate::moment::Moment;
 use crate::spans::are_apart;
 use crate::stamps::{is_among, stamps_of};
-use crate::version::Version;
+use crate::version::{NEVER, Version};
 use std::alloc::{AllocError, Global};
 
-/// Whether each lifespan begins at a stamp, ends after it, at a stamp or not at all, and no two of one key have a moment in common.
+/// Returns whether each lifespan starts at a stamp, ends after it, at a stamp or never, and no two of one key
+/// overlap. Returns an error only if it is out of memory.
 pub fn has_intervals(
     alloc: Global,
     history: &History,
@@ -25,7 +27,7 @@ pub fn has_intervals(
     has_intervals_of(alloc, history, stamps.as_slice())
 }
 
-/// The same by the stamps in order.
+/// Checks the same with sorted stamps.
 fn has_intervals_of(alloc: Global, history: &History, stamps: &[i64]) -> Result<bool, AllocError>
     requires { IsSorted int_cmp stamps.now }
     ensures { IfOk result (λ it. it ≡ has_intervals_of stamps.now history.now) }
@@ -44,7 +46,7 @@ fn has_intervals_of(alloc: Global, history: &History, stamps: &[i64]) -> Result<
     )
 }
 
-/// The same of the versions of one kind.
+/// Checks the same for the versions of one kind.
 fn are_intervals<X: Keyed>(
     alloc: Global,
     versions: &[Version<X>],
@@ -74,5 +76,5 @@ fn is_interval_of<X>(version: &Version<X>, stamps: &[i64]) -> bool
 {
     version.since < version.until
         && is_among(stamps, version.since)
-        && (version.until == 4_102_444_800_000 || is_among(stamps, version.until))
+        && (version.until == NEVER || is_among(stamps, version.until))
 }

@@ -1,27 +1,29 @@
-//! What has a key, of which one version stands at a moment.
+//! Values with a key. At most one version of a key is current at a moment.
 ghost use Rattle.std.specs.Prelude.{◌≡◌, ℕ, Bool};
 ghost use Rattle.land_core.specs.Role.{place_of};
-ghost use Rattle.land_tables_history.specs.Intervals.{is_same_grant, is_same_mandate, is_same_member, is_same_naming, is_same_number};
-ghost use Rattle.land_tables_history.specs.Pairs.{grants_by_pairs, is_same_pair, mandates_by_pairs, members_by_pairs, namings_by_pairs, numbers_by_pairs};
+ghost use Rattle.land_tables_history.specs.Intervals.{is_same_grant, is_same_mandate, is_same_member};
+ghost use Rattle.land_tables_history.specs.Intervals.{is_same_naming, is_same_number};
+ghost use Rattle.land_tables_history.specs.Pairs.{grants_by_pairs, is_same_pair, mandates_by_pairs};
+ghost use Rattle.land_tables_history.specs.Pairs.{members_by_pairs, namings_by_pairs, numbers_by_pairs};
 
 use crate::group_member::GroupMember;
 use crate::naming::Naming;
 use land_core::mandates::Mandate;
 use land_core::roles::Grant;
 
-/// What has a key.
+/// A value with a key.
 pub trait Keyed {
-    /// Whether two have one key.
+    /// Whether two values have the same key.
     ghost same_key: { Self → Self → Bool };
 
     /// The key as two numbers.
     ghost key_of: { Self → ℕ × ℕ };
 
-    /// Its key.
+    /// Returns the key.
     fn key(&self) -> (u64, u64)
         ensures { result ≡ key_of self.now };
 
-    /// Two have one key where the numbers are the same.
+    /// Two values have the same key if and only if the numbers are equal.
     ghost by_pairs: { (a b : Self) → same_key a b ≡ is_same_pair (key_of a) (key_of b) };
 }
 

@@ -1,12 +1,13 @@
-//! Laws, each stated over the definitions alone.
-ghost use Rattle.land_tables_history.specs.Laws.{ChangeStands, ChangedHaveEnded, ChangesKeepIntervals, PastStands};
+//! Laws, each on definitions only.
+ghost use Rattle.land_tables_history.specs.Laws.{ChangeStands, ChangedHaveEnded, ChangesKeepIntervals};
+ghost use Rattle.land_tables_history.specs.Laws.{PastStands};
 
-/// What stood before the stamp of a change stands there still.
+/// A change leaves the register at all earlier moments unchanged.
 pub fn the_past_stands()
     ensures { PastStands }
 {}
 
-/// From its stamp on the register with the change stands.
+/// From the stamp of a change on, the register is the one after the change.
 pub fn a_change_stands()
     ensures { ChangeStands }
 {}
@@ -16,7 +17,7 @@ pub fn changed_lifespans_have_ended()
     ensures { ChangedHaveEnded }
 {}
 
-/// Where lifespans were as they may be, they are so with a change and its moment.
+/// A change and its commit keep all intervals valid.
 pub fn changes_keep_intervals()
     ensures { ChangesKeepIntervals }
 {}

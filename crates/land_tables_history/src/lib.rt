@@ -1,4 +1,5 @@
-//! The register through time as versions of its records, each with its lifespan, and what of them stands at a moment.
+//! The history of the register: versions of its records, each with its lifespan, and the register at a
+//! moment.
 #![tactic(auto)]
 
 pub mod group_member;

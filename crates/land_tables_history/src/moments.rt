@@ -1,10 +1,10 @@
-//! The latest of a history's moments.
+//! Finds the latest of a history's commits.
 ghost use Rattle.std.specs.Prelude.{◌≡◌, ◌&&◌, int_le};
 ghost use Rattle.land_tables_history.specs.Moments.{follows, last, latest, next_at};
 
 use crate::moment::Moment;
 
-/// The latest of the moments, in whatever order they lie; none where there is none.
+/// Returns the latest of the commits, which may be in any order, or `None` without any.
 pub fn last(moments: &[Moment]) -> Option<Moment>
     ensures { result ≡ last moments.now }
 {
@@ -17,7 +17,8 @@ pub fn last(moments: &[Moment]) -> Option<Moment>
     found
 }
 
-/// The number that the next new object takes at a moment: that of the latest of the moments at or before it, 2 where there is none.
+/// Returns the number of the next new object at a moment: that of the latest commit at or before it, or 2 if
+/// there is none.
 pub fn next_at(moments: &[Moment], at: i64) -> u64
     ensures { result ≡ next_at moments.now at }
 {
@@ -27,7 +28,7 @@ pub fn next_at(moments: &[Moment], at: i64) -> u64
     }
 }
 
-/// The latest of the moments that are not after one.
+/// Returns the latest commit at or before a moment.
 fn latest_at(moments: &[Moment], at: i64) -> Option<Moment>
     ensures { result ≡ latest (λ m. int_le m.stamp at) moments.now }
 {
@@ -40,14 +41,14 @@ fn latest_at(moments: &[Moment], at: i64) -> Option<Moment>
     found
 }
 
-/// Whether a moment is not after one, and no earlier than the one that was found so far, if any.
+/// Returns whether a commit is at or before a moment, and not earlier than the one found until now, if any.
 fn goes_on_to(found: Option<Moment>, moment: &Moment, at: i64) -> bool
     ensures { result ≡ (int_le moment.now.stamp at && follows found moment.now) }
 {
     moment.stamp <= at && follows(found, moment)
 }
 
-/// Whether a moment is no earlier than the one that was found so far, if any.
+/// Returns whether a commit is not earlier than the one found until now, if any.
 fn follows(found: Option<Moment>, moment: &Moment) -> bool
     ensures { result ≡ follows found moment.now }
 {

@@ -1,4 +1,4 @@
-//! The records of a kind that stand at a moment.
+//! The records of a kind at a moment.
 ghost use Rattle.std.specs.Prelude.{◌≡◌, IfOk};
 ghost use Rattle.std.specs.FinMap.{FinMap};
 ghost use Rattle.std.specs.Ordering.{nat_cmp};
@@ -9,8 +9,8 @@ use land_core::duplicate::Duplicate;
 use land_core::records::Records;
 use std::alloc::{AllocError, Global};
 
-/// The records that stand at a moment, each under its number, however the versions lie. Of two that stand under one number the later one
-/// in the list is given.
+/// Returns the records that are current at a moment, by number. Versions may be in any order. If two of one
+/// number are current, the later one in the list wins. Returns an error only if it is out of memory.
 pub fn part_at<V: Duplicate>(
     alloc: Global,
     versions: &[Version<(u64, V)>],

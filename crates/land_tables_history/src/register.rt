@@ -12,7 +12,8 @@ use crate::roles::roles_at;
 use land_core::register::Register;
 use std::alloc::{AllocError, Global};
 
-/// The register whose records stand at a moment, in milliseconds since 1970 UTC, with the number that the next new object takes then.
+/// Returns the register at a moment, in Unix milliseconds, with this number for the next new object. Returns
+/// an error only if it is out of memory.
 pub fn register_at(
     alloc: Global,
     history: &History,
@@ -20,7 +21,8 @@ pub fn register_at(
     next: u64,
 ) -> Result<Register, AllocError>
     ensures value { IfOk result (λ it. it ≡ register_at at history.now next) }
-    ensures stands { IfOk result (λ it. (register : Registered) → HaveMembers register.members → StandsAt at history.now register
+    ensures stands { IfOk result (λ it. (register : Registered) → HaveMembers register.members
+        → StandsAt at history.now register
         → it ≡ record register { next = next }) }
 {
     Ok(Register {

@@ -11,7 +11,7 @@ use crate::sweeps::apart::Span;
 use crate::version::Version;
 use std::alloc::{AllocError, Global};
 
-/// Whether no two lifespans of one key have a moment in common.
+/// Returns whether no two lifespans of one key overlap.
 pub(crate) fn are_apart<X: Keyed>(
     alloc: Global,
     versions: &[Version<X>],

@@ -1,4 +1,4 @@
-//! Stamps in order.
+//! Sorted stamps.
 ghost use Rattle.std.specs.List.Sorted.{IsPermutation, IsSorted};
 ghost use Rattle.std.specs.Ordering.{int_cmp};
 ghost use Rattle.std.specs.Prelude.{◌≡◌, IfOk, map as map_list};
@@ -7,7 +7,7 @@ ghost use Rattle.land_tables_history.specs.Intervals.{is_among};
 use crate::moment::Moment;
 use std::alloc::{AllocError, Global};
 
-/// The stamps of moments, in order.
+/// Returns the stamps of commits, sorted.
 pub(crate) fn stamps_of(alloc: Global, moments: &[Moment]) -> Result<Vec<i64>, AllocError>
     ensures same { IfOk result (λ it. IsPermutation (map_list (λ m. m.stamp) moments.now) it.items) }
     ensures sorted { IfOk result (λ it. IsSorted int_cmp it.items) }
@@ -27,7 +27,7 @@ fn listed(alloc: Global, moments: &[Moment]) -> Result<Vec<i64>, AllocError>
     Ok(stamps)
 }
 
-/// Whether a moment is among stamps that lie in order.
+/// Returns whether a moment is among sorted stamps, by binary search.
 pub(crate) fn is_among(stamps: &[i64], at: i64) -> bool
     requires { IsSorted int_cmp stamps.now }
     ensures { result ≡ is_among stamps.now at }

@@ -1,8 +1,8 @@
-//! Spans of time in the order of their keys and beginnings, gone through once: whether what is asked for is offered at each moment,
-//! whether what stands together under a key is sound at each moment, and whether no two spans of one key have a moment in common.
+//! Sweeps: spans of time, sorted by key and start, checked in one pass. `cover` checks that required moments
+//! are provided, `sweep` that values that are current together are sound, and `apart` that spans of one key
+//! are disjoint.
 //!
-//! A moment is a number of milliseconds since 1970 UTC. A span begins at its first moment and ends before its last: `since` is within
-//! it, `until` is not.
+//! A moment is Unix time in milliseconds. A span includes its start, `since`, and not its end, `until`.
 
 pub mod apart;
 pub mod cover;

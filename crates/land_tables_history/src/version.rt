@@ -2,19 +2,22 @@
 ghost use Rattle.std.specs.Prelude.{◌≡◌};
 ghost use Rattle.land_tables_history.specs.Standing.{stands};
 
-/// Something that stands from one moment on and before another.
+/// The end of the lifespan of a current version: the first millisecond of the year 2100, after all moments.
+pub const NEVER: i64 = 4_102_444_800_000;
+
+/// A value with a lifespan.
 #[derive(Debug, Drop)]
 pub struct Version<X> {
-    /// What stands.
+    /// The value.
     pub what: X,
-    /// When it begins to stand, in milliseconds since 1970 UTC.
+    /// The start of the lifespan, inclusive, in Unix milliseconds.
     pub since: i64,
-    /// When it ends: a moment, or 4_102_444_800_000 while it stands.
+    /// The end of the lifespan, exclusive, in Unix milliseconds; `NEVER` if the version is current.
     pub until: i64,
 }
 
 impl<X> Version<X> {
-    /// Whether it stands at a moment: a lifespan has its beginning, and not its end.
+    /// Returns whether the version is current at a moment: a lifespan includes its start, and not its end.
     pub fn stands(&self, at: i64) -> bool
         ensures { result ≡ stands at self.now }
     {

@@ -1,4 +1,4 @@
--- Somebody is state administrator at each moment.
+-- There is a state administrator at each commit.
 use Rattle.std.proofs.Common.{◌≡◌, ◌↔◌, inl, inr, ◌==◌, ◌++◌, ℕ, Bool, true, not, ◌&&◌, List, [], ◌∷◌, map as map_list, refl, sym, ap, subst, ◌∙◌, append-nil, arith}
 use Rattle.std.specs.Prelude.{ℤ, pos, ◌+ℤ◌, int_le, int_lt, slice_index_or}
 use Rattle.std.proofs.lemmas.Bool.{false≢true, and_from, and_parts, eqb-true, not-false, or_cases, or_left, or_right}
@@ -26,7 +26,7 @@ use Rattle.land_tables_lawful.specs.Never.{Never}
 use Rattle.land_tables_history.specs.Sweeps.Cover.{IsCovered}
 use Rattle.land_tables_history.specs.declared.sweeps.cover.Piece.{Piece}
 
--- ---- a stamp alone
+-- ---- one stamp
 
 stands_then : (s : ℤ) → (int_le s s && int_lt s (s +ℤ pos 1)) ≡ true
 stands_then s = grind (arith, ints)
@@ -38,7 +38,7 @@ ends_later : (s : ℤ) → int_lt s (s +ℤ pos 1) ≡ true
 ends_later s = grind (arith, ints)
 
 module _ (roles : List (Version Grant)) where
-  -- somebody is state administrator at a moment
+  -- some party is state administrator at a moment
   abbrev is_administered : ℤ → Bool
   is_administered t = stood_by (λ r. 0) (administrators roles) 0 t
 
@@ -63,7 +63,7 @@ module _ (roles : List (Version Grant)) where
     | inr later ↦ whenever_asked ms all.1 a t later
   ]
 
--- state administrators are offered, and each moment asks for one
+-- state administrators are provided, and each commit requires one
 abbrev pub administrator_pieces : List (Version Grant) → List Moment → List Piece
 administrator_pieces roles moments = offered_administrators roles ++ asked_instants moments
 
@@ -89,7 +89,7 @@ module _ (moments : List Moment) (h : History) (intervals : has_intervals moment
         sym (administered_at m) ∙ not-false (has_administrator (register_at m.stamp h m.next)) (never k d i)),
   )
 
-  -- somebody is state administrator whenever a moment asks for one exactly if somebody is at each stamp
+  -- each commit has a state administrator if and only if the required moments are provided
   pub administered : (a : Bool) → (a ≡ true) ↔ IsCovered (administrator_pieces h.roles moments)
       → (a ≡ true) ↔ Never (λ r. not (has_administrator r)) moments h
   administered a swept =

@@ -89,7 +89,7 @@ module _ (moments : List Moment) (h : History) (p : AllProper moments h) (in_tim
       (by_way_of (both_pass with_parcel with_owner h.units moments)
       (never_by has_bare_unit h (also with_parcel with_owner) h.units bare_at moments))
 
--- both answers together
+-- both results together
 pub have_both : (moments : List Moment) (h : History) → has_intervals moments h ≡ true → are_in_time moments ≡ true → (a b : Bool)
     → (a ≡ true) ↔ IsCovered (pieces parcel_unit h.parcels number_of h.units)
     → (b ≡ true) ↔ IsCovered (pieces entry_unit (ownerships h.rrrs) number_of h.units)

@@ -1,4 +1,4 @@
--- Few are few of each kind.
+-- At most 256 values are at most 256 of each kind.
 use Rattle.std.proofs.Common.{◌≡◌, ℕ, ◌≤◌, Bool, true, false, cond, not, ◌||◌, List, [], ◌∷◌, length, filter, map as map_list, refl, arith}
 use Rattle.std.specs.Prelude.{nat_lt}
 use Rattle.std.proofs.lemmas.Bool.Decides.{nat_tests}
@@ -7,7 +7,7 @@ use Rattle.land_tables_lawful.specs.Holdings.{are_few, is_entry, is_parcel, is_u
 use Rattle.land_tables_lawful.specs.Lived.{where_marked}
 use Rattle.land_tables_lawful.specs.declared.holdings.Holding.{Holding}
 
--- not more pass a test than there are
+-- not more items pass a test than there are
 count_within : {X : Type 0} (p : X → Bool) (xs : List X) → length (filter p xs) ≤ length xs
 count_within p [] = omega arith
 count_within {X} p (x ∷ xs) = go (p x) (count_within p xs)
@@ -32,6 +32,6 @@ module _ {X : Type 0} (f : X → Holding) (xs : List X) (few : length xs ≤ 256
       let within : length (filter p (map_list f xs)) ≤ length xs = omega (arith, count_within p (map_list f xs), length_of_map f xs) in
       no_more (length xs) (length (filter p (map_list f xs))) within few
 
-  -- up to 256 of all are few
+  -- at most 256 of all are within limits
   pub few_of_all : true ≡ where_marked is_unit are_few (map_list f xs)
   few_of_all = many_or_few (list_any is_unit (map_list f xs)) _ _ (counted is_parcel) (counted is_entry)

@@ -1,4 +1,4 @@
--- What is offered whenever it is asked for, at each moment and at each stamp.
+-- Coverage at each moment, and at each stamp.
 use Rattle.std.proofs.Common.{◌≡◌, ◌↔◌, ◌⊎◌, inl, inr, ◌==◌, ℕ, Bool, true, false, ◌&&◌, ◌||◌, List, [], ◌∷◌, Option, Some, None, is_some, map as map_list, refl, sym, ap₂, subst, ◌∙◌, arith}
 use Rattle.std.specs.Prelude.{ℤ, int_le, int_lt}
 use Rattle.std.proofs.lemmas.List.Folds.{list_any-append}
@@ -24,7 +24,7 @@ use Rattle.land_tables_lawful.specs.Pieces.{are_in_time, asked_piece, offered_pi
 use Rattle.land_tables_lawful.proofs.Latest.{Empty, Matched, matched}
 use Rattle.land_tables_history.specs.Sweeps.Cover.{IsCovered, is_asked, is_offered}
 
--- ---- what stands under a key
+-- ---- current values under a key
 
 abbrev pub stood_by : {X : Type 0} → (key : X → ℕ) → List (Version X) → ℕ → ℤ → Bool
 stood_by key vs a t = list_any (λ v. stands t v && (key v.what == a)) vs
@@ -79,7 +79,7 @@ module _ {X Y : Type 0} (offered : X → ℕ) (xs : List (Version X)) (asked : Y
         offers_are a b t ∙ and_from (0 == b) (stood_by offered xs a t) parts.0 (h a t parts.1),
   )
 
--- ---- what stands in the register
+-- ---- the register
 
 none_is_not_some : {V : Type 0} {w : V} → None ≡ Some w → ⊥
 none_is_not_some e = cc
@@ -122,7 +122,7 @@ stood_never moments key a t none (v ∷ vs) h =
     let parts = and_parts (is_interval moments v) (list_all (is_interval moments) vs) h in
     ap₂ (λ b c. b && (key v.what == a) || c) (none v parts.0) (stood_never moments key a t none vs parts.1)
 
--- what is offered at each stamp whenever it is asked for there is offered always
+-- a key that is provided at each stamp at which it is required is always provided
 pub at_all_moments : {X Y : Type 0} (moments : List Moment) → are_in_time moments ≡ true → (offered : X → ℕ) (xs : List (Version X)) (asked : Y → ℕ) (ys : List (Version Y))
     → list_all (is_interval moments) xs ≡ true → list_all (is_interval moments) ys ≡ true
     → AllByRecursion (λ m. (a : ℕ) → stood_by asked ys a m.stamp ≡ true → stood_by offered xs a m.stamp ≡ true) moments
@@ -136,7 +136,7 @@ at_all_moments {X} {Y} moments in_time offered xs asked ys p q all a t s = go (m
         ∙ m.among (λ m. (a : ℕ) → stood_by asked ys a m.stamp ≡ true → stood_by offered xs a m.stamp ≡ true) all a
         (sym (stood_same moments asked a t m.moment.stamp (λ v. m.same v) ys q) ∙ s)
 
--- lifespans that are intervals give pieces that begin before they end
+-- intervals give coverage spans that are not empty
 pub begun : {X : Type 0} (moments : List Moment) (v : Version X) → is_interval moments v ≡ true → int_lt v.since v.until ≡ true
 begun moments v h = (and_parts (int_lt v.since v.until) _ (and_parts (int_lt v.since v.until && _) _ h).0).0
 

@@ -1,4 +1,4 @@
--- Two entries do not go together where they take one place.
+-- Two entries conflict if and only if they have the same key.
 use Rattle.std.proofs.Common.{◌≡◌, ◌↔◌, ℕ, Bool, true, false, ◌&&◌, ◌||◌, List, Option, Some, None, refl, sym, ap, ap₂, subst, ◌∙◌, arith}
 use Rattle.std.specs.Prelude.{nat_eq}
 use Rattle.std.specs.Ordering.{eq_by_cmp, nat_cmp, ordering_then}
@@ -101,7 +101,7 @@ module _ (unit party unit' party' : ℕ) where
 by_places : (e f : ℕ × RrrRecord) → is_one place_cmp (place_of e.1) (place_of f.1) ≡ do_clash e.1 f.1
 by_places e f = by_class e.1.unit e.1.party f.1.unit f.1.party e.1.class f.1.class
 
--- ---- clashes are the same both ways
+-- ---- conflicts are symmetric
 
 type_turned : (a b : RightType) → is_type a b ≡ is_type b a
 type_turned Ownership Ownership = refl
@@ -136,7 +136,7 @@ clash_turned e f =
 
 -- ---- all moments
 
--- whether the spans of entries under their places are apart tells whether entries clash
+-- entries conflict if and only if the spans of their keys overlap
 pub entries_apart : (moments : List Moment) (h : History) → has_intervals moments h ≡ true → (spans : List (Span Place))
     → spans ≡ spans_where (λ (e : ℕ × RrrRecord). place_of e.1) h.rrrs
     → (are_apart place_cmp spans ≡ true) ↔ Never has_clash moments h

@@ -1,4 +1,4 @@
--- Entries refer to units, parties and sources.
+-- References of entries to units, parties and sources.
 use Rattle.std.proofs.Common.{◌≡◌, ◌↔◌, ℕ, Bool, true, ◌&&◌, List, ap₂}
 use Rattle.std.specs.Prelude.{ℤ}
 use Rattle.land_core.specs.Entries.{has}

@@ -1,4 +1,4 @@
--- Members are single parties, and are listed of groups, over time.
+-- Members are single parties in existing groups, over time.
 use Rattle.std.proofs.Common.{◌≡◌, ◌↔◌, ℕ, Bool, true, false, cond, not, ◌&&◌, ◌||◌, List, [], ◌∷◌, length, Some, flat_map, map as map_list, refl, sym, ap, ap₂, ◌∙◌, arith}
 use Rattle.std.specs.Prelude.{ℤ, int_lt}
 use Rattle.std.proofs.lemmas.Bool.Decides.{nat_tests}
@@ -38,7 +38,7 @@ use Rattle.land_tables_lawful.proofs.References.{also, both_pass, both_true, by_
 use Rattle.land_tables_lawful.proofs.RoleHolders.{single_at, singles_are_intervals}
 use Rattle.land_tables_history.specs.Sweeps.Cover.{IsCovered}
 
--- ---- no group that stands is without members
+-- ---- each current group has a member
 
 some_there : (m : Members) (p : ℕ) (s : Ratio) → map.insert m p s ≡ map.empty → ⊥
 some_there m p s empty =
@@ -74,10 +74,10 @@ somebody groups have (e ∷ es) all = (
   somebody groups have es all.1,
 )
 
--- ---- some group is loose where some member is
+-- ---- some group dangles if some member does
 
 module _ (G S : ℕ → Bool) where
-  -- a member is of a group, and is a single party
+  -- a member is in an existing group, and is a single party
   abbrev is_well_listed : GroupMember → Bool
   is_well_listed m = G m.group && S m.member.party
 
@@ -123,7 +123,7 @@ module _ (G S : ℕ → Bool) where
 -- ---- a member refers to its group and to a party
 
 module _ (moments : List Moment) (h : History) (p : AllProper moments h) where
-  -- a group stands at a number
+  -- a group of this number exists
   group_at : (m : Moment) (n : ℕ) → has_group (register_at m.stamp h m.next) n ≡ stood_by (λ e. e.0) (group_parties h.parties) n m.stamp
   group_at m n = passes_at (λ party. not (is_single party.kind)) m.stamp h.parties p.parties.apart n
 
@@ -154,7 +154,7 @@ module _ (moments : List Moment) (h : History) (p : AllProper moments h) where
       let never = never_by has_loose_members h (also is_group_there is_party_there) h.members loose_at moments in
       by_way_of (side_by_side groups parties) (by_way_of (both_pass is_group_there is_party_there h.members moments) never)
 
--- groups and single parties stand whenever members refer to them exactly if they do so at each stamp
+-- groups and single parties exist throughout the lifespans of members if and only if they do at each stamp
 pub members_refer : (moments : List Moment) (h : History) → has_intervals moments h ≡ true → are_in_time moments ≡ true → (a b : Bool)
     → (a ≡ true) ↔ IsCovered (group_pieces h.parties h.members) → (b ≡ true) ↔ IsCovered (member_pieces h.parties h.members)
     → ((a && b) ≡ true) ↔ Never has_loose_members moments h

@@ -1,4 +1,4 @@
--- At each moment stands what stands at the latest stamp up to then.
+-- The values at a moment are those at the latest stamp up to then.
 use Rattle.std.proofs.Common.{◌≡◌, ◌⊎◌, inl, inr, Bool, true, false, ◌&&◌, ◌||◌, List, [], ◌∷◌, refl, subst, arith}
 use Rattle.std.specs.Prelude.{ℤ, pos, ◌≤ℤ◌, int_le, int_lt}
 use Rattle.std.proofs.lemmas.Bool.{false≢true, and_parts}
@@ -13,7 +13,7 @@ use Rattle.land_tables_history.specs.declared.moment.Moment.{Moment}
 use Rattle.land_tables_history.specs.declared.version.Version.{Version}
 use Rattle.land_tables_lawful.specs.Pieces.{are_in_time}
 
--- a moment of a list, which is the latest up to t
+-- a commit of a list, which is the latest up to t
 pub record Latest (moments : List Moment) (t : ℤ) : Type 1 where
   pub moment : Moment
   pub among : (P : Moment → Type 0) → AllByRecursion P moments → P moment
@@ -59,7 +59,7 @@ module _ (t : ℤ) where
         | inr more ↦ inl (record { moment = m; among = λ P all. all.0; before = h; least = (λ h. le_itself m.stamp, raised l.moment.stamp m.stamp more ms l.least) })
       ]
 
-  -- what holds of all stamps holds of one
+  -- a property of all stamps holds for one
   pub at_stamp : (P : ℤ → Type 0) (u : ℤ) → ((s : ℤ) → int_eq s u ≡ true → P s → P u) → (ms : List Moment) → is_stamp ms u ≡ true → AllByRecursion (λ m. P m.stamp) ms → P u
   at_stamp P u same [] h all = absurd (false≢true h)
   at_stamp P u same (m ∷ ms) h all = go (int_eq m.stamp u) refl h (λ later. at_stamp P u same ms later all.1)
@@ -97,7 +97,7 @@ module _ (t : ℤ) where
   same_life best since until soon p s (inl e) = grind (arith, ints)
   same_life best since until soon p s (inr e) = grind (arith, ints)
 
--- at a moment stands nothing, or what stands at one of the stamps
+-- at a moment there is no value, or the values are those at one of the stamps
 pub record Matched (moments : List Moment) (t : ℤ) : Type 1 where
   pub moment : Moment
   pub among : (P : Moment → Type 0) → AllByRecursion P moments → P moment
@@ -106,7 +106,7 @@ pub record Matched (moments : List Moment) (t : ℤ) : Type 1 where
 pub record Empty (moments : List Moment) (t : ℤ) : Type 1 where
   pub none : {X : Type 0} (v : Version X) → is_interval moments v ≡ true → stands t v ≡ false
 
--- a lifespan that is an interval begins at a stamp, and ends at one or not at all
+-- an interval starts at a stamp, and ends at one or never
 pub record Ends (moments : List Moment) (since until : ℤ) : Type 0 where
   pub begins : is_stamp moments since ≡ true
   pub ends : (int_eq until (pos 4102444800000) ≡ true) ⊎ (is_stamp moments until ≡ true)

@@ -1,4 +1,4 @@
--- A history is lawful exactly where each part of what is asked of it holds at all moments.
+-- A history is valid if and only if each part of the conditions holds at all commits.
 use Rattle.std.proofs.Common.{◌≡◌, ◌↔◌, Bool, true, false, not, ◌&&◌, ◌||◌, List, [], ◌∷◌, refl, sym, ap₂, ◌∙◌}
 use Rattle.std.proofs.lemmas.Bool.{false≢true, and_from, and_parts, or_parts}
 use Rattle.std.proofs.lemmas.List.Elements.{All-from_recursion, recursion_from_All}
@@ -15,7 +15,7 @@ use Rattle.land_tables_lawful.specs.Conditions.{AreNumbersUsed, AreOnce, AreWhol
 use Rattle.land_tables_lawful.specs.NamedUnits.{NamingsAgree}
 use Rattle.land_tables_lawful.specs.Never.{Never}
 
--- ---- answers joined
+-- ---- results combined
 
 pub two : {A B : Type 0} (a b : Bool) → (a ≡ true) ↔ A → (b ≡ true) ↔ B → ((a && b) ≡ true) ↔ (A × B)
 two a b p q = (
@@ -98,7 +98,7 @@ free r s =
 -- ---- all moments
 
 module _ (h : History) where
-  -- one fault at no moment
+  -- one fault at no commit
   abbrev Free : (Register → Bool) → List Moment → Type 0
   Free fault ms = AllByRecursion (λ m. fault (register_at m.stamp h m.next) ≡ false) ms
 
@@ -220,7 +220,8 @@ module _ (h : History) where
       (more_free m ms (free (register_at m.stamp h m.next) l.0.sound) rest.0, (l.0.named, rest.1))
 
   module _ (ms : List Moment) where
-    -- the five parts are together that each register is sound and its namings are those that mutations name
+    -- the five parts together state that each register is sound and its rows of `names` are the references of
+    -- its mutations
     pub lawful_each : ((((AreNumbersUsed ms h × DoRefer ms h) × AreWhole ms h) × AreOnce ms h) × NamingsAgree ms h) ↔ All (IsLawfulAt h) ms
     lawful_each = (
       λ p. All-from_recursion (IsLawfulAt h) ms (each_lawful ms (record {
@@ -258,7 +259,7 @@ module _ (h : History) where
           ),
     )
 
--- ---- what is answered
+-- ---- the result
 
 module _ (ms : List Moment) (h : History) where
   pub all_used : (a : Bool) → (a ≡ true) ↔ (Never is_past_the_numbers ms h × Never has_unused_number ms h × Never has_loose_rank ms h) → (a ≡ true) ↔ AreNumbersUsed ms h
@@ -300,7 +301,7 @@ module _ (ms : List Moment) (h : History) where
         λ them. let all = law.1 them.each in it.1 (((all.0.0.0.0, all.0.0.1), all.0.1), all.1),
       )
 
-  -- what misses a part is not lawful
+  -- a history that fails a part is not valid
   pub unreferred : (a : Bool) → a ≡ false → (a ≡ true) ↔ DoRefer ms h → (false ≡ true) ↔ IsLawful ms h
   unreferred a is p = (
     λ e. absurd (false≢true e),

@@ -1,4 +1,4 @@
--- Lemmas of what is asked of a history at all moments.
+-- Lemmas on the conditions on a history at all commits.
 pub mod Administrators
 pub mod BareUnits
 pub mod Counts

@@ -35,7 +35,7 @@ use Rattle.land_tables_history.specs.declared.sweeps.apart.Span.{Span}
 abbrev pub lodging_cmp : ℕ × List ℕ → ℕ × List ℕ → Ordering
 lodging_cmp a b = ordering_then (nat_cmp a.0 b.0) (slice_cmp nat_cmp a.1 b.1)
 
--- the same where references are lent
+-- likewise for borrowed references
 abbrev pub lent_cmp : ℕ × Bor (List ℕ) → ℕ × Bor (List ℕ) → Ordering
 lent_cmp a b = ordering_then (nat_cmp a.0 b.0) (slice_cmp nat_cmp a.1.now b.1.now)
 

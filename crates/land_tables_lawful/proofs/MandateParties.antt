@@ -26,7 +26,7 @@ use Rattle.land_tables_lawful.specs.Never.{Never}
 use Rattle.land_tables_lawful.specs.Pieces.{are_in_time, pieces}
 use Rattle.land_tables_lawful.specs.Roles.{single_parties}
 
--- some mandate that stands passes a test
+-- some current mandate passes a test
 some_mandate : (p : Mandate → Bool) (t : ℤ) (vs : List (Version Mandate)) → AreApart is_same_mandate vs
     → list_any p (mandates_in (mandates_at t vs)) ≡ list_any (λ v. stands t v && p v.what) vs
 some_mandate p t vs apart =
@@ -39,7 +39,7 @@ principal_of m = m.principal
 abbrev agent_of : Mandate → ℕ
 agent_of m = m.agent
 
--- single parties are offered, and principals, or agents, are asked for
+-- single parties are provided, and principals or agents are required
 abbrev principal_pieces : History → List Piece
 principal_pieces h = pieces (λ e. e.0) (single_parties h.parties) principal_of h.mandates
 
@@ -81,7 +81,8 @@ module _ (moments : List Moment) (h : History) (p : AllProper moments h) (in_tim
       (both_pass (also of_principal of_agent) of_others h.mandates moments)
       (never_by has_loose_mandate h (also (also of_principal of_agent) of_others) h.mandates loose_at moments))
 
--- single parties stand whenever they give or hold mandates, and nobody holds its own, exactly if it is so at each stamp
+-- principals and agents are single parties throughout their mandates, and differ, if and only if it is so at
+-- each stamp
 pub mandates_refer : (moments : List Moment) (h : History) → has_intervals moments h ≡ true → are_in_time moments ≡ true
     → (a b c : Bool)
     → (a ≡ true) ↔ IsCovered (pieces (λ e. e.0) (single_parties h.parties) (λ (m : Mandate). m.principal) h.mandates)

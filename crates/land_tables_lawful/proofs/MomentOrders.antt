@@ -1,4 +1,4 @@
--- Of moments in order only neighbours need be compared.
+-- Of sorted commits only neighbours need comparison.
 use Rattle.std.proofs.Common.{◌≡◌, ℕ, Bool, true, false, not, ◌||◌, ◌&&◌, List, [], ◌∷◌, length, refl, sym, ap, ap₂, ◌∙◌, arith, IsPermutation}
 use Rattle.std.specs.Prelude.{ℤ, ◌≤ℤ◌, int_lt, nat_le, nat_lt}
 use Rattle.std.proofs.lemmas.Bool.Decides.{nat_tests}
@@ -21,9 +21,9 @@ use Rattle.land_tables_history.specs.declared.moment.Moment.{Moment}
 use Rattle.land_tables_lawful.specs.Chains.{goes_before, goes_on, goes_up, is_chain, stamp_cmp}
 use Rattle.land_tables_history.proofs.SweepOrders.{Rising, no_earlier, rising_in_order}
 
--- ---- neighbours tell of all pairs
+-- ---- neighbours determine all pairs
 
--- each moment may come before all later ones
+-- each commit may precede all later ones
 abbrev pub all_go_up : List Moment → Bool
 all_go_up [] = true
 all_go_up (m ∷ ms) = list_all (goes_before m) ms && all_go_up ms
@@ -59,7 +59,7 @@ neighbours (m ∷ ms) = go (all_go_up ms) refl (neighbours ms)
         ap (λ c. goes_on m ms && c) (rest ∙ e) ∙ and_false (goes_on m ms)
         ∙ sym (ap (λ c. list_all (goes_before m) ms && c) e ∙ and_false (list_all (goes_before m) ms))
 
--- ---- pairs, where the stamps are in order
+-- ---- pairs of sorted stamps
 
 abbrev NotLater : Moment → Moment → Type 0
 NotLater a b = a.stamp ≤ℤ b.stamp
@@ -83,7 +83,7 @@ head_tells m (n ∷ ns) all =
     spread : (s f t g : Bool) → ((not s && not f) && (not t && g)) ≡ (not (s || t) && (not f && g))
     spread s f t g = grind arith
 
--- none of some falls to one of others
+-- the next number does not decrease from one list to the other
 abbrev none_falls : List Moment → List Moment → Bool
 none_falls ys xs = list_all (λ a. list_all (λ b. not (falls a b)) ys) xs
 
@@ -109,7 +109,7 @@ pairs_tell (m ∷ ms) up =
     regrouped : (s g d n : Bool) → ((s && g) && (d && n)) ≡ ((s && d) && (g && n))
     regrouped s g d n = grind arith
 
--- ---- in whatever order
+-- ---- in any order
 
 same_moments : (moments sorted : List Moment) → IsPermutation moments sorted → are_moments sorted ≡ are_moments moments
 same_moments moments sorted p =
@@ -120,7 +120,7 @@ same_moments moments sorted p =
     ∙ all_alike (λ a. list_all (λ b. not (falls a b)) sorted) (λ a. list_all (λ b. not (falls a b)) moments)
     (λ a. all_permuted (λ b. not (falls a b)) moments sorted p) moments)
 
--- moments that have been put in order
+-- commits after sorting
 pub chained : (moments sorted : List Moment) → IsPermutation moments sorted → IsSorted stamp_cmp sorted
     → is_chain sorted ≡ are_moments moments
 chained moments sorted p in_order =
@@ -133,7 +133,7 @@ chained moments sorted p in_order =
     joined : (a b c : Bool) → (a && (b && c)) ≡ (a && b && c)
     joined a b c = grind arith
 
--- each of them may come before the next one
+-- each of them may precede the next one
 pub goes_up_in_order : (moments sorted : List Moment) → IsPermutation moments sorted → IsSorted stamp_cmp sorted
     → are_moments moments ≡ true → goes_up sorted ≡ true
 goes_up_in_order moments sorted p in_order are =

@@ -1,4 +1,4 @@
--- Mutations refer to lodgers and sources, and ask for what is within its limits.
+-- References of mutations to lodgers and sources, and the limits of their contents.
 use Rattle.std.proofs.Common.{◌≡◌, ◌↔◌, ℕ, Bool, true, ◌&&◌, List, ap, ap₂, sym, ◌∙◌}
 use Rattle.std.specs.Prelude.{ℤ}
 use Rattle.std.specs.List.{list_all}

@@ -1,4 +1,4 @@
--- Namings that stand are those that mutations name, over time.
+-- The rows of `names` are the references of mutations, over time.
 use Rattle.std.proofs.Common.{◌≡◌, ◌↔◌, inl, inr, ◌==◌, ℕ, Bool, true, false, ◌&&◌, ◌||◌, List, [], ◌∷◌, map as map_list, refl, sym, ap, ap₂, subst, ◌∙◌, arith}
 use Rattle.std.specs.Prelude.{ℤ}
 use Rattle.std.proofs.lemmas.Bool.{false≢true, and_from, and_parts, eqb-true, or_cases, or_left, or_right}
@@ -29,7 +29,7 @@ use Rattle.land_tables_history.specs.Sweeps.Cover.{IsCovered}
 abbrev naming_of : ℕ × ℕ → Naming
 naming_of key = record { mutation = key.0; unit = key.1 }
 
--- ---- namings are among others
+-- ---- lists of references
 
 same_naming : (key : ℕ × ℕ) (n : Naming) → is_same_naming (naming_of key) n ≡ true → naming_of key ≡ n
 same_naming key n h =
@@ -57,7 +57,7 @@ all_among (x ∷ xs) ys h =
     (h (x.mutation, x.unit) (or_left (is_same_naming x x) (is_among xs x) (naming_itself x)))
     (all_among xs ys (λ key s. h key (or_right (is_same_naming (naming_of key) x) (is_among xs (naming_of key)) s)))
 
--- ---- what stands under a mutation and a unit
+-- ---- current values under a mutation and a unit
 
 other_way : (a b : ℕ) → (a == b) ≡ (b == a)
 other_way a b = grind (arith, nat_tests)
@@ -95,7 +95,7 @@ mutations_under t vs apart key =
 -- ---- namings and mutations
 
 module _ (moments : List Moment) (h : History) (p : AllProper moments h) (in_time : are_in_time moments ≡ true) where
-  -- mutations that stand name the units of namings, and there are namings of what they name
+  -- current mutations have the references of `names`, and `names` has theirs
   abbrev AreTold : Moment → Type 0
   AreTold m = AreAmong named_pairs h.mutations naming_pair h.namings m.stamp
 
@@ -140,7 +140,7 @@ module _ (moments : List Moment) (h : History) (p : AllProper moments h) (in_tim
       (by_way_of (each_same moments)
       (All-from_recursion (λ m. is_same_at m ≡ true) moments, recursion_from_All (λ m. is_same_at m ≡ true) moments))
 
--- both answers together
+-- both results together
 pub namings_agree : (moments : List Moment) (h : History) → has_intervals moments h ≡ true → are_in_time moments ≡ true → (a b : Bool)
     → (a ≡ true) ↔ IsCovered (pairs named_pairs h.mutations naming_pair h.namings)
     → (b ≡ true) ↔ IsCovered (pairs naming_pair h.namings named_pairs h.mutations)

@@ -1,4 +1,4 @@
--- The next number at a stamp is sought among moments in order.
+-- Binary search of the next number at a stamp.
 use Rattle.std.proofs.Common.{◌≡◌, ℕ, zero, suc, ◌≤◌, ◌<◌, ◌⊎◌, inl, inr, Bool, true, false, ◌&&◌, List, [], ◌∷◌, length, get_or, if◌then◌else◌, refl, sym, ap, ◌∙◌, arith}
 use Rattle.std.specs.Prelude.{ℤ, int_lt, nat_le}
 use Rattle.std.proofs.lemmas.Int.{ints}
@@ -34,7 +34,7 @@ all_at p [] i d all less = absurd (omega (arith, less))
 all_at p (x ∷ xs) zero d all less = (and_parts (p x) (list_all p xs) all).0
 all_at p (x ∷ xs) (suc i) d all less = all_at p xs i d (and_parts (p x) (list_all p xs) all).1 (omega (arith, less))
 
--- where one is found, no other has its stamp
+-- if one commit is found, no other has its stamp
 next_at_place : (ms : List Moment) (t : ℤ) (i : ℕ) (d : Moment) → all_go_up ms ≡ true → i < length ms
     → int_eq (get_or ms i d).stamp t ≡ true → next_since ms t ≡ (get_or ms i d).next
 next_at_place [] t i d up less e = absurd (omega (arith, less))

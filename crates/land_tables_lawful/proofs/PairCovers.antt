@@ -1,4 +1,4 @@
--- What is offered whenever it is asked for, under keys of two numbers, at each moment and at each stamp.
+-- Coverage with keys of two numbers, at each moment and at each stamp.
 use Rattle.std.proofs.Common.{◌≡◌, ◌↔◌, ◌⊎◌, inl, inr, ◌==◌, ℕ, Bool, true, false, not, ◌&&◌, ◌||◌, List, [], ◌∷◌, flat_map, map as map_list, refl, sym, ap, ap₂, ◌∙◌, arith}
 use Rattle.std.specs.Prelude.{ℤ, int_le, int_lt}
 use Rattle.std.proofs.lemmas.List.Folds.{list_all-append, list_any-append}
@@ -16,23 +16,23 @@ use Rattle.land_tables_lawful.specs.KeyPairs.{pair_at, paired, pairs}
 use Rattle.land_tables_lawful.specs.Pieces.{are_in_time}
 use Rattle.land_tables_history.specs.Sweeps.Cover.{IsCovered, is_asked, is_at, is_offered}
 
--- something stands that passes a test
+-- a current value passes a test
 abbrev pub stood : {X : Type 0} → (passes : X → Bool) → List (Version X) → ℤ → Bool
 stood passes vs t = list_any (λ v. stands t v && passes v.what) vs
 
 abbrev pub is_pair : ℕ × ℕ → ℕ × ℕ → Bool
 is_pair key k = (k.0 == key.0) && (k.1 == key.1)
 
--- a key is among those of something
+-- a key is among those of a value
 abbrev pub has_key : {X : Type 0} → (keys : X → List (ℕ × ℕ)) → ℕ × ℕ → X → Bool
 has_key keys key x = list_any (is_pair key) (keys x)
 
--- at a moment each key of the others that stand is one of some that stand
+-- at a moment each key of the current values of one side is one of the other side
 abbrev pub AreAmong : {X Y : Type 0} → (offered : X → List (ℕ × ℕ)) → List (Version X)
     → (asked : Y → List (ℕ × ℕ)) → List (Version Y) → ℤ → Type 0
 AreAmong offered xs asked ys t = (key : ℕ × ℕ) → stood (has_key asked key) ys t ≡ true → stood (has_key offered key) xs t ≡ true
 
--- ---- what stands under a key of two numbers
+-- ---- current values under a key of two numbers
 
 pub any_flat : {X Y : Type 0} (p : Y → Bool) (f : X → List Y) (xs : List X)
     → list_any p (flat_map f xs) ≡ list_any (λ x. list_any p (f x)) xs
@@ -93,7 +93,7 @@ module _ {X Y : Type 0} (offered : X → List (ℕ × ℕ)) (xs : List (Version 
       list_any-append (λ x. x.asked && is_at key.0 key.1 t x) (flat_map (paired false offered) xs) (flat_map (paired true asked) ys)
       ∙ ap₂ (λ b c. b || c) (asked_in offered false key t xs) (asked_in asked true key t ys)
 
-  -- what is asked for is offered exactly where what stands under a key on one side stands under it on the other
+  -- required moments are provided if and only if each current key of one side is current on the other
   pub pairs_covered_iff : IsCovered (pairs offered xs asked ys)
       ↔ ((key : ℕ × ℕ) (t : ℤ) → stood (has_key asked key) ys t ≡ true → stood (has_key offered key) xs t ≡ true)
   pairs_covered_iff = (
@@ -119,7 +119,7 @@ stood_never moments passes t none (v ∷ vs) h =
     let parts = and_parts (is_interval moments v) (list_all (is_interval moments) vs) h in
     ap₂ (λ b c. b && passes v.what || c) (none v parts.0) (stood_never moments passes t none vs parts.1)
 
--- what stands of one kind at each stamp whenever something of another does stands always: for tests of whatever they look for
+-- for any tests: if a value of one kind is current at each stamp at which one of the other is, it always is
 pub stood_at_all_moments : {X Y I : Type 0} (moments : List Moment) → are_in_time moments ≡ true
     → (offered : I → X → Bool) (xs : List (Version X)) (asked : I → Y → Bool) (ys : List (Version Y))
     → list_all (is_interval moments) xs ≡ true → list_all (is_interval moments) ys ≡ true
@@ -134,7 +134,7 @@ stood_at_all_moments {X} {Y} {I} moments in_time offered xs asked ys p q all i t
         ∙ m.among (λ m. (i : I) → stood (asked i) ys m.stamp ≡ true → stood (offered i) xs m.stamp ≡ true) all i
         (sym (stood_same moments (asked i) t m.moment.stamp (λ v. m.same v) ys q) ∙ s)
 
--- what is offered under each key at each stamp whenever it is asked for there is offered always
+-- a key that is provided at each stamp at which it is required is always provided
 pub pairs_at_all_moments : {X Y : Type 0} (moments : List Moment) → are_in_time moments ≡ true
     → (offered : X → List (ℕ × ℕ)) (xs : List (Version X)) (asked : Y → List (ℕ × ℕ)) (ys : List (Version Y))
     → list_all (is_interval moments) xs ≡ true → list_all (is_interval moments) ys ≡ true
@@ -149,7 +149,7 @@ module _ {X Y : Type 0} (offered : X → List (ℕ × ℕ)) (xs : List (Version 
   at_each h [] = tt
   at_each h (m ∷ ms) = (λ key s. h key m.stamp s, at_each h ms)
 
-  -- what is asked for is offered at all moments where it is at the stamps
+  -- required moments are provided if they are at the stamps
   pub pairs_covered_at_stamps : (moments : List Moment) → are_in_time moments ≡ true
       → list_all (is_interval moments) xs ≡ true → list_all (is_interval moments) ys ≡ true
       → IsCovered (pairs offered xs asked ys) ↔ AllByRecursion (λ m. AreAmong offered xs asked ys m.stamp) moments
@@ -158,7 +158,7 @@ module _ {X Y : Type 0} (offered : X → List (ℕ × ℕ)) (xs : List (Version 
     λ all. (pairs_covered_iff offered xs asked ys).1 (pairs_at_all_moments moments in_time offered xs asked ys p q all),
   )
 
--- ---- lifespans that are intervals give pieces that begin before they end
+-- ---- intervals give spans that are not empty
 
 all_begin : (asked : Bool) (since until : ℤ) → int_lt since until ≡ true → (ks : List (ℕ × ℕ))
     → list_all (λ x. int_lt x.since x.until) (map_list (λ k. pair_at asked k.0 k.1 since until) ks) ≡ true

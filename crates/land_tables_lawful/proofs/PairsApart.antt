@@ -1,4 +1,4 @@
--- No two records that do not go together stand at a stamp, exactly where no two have a moment in common.
+-- No two conflicting records are current at a stamp if and only if no two of them overlap.
 use Rattle.std.proofs.Common.{◌≡◌, ◌↔◌, ℕ, ◌==◌, Bool, true, false, not, ◌&&◌, ◌||◌, List, [], ◌∷◌, refl, sym, ap, ap₂, ◌∙◌, arith, IsPermutation}
 use Rattle.std.specs.Prelude.{nat_lt}
 use Rattle.std.proofs.lemmas.Bool.Decides.{nat_tests}
@@ -33,7 +33,7 @@ module _ {V : Type 0} (clash : V → V → Bool) (flips : (a b : V) → clash a 
   abbrev pub do_clash : ℕ × V → ℕ × V → Bool
   do_clash e f = clash e.1 f.1
 
-  -- an entry does not go together with one of a greater number
+  -- an entry does not conflict with one of a greater number
   abbrev pub later_clash : ℕ × V → ℕ × V → Bool
   later_clash e f = nat_lt e.0 f.0 && clash e.1 f.1
 
@@ -46,7 +46,7 @@ module _ {V : Type 0} (clash : V → V → Bool) (flips : (a b : V) → clash a 
       (λ e. list_any-IsPermutation (later_clash e) es fs p) es
       ∙ list_any-IsPermutation (λ e. list_any (later_clash e) fs) es fs p
 
-  -- one against the others, whichever number is the greater
+  -- one record against the others, regardless of the order of their numbers
   against : (x : ℕ × V) (xs : List (ℕ × V)) → list_any (is_same_number x) xs ≡ false
       → (list_any (later_clash x) xs || list_any (λ e. later_clash e x) xs) ≡ list_any (do_clash x) xs
   against x xs once = sym (either (later_clash x) (λ e. later_clash e x) xs) ∙ go xs once

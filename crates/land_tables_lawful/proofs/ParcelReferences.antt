@@ -1,4 +1,4 @@
--- Parcels refer to units and sources.
+-- References of parcels to units and sources.
 use Rattle.std.proofs.Common.{◌≡◌, ◌↔◌, ℕ, Bool, true, ◌&&◌, List, ap₂}
 use Rattle.std.specs.Prelude.{ℤ}
 use Rattle.land_core.specs.Entries.{has}

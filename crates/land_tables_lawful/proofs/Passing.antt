@@ -1,4 +1,4 @@
--- What passes a test, among what stands.
+-- Tests of current values.
 use Rattle.std.proofs.Common.{◌≡◌, ◌==◌, ℕ, Bool, true, false, cond, ◌&&◌, ◌||◌, List, [], ◌∷◌, filter, Option, Some, None, refl, sym, ap, ap₂, subst, ◌∙◌, arith}
 use Rattle.std.specs.Prelude.{ℤ}
 use Rattle.std.specs.Cmp.{nat_cmp_total}
@@ -17,7 +17,7 @@ use Rattle.land_tables_history.specs.declared.moment.Moment.{Moment}
 use Rattle.land_tables_history.specs.declared.version.Version.{Version}
 use Rattle.land_tables_lawful.proofs.Covers.{some_by, stood_by}
 
--- ---- what passes a test, among what stands
+-- ---- tests of current values
 
 and_true : (a b : Bool) → (a && b) ≡ (a && (b && true))
 and_true a b = grind arith
@@ -56,7 +56,7 @@ unless false b h = refl
 one_value : {V : Type 0} (v w : V) → Some v ≡ Some w → w ≡ v
 one_value v w e = cc
 
--- what stands at a number passes a test
+-- the current value of this number passes a test
 passes_by : {V : Type 0} (q : V → Bool) (m : FinMap nat_cmp V) (n : ℕ)
     → option_map_or q (map.get m n) false ≡ list_any (λ e. (e.0 == n) && q e.1) (map.entries m)
 passes_by {V} q m n = go (map.get m n) refl

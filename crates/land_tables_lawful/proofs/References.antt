@@ -1,4 +1,4 @@
--- What versions refer to stands at each stamp where they stand, and so at each moment.
+-- References that exist at each stamp of the referring versions exist at each moment.
 use Rattle.std.proofs.Common.{◌≡◌, ◌↔◌, inl, inr, ◌==◌, ℕ, Bool, true, false, not, ◌&&◌, ◌||◌, List, [], ◌∷◌, refl, sym, ap, ap₂, subst, ◌∙◌, arith}
 use Rattle.std.specs.Prelude.{ℤ, int_le, int_lt}
 use Rattle.std.proofs.lemmas.Bool.{false≢true, and_from, and_parts, eqb-true, or_cases, or_left, or_parts, or_right}
@@ -21,20 +21,20 @@ use Rattle.land_tables_lawful.specs.Never.{Never}
 use Rattle.land_tables_lawful.specs.Pieces.{are_in_time, pieces}
 use Rattle.land_tables_history.specs.Sweeps.Cover.{IsCovered}
 
--- ---- what stands and fails a test
+-- ---- current values that fail a test
 
--- at a moment something stands that does not pass a test
+-- at a moment some current value fails a test
 abbrev pub fails : {Y : Type 0} → (ℤ → Y → Bool) → List (Version Y) → ℤ → Bool
 fails test ys t = list_any (λ v. stands t v && not (test t v.what)) ys
 
--- at no stamp something stands that does not pass a test
+-- at no stamp does a current value fail a test
 abbrev pub NeverFails : {Y : Type 0} → (ℤ → Y → Bool) → List (Version Y) → List Moment → Type 0
 NeverFails test ys moments = AllByRecursion (λ m. fails test ys m.stamp ≡ false) moments
 
 passed : (s b : Bool) → (s && not b) ≡ false → s ≡ true → b ≡ true
 passed s b h e = grind arith
 
--- a fault of the register at a stamp is that something stands there and fails
+-- the register has a fault at a stamp if and only if a current value fails there
 pub failing_at : {V : Type 0} (t : ℤ) (vs : List (Version (ℕ × V))) → AreApart is_same_number vs
     → (test : ℤ → ℕ × V → Bool) (p : ℕ × V → Bool) → ((e : ℕ × V) → p e ≡ test t e)
     → list_any (λ e. not (p e)) (map.entries (part_at t vs)) ≡ fails test vs t
@@ -65,7 +65,7 @@ regrouped : (s a b x y : Bool) → (s && not (a && b) || (x || y)) ≡ ((s && no
 regrouped s a b x y = grind arith
 
 module _ {Y : Type 0} (p q : ℤ → Y → Bool) where
-  -- one and the other
+  -- both conditions
   abbrev pub also : ℤ → Y → Bool
   also t y = p t y && q t y
 
@@ -88,7 +88,7 @@ module _ {Y : Type 0} (p q : ℤ → Y → Bool) where
 -- ---- a reference
 
 module _ {X Y : Type 0} (offered : X → ℕ) (xs : List (Version X)) (asked : Y → ℕ) where
-  -- what is asked for stands
+  -- the required record exists
   abbrev pub is_there : ℤ → Y → Bool
   is_there t y = stood_by offered xs (asked y) t
 
@@ -117,7 +117,7 @@ module _ {X Y : Type 0} (offered : X → ℕ) (xs : List (Version X)) (asked : Y
           let a = asked v.what in
           ap not (h a (or_left (stands t v && (asked v.what == a)) (stood_by asked vs a t) (and_from (stands t v) (asked v.what == a) e (nat_eq_equiv.refl a))))
 
-  -- what is asked for is offered at all moments where it stands at the stamps
+  -- required moments are provided if the records exist at the stamps
   pub covered_at_stamps : (moments : List Moment) → are_in_time moments ≡ true → (ys : List (Version Y))
       → list_all (is_interval moments) xs ≡ true → list_all (is_interval moments) ys ≡ true
       → IsCovered (pieces offered xs asked ys) ↔ NeverFails is_there ys moments
@@ -136,7 +136,7 @@ module _ {X Y : Type 0} (offered : X → ℕ) (xs : List (Version X)) (asked : Y
       back [] never = tt
       back (m ∷ ms) never = (asked_are_there m.stamp ys never.0, back ms never.1)
 
--- ---- a test of each version alone
+-- ---- a test of each version by itself
 
 fine : (s b : Bool) → b ≡ true → (s && not b) ≡ false
 fine s b e = grind arith
@@ -154,7 +154,7 @@ module _ {Y : Type 0} (test : Y → Bool) where
       let parts = and_parts (test v.what) (list_all (λ w. test w.what) vs) h in
       ap₂ (λ b c. b || c) (fine (stands t v) (test v.what) parts.0) (none_fails_alone t vs parts.1)
 
-  -- each version that stands somewhere stands at a stamp, where it begins
+  -- each version is current at a stamp, namely at its start
   pub all_alone : (moments : List Moment) (ys : List (Version Y)) → list_all (is_interval moments) ys ≡ true
       → (list_all (λ v. test v.what) ys ≡ true) ↔ NeverFails alone ys moments
   all_alone moments ys p = (there moments, back ys p)
@@ -181,9 +181,9 @@ module _ {Y : Type 0} (test : Y → Bool) where
           (or_parts (stands v.since v && not (test v.what)) (fails alone vs v.since) at_first).0 (at_its_beginning v.since v.until (begun moments v parts.0)))
           (back vs parts.1 (later v vs moments never))
 
--- ---- answers
+-- ---- results
 
--- one after the other
+-- one condition, then the other
 pub by_way_of : {A B C : Type 0} → A ↔ B → B ↔ C → A ↔ C
 by_way_of p q = (λ a. q.0 (p.0 a), λ c. p.1 (q.1 c))
 

@@ -1,4 +1,4 @@
--- Roles are those of single parties, over time.
+-- Roles are held by single parties, over time.
 use Rattle.std.proofs.Common.{◌≡◌, ◌↔◌, ℕ, Bool, true, not, ◌&&◌, List, sym, ap, ◌∙◌}
 use Rattle.std.specs.Prelude.{ℤ, int_lt}
 use Rattle.std.proofs.lemmas.List.Sorted.{list_any-IsPermutation}
@@ -26,7 +26,7 @@ use Rattle.land_tables_lawful.specs.Roles.{is_of_single, single_parties}
 use Rattle.land_tables_history.specs.Sweeps.Cover.{IsCovered}
 use Rattle.land_tables_history.specs.declared.sweeps.cover.Piece.{Piece}
 
--- some role that stands passes a test
+-- some current role passes a test
 pub some_role : (p : Grant → Bool) (t : ℤ) (vs : List (Version Grant)) → AreApart is_same_grant vs
     → list_any p (grants_in (roles_at t vs)) ≡ list_any (λ v. stands t v && p v.what) vs
 some_role p t vs apart =
@@ -37,12 +37,12 @@ some_role p t vs apart =
 abbrev holder_of : Grant → ℕ
 holder_of grant = grant.party
 
--- single parties are offered, and who holds a role is asked for
+-- single parties are provided, and holders of roles are required
 abbrev pub role_pieces : History → List Piece
 role_pieces h = pieces (λ e. e.0) (single_parties h.parties) holder_of h.roles
 
 module _ (moments : List Moment) (h : History) (p : AllProper moments h) where
-  -- a single party stands at a number
+  -- a single party of this number exists
   pub single_at : (m : Moment) (n : ℕ)
       → has_single_party (register_at m.stamp h m.next) n ≡ stood_by (λ e. e.0) (single_parties h.parties) n m.stamp
   single_at m n = passes_at (λ party. is_single party.kind) m.stamp h.parties p.parties.apart n
@@ -66,7 +66,7 @@ module _ (moments : List Moment) (h : History) (p : AllProper moments h) where
       (covered_at_stamps (λ e. e.0) (single_parties h.parties) holder_of moments in_time h.roles singles_are_intervals p.roles.intervals)
       (never_by has_loose_grant h is_single_there h.roles loose_at moments)
 
--- single parties stand whenever they have roles exactly if they do so at each stamp
+-- single parties exist throughout their roles if and only if they do at each stamp
 pub roles_refer : (moments : List Moment) (h : History) → has_intervals moments h ≡ true → are_in_time moments ≡ true → (a : Bool)
     → (a ≡ true) ↔ IsCovered (role_pieces h) → (a ≡ true) ↔ Never has_loose_grant moments h
 roles_refer moments h intervals in_time a swept = by_way_of swept (refer moments h (all_proper moments h intervals) in_time)

@@ -1,4 +1,4 @@
--- No two clash that stand together at a stamp, exactly where no two clash whose lifespans have a moment in common.
+-- No two conflicting values are current at a stamp if and only if no two of them overlap.
 use Rattle.std.proofs.Common.{◌≡◌, ◌↔◌, Bool, true, false, cond, not, ◌&&◌, ◌||◌, List, [], ◌∷◌, filter, map as map_list, refl, sym, ap, ap₂, subst, ◌∙◌, arith}
 use Rattle.std.specs.Prelude.{ℤ, int_le, int_lt}
 use Rattle.std.proofs.lemmas.Bool.Decides.{Decides-int_eq}
@@ -17,7 +17,7 @@ use Rattle.land_tables_history.specs.declared.version.Version.{Version}
 use Rattle.land_tables_lawful.proofs.Covers.{begun}
 use Rattle.land_tables_lawful.proofs.Latest.{at_stamp, ends_of}
 
--- of two lifespans with a moment in common, each of which has one, both have the later beginning
+-- if two lifespans overlap, both include the later of their starts
 at_the_later : (since until since' until' : ℤ) → (int_lt since until' && int_lt since' until) ≡ true → int_le since since' ≡ true
     → int_lt since' until' ≡ true
     → ((int_le since since' && int_lt since' until) ≡ true) × ((int_le since' since' && int_lt since' until') ≡ true)
@@ -98,7 +98,7 @@ module _ {X : Type 0} (same : X → X → Bool) (moments : List Moment) where
   each_apart vs h [] = tt
   each_apart vs h (m ∷ ms) = (distinct_standing same m.stamp vs h, each_apart vs h ms)
 
-  -- no two that clash meet, exactly where no two that stand at a stamp clash
+  -- no two conflicting values overlap if and only if no two are current at a stamp
   pub apart_at_stamps : (vs : List (Version X)) → list_all (is_interval moments) vs ≡ true
       → (are_distinct (overlap same) vs ≡ true) ↔ AllByRecursion (λ m. are_distinct same (standing m.stamp vs) ≡ true) moments
   apart_at_stamps vs all = (

@@ -1,4 +1,4 @@
--- What stands together under a key, at each moment and at each stamp.
+-- The values that are current together under a key, at each moment and at each stamp.
 use Rattle.std.proofs.Common.{◌≡◌, ◌↔◌, ◌⊎◌, inl, inr, ℕ, ◌==◌, Bool, true, false, cond, not, ◌&&◌, ◌||◌, List, [], ◌∷◌, ◌++◌, Option, Some, None, filter, map as map_list, refl, sym, ap, ap₂, ◌∙◌, subst, arith}
 use Rattle.std.specs.Prelude.{ℤ, int_le, int_lt, nat_eq}
 use Rattle.std.proofs.lemmas.Bool.{false≢true, and_from, and_parts, eqb-true, or_parts}
@@ -35,7 +35,7 @@ module _ {T : Type 0} where
   abbrev version_of : Lived T → Version T
   version_of x = record { what = x.what; since = x.since; until = x.until }
 
-  -- it begins at a stamp, and ends after that, at a stamp or not at all
+  -- a lifespan starts at a stamp, and ends after that, at a stamp or never
   abbrev is_life : List Moment → Lived T → Bool
   is_life moments x = is_interval moments (version_of x)
 
@@ -63,7 +63,7 @@ module _ {T : Type 0} where
       (by_key key t x ∙ ap (λ b. b && (x.key == key)) (none (version_of x) parts.0))
       ∙ none_there moments key t none xs parts.1
 
-  -- what stands together at a moment stands together at one of the stamps, or it is nothing
+  -- the values that are current together at a moment are so at one of the stamps, or there are none
   at_any_time : (moments : List Moment) → are_in_time moments ≡ true → (xs : List (Lived T)) → AreLives moments xs
       → (P : List T → Bool) → P [] ≡ true → (key : ℕ) → AllByRecursion (λ m. P (standing xs key m.stamp) ≡ true) moments
       → (t : ℤ) → P (standing xs key t) ≡ true
@@ -86,7 +86,7 @@ module _ {T : Type 0} where
   lives-append moments xs ys p q =
       list_all-append (is_life moments) xs ys ∙ and_from (list_all (is_life moments) xs) (list_all (is_life moments) ys) p q
 
--- ---- what versions stand for
+-- ---- the values of versions
 
 module _ {X T : Type 0} (key : X → ℕ) (what : X → T) where
   pub all_live : (moments : List Moment) (vs : List (Version X)) → list_all (is_interval moments) vs ≡ true
@@ -97,14 +97,14 @@ module _ {X T : Type 0} (key : X → ℕ) (what : X → T) where
       and_from (is_interval moments v) (list_all (is_life moments) (all_lived key what vs)) parts.0 (all_live moments vs parts.1)
 
   module _ (n : ℕ) where
-    -- what records stand for under a number, and one of them in front of it
+    -- the values of records under a number, with one of them in front
     abbrev under : List X → List T
     under xs = placed key what n xs
 
     abbrev with : Bool → X → List T → List T
     with b x ts = cons_option (cond b (Some (what x)) None) ts
 
-    -- what stands together under a number at a moment is what the versions that stand then stand for under it
+    -- the values that are current under a number at a moment are those of the versions that are current then
     pub stood : (t : ℤ) (vs : List (Version X)) → standing (all_lived key what vs) n t ≡ under (standing_at t vs)
     stood t [] = refl
     stood t (v ∷ vs) =
@@ -121,7 +121,7 @@ module _ {X T : Type 0} (key : X → ℕ) (what : X → T) where
         go false true true is e h = absurd (false≢true e)
         go true false d is e h = absurd (false≢true (sym e))
 
-    -- nothing of it passes a test, or is counted, or all of it is
+    -- none of them passes a test, or is counted, or all are
     pub none_marked : (p : T → Bool) → ((x : X) → p (what x) ≡ false) → (xs : List X) → list_any p (under xs) ≡ false
     none_marked p none [] = refl
     none_marked p none (x ∷ xs) = go (nat_eq (key x) n) (none_marked p none xs)
@@ -146,7 +146,7 @@ module _ {X T : Type 0} (key : X → ℕ) (what : X → T) where
         go true h = ap₂ (λ b l. cond b (what x ∷ l) l) (each x) h
         go false h = h
 
-    -- nothing is taken of it
+    -- no value is found in it
     pub none_taken : {Z : Type 0} (f : T → Option Z) → ((x : X) → f (what x) ≡ None) → (xs : List X) → filter_map f (under xs) ≡ []
     none_taken f none [] = refl
     none_taken f none (x ∷ xs) = go (nat_eq (key x) n) (none_taken f none xs)
@@ -155,20 +155,20 @@ module _ {X T : Type 0} (key : X → ℕ) (what : X → T) where
         go true h = ap (λ o. cons_option o (filter_map f (under xs))) (none x) ∙ h
         go false h = h
 
--- ---- records that stand
+-- ---- current records
 
--- a test of some record of a part is one of some version that stands
+-- a test of some record is one of some current version
 pub some_standing : {V : Type 0} (p : ℕ × V → Bool) (t : ℤ) (vs : List (Version (ℕ × V))) → AreApart is_same_number vs
     → list_any p (map.entries (part_at t vs)) ≡ list_any p (standing_at t vs)
 some_standing p t vs apart =
     let made = made_part (standing_at t vs) (distinct_standing is_same_number t vs apart) in
     sym (list_any-IsPermutation p (standing_at t vs) (map.entries (part_at t vs)) made)
 
--- a record that is marked stands under a number
+-- a marked record exists under a number
 abbrev pub is_marked : {V : Type 0} → (V → Bool) → ℕ → List (ℕ × V) → Bool
 is_marked c n es = list_any (λ e. nat_eq e.0 n && c e.1) es
 
--- a record that is marked fails a test of its number
+-- a marked record fails a test of its number
 abbrev pub is_at_fault : {V : Type 0} → (V → Bool) → (ℕ → Bool) → ℕ × V → Bool
 is_at_fault c W e = c e.1 && not (W e.0)
 
@@ -201,15 +201,15 @@ module _ {V : Type 0} (c : V → Bool) (W : ℕ → Bool) where
           with_it (c e.1) (W n) (is_marked c n es) here h
       go false is h = h
 
--- ---- a fault of records, and what stands together under their numbers
+-- ---- a fault of records, and the current values under their numbers
 
 module _ {T V : Type 0} (moments : List Moment) (h : History) (fault : Register → Bool) (lived : List (Lived T))
     (marks : T → Bool) (test : List T → Bool) (vs : List (Version (ℕ × V))) (c : V → Bool) (W : Register → ℕ → Bool) where
   abbrev register_of : Moment → Register
   register_of m = register_at m.stamp h m.next
 
-  -- the fault is that a record which is marked fails a test of its number: it is marked where something that stands together is,
-  -- and passes where that does
+  -- The fault is that a marked record fails a test of its number. It is marked if one of the current values
+  -- is, and passes if they do.
   pub record Ties : Type 0 where
     pub faulty : (m : Moment) → fault (register_of m) ≡ list_any (is_at_fault c (W (register_of m))) (standing_at m.stamp vs)
     pub marked : (n : ℕ) (t : ℤ) → list_any marks (standing lived n t) ≡ is_marked c n (standing_at t vs)
@@ -238,7 +238,7 @@ module _ {T V : Type 0} (moments : List Moment) (h : History) (fault : Register 
       from_stamps n ms all.1,
     )
 
-    -- the fault never is, exactly where what stands together always passes
+    -- the fault never occurs if and only if the current values always pass
     pub never : are_in_time moments ≡ true → AreLives moments lived → AreSound (where_marked marks test) lived ↔ Never fault moments h
     never in_time lives = (
       λ sound. All-from_recursion (λ m. fault (register_of m) ≡ false) moments (at_stamps sound moments),
@@ -247,7 +247,7 @@ module _ {T V : Type 0} (moments : List Moment) (h : History) (fault : Register 
           at_any_time moments in_time lived lives (where_marked marks test) refl n (from_stamps n moments faultless) t,
     )
 
--- two tests at once
+-- two tests together
 pub both_sound : {T : Type 0} (p q : List T → Bool) (lived : List (Lived T)) {A B : Type 0} → AreSound p lived ↔ A → AreSound q lived ↔ B
     → AreSound (λ xs. p xs && q xs) lived ↔ (A × B)
 both_sound p q lived one other = (
@@ -258,7 +258,7 @@ both_sound p q lived one other = (
   λ h n t. and_from (p (standing lived n t)) (q (standing lived n t)) (one.1 h.0 n t) (other.1 h.1 n t),
 )
 
--- what is answered of a list that is made is answered of what it is made of
+-- a result for a list that is built is one for its parts
 pub answered : {T : Type 0} (p : List T → Bool) {A : Type 0} (made lived : List (Lived T)) → made ≡ lived → AreSound p lived ↔ A
     → (b : Bool) → (b ≡ true) ↔ AreSound p made → (b ≡ true) ↔ A
 answered p made lived is law b answer =

@@ -1,4 +1,4 @@
--- Numbers are in use at each moment, where they are when what has them begins to stand.
+-- Numbers are in range at each commit if they are when their versions start.
 use Rattle.std.proofs.Common.{◌≡◌, ◌↔◌, ℕ, Bool, true, false, not, ◌||◌, ◌&&◌, List, [], ◌∷◌, Option, Some, None, if◌then◌else◌, refl, sym, ap, ap₂, subst, ◌∙◌, arith, IsPermutation}
 use Rattle.std.specs.Prelude.{ℤ, pos, int_le, int_lt, nat_le, nat_lt}
 use Rattle.std.proofs.lemmas.Bool.{false≢true, and_from, and_parts, not-true, or_parts}
@@ -30,9 +30,9 @@ use Rattle.land_tables_lawful.specs.Chains.{goes_before, stamp_cmp}
 use Rattle.land_tables_lawful.specs.Never.{Never}
 use Rattle.land_tables_lawful.specs.NumbersInUse.{are_all_used, are_numbers_left, has_used_number, has_used_rank, is_used_rank, next_since, passes_since}
 
--- ---- the next number grows
+-- ---- the next number does not decrease
 
--- the next number of a moment is no less than that of another, where this is no later
+-- the next number of a commit is not less than that of an earlier one
 abbrev Grows : Moment → Moment → Type 0
 Grows b a = int_le a.stamp b.stamp ≡ true → nat_le a.next b.next ≡ true
 
@@ -63,7 +63,7 @@ all_grow (m ∷ ms) up =
 
 -- ---- the moment of a stamp
 
--- a moment that has a stamp, its next number, and what holds of all moments
+-- a commit with this stamp, its next number, and a property of all commits
 record Found (ms : List Moment) (P : Moment → Type 0) (t : ℤ) : Type 0 where
   moment : Moment
   stamp : int_eq moment.stamp t ≡ true
@@ -98,7 +98,7 @@ must false b e h = absurd (false≢true e)
 
 -- ---- one list of versions
 
--- at none of the moments
+-- at no commit
 abbrev None_of : (Moment → Bool) → List Moment → Type 0
 None_of fault ms = AllByRecursion (λ m. fault m ≡ false) ms
 
@@ -174,7 +174,7 @@ none_either f g (m ∷ ms) =
       λ h. (ap₂ (λ a b. a || b) h.0.0 h.1.0, rest.1 (h.0.1, h.1.1)),
     )
 
--- two tests tell of two faults
+-- two tests decide two faults
 joined : (a b : Bool) (f g : Moment → Bool) (ms : List Moment) → (a ≡ true) ↔ None_of f ms → (b ≡ true) ↔ None_of g ms
     → ((a && b) ≡ true) ↔ None_of (λ m. f m || g m) ms
 joined a b f g ms p q = (
@@ -215,7 +215,7 @@ intervals_too moments ms p vs intervals =
     ∙ intervals
 
 module _ (moments ms : List Moment) (p : IsPermutation moments ms) (up : all_go_up ms ≡ true) where
-  -- a record stands under a number that is not in use
+  -- a record has a number that is not in range
   abbrev is_unused : {V : Type 0} → List (Version (ℕ × V)) → Moment → Bool
   is_unused vs m = list_any (λ e. not (has_used_number e m.next)) (map.entries (part_at m.stamp vs))
 
@@ -245,7 +245,7 @@ module _ (moments ms : List Moment) (p : IsPermutation moments ms) (up : all_go_
         (λ v. ap (λ b. stands m.stamp v && b) (loose m (rank_of v.what.1.class))) h.rrrs) ms in
         (λ h. same.1 (law.0 h), λ h. law.1 (same.0 h))
 
-    -- at none of the moments in order, and so at none of the moments
+    -- at none of the sorted commits, and so at no commit
     never : (fault : Register → Bool) → None_of (λ m. fault (register_at m.stamp h m.next)) ms ↔ Never fault moments h
     never fault = (
       λ none. All-permutation (λ m. fault (register_at m.stamp h m.next) ≡ false) ms moments (IsPermutation-sym moments ms p)
@@ -254,7 +254,7 @@ module _ (moments ms : List Moment) (p : IsPermutation moments ms) (up : all_go_
           (All-permutation (λ m. fault (register_at m.stamp h m.next) ≡ false) moments ms p all),
     )
 
-    -- the numbers of some versions are used
+    -- the numbers of these versions are in range
     abbrev used : {V : Type 0} → List (Version (ℕ × V)) → Bool
     used vs = list_all (passes_since has_used_number ms) vs
 
@@ -302,7 +302,7 @@ module _ (moments ms : List Moment) (p : IsPermutation moments ms) (up : all_go_
               (rank.1 ((never has_loose_rank).1 all.2)),
         )
 
--- numbers are in use at all moments, where they are by the moments in order when what has them begins to stand
+-- numbers are in range at all commits if they are, by the sorted commits, when their versions start
 pub all_used : (moments sorted : List Moment) (h : History) → IsPermutation moments sorted → IsSorted stamp_cmp sorted
     → has_intervals moments h ≡ true → are_moments moments ≡ true
     → (are_all_used sorted h ≡ true)

@@ -1,4 +1,4 @@
--- Spans of versions are apart where no two versions that have one key have a moment in common.
+-- Spans of versions are disjoint if no two versions of one key overlap.
 use Rattle.std.proofs.Common.{◌≡◌, Bool, true, false, not, ◌||◌, ◌&&◌, List, [], ◌∷◌, Option, Some, None, refl, sym, ap, ap₂, ◌∙◌}
 use Rattle.std.specs.Prelude.{int_lt}
 use Rattle.std.specs.List.{cons_option, list_all, list_any}
@@ -19,7 +19,7 @@ use Rattle.land_tables_history.specs.declared.sweeps.apart.Span.{Span}
 
 -- ---- keys
 
--- what two orders after each other do not tell apart
+-- values that are equal in two orders, one after the other
 pub eq_then : (r s : Ordering) → is_eq (ordering_then r s) ≡ (is_eq r && is_eq s)
 eq_then Less s = refl
 eq_then Equal s = refl
@@ -31,9 +31,9 @@ pub apart_is_distinct : {K : Type 0} (R : K → K → Ordering) (spans : List (S
 apart_is_distinct R [] = refl
 apart_is_distinct R (x ∷ xs) = ap (λ b. not (list_any (overlap_by R x) xs) && b) (apart_is_distinct R xs)
 
--- ---- of what has a key
+-- ---- of values with a key
 
--- two keys are one
+-- two keys are equal
 abbrev pub is_one : {K : Type 0} → (K → K → Ordering) → Option K → Option K → Bool
 is_one R (Some a) (Some b) = eq_by_cmp R a b
 is_one R (Some a) None = false
@@ -75,7 +75,7 @@ module _ {X K : Type 0} (R : K → K → Ordering) (key_of : X → Option K) whe
       ∙ distinct_alike (λ v w. meets (key_of v.what) v w) (overlap same)
       (λ v w. ap (λ b. b && int_lt v.since w.until && int_lt w.since v.until) (by_keys v.what w.what)) vs
 
--- lifespans that are intervals begin before they end
+-- intervals are not empty
 pub where_begun : {X K : Type 0} (moments : List Moment) (key_of : X → Option K) (vs : List (Version X))
     → list_all (is_interval moments) vs ≡ true
     → list_all (λ x. int_lt x.since x.until) (spans_where key_of vs) ≡ true

@@ -1,4 +1,4 @@
--- Groups over time: 2 to 64 members whose shares make a whole.
+-- Groups over time: 2 to 64 members whose shares sum to one.
 use Rattle.std.proofs.Common.{◌≡◌, ◌↔◌, ℕ, Bool, true, false, cond, not, ◌&&◌, ◌||◌, List, [], ◌∷◌, ◌++◌, Option, Some, None, filter, flat_map, map as map_list, refl, sym, ap, ap₂, ◌∙◌, arith, IsPermutation}
 use Rattle.std.specs.Prelude.{ℤ, nat_eq}
 use Rattle.std.proofs.lemmas.Bool.Decides.{nat_tests}
@@ -55,7 +55,7 @@ never_marked : (a r s : Bool) → r ≡ s → r ≡ (a && false || s)
 never_marked true r s h = h
 never_marked false r s h = h
 
--- a group among those that stand is a party that stands and is a group
+-- a current group is a current party of that kind
 groups_stand : (n : ℕ) (t : ℤ) (vs : List (Version (ℕ × PartyRecord)))
     → list_any (is_named n) (standing_at t (groups_among vs)) ≡ is_marked is_group_kind n (standing_at t vs)
 groups_stand n t [] = refl
@@ -100,7 +100,7 @@ share_in_group n m = cond (nat_eq m.group n) (Some m.member.share) None
 abbrev one_of : ℕ → Member → GroupMember
 one_of group member = record { group = group; member = member }
 
--- the members of a group, as they are listed
+-- the members of a group, as a list
 abbrev listed_in : ℕ → List (ℕ × Ratio) → List GroupMember
 listed_in g es = map_list (one_of g) (map_list (λ (e : ℕ × Ratio). member_of e.0 e.1) es)
 
@@ -142,7 +142,7 @@ module _ (n : ℕ) where
       let none = of_group e.0 (map.entries e.1) ∙ ap (λ b. cond b (shares_in e.1) []) (differs n e.0 parts.0) in
       filter_map-append (share_in_group n) (listed e) (flat_map listed es) ∙ ap₂ (λ a b. a ++ b) none (none_above es parts.1)
 
-  -- the shares of all groups' members that are in one are those that are found there
+  -- the shares of all groups' members that are in one group are those of that group
   shares_found : (es : List (ℕ × Members)) → is_sorted nat_cmp es ≡ true
       → shares_taken (flat_map listed es) ≡ option_map_or shares_in (find nat_cmp n es) []
   shares_found [] sorted = refl
@@ -163,10 +163,10 @@ module _ (n : ℕ) where
           ap (λ l. shares_in e.1 ++ l) (none_above es below) ∙ and_nothing (shares_in e.1)
       go false is h = h
 
--- ---- what stands in a group at a moment
+-- ---- the values of a group at a moment
 
 module _ (h : History) (n : ℕ) (t : ℤ) where
-  -- the groups and the members that stand, and what they stand for in the group
+  -- the current groups and members, and their values in the group
   abbrev groups : List (ℕ × PartyRecord)
   groups = standing_at t (groups_among h.parties)
 
@@ -184,7 +184,7 @@ module _ (h : History) (n : ℕ) (t : ℤ) where
       standing-append (groups_lived h.parties) (members_lived h.members) n t
       ∙ ap₂ (λ a b. a ++ b) (stood (λ e. e.0) group_joined n t (groups_among h.parties)) (stood (λ m. m.group) member_joined n t h.members)
 
-  -- groups alone are marked
+  -- only groups are marked
   marked_there : list_any is_group (standing (memberships_in h) n t) ≡ is_marked is_group_kind n (standing_at t h.parties)
   marked_there =
       ap (list_any is_group) two_parts
@@ -194,7 +194,7 @@ module _ (h : History) (n : ℕ) (t : ℤ) where
       ∙ list_any-placed (λ e. e.0) group_joined n is_group groups
       ∙ groups_stand n t h.parties
 
-  -- members alone have shares
+  -- only members have shares
   shares_there : member_shares (standing (memberships_in h) n t) ≡ shares_taken n members
   shares_there =
       ap member_shares two_parts
@@ -202,7 +202,7 @@ module _ (h : History) (n : ℕ) (t : ℤ) where
       ∙ ap (λ a. a ++ member_shares members_there) (none_taken (λ e. e.0) group_joined n member_share (λ e. refl) groups)
       ∙ filter_map-placed (λ m. m.group) member_joined n member_share members
 
--- ---- and in the register
+-- ---- in the register
 
 abbrev is_whole_group : Register → ℕ → Bool
 is_whole_group r n = are_group_shares (shares_of r n)
@@ -244,7 +244,7 @@ module _ (moments : List Moment) (h : History) (p : AllProper moments h) where
       let members = all_live (λ m. m.group) member_joined moments h.members p.members.intervals in
       lives-append moments (groups_lived h.parties) (members_lived h.members) groups members
 
--- what stands together in groups is sound at each moment, exactly where no register has a broken group
+-- the current values of groups are sound at each moment if and only if no register has a broken group
 pub groups_are_whole : (moments : List Moment) (h : History) → has_intervals moments h ≡ true → are_in_time moments ≡ true
     → AreSound are_joined_soundly (memberships_in h) ↔ Never has_broken_group moments h
 groups_are_whole moments h intervals in_time =

@@ -1,4 +1,4 @@
--- Units over time: shares in those that are checked, and the number of what is in each.
+-- Units over time: the share sums of checked units, and the limits of all.
 use Rattle.std.proofs.Common.{◌≡◌, ◌↔◌, ℕ, Bool, true, false, cond, not, ◌&&◌, ◌||◌, List, [], ◌∷◌, ◌++◌, length, None, filter, refl, ap, ap₂, ◌∙◌, IsPermutation}
 use Rattle.std.specs.Prelude.{ℤ, nat_eq, nat_lt}
 use Rattle.std.proofs.lemmas.List.Elements.{filter-append, filter_map-append}
@@ -99,7 +99,7 @@ same_share type (Restriction words) = no_other_share type
 same_share type (Responsibility words) = no_other_share type
 same_share type (Mortgage amount currency rank) = no_other_share type
 
--- ---- what stands in a unit at a moment
+-- ---- the values of a unit at a moment
 
 or_nothing : (b : Bool) → ((b || false) || false) ≡ b
 or_nothing true = refl
@@ -110,7 +110,7 @@ and_nothing [] = refl
 and_nothing (x ∷ xs) = ap (λ l. x ∷ l) (and_nothing xs)
 
 module _ (h : History) (n : ℕ) (t : ℤ) where
-  -- the records that stand, and what they stand for in the unit
+  -- the current records, and their values in the unit
   abbrev units : List (ℕ × UnitRecord)
   units = standing_at t h.units
 
@@ -136,7 +136,7 @@ module _ (h : History) (n : ℕ) (t : ℤ) where
       ∙ ap₂ (λ a b. (a ++ b) ++ standing (entries_lived h.rrrs) n t) (stood (λ e. e.0) unit_held n t h.units) (stood (λ e. e.1.unit) parcel_held n t h.parcels)
       ∙ ap (λ a. (units_there ++ parcels_there) ++ a) (stood (λ e. e.1.unit) entry_held n t h.rrrs)
 
-  -- units alone are marked
+  -- only units are marked
   marked_there : (p : Holding → Bool) → p held.Parcel ≡ false → ((e : ℕ × RrrRecord) → p (entry_held e) ≡ false)
       → list_any p (standing (holdings_in h) n t) ≡ is_marked (λ u. p (held.Unit u.checked)) n units
   marked_there p no_parcels no_entries =
@@ -148,7 +148,7 @@ module _ (h : History) (n : ℕ) (t : ℤ) where
       ∙ or_nothing (list_any p units_there)
       ∙ list_any-placed (λ e. e.0) unit_held n p units
 
-  -- entries alone have shares
+  -- only entries have shares
   entry_shares : (type : RightType) → shares_held type entries_there ≡ filter_map (λ e. share_in n type e.1) entries
   entry_shares type =
       filter_map-placed (λ e. e.1.unit) entry_held n (share_held type) entries
@@ -191,7 +191,7 @@ module _ (h : History) (n : ℕ) (t : ℤ) where
       ∙ all_counted (λ e. e.1.unit) entry_held n is_entry (λ e. an_entry e.1.class) entries)
       ∙ length-placed (λ e. e.1.unit) entry_held n entries
 
--- ---- and in the register
+-- ---- in the register
 
 abbrev is_uncrowded : Register → ℕ → Bool
 is_uncrowded r n = not (nat_lt 256 (parcel_count r n) || nat_lt 256 (rrr_count r n))
@@ -268,7 +268,8 @@ module _ (moments : List Moment) (h : History) (p : AllProper moments h) where
         never moments h has_crowded_unit (holdings_in h) is_unit are_few h.units (λ u. true) is_uncrowded
         crowded_tied in_time holdings_live
 
--- what stands together in units is sound at each moment, exactly where no register has units in parts or crowded ones
+-- the current values of units are sound at each moment if and only if no register has a unit with invalid
+-- sums or a crowded one
 pub units_are_whole : (moments : List Moment) (h : History) → has_intervals moments h ≡ true → are_in_time moments ≡ true
     → AreSound are_sound_together (holdings_in h) ↔ (Never has_unit_in_parts moments h × Never has_crowded_unit moments h)
 units_are_whole moments h intervals in_time =

@@ -1,4 +1,4 @@
--- State administrators, over time.
+-- State administrators of a history.
 use Rattle.std.specs.Prelude.{pos, ◌+ℤ◌, Bool, List, filter, map as map_list}
 use Rattle.land_core.specs.Role.{is_role}
 use Rattle.land_core.specs.declared.role.Role.TheVariants.{StateAdministrator}
@@ -8,18 +8,18 @@ use Rattle.land_tables_history.specs.declared.version.Version.{Version}
 use Rattle.land_tables_lawful.specs.Pieces.{asked_piece, offered_piece}
 use Rattle.land_tables_history.specs.declared.sweeps.cover.Piece.{Piece}
 
--- a version of a role is of a state administrator
+-- the role is state administrator
 abbrev pub is_of_administrator : Version Grant → Bool
 is_of_administrator v = is_role v.what.role StateAdministrator
 
 abbrev pub administrators : List (Version Grant) → List (Version Grant)
 administrators roles = filter is_of_administrator roles
 
--- a moment as what stands at its stamp alone
+-- a commit as a version that is current only at its stamp
 abbrev pub instant : Moment → Version Moment
 instant m = record { what = m; since = m.stamp; until = m.stamp +ℤ pos 1 }
 
--- all under one key: whoever is state administrator is offered, and each moment asks for one
+-- under one key, state administrators are provided, and each commit requires one
 abbrev pub offered_administrators : List (Version Grant) → List Piece
 offered_administrators roles = map_list (offered_piece (λ r. 0)) (administrators roles)
 

@@ -1,8 +1,11 @@
--- In whatever order things lie, the same is taken of them, and what stands together is sound or not: a law of `Judged`.
-use Rattle.std.proofs.Common.{◌≡◌, ℕ, Bool, false, not, ◌&&◌, ◌||◌, List, [], ◌∷◌, length, Option, Some, None, filter, refl, sym, ap, ap₂, ◌∙◌, arith, IsPermutation}
+-- The order of values does not matter: neither for the values found in a list, nor for the soundness of
+-- values that are current together. The trait requires this law.
+use Rattle.std.proofs.Common.{◌≡◌, ℕ, Bool, false, not, ◌&&◌, ◌||◌, List, [], ◌∷◌, length, Option, Some, None}
+use Rattle.std.proofs.Common.{filter, refl, sym, ap, ap₂, ◌∙◌, arith, IsPermutation}
 use Rattle.std.specs.Prelude.{nat_eq, nat_lt}
 use Rattle.std.proofs.lemmas.Bool.Decides.{nat_tests}
-use Rattle.std.proofs.lemmas.List.Sorted.{IsPermutation-cons, IsPermutation-middle, IsPermutation-refl, IsPermutation-trans, length_permutation, list_any-IsPermutation}
+use Rattle.std.proofs.lemmas.List.Sorted.{IsPermutation-cons, IsPermutation-middle, IsPermutation-refl}
+use Rattle.std.proofs.lemmas.List.Sorted.{IsPermutation-trans, length_permutation, list_any-IsPermutation}
 use Rattle.std.specs.List.{cons_option, filter_map}
 use Rattle.land_core.specs.Members.{are_group_shares, is_group_size, is_yes}
 use Rattle.land_core.specs.Units.{are_whole_or_none}
@@ -12,15 +15,17 @@ use Rattle.land_fraction.proofs.Moves.{wholeness-permuted}
 use Rattle.land_fraction.specs.Ratio.{Ratio}
 use Rattle.land_fraction.specs.Wholeness.{wholeness}
 use Rattle.land_tables_history.proofs.Permutations.{along_permutation, filter_permuted}
-use Rattle.land_tables_lawful.specs.Holdings.{are_few, are_shares_whole, are_sound_together, is_checked, is_entry, is_parcel, is_unit, share_held, shares_held}
+use Rattle.land_tables_lawful.specs.Holdings.{are_few, are_shares_whole, are_sound_together, is_checked}
+use Rattle.land_tables_lawful.specs.Holdings.{is_entry, is_parcel, is_unit, share_held, shares_held}
 use Rattle.land_tables_lawful.specs.Lived.{where_marked}
-use Rattle.land_tables_lawful.specs.Memberships.{are_joined_soundly, are_members_whole, is_group, member_share, member_shares}
+use Rattle.land_tables_lawful.specs.Memberships.{are_joined_soundly, are_members_whole, is_group}
+use Rattle.land_tables_lawful.specs.Memberships.{member_share, member_shares}
 use Rattle.land_tables_lawful.specs.declared.groups.Membership.{Membership}
 use Rattle.land_tables_lawful.specs.declared.holdings.Holding.{Holding}
 
 -- ---- lists
 
--- what is taken of a list
+-- the values found in a list
 pub filter_map_permuted : {X Y : Type 0} (f : X → Option Y) (xs ys : List X) → IsPermutation xs ys
     → IsPermutation (filter_map f xs) (filter_map f ys)
 filter_map_permuted {X} {Y} f = along_permutation (λ xs ys. IsPermutation (filter_map f xs) (filter_map f ys))
@@ -29,19 +34,23 @@ filter_map_permuted {X} {Y} f = along_permutation (λ xs ys. IsPermutation (filt
     (λ x y xs. over (f x) (f y) (filter_map f xs))
     (λ xs ys zs. IsPermutation-trans (filter_map f xs) (filter_map f ys) (filter_map f zs))
   where
-    under : (o : Option Y) (xs ys : List Y) → IsPermutation xs ys → IsPermutation (cons_option o xs) (cons_option o ys)
+    under : (o : Option Y) (xs ys : List Y) → IsPermutation xs ys
+        → IsPermutation (cons_option o xs) (cons_option o ys)
     under (Some y) xs ys h = IsPermutation-cons y xs ys h
     under None xs ys h = h
 
-    over : (o p : Option Y) (xs : List Y) → IsPermutation (cons_option o (cons_option p xs)) (cons_option p (cons_option o xs))
+    over : (o p : Option Y) (xs : List Y)
+        → IsPermutation (cons_option o (cons_option p xs)) (cons_option p (cons_option o xs))
     over (Some x) (Some y) xs = IsPermutation-middle (x ∷ []) y xs
     over (Some x) None xs = IsPermutation-refl (x ∷ xs)
     over None (Some y) xs = IsPermutation-refl (y ∷ xs)
     over None None xs = IsPermutation-refl xs
 
--- how many of a list pass a test
-pub count_permuted : {X : Type 0} (p : X → Bool) (xs ys : List X) → IsPermutation xs ys → length (filter p xs) ≡ length (filter p ys)
-count_permuted p xs ys same = sym (length_permutation (filter p xs) (filter p ys) (filter_permuted p xs ys same))
+-- the number of items that pass a test
+pub count_permuted : {X : Type 0} (p : X → Bool) (xs ys : List X) → IsPermutation xs ys
+    → length (filter p xs) ≡ length (filter p ys)
+count_permuted p xs ys same =
+    sym (length_permutation (filter p xs) (filter p ys) (filter_permuted p xs ys same))
 
 whole_or_none : (xs : List Ratio) → are_whole_or_none xs ≡ (nat_eq (length xs) 0 || is_yes (wholeness xs))
 whole_or_none [] = refl
@@ -50,26 +59,29 @@ whole_or_none (x ∷ xs) = sym (ap (λ b. b || is_yes (wholeness (x ∷ xs))) (s
     some : (n : ℕ) → nat_eq (length (x ∷ xs)) 0 ≡ false
     some n = grind (arith, nat_tests)
 
--- whether shares make a whole, where there are some
+-- whether shares sum to one, if there are any
 pub whole_permuted : (xs ys : List Ratio) → IsPermutation xs ys → are_whole_or_none xs ≡ are_whole_or_none ys
 whole_permuted xs ys p =
     whole_or_none xs
     ∙ ap₂ (λ n w. nat_eq n 0 || is_yes w) (sym (length_permutation xs ys p)) (wholeness-permuted xs ys p)
     ∙ sym (whole_or_none ys)
 
--- whether 2 to 64 shares make a whole
+-- whether 2 to 64 shares sum to one
 pub group_permuted : (xs ys : List Ratio) → IsPermutation xs ys → are_group_shares xs ≡ are_group_shares ys
-group_permuted xs ys p = ap₂ (λ n w. is_group_size n && is_yes w) (sym (length_permutation xs ys p)) (wholeness-permuted xs ys p)
+group_permuted xs ys p =
+    ap₂ (λ n w. is_group_size n && is_yes w) (sym (length_permutation xs ys p)) (wholeness-permuted xs ys p)
 
-marked_permuted : {T : Type 0} (marks : T → Bool) (test : List T → Bool) (xs ys : List T) → test xs ≡ test ys → IsPermutation xs ys
+marked_permuted : {T : Type 0} (marks : T → Bool) (test : List T → Bool) (xs ys : List T) → test xs ≡ test ys
+    → IsPermutation xs ys
     → where_marked marks test xs ≡ where_marked marks test ys
 marked_permuted marks test xs ys same p = ap₂ (λ a b. not a || b) (list_any-IsPermutation marks xs ys p) same
 
--- ---- what stands in a unit
+-- ---- values of a unit
 
 shares_permuted : (type : RightType) (xs ys : List Holding) → IsPermutation xs ys
     → are_whole_or_none (shares_held type xs) ≡ are_whole_or_none (shares_held type ys)
-shares_permuted type xs ys p = whole_permuted (shares_held type xs) (shares_held type ys) (filter_map_permuted (share_held type) xs ys p)
+shares_permuted type xs ys p =
+    whole_permuted (shares_held type xs) (shares_held type ys) (filter_map_permuted (share_held type) xs ys p)
 
 all_shares_permuted : (xs ys : List Holding) → IsPermutation xs ys → are_shares_whole xs ≡ are_shares_whole ys
 all_shares_permuted xs ys p =
@@ -78,17 +90,22 @@ all_shares_permuted xs ys p =
     (shares_permuted Usufruct xs ys p)
 
 few_permuted : (xs ys : List Holding) → IsPermutation xs ys → are_few xs ≡ are_few ys
-few_permuted xs ys p = ap₂ (λ m n. not (nat_lt 256 m || nat_lt 256 n)) (count_permuted is_parcel xs ys p) (count_permuted is_entry xs ys p)
+few_permuted xs ys p =
+    ap₂ (λ m n. not (nat_lt 256 m || nat_lt 256 n)) (count_permuted is_parcel xs ys p)
+    (count_permuted is_entry xs ys p)
 
-pub sound_in_any_order : (xs ys : List Holding) → IsPermutation xs ys → are_sound_together xs ≡ are_sound_together ys
+pub sound_in_any_order : (xs ys : List Holding) → IsPermutation xs ys
+    → are_sound_together xs ≡ are_sound_together ys
 sound_in_any_order xs ys p =
     ap₂ (λ a b. a && b)
     (marked_permuted is_unit are_few xs ys (few_permuted xs ys p) p)
     (marked_permuted is_checked are_shares_whole xs ys (all_shares_permuted xs ys p) p)
 
--- ---- what stands in a group
+-- ---- values of a group
 
-pub joined_in_any_order : (xs ys : List Membership) → IsPermutation xs ys → are_joined_soundly xs ≡ are_joined_soundly ys
+pub joined_in_any_order : (xs ys : List Membership) → IsPermutation xs ys
+    → are_joined_soundly xs ≡ are_joined_soundly ys
 joined_in_any_order xs ys p =
-    let same = group_permuted (member_shares xs) (member_shares ys) (filter_map_permuted member_share xs ys p) in
+    let same = group_permuted (member_shares xs) (member_shares ys)
+    (filter_map_permuted member_share xs ys p) in
     marked_permuted is_group are_members_whole xs ys same p

@@ -1,4 +1,4 @@
--- What makes units bare: that they have no parcel, or that nobody owns them.
+-- The causes of a bare unit: it has no parcel, or no owner.
 use Rattle.std.specs.Prelude.{ℕ, Bool, List, filter}
 use Rattle.land_core.specs.Units.{is_right_of}
 use Rattle.land_core.specs.declared.parcel.ParcelRecord.{ParcelRecord}
@@ -18,10 +18,10 @@ parcel_unit e = e.1.unit
 abbrev pub entry_unit : ℕ × RrrRecord → ℕ
 entry_unit e = e.1.unit
 
--- somebody owns its unit by an entry
+-- the entry is an ownership of its unit
 abbrev pub owns : Version (ℕ × RrrRecord) → Bool
 owns v = is_right_of Ownership v.what.1.class
 
--- the rights of those who own units
+-- the ownerships among entries
 abbrev pub ownerships : List (Version (ℕ × RrrRecord)) → List (Version (ℕ × RrrRecord))
 ownerships rrrs = filter owns rrrs

@@ -1,5 +1,6 @@
--- What stands together in a unit: the unit itself, its parcels and its entries.
-use Rattle.std.specs.Prelude.{ℕ, Bool, true, false, not, ◌&&◌, ◌||◌, nat_lt, List, ◌++◌, length, filter, Option, Some, None}
+-- The values that are current together in a unit: the unit itself, its parcels and its entries.
+use Rattle.std.specs.Prelude.{ℕ, Bool, true, false, not, ◌&&◌, ◌||◌, nat_lt, List, ◌++◌, length, filter}
+use Rattle.std.specs.Prelude.{Option, Some, None}
 use Rattle.std.specs.List.{filter_map}
 use Rattle.land_core.specs.Units.{are_whole_or_none}
 use Rattle.land_core.specs.declared.parcel.ParcelRecord.{ParcelRecord}
@@ -17,13 +18,13 @@ use Rattle.land_tables_lawful.specs.declared.holdings.Holding.{Holding}
 use Rattle.land_tables_lawful.specs.declared.holdings.Holding.TheVariants as held
 use Rattle.land_tables_history.specs.declared.sweeps.sweep.Lived.{Lived}
 
--- ---- what stands in a unit
+-- ---- values of a unit
 
--- a unit stands for itself
+-- a unit, with its flag `checked`
 abbrev pub unit_held : ℕ × UnitRecord → Holding
 unit_held e = held.Unit e.1.checked
 
--- a parcel stands for itself
+-- a parcel
 abbrev pub parcel_held : ℕ × ParcelRecord → Holding
 parcel_held e = held.Parcel
 
@@ -40,11 +41,11 @@ class_held (class.Restriction words) = held.Other
 class_held (class.Responsibility words) = held.Other
 class_held (class.Mortgage amount currency rank) = held.Other
 
--- an entry stands for what its class says
+-- an entry, by its class
 abbrev pub entry_held : ℕ × RrrRecord → Holding
 entry_held e = class_held e.1.class
 
--- units, parcels and entries, each in its unit as long as it stands
+-- units, parcels and entries, each under its unit during its lifespan
 abbrev pub units_lived : List (Version (ℕ × UnitRecord)) → List (Lived Holding)
 units_lived vs = all_lived (λ e. e.0) unit_held vs
 
@@ -54,11 +55,11 @@ parcels_lived vs = all_lived (λ e. e.1.unit) parcel_held vs
 abbrev pub entries_lived : List (Version (ℕ × RrrRecord)) → List (Lived Holding)
 entries_lived vs = all_lived (λ e. e.1.unit) entry_held vs
 
--- all that stands in units over time
+-- all values of units, over time
 abbrev pub holdings_in : History → List (Lived Holding)
 holdings_in h = (units_lived h.units ++ parcels_lived h.parcels) ++ entries_lived h.rrrs
 
--- ---- what it is
+-- ---- the kinds of values
 
 -- the unit itself
 abbrev pub is_unit : Holding → Bool
@@ -69,7 +70,7 @@ is_unit (held.Lease share) = false
 is_unit (held.Usufruct share) = false
 is_unit held.Other = false
 
--- the unit itself, where it is checked
+-- the unit itself, if it is checked
 abbrev pub is_checked : Holding → Bool
 is_checked (held.Unit checked) = checked
 is_checked held.Parcel = false
@@ -78,7 +79,7 @@ is_checked (held.Lease share) = false
 is_checked (held.Usufruct share) = false
 is_checked held.Other = false
 
--- a parcel of it
+-- a parcel of the unit
 abbrev pub is_parcel : Holding → Bool
 is_parcel (held.Unit checked) = false
 is_parcel held.Parcel = true
@@ -87,7 +88,7 @@ is_parcel (held.Lease share) = false
 is_parcel (held.Usufruct share) = false
 is_parcel held.Other = false
 
--- an entry of it: a right or another one
+-- an entry of the unit: a right or another one
 abbrev pub is_entry : Holding → Bool
 is_entry (held.Unit checked) = false
 is_entry held.Parcel = false
@@ -96,30 +97,30 @@ is_entry (held.Lease share) = true
 is_entry (held.Usufruct share) = true
 is_entry held.Other = true
 
--- the share of a right of a type
+-- the share of a right of this type
 abbrev pub share_held : RightType → Holding → Option Ratio
 share_held Ownership (held.Ownership share) = Some share
 share_held Lease (held.Lease share) = Some share
 share_held Usufruct (held.Usufruct share) = Some share
 share_held type holding = None
 
--- ---- what is asked of it together
+-- ---- conditions on all values together
 
--- the shares of the rights of a type
+-- the shares of the rights of this type
 abbrev pub shares_held : RightType → List Holding → List Ratio
 shares_held type xs = filter_map (share_held type) xs
 
--- the shares of each type of right that occurs make a whole
+-- the shares of each type of right that occurs sum to one
 abbrev pub are_shares_whole : List Holding → Bool
 are_shares_whole xs =
     are_whole_or_none (shares_held Ownership xs)
     && are_whole_or_none (shares_held Lease xs)
     && are_whole_or_none (shares_held Usufruct xs)
 
--- not more than 256 parcels, and not more than 256 entries
+-- at most 256 parcels, and at most 256 entries
 abbrev pub are_few : List Holding → Bool
 are_few xs = not (nat_lt 256 (length (filter is_parcel xs)) || nat_lt 256 (length (filter is_entry xs)))
 
--- in a checked unit the shares are whole, and in each unit there are few
+-- in a checked unit the shares sum to one, and each unit is within limits
 abbrev pub are_sound_together : List Holding → Bool
 are_sound_together xs = where_marked is_unit are_few xs && where_marked is_checked are_shares_whole xs

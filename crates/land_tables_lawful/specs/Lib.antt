@@ -1,4 +1,4 @@
--- Definitions of what is asked of a history at all moments.
+-- Definitions of the conditions on a history at all commits.
 pub mod Administrator
 pub mod AnyOrder
 pub mod ApartSpans

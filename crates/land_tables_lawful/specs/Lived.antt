@@ -1,25 +1,25 @@
--- What versions stand for under a key, as long as they stand.
+-- Values under a key, with the lifespans of versions.
 use Rattle.std.specs.Prelude.{ℕ, ℤ, Bool, not, ◌||◌, List, map as map_list}
 use Rattle.std.specs.List.{list_any}
 use Rattle.land_tables_history.specs.declared.version.Version.{Version}
 use Rattle.land_tables_history.specs.declared.sweeps.sweep.Lived.{Lived}
 
--- something stands under a key, from a moment on and before another
+-- a value under a key, with a lifespan
 abbrev pub lived_at : {T : Type 0} → (key : ℕ) → (what : T) → (since until : ℤ) → Lived T
 lived_at key what since until = record { key = key; since = since; until = until; what = what }
 
--- a version stands for something under a key, as long as it stands
+-- the value of a version under a key, with its lifespan
 abbrev pub lived_by : {X T : Type 0} → (key : X → ℕ) → (what : X → T) → Version X → Lived T
 lived_by key what v = lived_at (key v.what) (what v.what) v.since v.until
 
--- the same of each version of a list
+-- likewise for each version of a list
 abbrev pub all_lived : {X T : Type 0} → (key : X → ℕ) → (what : X → T) → List (Version X) → List (Lived T)
 all_lived key what vs = map_list (lived_by key what) vs
 
--- the same without keys and times
+-- only the values
 abbrev pub what_stands : {T : Type 0} → List (Lived T) → List T
 what_stands xs = map_list (λ x. x.what) xs
 
--- where something that is marked is among what stands together, it all passes a test
+-- if one of the values is marked, all values together pass a test
 abbrev pub where_marked : {T : Type 0} → (marks : T → Bool) → (List T → Bool) → List T → Bool
 where_marked marks test xs = not (list_any marks xs) || test xs

@@ -1,4 +1,4 @@
--- Mutations under their lodgers and references.
+-- Mutations by lodger and reference.
 use Rattle.std.specs.Prelude.{ℕ, List}
 use Rattle.std.specs.Borrow.{Bor}
 use Rattle.land_core.specs.declared.mutation.MutationRecord.{MutationRecord}
@@ -6,14 +6,14 @@ use Rattle.land_tables_history.specs.declared.version.Version.{Version}
 use Rattle.land_tables_lawful.specs.ApartSpans.{span_at}
 use Rattle.land_tables_history.specs.declared.sweeps.apart.Span.{Span}
 
--- a mutation's lodger, and what the lodger calls it
+-- a mutation's lodger, and the reference that the lodger chose
 abbrev pub lodging_of : MutationRecord → ℕ × List ℕ
 lodging_of m = (m.lodger, m.reference)
 
--- the lifespan of a mutation, under its lodger and reference
+-- the lifespan of a mutation, with its lodger and reference
 abbrev pub lodged : Version (ℕ × MutationRecord) → Span (ℕ × List ℕ)
 lodged v = span_at v (lodging_of v.what.1)
 
--- the same span with the reference itself, where that is lent
+-- the same span, with the borrowed reference dereferenced
 abbrev pub shown : Span (ℕ × Bor (List ℕ)) → Span (ℕ × List ℕ)
 shown s = record { key = (s.key.0, s.key.1.now); since = s.since; until = s.until }

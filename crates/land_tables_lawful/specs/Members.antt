@@ -8,7 +8,7 @@ use Rattle.land_tables_lawful.specs.Pieces.{pieces}
 use Rattle.land_tables_lawful.specs.Roles.{single_parties}
 use Rattle.land_tables_history.specs.declared.sweeps.cover.Piece.{Piece}
 
--- a party is a group in each version that says so
+-- a party is a group in each version of that kind
 abbrev pub is_of_group : Version (ℕ × PartyRecord) → Bool
 is_of_group v = not (is_single v.what.1.kind)
 
@@ -22,10 +22,10 @@ group_of member = member.group
 abbrev pub party_of : GroupMember → ℕ
 party_of member = member.member.party
 
--- groups are offered, and asked for by their members
+-- groups are provided, and required by their members
 abbrev pub group_pieces : List (Version (ℕ × PartyRecord)) → List (Version GroupMember) → List Piece
 group_pieces parties members = pieces (λ p. p.0) (group_parties parties) group_of members
 
--- single parties are offered, and asked for where they are members
+-- single parties are provided, and required if they are members
 abbrev pub member_pieces : List (Version (ℕ × PartyRecord)) → List (Version GroupMember) → List Piece
 member_pieces parties members = pieces (λ p. p.0) (single_parties parties) party_of members

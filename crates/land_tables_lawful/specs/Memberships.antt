@@ -1,4 +1,4 @@
--- What stands together in a group: the group itself and its members.
+-- The values that are current together in a group: the group itself and its members.
 use Rattle.std.specs.Prelude.{ℕ, Bool, true, false, not, List, ◌++◌, filter, Option, Some, None}
 use Rattle.std.specs.List.{filter_map}
 use Rattle.land_core.specs.Members.{are_group_shares}
@@ -13,11 +13,11 @@ use Rattle.land_tables_lawful.specs.declared.groups.Membership.{Membership}
 use Rattle.land_tables_lawful.specs.declared.groups.Membership.TheVariants as membership
 use Rattle.land_tables_history.specs.declared.sweeps.sweep.Lived.{Lived}
 
--- a party that is a group stands for itself
+-- a party that is a group
 abbrev pub group_joined : ℕ × PartyRecord → Membership
 group_joined e = membership.Group
 
--- a member stands for its share
+-- a member, with its share
 abbrev pub member_joined : GroupMember → Membership
 member_joined m = membership.Member m.member.share
 
@@ -25,14 +25,14 @@ member_joined m = membership.Member m.member.share
 abbrev pub groups_among : List (Version (ℕ × PartyRecord)) → List (Version (ℕ × PartyRecord))
 groups_among parties = filter (λ v. not (is_single v.what.1.kind)) parties
 
--- groups and members, each in its group as long as it stands
+-- groups and members, each under its group during its lifespan
 abbrev pub groups_lived : List (Version (ℕ × PartyRecord)) → List (Lived Membership)
 groups_lived parties = all_lived (λ e. e.0) group_joined (groups_among parties)
 
 abbrev pub members_lived : List (Version GroupMember) → List (Lived Membership)
 members_lived vs = all_lived (λ m. m.group) member_joined vs
 
--- all that stands in groups over time
+-- all values of groups, over time
 abbrev pub memberships_in : History → List (Lived Membership)
 memberships_in h = groups_lived h.parties ++ members_lived h.members
 
@@ -50,10 +50,10 @@ member_share (membership.Member share) = Some share
 abbrev pub member_shares : List Membership → List Ratio
 member_shares xs = filter_map member_share xs
 
--- 2 to 64 members whose shares make a whole
+-- 2 to 64 members whose shares sum to one
 abbrev pub are_members_whole : List Membership → Bool
 are_members_whole xs = are_group_shares (member_shares xs)
 
--- where there is a group, its members are whole
+-- if there is a group, the shares of its members sum to one
 abbrev pub are_joined_soundly : List Membership → Bool
 are_joined_soundly xs = where_marked is_group are_members_whole xs

@@ -1,4 +1,4 @@
--- Mutations with the units that they name.
+-- Mutations with the units that they refer to.
 use Rattle.std.specs.Prelude.{◌≡◌, ℕ, true, List, [], ◌∷◌, map as map_list}
 use Rattle.std.specs.List.{All}
 use Rattle.land_core.specs.declared.mutation.MutationRecord.{MutationRecord}
@@ -9,19 +9,20 @@ use Rattle.land_tables_history.specs.declared.history.History.{History}
 use Rattle.land_tables_history.specs.declared.moment.Moment.{Moment}
 use Rattle.land_tables_history.specs.declared.naming.Naming.{Naming}
 
--- a mutation with some units
+-- a mutation with each of these units
 abbrev pub with_units : (mutation : ℕ) → (units : List ℕ) → List (ℕ × ℕ)
 with_units mutation units = map_list (λ unit. (mutation, unit)) units
 
--- a mutation with each unit that its content names
+-- a mutation with each unit that its content refers to
 abbrev pub named_pairs : ℕ × MutationRecord → List (ℕ × ℕ)
 named_pairs m = with_units m.0 (named_units m.1.content)
 
--- the mutation of a naming with its unit
+-- a row of `names` as a pair
 abbrev pub naming_pair : Naming → List (ℕ × ℕ)
 naming_pair n = (n.mutation, n.unit) ∷ []
 
--- at each moment the namings that stand are those that the register's mutations name
+-- at each commit, the current rows of `names` are the references of the register's mutations
 abbrev pub NamingsAgree : List Moment → History → Type 0
 NamingsAgree moments h =
-    All (λ m. are_same_namings (standing m.stamp h.namings) (namings_of (register_at m.stamp h m.next).mutations) ≡ true) moments
+    All (λ m. are_same_namings (standing m.stamp h.namings)
+    (namings_of (register_at m.stamp h m.next).mutations) ≡ true) moments

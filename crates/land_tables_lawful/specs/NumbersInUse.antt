@@ -1,5 +1,6 @@
--- Numbers that are in use when what has them begins to stand.
-use Rattle.std.specs.Prelude.{ℕ, ℤ, Bool, true, not, ◌&&◌, nat_lt, List, [], ◌∷◌, Option, Some, None, if◌then◌else◌}
+-- Numbers that are in range when their versions start.
+use Rattle.std.specs.Prelude.{ℕ, ℤ, Bool, true, not, ◌&&◌, nat_lt, List, [], ◌∷◌, Option, Some, None}
+use Rattle.std.specs.Prelude.{if◌then◌else◌}
 use Rattle.std.specs.List.{list_all}
 use Rattle.std.specs.Ordering.{int_eq}
 use Rattle.land_core.specs.Units.{rank_of}
@@ -8,16 +9,16 @@ use Rattle.land_tables_history.specs.declared.history.History.{History}
 use Rattle.land_tables_history.specs.declared.moment.Moment.{Moment}
 use Rattle.land_tables_history.specs.declared.version.Version.{Version}
 
--- the next number at a stamp, 0 where no moment has it
+-- the next number at a stamp, or 0 if it is not the stamp of a commit
 abbrev pub next_since : List Moment → ℤ → ℕ
 next_since [] t = 0
 next_since (m ∷ ms) t = if int_eq m.stamp t then m.next else next_since ms t
 
--- a number is at least 1 and below the next one
+-- a number is at least 1, and below the next number
 abbrev pub is_used : (number next : ℕ) → Bool
 is_used number next = nat_lt 0 number && nat_lt number next
 
--- the same of a rank, where there is one
+-- likewise for a rank, if there is one
 abbrev pub is_used_rank : Option ℕ → (next : ℕ) → Bool
 is_used_rank None next = true
 is_used_rank (Some rank) next = is_used rank next
@@ -31,17 +32,20 @@ has_used_rank e next = is_used_rank (rank_of e.1.class) next
 abbrev pub has_used_numbers : ℕ × RrrRecord → (next : ℕ) → Bool
 has_used_numbers e next = is_used e.0 next && is_used_rank (rank_of e.1.class) next
 
--- what stands passes a test by the next number when it begins to stand
+-- a version passes a test, by the next number at its start
 abbrev pub passes_since : {X : Type 0} → (X → ℕ → Bool) → List Moment → Version X → Bool
 passes_since test moments v = test v.what (next_since moments v.since)
 
--- numbers are left at each moment
+-- numbers are left at each commit
 abbrev pub are_numbers_left : List Moment → Bool
 are_numbers_left moments = list_all (λ m. not (nat_lt 1000000001 m.next)) moments
 
--- numbers are left, and all that have been given are in use when what has them begins to stand
+-- numbers are left, and all numbers and ranks are in range when their versions start
 abbrev pub are_all_used : List Moment → History → Bool
 are_all_used ms h =
-    are_numbers_left ms && list_all (passes_since has_used_number ms) h.parties && list_all (passes_since has_used_number ms) h.units
-    && list_all (passes_since has_used_number ms) h.parcels && list_all (passes_since has_used_numbers ms) h.rrrs
-    && list_all (passes_since has_used_number ms) h.sources && list_all (passes_since has_used_number ms) h.mutations
+    are_numbers_left ms && list_all (passes_since has_used_number ms) h.parties
+    && list_all (passes_since has_used_number ms) h.units
+    && list_all (passes_since has_used_number ms) h.parcels
+    && list_all (passes_since has_used_numbers ms) h.rrrs
+    && list_all (passes_since has_used_number ms) h.sources
+    && list_all (passes_since has_used_number ms) h.mutations

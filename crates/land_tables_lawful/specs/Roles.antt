@@ -4,7 +4,7 @@ use Rattle.land_core.specs.Register.{is_single}
 use Rattle.land_core.specs.declared.party.PartyRecord.{PartyRecord}
 use Rattle.land_tables_history.specs.declared.version.Version.{Version}
 
--- a party is a single one in each version that says so: its kind may change from version to version
+-- a party is single in each version of that kind; its kind may change from version to version
 abbrev pub is_of_single : Version (ℕ × PartyRecord) → Bool
 is_of_single v = is_single v.what.1.kind
 

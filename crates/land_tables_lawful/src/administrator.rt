@@ -1,9 +1,10 @@
-//! Whether somebody can administer the register, at each moment.
-ghost use Rattle.std.specs.Prelude.{◌≡◌, ◌↔◌, ◌++◌, pos, true, not, IfOk, int_lt};
+//! Checks that there is an administrator, at each commit.
+ghost use Rattle.std.specs.Prelude.{◌≡◌, ◌↔◌, ◌++◌, true, not, IfOk, int_lt};
 ghost use Rattle.land_core.specs.Role.{is_role};
 ghost use Rattle.land_core.specs.Soundness.{has_administrator};
 ghost use Rattle.land_core.specs.declared.role.Role.TheVariants.{StateAdministrator};
 ghost use Rattle.land_tables_history.specs.Intervals.{has_intervals};
+ghost use Rattle.land_tables_history.specs.Open.{never};
 ghost use Rattle.land_tables_lawful.specs.Administrator.{asked_instants, instant, offered_administrators};
 ghost use Rattle.land_tables_lawful.specs.Never.{Never};
 ghost use Rattle.land_tables_lawful.specs.Pieces.{are_in_time, asked_piece};
@@ -17,7 +18,8 @@ use land_tables_history::sweeps::cover::{Piece, is_covered};
 use land_tables_history::version::Version;
 use std::alloc::{AllocError, Global};
 
-/// Whether some party is state administrator, at each moment.
+/// Returns whether some party is state administrator at each commit. Returns an error only if it is out of
+/// memory.
 pub(crate) fn has_administrators(
     alloc: Global,
     history: &History,
@@ -25,7 +27,8 @@ pub(crate) fn has_administrators(
 ) -> Result<bool, AllocError>
     requires intervals { has_intervals moments.now history.now ≡ true }
     requires in_time { are_in_time moments.now ≡ true }
-    ensures { IfOk result (λ it. (it ≡ true) ↔ Never (λ r. not (has_administrator r)) moments.now history.now) }
+    ensures { IfOk result (λ it. (it ≡ true) ↔ Never
+        (λ r. not (has_administrator r)) moments.now history.now) }
 {
     let mut pieces = Vec::new(alloc);
     offer_administrators(&mut pieces, history.roles.as_slice())?;
@@ -33,7 +36,7 @@ pub(crate) fn has_administrators(
     Ok(is_covered(&mut pieces))
 }
 
-/// Offers state administrators under one key, as long as they are so.
+/// Adds a provided span for each state administrator, under one key.
 fn offer_administrators(pieces: &mut Vec<Piece>, roles: &[Version<Grant>]) -> Result<(), AllocError>
     ensures { IfOk result (λ it. pieces.new.items ≡ pieces.old.items ++ offered_administrators roles.now) }
 {
@@ -51,7 +54,7 @@ fn is_administrator(role: Role) -> bool
     role == Role::StateAdministrator
 }
 
-/// Asks for one of them at each moment.
+/// Adds a required span for each commit.
 fn ask_at_moments(pieces: &mut Vec<Piece>, moments: &[Moment]) -> Result<(), AllocError>
     requires { are_in_time moments.now ≡ true }
     ensures { IfOk result (λ it. pieces.new.items ≡ pieces.old.items ++ asked_instants moments.now) }
@@ -62,9 +65,9 @@ fn ask_at_moments(pieces: &mut Vec<Piece>, moments: &[Moment]) -> Result<(), All
     Ok(())
 }
 
-/// A moment asks at its stamp alone.
+/// Returns the required span of a commit, which contains only its stamp.
 fn asked_at(moment: &Moment) -> Piece
-    requires { int_lt moment.now.stamp (pos 4102444800000) ≡ true }
+    requires { int_lt moment.now.stamp never ≡ true }
     ensures { result ≡ asked_piece (λ m. 0) (instant moment.now) }
 {
     Piece {

@@ -1,11 +1,10 @@
-//! Whether units have parcels and owners, at each moment.
-ghost use Rattle.std.specs.List.{list_all};
-ghost use Rattle.std.specs.Prelude.{◌≡◌, ◌↔◌, ◌++◌, true, map as map_list, IfOk, OnOk, int_lt};
+//! Checks that units have parcels and owners, at each commit.
+ghost use Rattle.std.specs.Prelude.{◌≡◌, ◌↔◌, ◌++◌, true, map as map_list, IfOk, OnOk};
 ghost use Rattle.land_core.specs.Soundness.{has_bare_unit};
 ghost use Rattle.land_tables_history.specs.Intervals.{has_intervals};
 ghost use Rattle.land_tables_lawful.specs.BareUnits.{entry_unit, number_of, ownerships, owns, parcel_unit};
 ghost use Rattle.land_tables_lawful.specs.Never.{Never};
-ghost use Rattle.land_tables_lawful.specs.Pieces.{are_in_time, offered_piece, pieces};
+ghost use Rattle.land_tables_lawful.specs.Pieces.{AreNonempty, are_in_time, offered_piece, pieces};
 ghost use Rattle.land_tables_history.specs.Sweeps.Cover.{IsCovered};
 
 use crate::pieces::offered;
@@ -18,7 +17,8 @@ use land_tables_history::sweeps::cover::{Piece, is_covered};
 use land_tables_history::version::Version;
 use std::alloc::{AllocError, Global};
 
-/// Whether each unit has a parcel and an owner as long as it stands, at each moment.
+/// Returns whether each unit has a parcel and an owner throughout its lifespan. Returns an error only if it
+/// is out of memory.
 pub(crate) fn have_parcels_and_owners(
     alloc: Global,
     history: &History,
@@ -33,10 +33,11 @@ pub(crate) fn have_parcels_and_owners(
     Ok(parcels & owners)
 }
 
-/// Whether each unit has a parcel as long as it stands.
+/// Returns whether each unit has a parcel throughout its lifespan.
 fn have_parcels(alloc: Global, history: &History) -> Result<bool, AllocError>
-    requires { list_all (λ x. int_lt x.since x.until) (pieces parcel_unit history.now.parcels number_of history.now.units) ≡ true }
-    ensures { IfOk result (λ it. (it ≡ true) ↔ IsCovered (pieces parcel_unit history.now.parcels number_of history.now.units)) }
+    requires { AreNonempty (pieces parcel_unit history.now.parcels number_of history.now.units) }
+    ensures { IfOk result (λ it. (it ≡ true) ↔ IsCovered
+        (pieces parcel_unit history.now.parcels number_of history.now.units)) }
 {
     let mut pieces = Vec::new(alloc);
     offer_parcels(&mut pieces, history.parcels.as_slice())?;
@@ -44,10 +45,11 @@ fn have_parcels(alloc: Global, history: &History) -> Result<bool, AllocError>
     Ok(is_covered(&mut pieces))
 }
 
-/// Whether somebody owns each unit as long as it stands.
+/// Returns whether each unit has an owner throughout its lifespan.
 fn have_owners(alloc: Global, history: &History) -> Result<bool, AllocError>
-    requires { list_all (λ x. int_lt x.since x.until) (pieces entry_unit (ownerships history.now.rrrs) number_of history.now.units) ≡ true }
-    ensures { IfOk result (λ it. (it ≡ true) ↔ IsCovered (pieces entry_unit (ownerships history.now.rrrs) number_of history.now.units)) }
+    requires { AreNonempty (pieces entry_unit (ownerships history.now.rrrs) number_of history.now.units) }
+    ensures { IfOk result (λ it. (it ≡ true) ↔ IsCovered
+        (pieces entry_unit (ownerships history.now.rrrs) number_of history.now.units)) }
 {
     let mut pieces = Vec::new(alloc);
     offer_ownerships(&mut pieces, history.rrrs.as_slice())?;
@@ -55,12 +57,13 @@ fn have_owners(alloc: Global, history: &History) -> Result<bool, AllocError>
     Ok(is_covered(&mut pieces))
 }
 
-/// Offers the unit of each parcel, as long as the parcel stands.
+/// Adds a provided span for the unit of each parcel.
 fn offer_parcels(
     pieces: &mut Vec<Piece>,
     parcels: &[Version<(u64, ParcelRecord)>],
 ) -> Result<(), AllocError>
-    ensures { OnOk result (pieces.new.items ≡ pieces.old.items ++ map_list (offered_piece parcel_unit) parcels.now) }
+    ensures { OnOk result (pieces.new.items ≡ pieces.old.items
+        ++ map_list (offered_piece parcel_unit) parcels.now) }
 {
     for parcel in parcels {
         pieces.push(offered(parcel.what.1.unit, parcel))?;
@@ -68,12 +71,13 @@ fn offer_parcels(
     Ok(())
 }
 
-/// Offers the unit of each entry by which somebody owns it, as long as the entry stands.
+/// Adds a provided span for the unit of each ownership.
 fn offer_ownerships(
     pieces: &mut Vec<Piece>,
     rrrs: &[Version<(u64, RrrRecord)>],
 ) -> Result<(), AllocError>
-    ensures { OnOk result (pieces.new.items ≡ pieces.old.items ++ map_list (offered_piece entry_unit) (ownerships rrrs.now)) }
+    ensures { OnOk result (pieces.new.items ≡ pieces.old.items
+        ++ map_list (offered_piece entry_unit) (ownerships rrrs.now)) }
 {
     for entry in rrrs {
         if owns(entry) {
@@ -83,7 +87,7 @@ fn offer_ownerships(
     Ok(())
 }
 
-/// Whether somebody owns its unit by an entry.
+/// Returns whether an entry is an ownership.
 fn owns(entry: &Version<(u64, RrrRecord)>) -> bool
     ensures { result ≡ owns entry.now }
 {

@@ -1,4 +1,4 @@
-//! Whether entries that do not go together stand at one moment.
+//! Checks that no two entries of a unit conflict at a commit.
 ghost use Rattle.std.specs.Prelude.{◌≡◌, ◌↔◌, true, IfOk};
 ghost use Rattle.land_core.specs.Soundness.{has_clash};
 ghost use Rattle.land_tables_history.specs.Intervals.{has_intervals};
@@ -13,18 +13,19 @@ use land_tables_history::sweeps::apart::{Span, are_apart};
 use land_tables_history::version::Version;
 use std::alloc::{AllocError, Global};
 
-/// A place in a unit that one entry alone may take at a moment.
+/// The key of an entry that must be unique in its unit.
 #[derive(Clone, Copy, Debug, PartialEq, Eq, PartialOrd, Ord)]
 pub(crate) struct Place {
-    /// The type of a right, 0 to 2; 3 of a mortgage.
+    /// The type of a right, 0 to 2, or 3 for a mortgage.
     kind: u64,
     /// The number of the unit.
     unit: u64,
-    /// The number of the party that has the right, or the rank of the mortgage.
+    /// The number of the party of the right, or the rank of the mortgage.
     holder: u64,
 }
 
-/// Whether in no unit a party has two rights of one type, and no two mortgages are of one rank, at each moment.
+/// Returns whether at each commit no party has two rights of one type in a unit, and no two mortgages of a
+/// unit have the same rank. Returns an error only if it is out of memory.
 pub(crate) fn do_not_clash(
     alloc: Global,
     history: &History,
@@ -56,7 +57,7 @@ fn spans_of(
     Ok(spans)
 }
 
-/// The place that an entry takes, if it is a right or a mortgage.
+/// Returns the key of an entry, if it is a right or a mortgage.
 fn place_of(entry: &RrrRecord) -> Option<Place>
     ensures { result ≡ place_of entry.now }
 {

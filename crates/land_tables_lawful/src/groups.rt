@@ -1,4 +1,4 @@
-//! Whether groups are whole at each moment: 2 to 64 members whose shares make a whole.
+//! Checks the shares of groups at each commit: 2 to 64 members whose shares sum to one.
 ghost use Rattle.std.specs.List.{list_any};
 ghost use Rattle.std.specs.Prelude.{◌≡◌, ◌↔◌, ◌++◌, true, IfOk, length, refl};
 ghost use Rattle.land_core.specs.Members.{is_group_size, is_yes};
@@ -7,7 +7,8 @@ ghost use Rattle.land_fraction.specs.Wholeness.{wholeness};
 ghost use Rattle.land_tables_history.specs.Intervals.{has_intervals};
 ghost use Rattle.land_tables_lawful.specs.AnyOrder.{joined_in_any_order};
 ghost use Rattle.land_tables_lawful.specs.Lived.{what_stands};
-ghost use Rattle.land_tables_lawful.specs.Memberships.{are_joined_soundly, are_members_whole, groups_lived, is_group, member_share, member_shares, members_lived};
+ghost use Rattle.land_tables_lawful.specs.Memberships.{are_joined_soundly, are_members_whole, groups_lived};
+ghost use Rattle.land_tables_lawful.specs.Memberships.{is_group, member_share, member_shares, members_lived};
 ghost use Rattle.land_tables_lawful.specs.Never.{Never};
 ghost use Rattle.land_tables_lawful.specs.Pieces.{are_in_time};
 
@@ -22,14 +23,14 @@ use land_tables_history::sweeps::sweep::{Judged, Lived, are_sound};
 use land_tables_history::version::Version;
 use std::alloc::{AllocError, Global};
 
-/// What stands in a group, as far as it is judged.
+/// A value of a group, as needed for the check.
 #[derive(Clone, Copy, Debug, PartialEq, Eq, PartialOrd, Ord)]
 pub(crate) enum Membership {
     /// The group itself.
     Group,
     /// A member.
     Member {
-        /// Its share.
+        /// The share.
         share: Fraction,
     },
 }
@@ -44,7 +45,7 @@ impl Membership {
         }
     }
 
-    /// The share of a member.
+    /// Returns the share of a member.
     fn share(self) -> Option<Fraction>
         ensures { result ≡ member_share self }
     {
@@ -67,7 +68,8 @@ impl Judged for Membership {
     ghost in_any_order = { λ xs ys p. joined_in_any_order xs ys p };
 }
 
-/// Whether at each moment each group has 2 to 64 members whose shares make a whole.
+/// Returns whether each group has 2 to 64 members whose shares sum to one, at each commit. Returns an error
+/// only if it is out of memory.
 pub(crate) fn are_groups_whole(
     alloc: Global,
     history: &History,
@@ -85,7 +87,7 @@ pub(crate) fn are_groups_whole(
     are_sound(alloc, &mut lived)
 }
 
-/// The groups, and their members, as long as they stand.
+/// Returns the groups and their members, each with its lifespan.
 fn memberships_in(
     alloc: Global,
     parties: &[Version<(u64, PartyRecord)>],
@@ -112,14 +114,14 @@ fn has_group(there: &[Lived<Membership>]) -> bool
     there.iter().any(|one| one.what.is_group())
 }
 
-/// Whether there are 2 to 64 members whose shares make a whole.
+/// Returns whether there are 2 to 64 members whose shares sum to one.
 fn are_members_whole(alloc: Global, there: &[Lived<Membership>]) -> Result<bool, AllocError>
     ensures { IfOk result (λ it. it ≡ are_members_whole (what_stands there.now)) }
 {
     Ok(is_group_size(there) && are_whole(alloc, there)?)
 }
 
-/// Whether there are 2 to 64 members.
+/// Returns whether there are 2 to 64 members.
 fn is_group_size(there: &[Lived<Membership>]) -> bool
     ensures { result ≡ is_group_size (length (member_shares (what_stands there.now))) }
 {

@@ -1,8 +1,11 @@
-//! What stands together in a unit, and what is asked of it: shares that make a whole, and few parcels and entries.
+//! Conditions on the values of a unit that are current together: shares sum to one, and there are at most 256
+//! parcels and 256 entries.
 ghost use Rattle.std.specs.List.{list_any};
 ghost use Rattle.std.specs.Prelude.{◌≡◌, IfOk};
 ghost use Rattle.land_core.specs.Units.{are_whole_or_none};
-ghost use Rattle.land_tables_lawful.specs.Holdings.{are_few, are_shares_whole, class_held, is_checked, is_entry, is_parcel, is_unit, right_held, share_held, shares_held};
+ghost use Rattle.land_tables_lawful.specs.Holdings.{are_few, are_shares_whole, class_held, is_checked};
+ghost use Rattle.land_tables_lawful.specs.Holdings.{is_entry, is_parcel, is_unit, right_held, share_held};
+ghost use Rattle.land_tables_lawful.specs.Holdings.{shares_held};
 ghost use Rattle.land_tables_lawful.specs.Lived.{what_stands, where_marked};
 
 use land_core::rrr::{Class, RightType};
@@ -10,37 +13,37 @@ use land_fraction::{Fraction, Whole, is_whole};
 use land_tables_history::sweeps::sweep::Lived;
 use std::alloc::{AllocError, Global};
 
-/// What stands in a unit, as far as it is judged.
+/// A value of a unit, as needed for the check.
 #[derive(Clone, Copy, Debug, PartialEq, Eq, PartialOrd, Ord)]
 pub(crate) enum Holding {
     /// The unit itself.
     Unit {
-        /// Whether it is checked.
+        /// Whether its shares must sum to one.
         checked: bool,
     },
     /// A parcel.
     Parcel,
-    /// A right to own.
+    /// An ownership.
     Ownership {
-        /// Its share.
+        /// The share.
         share: Fraction,
     },
-    /// A right to use for rent.
+    /// A lease.
     Lease {
-        /// Its share.
+        /// The share.
         share: Fraction,
     },
-    /// A right to use and to take the fruits.
+    /// A usufruct.
     Usufruct {
-        /// Its share.
+        /// The share.
         share: Fraction,
     },
-    /// An entry that is no right.
+    /// An entry that is not a right.
     Other,
 }
 
 impl Holding {
-    /// What an entry is, by its class.
+    /// Returns the value of an entry, by its class.
     pub(crate) fn of_class(class: &Class) -> Holding
         ensures { result ≡ class_held class.now }
     {
@@ -96,7 +99,7 @@ impl Holding {
         }
     }
 
-    /// The share of a right of a type.
+    /// Returns the share of a right of this type, `None` for other values.
     fn share_of(self, wanted: RightType) -> Option<Fraction>
         ensures { result ≡ share_held wanted self }
     {
@@ -109,7 +112,8 @@ impl Holding {
     }
 }
 
-/// Whether there are few parcels and entries, where a unit is among what stands together. Up to 256 of all are few.
+/// Returns whether there are at most 256 parcels and 256 entries, if the unit itself is current. If there are
+/// at most 256 values in all, this is so without counting.
 pub(crate) fn are_few_in_unit(there: &[Lived<Holding>]) -> bool
     ensures { result ≡ where_marked is_unit are_few (what_stands there.now) }
 {
@@ -131,7 +135,7 @@ fn has_checked(there: &[Lived<Holding>]) -> bool
     there.iter().any(|one| one.what.is_checked())
 }
 
-/// Whether there are not more than 256 parcels, and not more than 256 entries.
+/// Returns whether there are at most 256 parcels and at most 256 entries.
 fn are_few(there: &[Lived<Holding>]) -> bool
     ensures { result ≡ are_few (what_stands there.now) }
 {
@@ -147,7 +151,8 @@ fn are_few(there: &[Lived<Holding>]) -> bool
     true
 }
 
-/// Whether the shares of each type of right that occurs make a whole, where a checked unit is among what stands together.
+/// Returns whether the shares of each type of right that occurs sum to one, if the unit is current and
+/// checked. Returns an error only if it is out of memory.
 pub(crate) fn are_whole_in_checked_unit(
     alloc: Global,
     there: &[Lived<Holding>],
@@ -178,7 +183,7 @@ fn is_type_whole(
     Ok(are_whole_or_none(shares.as_slice()))
 }
 
-/// The shares of the rights of a type. Where there are none, that takes no memory.
+/// Returns the shares of the rights of this type. Allocates only if there are any.
 fn shares_of(
     alloc: Global,
     there: &[Lived<Holding>],

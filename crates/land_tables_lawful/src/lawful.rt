@@ -1,4 +1,4 @@
-//! Which histories are lawful.
+//! Decides whether a history is valid.
 ghost use Rattle.std.specs.Prelude.{◌≡◌, ◌↔◌, ◌&&◌, true, IfOk};
 ghost use Rattle.land_tables_history.specs.Intervals.{has_intervals};
 ghost use Rattle.land_tables_history.specs.Lawful.{IsLawful};
@@ -24,9 +24,11 @@ use land_tables_history::history::History;
 use land_tables_history::moment::Moment;
 use std::alloc::{AllocError, Global};
 
-/// Whether the register at each moment is sound, its mutations name the units that they are listed with, the next number never falls, no
-/// two moments have one stamp, and there is a moment. Each condition is judged for all moments at once, by one pass over versions in order.
-/// This takes lifespans that are as they may be, and moments before the end of what stands.
+/// Returns whether a history is valid: at each commit the register is sound and its mutations refer to the
+/// units that they are listed with; the next number never decreases; stamps are distinct; and there is a
+/// commit. Each condition is checked for all commits in one sort and one pass, because a check of each
+/// version of the register would take quadratic time. Requires valid intervals and stamps before `NEVER`.
+/// Returns an error only if it is out of memory.
 pub fn is_lawful(alloc: Global, history: &History, moments: &[Moment]) -> Result<bool, AllocError>
     requires intervals { has_intervals moments.now history.now ≡ true }
     requires in_time { are_in_time moments.now ≡ true }
@@ -35,7 +37,7 @@ pub fn is_lawful(alloc: Global, history: &History, moments: &[Moment]) -> Result
     if !are_moments(alloc, moments)? {
         return Ok(false);
     }
-    // First, so that what stands under a number that nothing has is never walked again and again.
+    // References first: under a dangling number the later sweeps would walk the same rows again and again.
     if !do_refer(alloc, history, moments)? {
         return Ok(false);
     }
@@ -46,7 +48,8 @@ pub fn is_lawful(alloc: Global, history: &History, moments: &[Moment]) -> Result
     Ok(are_four(numbers, wholes, once, named))
 }
 
-/// Whether what is referred to stands, and is of the kind that is asked for.
+/// Returns whether each reference is to an existing record of the right kind, throughout the lifespan of the
+/// referring record.
 fn do_refer(alloc: Global, history: &History, moments: &[Moment]) -> Result<bool, AllocError>
     requires intervals { has_intervals moments.now history.now ≡ true }
     requires in_time { are_in_time moments.now ≡ true }
@@ -61,7 +64,8 @@ fn do_refer(alloc: Global, history: &History, moments: &[Moment]) -> Result<bool
     Ok(are_all(roles, members, parcels, entries, mutations, mandates))
 }
 
-/// Whether units have what each unit has, shares make wholes, and somebody can administer the register.
+/// Returns whether units are within limits and have a parcel and an owner, shares sum to one, and there is an
+/// administrator.
 fn are_whole(alloc: Global, history: &History, moments: &[Moment]) -> Result<bool, AllocError>
     requires intervals { has_intervals moments.now history.now ≡ true }
     requires in_time { are_in_time moments.now ≡ true }
@@ -74,7 +78,7 @@ fn are_whole(alloc: Global, history: &History, moments: &[Moment]) -> Result<boo
     Ok(are_four(units, bare, groups, administrator))
 }
 
-/// Whether nothing is there twice that may be there once.
+/// Returns whether no entry and no reference of a lodger is duplicated.
 fn are_once(alloc: Global, history: &History, moments: &[Moment]) -> Result<bool, AllocError>
     requires { has_intervals moments.now history.now ≡ true }
     ensures { IfOk result (λ it. (it ≡ true) ↔ AreOnce moments.now history.now) }

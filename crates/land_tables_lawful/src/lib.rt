@@ -1,4 +1,5 @@
-//! Which histories are lawful: each condition at all moments is judged by one pass over versions in order.
+//! Decides whether a history is valid. Each condition of soundness is checked for all commits in one sort and
+//! one pass.
 #![tactic(auto)]
 
 mod administrator;

@@ -1,4 +1,4 @@
-//! Whether mutations that one party lodged under one reference stand at one moment.
+//! Checks that each lodger uses a reference only once.
 ghost use Rattle.std.specs.Prelude.{◌≡◌, ◌↔◌, true, IfOk, map as map_list};
 ghost use Rattle.land_core.specs.Soundness.{has_reused_reference};
 ghost use Rattle.land_tables_history.specs.Intervals.{has_intervals};
@@ -12,7 +12,8 @@ use land_tables_history::sweeps::apart::{Span, are_apart};
 use land_tables_history::version::Version;
 use std::alloc::{AllocError, Global};
 
-/// Whether no party has lodged two mutations under one reference, at each moment. References are lent, and not copied.
+/// Returns whether no party has lodged two current mutations with the same reference, at each commit.
+/// References are borrowed, not copied. Returns an error only if it is out of memory.
 pub(crate) fn are_references_once(
     alloc: Global,
     history: &History,

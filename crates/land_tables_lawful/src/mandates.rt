@@ -1,12 +1,12 @@
-//! Whether mandates are between two single parties that stand, at each moment.
+//! Checks that mandates are between two single parties, at each commit.
 ghost use Rattle.std.specs.Fn.{FnReturnsAt};
 ghost use Rattle.std.specs.List.{list_all};
-ghost use Rattle.std.specs.Prelude.{◌≡◌, ◌↔◌, ℕ, true, not, nat_eq, IfOk, int_lt};
+ghost use Rattle.std.specs.Prelude.{◌≡◌, ◌↔◌, ℕ, true, not, nat_eq, IfOk};
 ghost use Rattle.land_core.specs.Soundness.{has_loose_mandate};
 ghost use Rattle.land_tables_history.specs.Intervals.{has_intervals};
 ghost use Rattle.land_tables_history.specs.Sweeps.Cover.{IsCovered};
 ghost use Rattle.land_tables_lawful.specs.Never.{Never};
-ghost use Rattle.land_tables_lawful.specs.Pieces.{are_in_time, pieces};
+ghost use Rattle.land_tables_lawful.specs.Pieces.{AreNonempty, are_in_time, pieces};
 ghost use Rattle.land_tables_lawful.specs.Roles.{single_parties};
 
 use crate::referred::ask_for;
@@ -20,7 +20,8 @@ use land_tables_history::sweeps::cover::is_covered;
 use land_tables_history::version::Version;
 use std::alloc::{AllocError, Global};
 
-/// Whether the principal and the agent of each mandate are two single parties that stand, at each moment.
+/// Returns whether the principal and the agent of each mandate are two different single parties throughout
+/// its lifespan. Returns an error only if it is out of memory.
 pub(crate) fn do_mandates_refer(
     alloc: Global,
     history: &History,
@@ -46,8 +47,8 @@ pub(crate) fn do_mandates_refer(
     Ok(principals & agents & others)
 }
 
-/// Whether what versions refer to is a single party that stands, as long as they stand. The closure tells the number that a version refers
-/// to.
+/// Returns whether the number that each version refers to is that of a single party throughout its lifespan.
+/// The closure returns the number.
 fn are_single_parties<W, F: Fn(&W) -> u64>(
     alloc: Global,
     parties: &Sequence<Version<(u64, PartyRecord)>>,
@@ -57,8 +58,9 @@ fn are_single_parties<W, F: Fn(&W) -> u64>(
     ghost number_of: { W → ℕ }
     requires callable { F.IsAlwaysCallable number }
     requires told { (what : W) (n : ℕ) → FnReturnsAt F.Fn number what n → n ≡ number_of what }
-    requires begun { list_all (λ x. int_lt x.since x.until) (pieces (λ e. e.0) (single_parties parties.now) number_of versions.now) ≡ true }
-    ensures { IfOk result (λ it. (it ≡ true) ↔ IsCovered (pieces (λ e. e.0) (single_parties parties.now) number_of versions.now)) }
+    requires begun { AreNonempty (pieces (λ e. e.0) (single_parties parties.now) number_of versions.now) }
+    ensures { IfOk result (λ it. (it ≡ true) ↔ IsCovered
+        (pieces (λ e. e.0) (single_parties parties.now) number_of versions.now)) }
 {
     let mut pieces = Vec::new(alloc);
     offer_single_parties(&mut pieces, parties.as_slice())?;
@@ -66,7 +68,7 @@ fn are_single_parties<W, F: Fn(&W) -> u64>(
     Ok(is_covered(&mut pieces))
 }
 
-/// Whether the principal and the agent of each mandate differ.
+/// Returns whether the principal and the agent of each mandate differ.
 fn are_of_others(mandates: &[Version<Mandate>]) -> bool
     ensures { result ≡ list_all (λ v. not (nat_eq v.what.principal v.what.agent)) mandates.now }
 {

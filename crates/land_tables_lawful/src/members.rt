@@ -1,11 +1,10 @@
-//! Whether members are of groups that stand, and single parties that stand, at each moment.
-ghost use Rattle.std.specs.List.{list_all};
-ghost use Rattle.std.specs.Prelude.{◌≡◌, ◌↔◌, ◌++◌, true, IfOk, int_lt, map as map_list};
+//! Checks that members are single parties in existing groups, at each commit.
+ghost use Rattle.std.specs.Prelude.{◌≡◌, ◌↔◌, ◌++◌, true, IfOk, map as map_list};
 ghost use Rattle.land_core.specs.Soundness.{has_loose_members};
 ghost use Rattle.land_tables_history.specs.Intervals.{has_intervals};
 ghost use Rattle.land_tables_lawful.specs.Members.{group_parties, group_pieces, member_pieces};
 ghost use Rattle.land_tables_lawful.specs.Never.{Never};
-ghost use Rattle.land_tables_lawful.specs.Pieces.{are_in_time, offered_piece};
+ghost use Rattle.land_tables_lawful.specs.Pieces.{AreNonempty, are_in_time, offered_piece};
 ghost use Rattle.land_tables_history.specs.Sweeps.Cover.{IsCovered};
 
 use crate::pieces::offered;
@@ -18,7 +17,8 @@ use land_tables_history::sweeps::cover::{Piece, is_covered};
 use land_tables_history::version::Version;
 use std::alloc::{AllocError, Global};
 
-/// Whether each member's group is a group that stands, and each member a single party that stands, at each moment.
+/// Returns whether the group of each member is a group, and the member a single party, throughout its
+/// lifespan. Returns an error only if it is out of memory.
 pub(crate) fn do_members_refer(
     alloc: Global,
     history: &History,
@@ -34,8 +34,9 @@ pub(crate) fn do_members_refer(
 }
 
 fn are_groups_there(alloc: Global, history: &History) -> Result<bool, AllocError>
-    requires { list_all (λ x. int_lt x.since x.until) (group_pieces history.now.parties history.now.members) ≡ true }
-    ensures { IfOk result (λ it. (it ≡ true) ↔ IsCovered (group_pieces history.now.parties history.now.members)) }
+    requires { AreNonempty (group_pieces history.now.parties history.now.members) }
+    ensures { IfOk result (λ it. (it ≡ true) ↔ IsCovered
+        (group_pieces history.now.parties history.now.members)) }
 {
     let mut pieces = Vec::new(alloc);
     offer_groups(&mut pieces, history.parties.as_slice())?;
@@ -48,8 +49,9 @@ fn are_groups_there(alloc: Global, history: &History) -> Result<bool, AllocError
 }
 
 fn are_parties_there(alloc: Global, history: &History) -> Result<bool, AllocError>
-    requires { list_all (λ x. int_lt x.since x.until) (member_pieces history.now.parties history.now.members) ≡ true }
-    ensures { IfOk result (λ it. (it ≡ true) ↔ IsCovered (member_pieces history.now.parties history.now.members)) }
+    requires { AreNonempty (member_pieces history.now.parties history.now.members) }
+    ensures { IfOk result (λ it. (it ≡ true) ↔ IsCovered
+        (member_pieces history.now.parties history.now.members)) }
 {
     let mut pieces = Vec::new(alloc);
     offer_single_parties(&mut pieces, history.parties.as_slice())?;
@@ -61,12 +63,13 @@ fn are_parties_there(alloc: Global, history: &History) -> Result<bool, AllocErro
     Ok(is_covered(&mut pieces))
 }
 
-/// Offers groups, as long as they stand and are of that kind.
+/// Adds a provided span for each version of a party that is a group.
 fn offer_groups(
     pieces: &mut Vec<Piece>,
     parties: &[Version<(u64, PartyRecord)>],
 ) -> Result<(), AllocError>
-    ensures { IfOk result (λ it. pieces.new.items ≡ pieces.old.items ++ map_list (offered_piece (λ e. e.0)) (group_parties parties.now)) }
+    ensures { IfOk result (λ it. pieces.new.items ≡ pieces.old.items
+        ++ map_list (offered_piece (λ e. e.0)) (group_parties parties.now)) }
 {
     for party in parties {
         if !is_single(party.what.1.kind) {

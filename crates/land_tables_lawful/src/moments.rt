@@ -1,4 +1,4 @@
-//! Whether the moments of a history are as they may be.
+//! Checks the commits of a history.
 ghost use Rattle.std.specs.List.Sorted.{IsPermutation, IsSorted};
 ghost use Rattle.std.specs.Prelude.{◌≡◌, IfOk};
 ghost use Rattle.land_tables_history.specs.Lawful.{are_moments};
@@ -7,8 +7,8 @@ ghost use Rattle.land_tables_lawful.specs.Chains.{goes_before, goes_on, goes_up,
 use land_tables_history::moment::Moment;
 use std::alloc::{AllocError, Global};
 
-/// Whether there is a moment, no two have one stamp, and the next number never falls from a moment to a later one. They are put in order,
-/// so that only neighbours need be compared.
+/// Returns whether there is a commit, stamps are distinct, and the next number never decreases. Sorts the
+/// commits, so that only neighbours need comparison. Returns an error only if it is out of memory.
 pub(crate) fn are_moments(alloc: Global, moments: &[Moment]) -> Result<bool, AllocError>
     ensures { IfOk result (λ it. it ≡ are_moments moments.now) }
 {
@@ -16,7 +16,7 @@ pub(crate) fn are_moments(alloc: Global, moments: &[Moment]) -> Result<bool, All
     Ok(is_chain(sorted.as_slice()))
 }
 
-/// The moments in the order of their stamps.
+/// Returns the commits, sorted by stamp.
 pub(crate) fn in_order(alloc: Global, moments: &[Moment]) -> Result<Vec<Moment>, AllocError>
     ensures same { IfOk result (λ it. IsPermutation moments.now it.items) }
     ensures sorted { IfOk result (λ it. IsSorted stamp_cmp it.items) }
@@ -36,14 +36,14 @@ fn listed(alloc: Global, moments: &[Moment]) -> Result<Vec<Moment>, AllocError>
     Ok(list)
 }
 
-/// Whether there is a moment, and each may come before the next one.
+/// Returns whether there is a commit, and each may precede the next one.
 fn is_chain(moments: &[Moment]) -> bool
     ensures { result ≡ is_chain moments.now }
 {
     0 < moments.len() && goes_up(moments)
 }
 
-/// Whether each moment may come before the next one.
+/// Returns whether each commit may precede the next one.
 fn goes_up(moments: &[Moment]) -> bool
     ensures { result ≡ goes_up moments.now }
 {
@@ -66,7 +66,7 @@ fn goes_on(moment: &Moment, later: &[Moment]) -> bool
     }
 }
 
-/// Whether a moment has an earlier stamp than another, and no greater next number.
+/// Returns whether a commit has an earlier stamp than another, and not a greater next number.
 fn goes_before(moment: &Moment, next: &Moment) -> bool
     ensures { result ≡ goes_before moment.now next.now }
 {

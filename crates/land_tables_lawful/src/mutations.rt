@@ -1,4 +1,4 @@
-//! Whether mutations refer to what stands, and ask for what is within its limits, at each moment.
+//! Checks that the references of mutations exist, and that their contents are within limits, at each commit.
 ghost use Rattle.std.specs.List.{list_all};
 ghost use Rattle.std.specs.Prelude.{◌≡◌, ◌↔◌, true, IfOk};
 ghost use Rattle.land_core.specs.Contents.{is_well_formed_content};
@@ -14,7 +14,8 @@ use land_tables_history::moment::Moment;
 use land_tables_history::version::Version;
 use std::alloc::{AllocError, Global};
 
-/// Whether the lodger and the source of each mutation stand, and what it asks for is within its limits, at each moment.
+/// Returns whether the lodger and the source of each mutation exist throughout its lifespan, and its content
+/// is within limits. Returns an error only if it is out of memory.
 pub(crate) fn do_mutations_refer(
     alloc: Global,
     history: &History,
@@ -40,7 +41,7 @@ pub(crate) fn do_mutations_refer(
     Ok(lodgers & sources & contents)
 }
 
-/// Whether what each mutation asks for is within its limits.
+/// Returns whether the content of each mutation is within limits.
 fn are_well_formed(mutations: &[Version<(u64, MutationRecord)>]) -> bool
     ensures { result ≡ list_all (λ v. is_well_formed_content v.what.1.content) mutations.now }
 {

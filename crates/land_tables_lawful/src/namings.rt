@@ -1,10 +1,9 @@
-//! Whether the namings that stand are those that mutations name, at each moment.
-ghost use Rattle.std.specs.List.{list_all};
-ghost use Rattle.std.specs.Prelude.{◌≡◌, ◌↔◌, ◌∷◌, ◌++◌, [], true, flat_map, map as map_list, IfOk, OnOk, int_lt};
+//! Checks that the rows of `names` are the references of the mutations to units, at each commit.
+ghost use Rattle.std.specs.Prelude.{◌≡◌, ◌↔◌, ◌∷◌, ◌++◌, [], true, flat_map, map as map_list, IfOk, OnOk};
 ghost use Rattle.land_tables_history.specs.Intervals.{has_intervals};
 ghost use Rattle.land_tables_lawful.specs.KeyPairs.{pair_at, paired, pairs};
 ghost use Rattle.land_tables_lawful.specs.NamedUnits.{NamingsAgree, named_pairs, naming_pair, with_units};
-ghost use Rattle.land_tables_lawful.specs.Pieces.{are_in_time};
+ghost use Rattle.land_tables_lawful.specs.Pieces.{AreNonempty, are_in_time};
 ghost use Rattle.land_tables_history.specs.Sweeps.Cover.{IsCovered};
 
 use crate::pairs::pair_piece;
@@ -17,7 +16,8 @@ use land_tables_history::sweeps::cover::{Piece, is_covered};
 use land_tables_history::version::Version;
 use std::alloc::{AllocError, Global};
 
-/// Whether the namings that stand are those that the mutations that stand name, at each moment.
+/// Returns whether the current rows of `names` are the references of the current mutations, at each commit.
+/// Returns an error only if it is out of memory.
 pub(crate) fn name_the_same(
     alloc: Global,
     history: &History,
@@ -32,10 +32,11 @@ pub(crate) fn name_the_same(
     Ok(told & listed)
 }
 
-/// Whether mutations name the units of namings, as long as these stand.
+/// Returns whether each row of `names` is a reference of its mutation throughout its lifespan.
 fn are_namings_told(alloc: Global, history: &History) -> Result<bool, AllocError>
-    requires { list_all (λ x. int_lt x.since x.until) (pairs named_pairs history.now.mutations naming_pair history.now.namings) ≡ true }
-    ensures { IfOk result (λ it. (it ≡ true) ↔ IsCovered (pairs named_pairs history.now.mutations naming_pair history.now.namings)) }
+    requires { AreNonempty (pairs named_pairs history.now.mutations naming_pair history.now.namings) }
+    ensures { IfOk result (λ it. (it ≡ true) ↔ IsCovered
+        (pairs named_pairs history.now.mutations naming_pair history.now.namings)) }
 {
     let mut pieces = Vec::new(alloc);
     add_mutations(&mut pieces, false, history.mutations.as_slice())?;
@@ -43,10 +44,11 @@ fn are_namings_told(alloc: Global, history: &History) -> Result<bool, AllocError
     Ok(is_covered(&mut pieces))
 }
 
-/// Whether there are namings of the units that mutations name, as long as these stand.
+/// Returns whether each reference of a mutation has a row of `names` throughout its lifespan.
 fn are_names_listed(alloc: Global, history: &History) -> Result<bool, AllocError>
-    requires { list_all (λ x. int_lt x.since x.until) (pairs naming_pair history.now.namings named_pairs history.now.mutations) ≡ true }
-    ensures { IfOk result (λ it. (it ≡ true) ↔ IsCovered (pairs naming_pair history.now.namings named_pairs history.now.mutations)) }
+    requires { AreNonempty (pairs naming_pair history.now.namings named_pairs history.now.mutations) }
+    ensures { IfOk result (λ it. (it ≡ true) ↔ IsCovered
+        (pairs naming_pair history.now.namings named_pairs history.now.mutations)) }
 {
     let mut pieces = Vec::new(alloc);
     add_namings(&mut pieces, false, history.namings.as_slice())?;
@@ -54,13 +56,14 @@ fn are_names_listed(alloc: Global, history: &History) -> Result<bool, AllocError
     Ok(is_covered(&mut pieces))
 }
 
-/// Adds what namings ask for or offer.
+/// Adds the spans of rows of `names`, required or provided.
 fn add_namings(
     pieces: &mut Vec<Piece>,
     asked: bool,
     namings: &[Version<Naming>],
 ) -> Result<(), AllocError>
-    ensures { OnOk result (pieces.new.items ≡ pieces.old.items ++ flat_map (paired asked naming_pair) namings.now) }
+    ensures { OnOk result (pieces.new.items ≡ pieces.old.items
+        ++ flat_map (paired asked naming_pair) namings.now) }
 {
     for naming in namings {
         pieces.push(pair_piece(asked, naming.what.mutation, naming.what.unit, naming))?;
@@ -68,13 +71,14 @@ fn add_namings(
     Ok(())
 }
 
-/// Adds what mutations ask for or offer.
+/// Adds the spans of the references of mutations, required or provided.
 fn add_mutations(
     pieces: &mut Vec<Piece>,
     asked: bool,
     mutations: &[Version<(u64, MutationRecord)>],
 ) -> Result<(), AllocError>
-    ensures { OnOk result (pieces.new.items ≡ pieces.old.items ++ flat_map (paired asked named_pairs) mutations.now) }
+    ensures { OnOk result (pieces.new.items ≡ pieces.old.items
+        ++ flat_map (paired asked named_pairs) mutations.now) }
 {
     for mutation in mutations {
         add_mutation(pieces, asked, mutation)?;
@@ -82,7 +86,7 @@ fn add_mutations(
     Ok(())
 }
 
-/// Adds what one mutation asks for or offers: the units that its content names.
+/// Adds the spans of the references of one mutation, required or provided.
 fn add_mutation(
     pieces: &mut Vec<Piece>,
     asked: bool,
@@ -102,7 +106,7 @@ fn add_mutation(
     }
 }
 
-/// Adds some units that a mutation names.
+/// Adds the spans of a mutation's references to these units.
 fn add_units(
     pieces: &mut Vec<Piece>,
     asked: bool,
@@ -110,7 +114,8 @@ fn add_units(
     units: &[u64],
 ) -> Result<(), AllocError>
     ensures { OnOk result (pieces.new.items ≡ pieces.old.items
-        ++ map_list (λ k. pair_at asked k.0 k.1 mutation.now.since mutation.now.until) (with_units mutation.now.what.0 units.now)) }
+        ++ map_list (λ k. pair_at asked k.0 k.1 mutation.now.since mutation.now.until)
+        (with_units mutation.now.what.0 units.now)) }
 {
     for unit in units {
         add_unit(pieces, asked, mutation, *unit)?;
@@ -118,7 +123,7 @@ fn add_units(
     Ok(())
 }
 
-/// Adds one unit that a mutation names.
+/// Adds the span of a mutation's reference to one unit.
 fn add_unit(
     pieces: &mut Vec<Piece>,
     asked: bool,

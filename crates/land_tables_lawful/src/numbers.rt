@@ -1,4 +1,4 @@
-//! Whether numbers are in use.
+//! Checks that numbers are in range.
 ghost use Rattle.std.specs.List.{list_all};
 ghost use Rattle.std.specs.List.Sorted.{IsSorted};
 ghost use Rattle.std.specs.Prelude.{◌≡◌, ◌↔◌, true, IfOk};
@@ -7,7 +7,8 @@ ghost use Rattle.land_tables_history.specs.Intervals.{has_intervals};
 ghost use Rattle.land_tables_history.specs.Lawful.{are_moments};
 ghost use Rattle.land_tables_lawful.specs.Chains.{goes_up, stamp_cmp};
 ghost use Rattle.land_tables_lawful.specs.Never.{Never};
-ghost use Rattle.land_tables_lawful.specs.NumbersInUse.{are_all_used, are_numbers_left, has_used_number, has_used_numbers};
+ghost use Rattle.land_tables_lawful.specs.NumbersInUse.{are_all_used, are_numbers_left, has_used_number};
+ghost use Rattle.land_tables_lawful.specs.NumbersInUse.{has_used_numbers};
 ghost use Rattle.land_tables_lawful.specs.NumbersInUse.{is_used, is_used_rank, next_since, passes_since};
 
 use crate::moments::in_order;
@@ -17,8 +18,9 @@ use land_tables_history::moment::Moment;
 use land_tables_history::version::Version;
 use std::alloc::{AllocError, Global};
 
-/// Whether at each moment numbers are left, and the numbers of all that stands and the ranks of mortgages are in use. As the next number
-/// never falls, it is enough to look at each version when it begins to stand.
+/// Returns whether numbers are left, and all numbers of records and ranks of mortgages are in range, at each
+/// commit. The next number never decreases, so each version needs only one check, at its start. Returns an
+/// error only if it is out of memory.
 pub(crate) fn are_numbers_used(
     alloc: Global,
     history: &History,
@@ -58,7 +60,7 @@ fn are_numbers_left(moments: &[Moment]) -> bool
     true
 }
 
-/// Whether the numbers of records are in use when they begin to stand.
+/// Returns whether the numbers of records are in range when their versions start.
 fn are_used<V>(versions: &[Version<(u64, V)>], moments: &[Moment]) -> bool
     requires sorted { IsSorted stamp_cmp moments.now }
     requires up { goes_up moments.now ≡ true }
@@ -72,7 +74,7 @@ fn are_used<V>(versions: &[Version<(u64, V)>], moments: &[Moment]) -> bool
     true
 }
 
-/// The same of entries, and of the ranks of mortgages.
+/// Returns the same for entries, and for the ranks of mortgages.
 fn are_entries_used(entries: &[Version<(u64, RrrRecord)>], moments: &[Moment]) -> bool
     requires sorted { IsSorted stamp_cmp moments.now }
     requires up { goes_up moments.now ≡ true }
@@ -87,14 +89,14 @@ fn are_entries_used(entries: &[Version<(u64, RrrRecord)>], moments: &[Moment]) -
     true
 }
 
-/// Whether a number is at least 1 and below the next one.
+/// Returns whether a number is at least 1, and below the next number.
 fn is_used(number: u64, next: u64) -> bool
     ensures { result ≡ is_used number next }
 {
     0 < number && number < next
 }
 
-/// The same of a rank, where there is one.
+/// Returns the same for a rank, if there is one.
 fn is_used_rank(rank: Option<u64>, next: u64) -> bool
     ensures { result ≡ is_used_rank rank next }
 {
@@ -104,7 +106,8 @@ fn is_used_rank(rank: Option<u64>, next: u64) -> bool
     }
 }
 
-/// The next number at a stamp, sought among moments in order; 0 where no moment has it.
+/// Returns the next number at a stamp, by binary search in sorted commits, or 0 if it is not the stamp of a
+/// commit.
 fn next_since(moments: &[Moment], since: i64) -> u64
     requires sorted { IsSorted stamp_cmp moments.now }
     requires up { goes_up moments.now ≡ true }

@@ -1,4 +1,4 @@
-//! Whether parcels refer to what stands, at each moment.
+//! Checks that the references of parcels exist, at each commit.
 ghost use Rattle.std.specs.Prelude.{◌≡◌, ◌↔◌, true, IfOk};
 ghost use Rattle.land_core.specs.Soundness.{has_loose_parcel};
 ghost use Rattle.land_tables_history.specs.Intervals.{has_intervals};
@@ -10,7 +10,8 @@ use land_tables_history::history::History;
 use land_tables_history::moment::Moment;
 use std::alloc::{AllocError, Global};
 
-/// Whether the unit and the source of each parcel stand, at each moment.
+/// Returns whether the unit and the source of each parcel exist throughout its lifespan. Returns an error
+/// only if it is out of memory.
 pub(crate) fn do_parcels_refer(
     alloc: Global,
     history: &History,

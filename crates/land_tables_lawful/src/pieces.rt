@@ -1,11 +1,11 @@
-//! What versions offer and ask for.
+//! Coverage spans of versions.
 ghost use Rattle.std.specs.Prelude.{◌≡◌};
 ghost use Rattle.land_tables_lawful.specs.Pieces.{asked_at, offered_at};
 
 use land_tables_history::sweeps::cover::Piece;
 use land_tables_history::version::Version;
 
-/// A number is offered as long as a version stands.
+/// Returns a span that provides a number during the lifespan of a version.
 pub(crate) fn offered<X>(key: u64, version: &Version<X>) -> Piece
     ensures { result ≡ offered_at key version.now.since version.now.until }
 {
@@ -18,7 +18,7 @@ pub(crate) fn offered<X>(key: u64, version: &Version<X>) -> Piece
     }
 }
 
-/// A number is asked for as long as a version stands.
+/// Returns a span that requires a number during the lifespan of a version.
 pub(crate) fn asked<X>(key: u64, version: &Version<X>) -> Piece
     ensures { result ≡ asked_at key version.now.since version.now.until }
 {

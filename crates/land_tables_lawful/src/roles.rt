@@ -1,4 +1,4 @@
-//! Whether roles are those of single parties that stand, at each moment.
+//! Checks that roles are held by single parties, at each commit.
 ghost use Rattle.std.specs.Prelude.{◌≡◌, ◌↔◌, ◌++◌, true, IfOk, map as map_list};
 ghost use Rattle.land_core.specs.Register.{is_single};
 ghost use Rattle.land_core.specs.Soundness.{has_loose_grant};
@@ -17,7 +17,8 @@ use land_tables_history::sweeps::cover::{Piece, is_covered};
 use land_tables_history::version::Version;
 use std::alloc::{AllocError, Global};
 
-/// Whether each role is that of a single party that stands, at each moment.
+/// Returns whether the party of each role is single throughout its lifespan. Returns an error only if it is
+/// out of memory.
 pub(crate) fn do_roles_refer(
     alloc: Global,
     history: &History,
@@ -33,12 +34,13 @@ pub(crate) fn do_roles_refer(
     Ok(is_covered(&mut pieces))
 }
 
-/// Offers single parties, as long as they stand and are of that kind.
+/// Adds a provided span for each version of a party that is single.
 pub(crate) fn offer_single_parties(
     pieces: &mut Vec<Piece>,
     parties: &[Version<(u64, PartyRecord)>],
 ) -> Result<(), AllocError>
-    ensures { IfOk result (λ it. pieces.new.items ≡ pieces.old.items ++ map_list (offered_piece (λ e. e.0)) (single_parties parties.now)) }
+    ensures { IfOk result (λ it. pieces.new.items ≡ pieces.old.items
+        ++ map_list (offered_piece (λ e. e.0)) (single_parties parties.now)) }
 {
     for party in parties {
         if is_single(party.what.1.kind) {
@@ -48,7 +50,7 @@ pub(crate) fn offer_single_parties(
     Ok(())
 }
 
-/// A natural or non-natural person is a single party, a group is none.
+/// Returns whether a party is single. A natural or non-natural person is; a group is not.
 pub(crate) fn is_single(kind: PartyKind) -> bool
     ensures { result ≡ is_single kind }
 {

@@ -1,9 +1,10 @@
-//! Whether units are whole at each moment: the shares in those that are checked, and the number of what is in each.
+//! Checks the limits and the share sums of units, at each commit.
 ghost use Rattle.std.specs.Prelude.{◌≡◌, ◌↔◌, true, IfOk, refl, ◌++◌};
 ghost use Rattle.land_core.specs.Soundness.{has_crowded_unit, has_unit_in_parts};
 ghost use Rattle.land_tables_history.specs.Intervals.{has_intervals};
 ghost use Rattle.land_tables_lawful.specs.AnyOrder.{sound_in_any_order};
-ghost use Rattle.land_tables_lawful.specs.Holdings.{are_sound_together, entries_lived, parcels_lived, units_lived};
+ghost use Rattle.land_tables_lawful.specs.Holdings.{are_sound_together, entries_lived, parcels_lived};
+ghost use Rattle.land_tables_lawful.specs.Holdings.{units_lived};
 ghost use Rattle.land_tables_lawful.specs.Never.{Never};
 ghost use Rattle.land_tables_lawful.specs.Pieces.{are_in_time};
 
@@ -30,8 +31,8 @@ impl Judged for Holding {
     ghost in_any_order = { λ xs ys p. sound_in_any_order xs ys p };
 }
 
-/// Whether at each moment the shares of each type of right that occurs in a checked unit make a whole, and each unit has at most
-/// 256 parcels and 256 entries.
+/// Returns whether at each commit the shares of each type of right that occurs in a checked unit sum to one,
+/// and each unit has at most 256 parcels and 256 entries. Returns an error only if it is out of memory.
 pub(crate) fn are_units_whole(
     alloc: Global,
     history: &History,
@@ -40,7 +41,8 @@ pub(crate) fn are_units_whole(
     requires intervals { has_intervals moments.now history.now ≡ true }
     requires in_time { are_in_time moments.now ≡ true }
     ensures { IfOk result (λ it. (it ≡ true)
-        ↔ (Never has_unit_in_parts moments.now history.now × Never has_crowded_unit moments.now history.now)) }
+        ↔ (Never has_unit_in_parts moments.now history.now
+        × Never has_crowded_unit moments.now history.now)) }
 {
     let mut lived = holdings_in(
         alloc,
@@ -51,14 +53,15 @@ pub(crate) fn are_units_whole(
     are_sound(alloc, &mut lived)
 }
 
-/// The units, and what is in them, as long as it stands.
+/// Returns the units, their parcels and their entries, each with its lifespan.
 fn holdings_in(
     alloc: Global,
     units: &[Version<(u64, UnitRecord)>],
     parcels: &[Version<(u64, ParcelRecord)>],
     entries: &[Version<(u64, RrrRecord)>],
 ) -> Result<Vec<Lived<Holding>>, AllocError>
-    ensures { IfOk result (λ it. it.items ≡ (units_lived units.now ++ parcels_lived parcels.now) ++ entries_lived entries.now) }
+    ensures { IfOk result (λ it. it.items ≡ (units_lived units.now ++ parcels_lived parcels.now)
+        ++ entries_lived entries.now) }
 {
     let mut lived = Vec::new(alloc);
     for unit in units {

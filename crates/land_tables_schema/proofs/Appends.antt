@@ -1,4 +1,4 @@
--- What the INSERT of one row adds to a table whose rows lie under the number in their first column.
+-- The effect of an INSERT of one row on a table whose rowid is its first column.
 use Rattle.std.proofs.Common.{◌≡◌, ℤ, List, [], ◌∷◌, map, true, sym, ap, subst, ◌∙◌, IsPermutation}
 use Rattle.std.proofs.lemmas.List.Sorted.{IsPermutation-sym, IsPermutation-trans, IsPermutation-cons, IsPermutation-map}
 use Rattle.land_tables_schema.proofs.Puts.{puts_are}

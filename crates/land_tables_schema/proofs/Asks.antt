@@ -1,4 +1,4 @@
--- What a text answers that lists a table whole.
+-- The result of a query that lists a whole table.
 use Rattle.std.proofs.Common.{◌≡◌, ℕ, false, List, [], ◌∷◌, map, filter, IfErr, IfOk, OnErr, OnOk, Ok, Err, IsTrue, Result, inl, inr, refl, sym, ap, ap₂, subst, ◌∙◌, IsPermutation, arith}
 use Rattle.std.proofs.lemmas.Result.{IfOk-weaker}
 use Rattle.land_tables_schema.proofs.KnownSchemas.{but_for_indexes, but_for_more}
@@ -22,24 +22,25 @@ use Rattle.sqlite_schema.specs.declared.schema.Table.{Table}
 use Rattle.sqlite_trees.specs.Tree.{Trees}
 use Rattle.sqlite_value.specs.Order.{Row}
 
--- a text is this query and nothing else
+-- the statement is this query and nothing else
 pub record Asks (schema : Schema) (sql : List ℕ) (q : Query) : Type 0 where
   pub names : List (List ℕ)
   pub command : command_of (understood schema sql) ≡ Select (record { lets = []; body = q }) names
   pub unlisted : reads_listing schema sql ≡ false
   pub plain : IsPlain (understood schema sql)
 
--- a text lists what is shown of each row of a table, in all schemas of a kind
+-- a statement lists these columns of each row of a table, in all schemas of a kind
 pub record IsListing (Has : Schema → Type 0) (tree : ℕ) (text : List ℕ) (project : List Term) (shown : Row → Row) : Type 0 where
   pub asks : (s : Schema) → Has s → Asks s text (plainly tree [] project)
   pub read : (db : Trees) → overlay db [] tree ≡ db tree
   pub shows : (r : Row) → eval_all project ([] ∷ r ∷ []) ≡ shown r
 
--- a text that means the same whatever indexes the register has, and whatever tables follow those of the first version
+-- a statement with the same meaning for all indexes of the register, and for all tables after those of
+-- version 1
 pub in_first : (sql : List ℕ) (q : Query) → ((more : List Table) (indexes : List Index) → Asks (first_with more indexes) sql q) → (s : Schema) → HasFirstTables s → Asks s sql q
 in_first sql q asks s has = subst (λ x. Asks x sql q) (sym (but_for_more s has)) (asks has.tables.0 s.indexes)
 
--- a text that means the same whatever indexes the register has
+-- a statement with the same meaning for all indexes of the register
 pub in_land : (sql : List ℕ) (q : Query) → ((indexes : List Index) → Asks (land_with indexes) sql q) → (s : Schema) → IsLand s → Asks s sql q
 in_land sql q asks s land = subst (λ x. Asks x sql q) (sym (but_for_indexes s land)) (asks s.indexes)
 
@@ -101,7 +102,7 @@ module _ (Has : Schema → Type 0) (tree : ℕ) (text : List ℕ) (project : Lis
   left_on_err (Ok x) has h = tt
   left_on_err (Err e) has h = left_by has e h
 
-  -- a call that answers the text is a look that gives all rows
+  -- a call of the statement is a read that returns all rows
   pub looks : {X : Type 0} (items : X → List Row) (r : Result X Error) → (HasCleanDisk old → Has old.now.schema) → (HasCleanDisk new → IfOk r (λ x. Shown text [] old new (items x)))
       → (HasCleanDisk new → IfErr r (FailsToQuery text [] old new)) → Survives old new (CommitsShowing text [] old) → IsLook r (λ x. IsPermutation (map shown (old.now.trees tree)) (items x)) old new
   looks items r has answers refuses safe = record {

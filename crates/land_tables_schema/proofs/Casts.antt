@@ -1,4 +1,4 @@
--- What cells become where they are written, and the tests of a statement on them.
+-- Cells when they are written, and the tests of a statement on them.
 use Rattle.std.proofs.Common.{◌≡◌, ◌<◌, ◌^◌, ℕ, ℤ, pos, List, Option, Some, None, bytes_eq, Bool, true, false, ◌&&◌, ◌==◌, cond, of_z, to_z, refl, ap, ap₂, ◌∙◌, arith}
 use Rattle.std.specs.Int.{w64}
 use Rattle.std.specs.Ordering.{int_eq, is_eq}
@@ -19,7 +19,7 @@ either : (b : Bool) (v : Value) → cond b v v ≡ v
 either true v = refl
 either false v = refl
 
--- a whole number is written as it is
+-- an integer is written unchanged
 pub cast_whole : (z : ℤ) → cast Integer (Int z) ≡ Int z
 unfolding unary
 cast_whole z = either _ (Int z)
@@ -38,7 +38,7 @@ pub cast_text_or_null : (o : Option (List ℕ)) → cast Text (or_null AText o) 
 cast_text_or_null None = refl
 cast_text_or_null (Some t) = refl
 
--- as a parameter it is what it is
+-- a parameter has its own value
 pub bound_whole_or_null : (o : Option ℕ) → bound_value (or_null whole o) ≡ or_null whole o
 bound_whole_or_null None = refl
 bound_whole_or_null (Some n) = refl
@@ -57,7 +57,7 @@ as_signed z n is small = ap (λ y. to_z w64 (of_z w64 y)) is ∙ to_z_pos w64 n 
 pub same_text : (a b : List ℕ) → is_eq (bytes_cmp a b) ≡ bytes_eq a b
 same_text a b = is_eq-slice_cmp a b
 
--- two tests and a third, one after another
+-- two tests and a third, in order
 pub all_three : {a b c d : Bool} (e : Bool) → a ≡ b → c ≡ d → (a && (c && e)) ≡ ((b && d) && e)
 all_three {b = b} {d = d} e p q = ap₂ (λ x y. x && (y && e)) p q ∙ grouped b d e
   where

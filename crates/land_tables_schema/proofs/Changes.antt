@@ -1,4 +1,4 @@
--- What all tables hold where the rows of one of them have changed.
+-- The content of all tables after a change of the rows of one.
 use Rattle.std.proofs.Common.{List, arith}
 use Rattle.land_tables_schema.proofs.Kept.{are_kept, still_holds, still_lists}
 use Rattle.land_tables_schema.specs.Rows.Held.{HoldsRows, Rows}

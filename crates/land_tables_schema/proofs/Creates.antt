@@ -1,4 +1,4 @@
--- What CREATEs and DROPs of indexes do to a connection.
+-- The effect of CREATE and DROP INDEX statements on a connection.
 use Rattle.std.proofs.Common.{◌≡◌, ◌⊎◌, inl, inr, ℕ, List, [], ◌∷◌, ◌++◌, map, false, None, Some, Ok, Err, Result, Option, slice_get, refl, sym, ap, ap₂, subst, ◌∙◌, append-nil, append_assoc, is_ok}
 use Rattle.std.specs.List.{AllByRecursion}
 use Rattle.std.proofs.lemmas.List.{map-append}
@@ -24,7 +24,7 @@ use Rattle.sqlite_schema.specs.declared.schema.Index.{Index}
 use Rattle.sqlite_schema.specs.declared.schema.Schema.{Schema}
 use Rattle.sqlite_schema.specs.declared.schema.Table.{Table}
 
--- a part that gave a value did not stop on the way
+-- a part that returned a value did not stop early
 pub went : {B E R : Type 0} {b : B} {Stops : E → Type 0} → ((stop : E) × Stops stop × (Ok b ≡ Err stop)) ⊎ R → R
 went (inl stopped) = absurd (let e = stopped.2 in cc)
 went (inr on) = on
@@ -32,7 +32,7 @@ went (inr on) = on
 pub same_value : {B E : Type 0} {a b : B} → ◌≡◌ {A = Result B E} (Ok a) (Ok b) → a ≡ b
 same_value e = cc
 
--- the tables that keep their rows are as empty as they were
+-- tables with unchanged rows stay empty if they were
 still_empty : (old new : Trees) (ts : List Table) → KeepsRows ts old new → AllByRecursion (λ (t : Table). old t.tree ≡ []) ts → AllByRecursion (λ (t : Table). new t.tree ≡ []) ts
 still_empty old new [] kept none = tt
 still_empty old new (t ∷ ts) kept none = (kept.0 ∙ none.0, still_empty old new ts kept.1 none.1)
@@ -40,7 +40,7 @@ still_empty old new (t ∷ ts) kept none = (kept.0 ∙ none.0, still_empty old n
 moved : (now : Database) (s : Schema) (trees : Trees) → now.schema ≡ s → now.trees ≡ trees → AllByRecursion (λ (t : Table). trees t.tree ≡ []) s.tables → AreEmpty now
 moved now s trees is same none = rw (is, same) none
 
--- ---- rows that stay
+-- ---- unchanged rows
 
 all_kept : (ts : List Table) (trees : Trees) → KeepsRows ts trees trees
 all_kept [] trees = tt
@@ -54,9 +54,9 @@ kept_in_front : (ts more : List Table) (a b : Trees) → KeepsRows (ts ++ more) 
 kept_in_front [] more a b kept = tt
 kept_in_front (t ∷ ts) more a b kept = (kept.0, kept_in_front ts more a b kept.1)
 
--- ---- no table goes
+-- ---- no table is dropped
 
--- the tables of one schema, and maybe more after them
+-- the tables of one schema, and possibly more after them
 record HasMore (s t : Schema) : Type 0 where
   more : List Table
   is : t.tables ≡ s.tables ++ more
@@ -96,15 +96,15 @@ more_made (text ∷ texts) s =
 kept_before : (s t : Schema) (a b : Trees) → HasMore s t → KeepsRows t.tables a b → KeepsRows s.tables a b
 kept_before s t a b has kept = kept_in_front s.tables has.more a b (subst (λ ts. KeepsRows ts a b) has.is kept)
 
--- ---- one text
+-- ---- one statement
 
--- what was done by a text that is understood as this command
+-- the effect of a statement that compiles to this command
 record DoesAs (old new : Database) (text : List ℕ) (command : Command) : Type 0 where
   schema : new.schema ≡ made_as old.schema text command
   empty : AreEmpty old → AreEmpty new
   kept : KeepsRows old.schema.tables old.trees new.trees
 
--- what ran was understood
+-- a statement that ran has been compiled
 pub ran : (sql : List ℕ) (old new : State) (count : ℕ) → Executes sql [] old new (Ok count) → (c : Compiled) × (understood old.now.schema sql ≡ Ok c)
 unfolding ExecutesIn
 ran sql old new count h = (h.0, h.1.is)
@@ -175,7 +175,7 @@ module _ (old new : State) (text : List ℕ) (count : ℕ) where
   }
   defines_as _ is fine w = absurd fine
 
-  -- a text that is one CREATE or one DROP INDEX does as it says
+  -- a statement that is one CREATE or one DROP INDEX has the defined effect
   pub defines : IsReady old.now.schema text → Executes text [] old new (Ok count) → Defines text old.now new.now
   defines ready h =
       let def = ready (ap is_ok (ran text old new count h).1) in
@@ -188,20 +188,20 @@ made_last : (s : Schema) (texts : List (List ℕ)) (text : List ℕ) → made s 
 made_last s [] text = refl
 made_last s (t ∷ texts) text = made_last (made_by s t) texts text
 
--- what some texts have done, and what is still to be run
+-- the effect of the statements until now, and the remaining ones
 pub record HasDefined (done left : List (List ℕ)) (old new : Database) : Type 0 where
   pub defined : DefinesAll done old new
   pub definitions : AreReady new.schema left
 
--- no text was run
+-- no statement has run
 pub none_defined : (texts : List (List ℕ)) (db : Database) → AreReady db.schema texts → HasDefined [] texts db db
 none_defined texts db all = record { defined = record { schema = refl; empty = λ e. e; kept = all_kept db.schema.tables db.trees }; definitions = all }
 
--- the next text is one CREATE or one DROP INDEX
+-- the next statement is one CREATE or one DROP INDEX
 pub next_defines : {X : Type 0} (f : X → List ℕ) (rest : List X) (x : X) {left : List X} (s : Schema) → left ≡ x ∷ rest → AreReady s (map f left) → IsReady s (f x)
 next_defines f rest x s is all = (subst (λ l. AreReady s (map f l)) is all).0
 
--- one text more was run
+-- one more statement has run
 pub defined_more : {X : Type 0} (a b c : Database) (f : X → List ℕ) (before rest : List X) (x : X) {left done : List X} → left ≡ x ∷ rest → done ≡ before ++ x ∷ []
     → HasDefined (map f before) (map f left) a b → Defines (f x) b c → HasDefined (map f done) (map f rest) a c
 defined_more a b c f before rest x is more far one =
@@ -217,7 +217,7 @@ defined_more a b c f before rest x is more far one =
       definitions = subst (λ s. AreReady s (map f rest)) (sym one.schema) next.1;
     }
 
--- a CREATE is ready to be run
+-- a CREATE is ready to run
 changing : (command : Command) (s : Schema) → IsDefining command s → IsChanging command s
 changing CreateTable s h = h
 changing (CreateIndex at) s h = h
@@ -229,7 +229,7 @@ are_ready (text ∷ texts) s all =
     let one = all.0 in
     (λ _. record { plain = one.plain; whole = one.whole; changing = changing (command_of (understood s text)) (made_by s text) one.defining }, are_ready texts (made_by s text) all.1)
 
--- the texts of the register make its tables
+-- the statements of the register create its tables
 pub texts_define : (s : Schema) (texts : List (List ℕ)) → s ≡ no_schema → texts ≡ land_texts → TextsLaw → AreReady s texts
 texts_define s texts s_is texts_is law = rw (s_is, texts_is) (are_ready land_texts no_schema law.creates)
 

@@ -1,4 +1,4 @@
--- The plain indexes of the first version are dropped, and the next tree is that of the mandates.
+-- The plain indexes of schema version 1 are dropped, and the next tree is that of `mandate`.
 use Rattle.std.proofs.Common.{Bor, ◌≡◌, ◌+◌, ◌<◌, ◌≤◌, ◌&&◌, ◌||◌, ℕ, suc, List, [], ◌∷◌, filter, fold, max, map, cond, Bool, true, false, not, None, Some, Ok, Err, Option, slice_get, codes, is_ok, refl, sym, ap, ap₂, subst, ◌∙◌, arith}
 use Rattle.std.proofs.lemmas.Bool.{and_from, and_parts, false≢true}
 use Rattle.std.proofs.lemmas.Bool.Decides.{Decides-eqb, Decides-ltb}
@@ -28,7 +28,7 @@ use Rattle.sqlite_schema.specs.declared.schema.Schema.{Schema}
 use Rattle.sqlite_syntax.specs.declared.statement.Parsed.{Parsed}
 use Rattle.sqlite_tied.specs.Compute.{everything}
 
--- ---- what is kept of a list
+-- ---- filters of a list
 
 all_of : {X : Type 0} (p r : X → Bool) (xs : List X) → list_all p xs ≡ true → list_all p (filter r xs) ≡ true
 all_of p r [] h = refl
@@ -61,7 +61,7 @@ all_stay : {X : Type 0} (xs : List X) → filter (λ x. true) xs ≡ xs
 all_stay [] = refl
 all_stay (x ∷ xs) = ap (λ l. x ∷ l) (all_stay xs)
 
--- where none passes, all stay
+-- if no item passes, all stay
 none_goes : {X : Type 0} (p : X → Bool) (xs : List X) (from : ℕ) → position_from p from xs ≡ None → filter (λ x. not (p x)) xs ≡ xs
 none_goes p [] from e = refl
 none_goes {X} p (x ∷ xs) from e = go (p x) e (none_goes p xs (from + 1))
@@ -71,7 +71,7 @@ none_goes {X} p (x ∷ xs) from e = go (p x) e (none_goes p xs (from + 1))
     go true e rest = absurd (cc)
     go false e rest = ap (λ l. x ∷ l) (rest e)
 
--- the first that passes, and what is said of each
+-- the first item that passes, and a property of all
 record Placed {X : Type 0} (p q : X → Bool) (xs : List X) (from k : ℕ) : Type 0 where
   place : ℕ
   is : k ≡ from + place
@@ -91,14 +91,14 @@ placed {X} p q (x ∷ xs) from k e h = go (p x) refl e (and_parts (q x) (list_al
         let l = later e parts.1 in
         record { place = suc l.place; is = omega (arith, l.is); it = l.it; there = l.there; passes = l.passes; also = l.also }
 
--- a filter by a test that is the same for each of which something is said
+-- filters by tests that agree on all items of a list
 same_filter : {X : Type 0} (c p q : X → Bool) (xs : List X) → ((x : X) → c x ≡ true → p x ≡ q x) → list_all c xs ≡ true → filter p xs ≡ filter q xs
 same_filter c p q [] so h = refl
 same_filter c p q (x ∷ xs) so h =
     let parts = and_parts (c x) (list_all c xs) h in
     ap₂ (λ b l. cond b (x ∷ l) l) (so x parts.0) (same_filter c p q xs so parts.1)
 
--- a test of what texts say
+-- a test that depends on compiled statements
 pub any_now : (p : List ℕ → Bool) (texts : List (Bor (List ℕ))) → list_any (λ t. p t.now) texts ≡ list_any p (map (λ t. t.now) texts)
 any_now p [] = refl
 any_now p (t ∷ ts) = ap (λ b. p t.now || b) (any_now p ts)
@@ -111,12 +111,12 @@ told true false h = absurd (false≢true h)
 told false true h = absurd (false≢true h)
 told false false h = refl
 
--- names that are the same are so of the same ones
+-- equality of names is an equivalence
 alike : (other one name : List ℕ) → same_name one name ≡ true → same_name other one ≡ same_name other name
 unfolding same_name
 alike other one name same = ap (λ l. is_eq (slice_cmp nat_cmp (map to_ascii_lowercase other) l)) ((lowered one name).0 same)
 
--- what is left of indexes that are apart is so
+-- indexes that differ by tree and name still do so without one of them
 apart_of : (r : Index → Bool) (is : List Index) → are_apart is ≡ true → are_apart (filter r is) ≡ true
 apart_of r is h =
     all_of (λ i. list_all (is_apart i) (filter r is)) r is
@@ -129,7 +129,7 @@ abbrev drop_command : Option ℕ → Command
 drop_command None = Nothing
 drop_command (Some k) = DropIndex k
 
--- where indexes are apart, to drop the first of a name is to drop all of that name
+-- if indexes differ by tree and name, dropping the first of a name drops all of that name
 loses : (text name : List ℕ) (is : List Index) → are_apart is ≡ true → (o : Option ℕ) → index_named (first_with [] is) name ≡ o
     → made_as (first_with [] is) text (drop_command o) ≡ first_with [] (without_one name is)
 loses text name is apart None e = ap (λ l. first_with [] l) (sym (none_goes (λ (i : Index). same_name i.name name) is 0 e))
@@ -142,15 +142,15 @@ loses text name is apart (Some k) e =
     (same_filter (is_apart p.it) (λ (j : Index). not (nat_eq j.tree p.it.tree)) (λ (j : Index). not (same_name j.name name)) is
     (λ j h. ap not (told (same_name j.name p.it.name) (nat_eq j.tree p.it.tree) h ∙ alike j.name p.it.name name p.passes)) p.also)
 
--- ---- the texts
+-- ---- the statements
 
--- what is understood is this command, whole, and reads no time
+-- the statement compiles to this command as a whole, and does not read the time
 record Heard (text : List ℕ) (r : Checked Compiled) (c : Command) : Type 0 where
   command : command_of r ≡ c
   plain : IsPlain r
   whole : statement_of text r ≡ text
 
--- a text drops the index of a name, if there is one
+-- a statement drops the index of a name, if there is one
 record Drops (text name : List ℕ) : Type 0 where
   it : IsDrop text name
   absent : (indexes : List Index) → Heard text (heard text (compiled_dropping text name it (drop_with (first_with [] indexes) name None))) Nothing
@@ -290,13 +290,13 @@ role_role_dropped = record {
 join_drops : AllZip Drops drop_texts join_names
 join_drops = (rrr_party_dropped, (rrr_unit_dropped, (parcel_unit_dropped, (member_party_dropped, (names_unit_dropped, (mutation_lodger_dropped, (role_role_dropped, tt)))))))
 
--- the texts are ready to be run, and drop the plain indexes of the first version
+-- the statements are ready to run, and drop the plain indexes of version 1
 pub drops_ready : (s : Schema) → IsRaisable s → AreReady s drop_texts × (made s drop_texts ≡ without_joins s)
 drops_ready s able =
     subst (λ (x : Schema). AreReady x drop_texts × (made x drop_texts ≡ without_joins x)) (sym (first_but_for_indexes s able.first))
     (dropped_all drop_texts join_names join_drops s.indexes able.apart)
 
--- without some indexes it is still of the first version
+-- without some indexes the schema still has version 1
 pub first_without : (names : List (List ℕ)) (s : Schema) → IsFirst s → IsFirst (without_named names s)
 first_without names s first = record {
   tables = first.tables;
@@ -352,7 +352,7 @@ reaches (i ∷ is) n h = go (nat_eq i.tree 19) refl h (reaches is (max n (i.tree
     go true e h rest = let more = grows is (max n (i.tree + 1)) in let tree : i.tree ≡ 19 = (Decides-eqb i.tree 19).0 e in omega (arith, more, tree)
     go false e h rest = rest h
 
--- without the plain indexes of the first version the next tree is that of the mandates
+-- without the plain indexes of version 1, the next tree is that of `mandate`
 pub next_is : (s : Schema) → IsRaisable s → next_tree (without_joins s) ≡ 20
 next_is s able =
     let left = filter (λ i. not (is_join i)) s.indexes in

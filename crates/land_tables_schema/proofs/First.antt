@@ -1,4 +1,4 @@
--- The rows of a new register are put into empty tables.
+-- The first rows of a new register are inserted into empty tables.
 use Rattle.std.proofs.Common.{◌≡◌, pos, [], ◌∷◌, codes, Ok, refl, subst, ◌∙◌}
 use Rattle.std.proofs.lemmas.List.Sorted.{IsPermutation-refl}
 use Rattle.std.specs.List.{AllByRecursion, IsDistinct}
@@ -30,7 +30,7 @@ use Rattle.sqlite_schema.specs.declared.schema.Schema.{Schema}
 use Rattle.sqlite_schema.specs.declared.schema.Table.{Table}
 use Rattle.sqlite_trees.specs.Tree.{Trees}
 
--- the schema that was made is that of a register
+-- the created schema is that of a register
 pub made_is_land : (s : Schema) → s ≡ made_schema → IsLand s
 made_is_land s is = rw is (record { tables = refl; indexes = refl; views = refl })
 
@@ -38,7 +38,7 @@ none_apart : IsDistinct int_eq []
 unfolding IsDistinct
 none_apart = tt
 
--- an empty table holds nothing
+-- an empty table holds no value
 pub none_held : {X : Type 0} (form : Form X) (db : Trees) → db form.table.tree ≡ [] → Holds form db []
 none_held form db none = record { rows = rw none (IsPermutation-refl []); numbered = rw none (record { whole = refl; apart = none_apart }) }
 
@@ -48,7 +48,7 @@ none_in db s is none = subst (λ (s : Schema). AllByRecursion (λ (t : Table). d
 abbrev no_rows : Rows
 no_rows = record { editions = []; moments = []; parties = []; roles = []; members = []; units = []; parcels = []; rrrs = []; sources = []; mutations = []; namings = []; mandates = [] }
 
--- tables that were just made hold nothing
+-- tables that were just created hold no value
 nothing_held : (db : Database) → IsMade db → HoldsRows db.trees no_rows
 nothing_held db made =
     let none = none_in db db.schema made.schema made.empty in
@@ -67,7 +67,7 @@ nothing_held db made =
       the_mandates = none_held mandates db.trees none.1.1.1.1.1.1.1.1.1.1.1.0;
     }
 
--- the first rows, one after another
+-- the first rows, in order
 pub first_rows : (made a b c d : Database) → IsMade made → Appends table.edition edition_row current_edition made a → Appends table.moments moment_row (record { stamp = pos 0; next = 2 }) a b
     → Adds parties (begun (record { number = 1; name = codes "Land Office"; kind = codes "nonNaturalPerson" }) (pos 0)) b c → Adds roles (begun (record { party = 1; role = codes "stateAdministrator" }) (pos 0)) c d → IsNew d
 first_rows made a b c d is edition moment party role =
@@ -81,7 +81,7 @@ first_rows made a b c d is edition moment party role =
 abbrev Anything : Database → Database → Type 0
 Anything old new = Unit {0}
 
--- the calls that put them in, one after another
+-- the calls that insert them, in order
 pub first_steps : {W X Y Z E : Type 0} {w : W} {x : X} {y : Y} {z : Z} (made a b c d : State) → (HasCleanDisk made → IsMade made.now)
     → IsStep {X = W} {E = E} (Ok w) (Appends table.edition edition_row current_edition) made a
     → IsStep {X = X} {E = E} (Ok x) (Appends table.moments moment_row (record { stamp = pos 0; next = 2 })) a b

@@ -1,4 +1,5 @@
--- The plain indexes of the register are made, whatever indexes there are, or the text is refused, as its name is taken.
+-- The plain indexes of the register are created, regardless of existing indexes, or the statement is rejected
+-- because its name exists.
 use Rattle.std.proofs.Common.{◌≡◌, ◌||◌, ℕ, List, [], ◌∷◌, Bool, true, false, not, None, Some, Ok, Err, Option, slice_get, codes, is_ok, refl, sym, ap, subst, ◌∙◌}
 use Rattle.std.specs.List.{AllByRecursion, list_any}
 use Rattle.std.proofs.lemmas.Bool.{false≢true}
@@ -49,7 +50,7 @@ unfolding is_index
 index_in (written.CreateIndex def) h = def
 index_in other h = absurd (false≢true h)
 
--- a text makes a plain index on a table, where its name is free, and else it is refused
+-- a statement creates a plain index on a table if its name is free, and is rejected if not
 record MakesPlain (text : List ℕ) : Type 0 where
   it : IsIndex text
   place : ℕ
@@ -63,7 +64,7 @@ record MakesPlain (text : List ℕ) : Type 0 where
   common : index.is_unique ≡ false
   taken : (indexes : List Index) (k : ℕ) → heard text (compiled_by text it (index_with (land_with indexes) it.def (Some k))) ≡ Err Exists
 
--- a plain index more refuses no more
+-- one more plain index rejects no more rows
 indexed_is_land : (s : Schema) (t : Table) (i : Index) → i.is_unique ≡ false → IsLand s → IsLand (indexed s t i)
 indexed_is_land s t i common land =
     let new : Index = record i { tree = next_tree s; table = t.tree } in
@@ -282,7 +283,7 @@ mandate_agent_made = record {
 each_made : AllByRecursion MakesPlain index_texts
 each_made = (rrr_party_made, (rrr_unit_made, (parcel_unit_made, (member_party_made, (names_unit_made, (mutation_lodger_made, (role_role_made, (mandate_agent_made, tt))))))))
 
--- the texts are ready to be run on a register, and leave it one
+-- the statements are ready to run on a register, and it stays one
 pub indexes_ready : (s : Schema) → IsLand s → AreReady s index_texts × IsLand (made s index_texts)
 indexes_ready s land = indexed_all index_texts each_made s land
 

@@ -1,4 +1,4 @@
--- What the INSERT of one row adds to what a table holds.
+-- The effect of an INSERT of one row on the content of a table.
 use Rattle.std.proofs.Common.{◌≡◌, List, [], ◌∷◌, map, ℤ, Bool, true, false, not, ◌&&◌, refl, sym, ap, subst, ◌∙◌, IsPermutation}
 use Rattle.std.proofs.lemmas.List.Sorted.{IsPermutation-sym, IsPermutation-trans, IsPermutation-cons, IsPermutation-map}
 use Rattle.land_tables_schema.proofs.Numbers.{numbered_anyhow, numbered_more}

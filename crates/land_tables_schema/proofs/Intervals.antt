@@ -1,4 +1,4 @@
--- What the one term of an interval is among nodes.
+-- The nodes of the one term of an interval.
 use Rattle.std.proofs.Common.{◌≡◌, ◌≤◌, ◌∙◌, IsTrue, false, ℕ, suc, List, [], ◌∷◌, length, Option, Some, None, refl, sym, ap, ap₂, subst, arith, get_or, slice_get, unwrap_or}
 use Rattle.std.proofs.lemmas.Option.{unwrap_or-slice_get}
 use Rattle.land_tables_schema.specs.Columns.{ordered}
@@ -16,7 +16,7 @@ use Rattle.sqlite_value.specs.declared.value.Value.TheVariants.{Null}
 abbrev less : BinaryOp
 less = Compare Lt Bytewise
 
--- a node, where a missing one is NULL
+-- a node, or NULL if it is missing
 abbrev read : Option Op → Op
 read o = unwrap_or o (Literal Null)
 
@@ -29,7 +29,7 @@ is_col below (Some (Unary op a)) s p e = absurd (cc (e))
 is_col below (Some (Binary op a b)) s p e = absurd (cc (e))
 is_col below (Some (Case t a b)) s p e = absurd (cc (e))
 
--- the node of a term of two sides, and its sides
+-- the node of a term with two sides, and its sides
 record IsTwo (below : ℕ → Term) (o : Option Op) (op : BinaryOp) (x y : Term) : Type 0 where
   left : ℕ
   right : ℕ
@@ -37,7 +37,7 @@ record IsTwo (below : ℕ → Term) (o : Option Op) (op : BinaryOp) (x y : Term)
   first : below left ≡ x
   second : below right ≡ y
 
--- a term of two sides has such a node
+-- a term with two sides has such a node
 is_two : (below : ℕ → Term) (o : Option Op) (op : BinaryOp) (x y : Term) → op_term below (read o) ≡ op2 op x y → IsTwo below o op x y
 is_two below None op x y e = absurd (cc (e))
 is_two below (Some (Literal v)) op x y e = absurd (cc (e))
@@ -56,14 +56,14 @@ pub record IsInterval (nodes : List Op) (root since until : ℕ) : Type 0 where
   pub first : slice_get nodes left ≡ Some (Column 1 since)
   pub second : slice_get nodes right ≡ Some (Column 1 until)
 
--- the term of a node, some steps deep
+-- the term of a node, up to some depth
 abbrev step : List Op → ℕ → ℕ → Term
 step nodes d at = op_term (term_to nodes d) (read (slice_get nodes at))
 
 steps : (nodes : List Op) (d at : ℕ) → term_to nodes (suc d) at ≡ step nodes d at
 steps nodes d at = ap (op_term (term_to nodes d)) (sym (unwrap_or-slice_get nodes at (Literal Null)))
 
--- two steps deep the term of an interval has the three nodes
+-- at depth two, the term of an interval has the three nodes
 deep : (nodes : List Op) (d root since until : ℕ)
     → term_to nodes (suc (suc d)) root ≡ op2 less (col 1 since) (col 1 until) → IsInterval nodes root since until
 deep nodes d root since until e =
@@ -76,7 +76,7 @@ deep nodes d root since until e =
       second = is_col (term_to nodes d) (slice_get nodes t.right) 1 until (sym (steps nodes d t.right) ∙ t.second);
     }
 
--- so there are two nodes or more, and the three of the interval
+-- so there are at least two nodes, including the three of the interval
 found : (nodes : List Op) (root since until : ℕ) → terms_in nodes (root ∷ []) ≡ ordered since until
     → (2 ≤ length nodes) × IsInterval nodes root since until
 found [] root since until e = absurd (cc (e))
@@ -85,11 +85,11 @@ found (n ∷ []) root since until e =
     absurd (cc (t.first))
 found (m ∷ n ∷ nodes) root since until e = (omega arith, deep (m ∷ n ∷ nodes) (length nodes) root since until (cc (e)))
 
--- the term of a node that is there
+-- the term of an existing node
 shallow : (nodes : List Op) (d at : ℕ) (o : Op) → slice_get nodes at ≡ Some o → term_to nodes (suc d) at ≡ op_term (term_to nodes d) o
 shallow nodes d at o is = steps nodes d at ∙ ap (λ x. op_term (term_to nodes d) (read x)) is
 
--- the three nodes among two or more have the term of the interval
+-- the three nodes, among at least two, have the term of the interval
 meant : (nodes : List Op) (root since until : ℕ) → 2 ≤ length nodes → IsInterval nodes root since until
     → terms_in nodes (root ∷ []) ≡ ordered since until
 meant [] root since until long i = absurd (omega (arith, long))
@@ -101,7 +101,7 @@ meant (m ∷ n ∷ rest) root since until long i =
     let b = shallow nodes (length rest) i.right _ i.second in
     ap (λ t. t ∷ []) (top ∙ ap₂ (λ x y. op2 less x y) a b)
 
--- what the terms of an interval say of nodes and roots
+-- from the terms of an interval to nodes and roots
 pub record IsWhole (nodes : List Op) (roots : List ℕ) (since until : ℕ) : Type 0 where
   pub one : length roots ≡ 1
   pub two : 2 ≤ length nodes
@@ -113,7 +113,7 @@ whole nodes [] since until e = absurd (cc (e))
 whole nodes (r ∷ []) since until e = let f = found nodes r since until e in record { one = refl; two = f.0; interval = f.1 }
 whole nodes (r ∷ s ∷ roots) since until e = absurd (cc (e))
 
--- and back
+-- and conversely
 pub meant_by : (nodes : List Op) (roots : List ℕ) (since until : ℕ) → IsWhole nodes roots since until
     → terms_in nodes roots ≡ ordered since until
 meant_by nodes [] since until w = absurd (omega (arith, w.one))

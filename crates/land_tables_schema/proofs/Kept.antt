@@ -1,18 +1,18 @@
--- What a statement on one table leaves of the others.
+-- The effect of a statement on one table on the others.
 use Rattle.std.proofs.Common.{◌≡◌, ◌≢◌, ℕ, List, sym}
 use Rattle.land_tables_schema.specs.Rows.Forms.{Form, Holds, Lists, KeepsOthers}
 use Rattle.sqlite_schema.specs.declared.schema.Table.{Table}
 use Rattle.sqlite_trees.specs.Tree.{Trees}
 use Rattle.sqlite_value.specs.Order.{Row}
 
--- a table whose rows are as they were holds what it held
+-- a table with unchanged rows holds the same values
 pub still_holds : {X : Type 0} (form : Form X) (old new : Trees) (xs : List X) → new form.table.tree ≡ old form.table.tree → Holds form old xs → Holds form new xs
 still_holds form old new xs same held = record { rows = rw same held.rows; numbered = rw same held.numbered }
 
 pub still_lists : {X : Type 0} (table : Table) (row : X → Row) (old new : Trees) (xs : List X) → new table.tree ≡ old table.tree → Lists table row old xs → Lists table row new xs
 still_lists table row old new xs same held = rw same held
 
--- the rows of each table but one are as they were
+-- the rows of all tables except one are unchanged
 pub record AreKept (t : ℕ) (old new : Trees) : Type 0 where
   pub edition : t ≢ 0 → new 0 ≡ old 0
   pub moments : t ≢ 1 → new 1 ≡ old 1

@@ -1,4 +1,4 @@
--- A schema of the register is known but for its indexes.
+-- A register's schema is determined except for its indexes.
 use Rattle.std.proofs.Common.{◌≡◌, ◌↔◌, ◌⊎◌, inl, inr, List, [], ◌∷◌, ◌++◌, length, take, drop, ℕ, Bool, true, false, not, ◌&&◌, ◌||◌, IsTrue, refl, ap, ap₂, sym, subst, ◌∙◌, arith}
 use Rattle.std.proofs.lemmas.Bool.{and_from, and_parts, false≢true, or_right}
 use Rattle.std.proofs.lemmas.Bool.Decides.{Decides-eqb}
@@ -29,20 +29,20 @@ known_by_indexes s = (
   },
 )
 
--- one that has the tables of the first version is known but for its indexes and the tables after these
+-- a schema with the tables of version 1 is determined except for its indexes and the tables after these
 pub but_for_more : (s : Schema) (has : HasFirstTables s) → s ≡ first_with has.tables.0 s.indexes
 but_for_more s has = ap₂ (λ tables views. record { tables = tables; indexes = s.indexes; views = views }) has.tables.1 has.views
 
--- a schema of the register has them
+-- a register's schema has them
 pub land_has_first : (s : Schema) → IsLand s → HasFirstTables s
 land_has_first s land = record { tables = (mandate ∷ [], land.tables); views = land.views }
 
--- ---- which may be that of a register
+-- ---- schemas that may be a register's
 
 abbrev ComeFirst : List Table → Type 0
 ComeFirst ts = (ts ≡ first_tables) ⊎ ((t : Table) × (ts ≡ first_tables ++ t ∷ []))
 
--- eleven or twelve tables, of which the first are those of the first version
+-- eleven or twelve tables, of which the first are those of version 1
 come_first : (ts : List Table) → (length ts ≡ 11) ⊎ (length ts ≡ 12) → take 11 ts ≡ first_tables → ComeFirst ts
 come_first ts (inl eleven) are = inl (sym (take_all 11 ts (omega (arith, eleven))) ∙ are)
 come_first ts (inr twelve) are = one (drop 11 ts) refl
@@ -89,11 +89,11 @@ first_may_be s first = record {
   views = first.views;
 }
 
--- an index on the mandates is on no other table
+-- an index on `mandate` is on no other table
 elsewhere : (i : Index) → i.table ≡ 20 → is_on first_tables i ≡ false
 elsewhere i is = ap (λ (n : ℕ). list_any (λ (t : Table). nat_eq n t.tree) first_tables) is
 
--- so an index that refuses no more than the keys of all tables do spares the first ones
+-- so an index that rejects no more rows than the keys of all tables rejects none of the first ones
 spares_first : (i : Index) → refuses_no_more land_tables i ≡ true → spares first_tables i ≡ true
 spares_first i h = by_case (not i.is_unique) (list_any (is_key_of i) first_tables) (nat_eq i.table 20) refl (pointwise nat_eq i.columns mandate.primary) whole
   where

@@ -1,4 +1,4 @@
--- Lemmas of the rows of the register's tables.
+-- Lemmas on the rows of the register's tables.
 pub mod Appends
 pub mod Asks
 pub mod Casts

@@ -1,4 +1,4 @@
--- Looks at a store, one after another.
+-- Reads of a store, in order.
 use Rattle.std.proofs.Common.{◌≡◌, inl, inr, Ok, Err, Result, IfOk, IsErr, IsTrue, refl, ◌∙◌, arith}
 use Rattle.land_tables_schema.specs.Rows.Looks.{IsLeft, IsLook}
 use Rattle.sqlite.proofs.StateLemmas.{survives_then}
@@ -8,7 +8,7 @@ use Rattle.sqlite.specs.State.{HasCleanDisk, IsUnchanged, State, Survives}
 pub was_clean : (a b : State) → Survives a b (λ _. ⊥) → HasCleanDisk b → HasCleanDisk a
 was_clean a b s clean = omega (arith, s.clean)
 
--- what was left as it was, twice
+-- unchanged twice is unchanged
 pub unchanged_then : (a b c : State) → IsUnchanged a b → IsUnchanged b c → IsUnchanged a c
 unchanged_then a b c h k = (
   record {
@@ -22,7 +22,7 @@ unchanged_then a b c h k = (
   k.2 ∙ h.2,
 )
 
--- what is as it was is left
+-- an unchanged state is a possible state after a failed read
 pub unchanged_left : (a b : State) → IsUnchanged a b → IsLeft a b
 unchanged_left a b h = record { was_open = h.0.was_open; now = inl h.0.now_is; committed = h.0.committed_is }
 
@@ -36,7 +36,7 @@ left_then a b c h k = record {
   committed = k.committed ∙ h.0.committed_is;
 }
 
--- no look at all
+-- no read at all
 pub no_look : {X E : Type 0} (x : X) (Given : X → Type 0) (a : State) → IsTrue a.is_open → (HasCleanDisk a → Given x) → IsLook {X = X} {E = E} (Ok x) Given a a
 no_look x Given a is_open given = record {
   given = given;
@@ -45,22 +45,22 @@ no_look x Given a is_open given = record {
   survives = record { clean = omega arith; shield = λ x. x; counts = omega arith; limit = refl; closes = λ _ t. inl t; crash = λ _ _ x. inl x };
 }
 
--- a look that succeeds, and what is made of it without the store
+-- a successful read, and a computation on its result without the store
 pub look_told : {X Y E F : Type 0} {x : X} {P : X → Type 0} {Q : Y → Type 0} (a b : State) (r : Result Y F) → IsLook {X = X} {E = E} (Ok x) P a b → (HasCleanDisk b → P x → IfOk r Q) → IsLook r Q a b
 look_told a b (Ok y) first told = record { given = λ clean. told clean (first.given clean); same = first.same; left = λ _. tt; survives = first.survives }
 look_told a b (Err f) first told = record { given = λ _. tt; same = λ _. tt; left = λ clean _. unchanged_left a b (first.same clean); survives = first.survives }
 
--- after looks that succeeded something may fail that does not ask the store, as where there is no memory for what is made of them
+-- after successful reads, an operation without the store may fail, for example if it is out of memory
 pub look_lost : {X Y E F : Type 0} {x : X} {P : X → Type 0} {Q : Y → Type 0} (a b : State) (r : Result Y F) → IsErr r → IsLook {X = X} {E = E} (Ok x) P a b → IsLook r Q a b
 look_lost a b (Err f) failed look = look_told a b (Err f) look (λ _ _. tt)
 look_lost a b (Ok y) failed look = absurd (let is = failed in cc)
 
--- a look that fails, in other words
+-- a failed read, with another error
 pub look_failed : {X Y E F : Type 0} {e : E} {P : X → Type 0} {Q : Y → Type 0} (a b : State) (r : Result Y F) → IsErr r → IsLook {X = X} {E = E} (Err e) P a b → IsLook r Q a b
 look_failed a b (Err f) failed look = record { given = λ _. tt; same = λ _. tt; left = look.left; survives = look.survives }
 look_failed a b (Ok y) failed look = absurd (let is = failed in cc)
 
--- a look that succeeds after another
+-- a successful read after another read
 pub look_then : {X Y Z E F G : Type 0} {x : X} {y : Y} {z : Z} {P : X → Type 0} {Q : Y → Type 0} {All : Z → Type 0} (a b c : State) → IsLook {X = X} {E = E} (Ok x) P a b → IsLook {X = Y} {E = F} (Ok y) Q b c
     → (HasCleanDisk c → b.now ≡ a.now → P x → Q y → All z) → IsLook {X = Z} {E = G} (Ok z) All a c
 look_then a b c first next all =
@@ -72,7 +72,7 @@ look_then a b c first next all =
       survives = survives_then a b c (λ _. ⊥) (λ _. ⊥) (λ _. ⊥) (λ _ _ n. n) (λ _ _ n. n) first.survives next.survives;
     }
 
--- a look that fails after another
+-- a failed read after another read
 pub look_fails : {X Y Z E F G : Type 0} {x : X} {e : F} {P : X → Type 0} {Q : Y → Type 0} {All : Z → Type 0} (a b c : State) (r : Result Z G) → IsErr r → IsLook {X = X} {E = E} (Ok x) P a b
     → IsLook {X = Y} {E = F} (Err e) Q b c → IsLook r All a c
 look_fails a b c (Err f) failed first next =

@@ -1,4 +1,4 @@
--- What the CREATE TABLE of the mandates makes.
+-- The effect of the CREATE TABLE statement of `mandate`.
 use Rattle.std.proofs.Common.{◌≡◌, ℕ, List, [], false, None, Some, Ok, Err, Option, is_ok, true, Bool, refl, sym, ap, subst, ◌∙◌}
 use Rattle.land_tables_schema.specs.Rows.Raising.{MakesTable}
 use Rattle.land_tables_schema.specs.declared.tables.mandate.TheConstants.{CREATE}
@@ -30,7 +30,7 @@ use Rattle.sqlite_schema.specs.declared.schema.Index.{Index}
 use Rattle.sqlite_schema.specs.declared.schema.Schema.{Schema}
 use Rattle.sqlite_tied.specs.Compute.{everything}
 
--- the CREATE TABLE is one, whatever indexes there are
+-- the statement is one CREATE TABLE, for all indexes
 record IsOneTable (indexes : List Index) : Type 0 where
   command : command_of (understood (first_with [] indexes) CREATE.now) ≡ CreateTable
   plain : IsPlain (understood (first_with [] indexes) CREATE.now)
@@ -71,7 +71,7 @@ one_table indexes free =
 refused : (c : Compiled) → ◌≡◌ {A = Checked Compiled} (Err Exists) (Ok c) → ⊥
 refused c e = cc
 
--- where an index has the name, the text is refused
+-- if an index has the name, the statement is rejected
 taken : (indexes : List Index) (k : ℕ) → heard CREATE.now (compiled_with CREATE.now create_is (table_with (first_with [] indexes) create_is.parsed.formats create_is.def (Some k))) ≡ Err Exists
 unfolding create_is everything is_table statement_in table_in
 taken indexes k = refl

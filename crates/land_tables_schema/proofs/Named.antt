@@ -1,5 +1,6 @@
--- A CREATE means the same whatever indexes there are, where none of them has the name of what it makes; and else it is refused. What a DROP
--- INDEX IF EXISTS means is told by the place of the index that has the name, if there is one.
+-- A CREATE has the same meaning for all indexes if none of them has the name of the new item, and is rejected
+-- otherwise. The meaning of a DROP INDEX IF EXISTS depends on the position of the index with the name, if
+-- there is one.
 use Rattle.std.proofs.Common.{◌≡◌, ℕ, not, ◌&&◌, List, [], length, Option, None, Ok, Err, true, refl, sym, ap, ◌∙◌}
 use Rattle.std.specs.Prelude.{◌==◌, if◌then◌else◌}
 use Rattle.std.specs.Option.{option_or}
@@ -31,7 +32,7 @@ table_with s formats def o =
     and_then (creates def.if_missing def.name (option_or (table_named s def.name) (view_named s def.name)) o) (λ is_new.
     if is_new then and_then (define.table formats def) (λ t. if length t.computed == length t.stamps.places && not def.resolves then Ok MakeTable else Err Unsupported) else Ok Nothing)
 
--- what is planned of a statement whose command is this
+-- the plan of a statement with this command
 abbrev pub planned_with : Checked Command → Checked (List Name × (Command × Option Returning))
 planned_with c = and_then (and_then (let none : Checked (Option Returning) = Ok None in none) (λ shown. and_then c (λ c. Ok (c, shown)))) (λ found. Ok ([], found))
 
@@ -43,13 +44,13 @@ table_is : (s : Schema) (formats : List Name) (def : CreateTable) → create_tab
 unfolding create_table
 table_is s formats def = refl
 
--- a text that is one CREATE TABLE
+-- a statement that is one CREATE TABLE
 pub record IsTable (text : List ℕ) : Type 0 where
   pub parsed : Parsed
   pub def : CreateTable
   pub is : first text ≡ Ok (record parsed { statement = written.CreateTable def })
 
--- what a text is understood as, by what it is compiled to
+-- the compiled form of a statement
 abbrev pub heard : List ℕ → Checked Compiled → Checked Compiled
 heard text c = if misses_table c then if_select (compiled listing_schema text) else c
 
@@ -74,12 +75,12 @@ module _ (text : List ℕ) (it : IsTable text) where
   by_name s o named =
       heard_is s text ∙ ap (heard text) (compiled_is s ∙ ap compiled_with (table_is s it.parsed.formats it.def ∙ ap (table_with s it.parsed.formats it.def) named))
 
-  -- where no index has the name, it means what it means where there is no index at all
+  -- if no index has the name, the statement means the same as without any index
   pub same_without : (s : Schema) → index_named s it.def.name ≡ None → understood s text ≡ understood (without_indexes s) text
   unfolding is_attached
   same_without s free = by_name s None free ∙ sym (by_name (without_indexes s) None refl)
 
--- ---- the same of a CREATE INDEX
+-- ---- the same for a CREATE INDEX
 
 abbrev pub index_with : Schema → CreateIndex → Option ℕ → Checked Command
 index_with s def o =

@@ -1,4 +1,4 @@
--- Tables whose rows have rowids, no two the same.
+-- Tables whose rows have distinct rowids.
 use Rattle.std.proofs.Common.{◌≡◌, ℤ, List, [], ◌∷◌, map, true, false, ◌&&◌, refl, sym, ap, subst, ◌∙◌, IsPermutation}
 use Rattle.std.specs.List.{AllByRecursion, IsDistinct, list_all}
 use Rattle.std.specs.Ordering.{is_eq, int_eq}
@@ -18,14 +18,14 @@ use Rattle.sqlite_value.proofs.OrderLemmas.{value_cmp-Int}
 use Rattle.sqlite_value.specs.Order.{Row, value_cmp}
 use Rattle.sqlite_value.specs.declared.value.Value.TheVariants.{Int}
 
--- it is so in any order
+-- also in any order
 pub numbered_anyhow : (rows others : List Row) → IsPermutation rows others → AreNumbered rows → AreNumbered others
 numbered_anyhow rows others moved n = record {
   whole = test_from_all (λ r. is_int (rowid r)) others (all-permutation (λ r. is_int (rowid r) ≡ true) rows others moved (all_from_test (λ r. is_int (rowid r)) rows n.whole));
   apart = IsDistinct-IsPermutation int_eq int_eq_equiv.symm (ids_of rows) (ids_of others) (IsPermutation-map (λ r. id_in (rowid r)) rows others moved) n.apart;
 }
 
--- a rowid that is free is none of those there
+-- a free rowid is not among the existing ones
 free_apart : (z : ℤ) (cells : Row) (rows : List Row) → have_rowids rows ≡ true → is_taken rows (Int z ∷ cells) ≡ false → AllByRecursion (λ i. int_eq z i ≡ false) (ids_of rows)
 free_apart z cells [] whole free = tt
 free_apart z cells (r ∷ rs) whole free =
@@ -34,7 +34,7 @@ free_apart z cells (r ∷ rs) whole free =
     let here : int_eq (id_in (rowid r)) z ≡ false = sym (ap is_eq (ap (λ v. value_cmp v (Int z)) (int_is (rowid r) h.0) ∙ value_cmp-Int (id_in (rowid r)) z)) ∙ k.0 in
     (int_eq_equiv.symm z (id_in (rowid r)) ∙ here, free_apart z cells rs h.1 k.1)
 
--- it is so with one row more, whose rowid was free
+-- also with one more row, whose rowid was free
 pub numbered_more : (z : ℤ) (cells : Row) (rows : List Row) → is_taken rows (Int z ∷ cells) ≡ false → AreNumbered rows → AreNumbered ((Int z ∷ cells) ∷ rows)
 numbered_more z cells rows free n = record {
   whole = n.whole;
@@ -45,7 +45,7 @@ whole_is : (rows : List Row) → have_rowids rows ≡ list_all is_int (map rowid
 whole_is [] = refl
 whole_is (r ∷ rs) = ap (λ b. is_int (rowid r) && b) (whole_is rs)
 
--- it is so for rows with the same rowids
+-- also for rows with the same rowids
 pub numbered_same : (rows others : List Row) → map rowid rows ≡ map rowid others → AreNumbered rows → AreNumbered others
 numbered_same rows others same n = record {
   whole = whole_is others ∙ ap (list_all is_int) (sym same) ∙ sym (whole_is rows) ∙ n.whole;

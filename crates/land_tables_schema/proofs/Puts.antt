@@ -1,4 +1,4 @@
--- What a table has after rows were put into it, in whatever order.
+-- The content of a table after insertions, in unspecified order.
 use Rattle.std.proofs.Common.{◌≡◌, List, [], ◌∷◌, ◌++◌, true, false, not, ◌||◌, IsPermutation}
 use Rattle.std.specs.Ordering.{is_eq, match_ordering}
 use Rattle.std.specs.declared.cmp.Ordering.{Ordering}
@@ -9,11 +9,11 @@ use Rattle.sqlite_rules.specs.Edit.{is_taken, are_fresh, put_all}
 use Rattle.sqlite_trees.specs.Tree.{rowid, put_row}
 use Rattle.sqlite_value.specs.Order.{Row, value_cmp}
 
--- two in front change places
+-- the first two items are exchanged
 pub exchanged : {X : Type 0} (x y : X) (xs : List X) → IsPermutation (x ∷ y ∷ xs) (y ∷ x ∷ xs)
 exchanged x y xs = IsPermutation-sym (y ∷ x ∷ xs) (x ∷ y ∷ xs) (IsPermutation-middle (y ∷ []) x xs)
 
--- a row whose rowid is free is put among the others
+-- a row with a free rowid is inserted among the others
 pub put_is : (new : Row) (rows : List Row) → is_taken rows new ≡ false → IsPermutation (new ∷ rows) (put_row new rows)
 put_is new [] free = IsPermutation-refl (new ∷ [])
 put_is new (r ∷ rs) free = go (value_cmp (rowid r) (rowid new)) free (put_is new rs)
@@ -23,7 +23,7 @@ put_is new (r ∷ rs) free = go (value_cmp (rowid r) (rowid new)) free (put_is n
     go Equal free later = absurd (let e = free in cc)
     go Greater free later = IsPermutation-refl (new ∷ r ∷ rs)
 
--- rows whose rowids are free are put among the others
+-- rows with free rowids are inserted among the others
 pub puts_are : (news rows : List Row) → are_fresh rows news ≡ true → IsPermutation (news ++ rows) (put_all rows news)
 puts_are [] rows fresh = IsPermutation-refl rows
 puts_are (n ∷ ns) rows fresh =

@@ -1,4 +1,4 @@
--- A schema of the first version becomes one of the second.
+-- A schema of version 1 becomes one of version 2.
 use Rattle.std.proofs.Common.{◌≡◌, ◌+◌, ◌||◌, ℕ, List, [], ◌∷◌, ◌++◌, Bool, true, false, not, refl, sym, ap, ap₂, subst}
 use Rattle.std.specs.List.{list_all, list_any}
 use Rattle.std.proofs.lemmas.Bool.{and_from, and_parts, false≢true}
@@ -12,18 +12,18 @@ use Rattle.sqlite_schema.specs.declared.schema.Schema.{Schema}
 use Rattle.sqlite_schema.specs.declared.schema.Table.{Table}
 use Rattle.sqlite_tied.specs.Compute.{everything}
 
--- ---- what is known of a schema
+-- ---- properties of a schema
 
 pub but_for_indexes : (s : Schema) → IsLand s → s ≡ land_with s.indexes
 but_for_indexes s land = ap₂ (λ tables views. record { tables = tables; indexes = s.indexes; views = views }) land.tables land.views
 
--- one of the first version is known but for its indexes alone
+-- a schema of version 1 is determined except for its indexes
 pub first_but_for_indexes : (s : Schema) → IsFirst s → s ≡ first_with [] s.indexes
 first_but_for_indexes s first = ap₂ (λ tables views. record { tables = tables; indexes = s.indexes; views = views }) first.tables first.views
 
--- ---- whose indexes refuse no more than keys do
+-- ---- indexes reject no more rows than keys do
 
--- with one table more they refuse no more still
+-- with one more table they still reject no more rows
 still_no_more : (i : Index) → refuses_no_more first_tables i ≡ true → refuses_no_more land_tables i ≡ true
 still_no_more i h =
     more (not i.is_unique) (list_any (is_key_of i) first_tables) (list_any (is_key_of i) land_tables) (list_any (is_key_of i) (mandate ∷ [])) (list_any-append (is_key_of i) first_tables (mandate ∷ [])) h
@@ -49,9 +49,9 @@ mandates_are_land s first =
       views = first.views;
     }
 
--- ---- what the CREATE makes
+-- ---- the effect of the CREATE
 
--- what is made where this is the next tree
+-- the result of a CREATE if this is the next tree
 abbrev made_in : Schema → ℕ → Table → Schema
 made_in s n t = record s { tables = s.tables ++ (record t { tree = n }) ∷ []; indexes = s.indexes ++ automatics (record t { tree = n }) 0 (n + 1) t.uniques }
 

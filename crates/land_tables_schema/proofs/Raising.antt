@@ -1,4 +1,4 @@
--- The row of the edition is written anew, and a register of the first version becomes one of the second, step by step.
+-- The row of `edition` is rewritten, and a register of version 1 becomes one of version 2, step by step.
 use Rattle.std.proofs.Common.{◌≡◌, ◌≢◌, ℕ, pos, List, [], ◌∷◌, ◌++◌, map, filter, true, false, not, cond, drop, Ok, refl, sym, ap, ap₂, subst, ◌∙◌, IsPermutation, arith}
 use Rattle.std.specs.List.{AllByRecursion}
 use Rattle.std.proofs.lemmas.List.Sorted.{IsPermutation-refl, IsPermutation-sym, length_permutation}
@@ -57,13 +57,13 @@ updates_it : (indexes : List Index) → IsUpdate (land_with indexes) RAISE.now 0
 unfolding understood everything
 updates_it indexes = record { command = refl; plain = (refl, refl); table = refl; alone = λ _ _ _. refl }
 
--- what has the elements of one is that one
+-- a list with the same elements as a one-element list is that list
 pub only_one : {X : Type 0} (x : X) (ys : List X) → IsPermutation (x ∷ []) ys → ys ≡ x ∷ []
 only_one x [] p = absurd (omega (arith, length_permutation (x ∷ []) [] p))
 only_one x (y ∷ []) p = ap (λ z. z ∷ []) (all-permutation (λ z. z ≡ x) (x ∷ []) (y ∷ []) p (refl, tt)).0
 only_one x (y ∷ z ∷ zs) p = absurd (omega (arith, length_permutation (x ∷ []) (y ∷ z ∷ zs) p))
 
--- the row as the query shows it, and as it is written anew
+-- the row as the query returns it, and as it is rewritten
 abbrev shown : Row
 shown = Int (pos 1) ∷ Int (pos 1) ∷ Null ∷ Int (pos 2) ∷ []
 
@@ -73,7 +73,7 @@ anew = Int (pos 1) ∷ Null ∷ Int (pos 2) ∷ []
 written_anew : cast_row (bare table.edition) anew ≡ anew
 written_anew = simp (cast_null, cast_whole)
 
--- the one row of the first edition
+-- the one row of version 1
 record IsFirst (rows : List Row) : Type 0 where
   row : Row
   is : rows ≡ row ∷ []
@@ -142,7 +142,7 @@ rewrites old new count land h =
     row_rewritten indexes old.now new.now has
     (updates (land_with indexes) RAISE.now 0 table.edition (plainly 0 by_id raised) (updates_it indexes) old new [] count has h)
 
--- ---- one after another
+-- ---- in order
 
 pub drops_joins : (old new : Database) → IsRaisable old.schema → DefinesAll drop_texts old new → DropsJoins old new
 drops_joins old new able did = record {
@@ -182,15 +182,15 @@ raises a b c d e dropped table_made indexes_made row = record {
 }
 
 module _ {X E : Type 0} {x : X} (a b : State) (able : HasCleanDisk a → IsRaisable a.now.schema) (dropped : IsStep {X = X} {E = E} (Ok x) DropsJoins a b) where
-  -- without the plain indexes it is of the first version still
+  -- without the plain indexes the schema still has version 1
   pub joins_first : HasCleanDisk b → IsFirstSchema b.now.schema
   joins_first clean = subst IsFirstSchema (sym (dropped.done clean).schema) (first_without join_names a.now.schema (able (was_clean a b dropped.survives clean)).first)
 
-  -- and the next tree is that of the mandates
+  -- and the next tree is that of `mandate`
   pub joins_next : HasCleanDisk b → next_tree b.now.schema ≡ 20
   joins_next clean = ap next_tree (dropped.done clean).schema ∙ next_is a.now.schema (able (was_clean a b dropped.survives clean))
 
--- with the table it is the register's
+-- with the table the schema is the register's
 pub table_land : {X E : Type 0} {x : X} (b c : State) → (HasCleanDisk b → IsFirstSchema b.now.schema) → IsStep {X = X} {E = E} (Ok x) MakesTable b c → HasCleanDisk c → IsLand c.now.schema
 table_land b c first step clean = subst IsLand (sym (step.done clean).schema) (mandates_are_land b.now.schema (first (was_clean b c step.survives clean)))
 

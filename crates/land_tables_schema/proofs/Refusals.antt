@@ -1,4 +1,4 @@
--- Texts that a store refuses to read.
+-- Statements that a store rejects before it reads.
 use Rattle.std.proofs.Common.{◌≡◌, ◌∙◌, inl, inr, sym, ℕ, List, [], IsTrue}
 use Rattle.land_tables_schema.proofs.Looking.{unchanged_left}
 use Rattle.land_tables_schema.specs.Rows.Looks.{IsLeft}
@@ -10,7 +10,7 @@ use Rattle.sqlite_trees.specs.declared.error.StoreError.{StoreError}
 use Rattle.sqlite_trees.specs.declared.error.StoreError.TheVariants.{OutOfMemory, Io, Corrupt, Full, Broken, Unstorable}
 use Rattle.sqlite_value.specs.Order.{Row}
 
--- no failure of a store is told as a fault of the text
+-- no failure of a store is reported as a malformed statement
 not_the_text : (cause : StoreError) (fault : CompileError) → SqlInputError fault ≡ store_error cause → ⊥
 not_the_text OutOfMemory fault same = cc
 not_the_text Io fault same = cc
@@ -19,7 +19,7 @@ not_the_text Full fault same = cc
 not_the_text Broken fault same = cc
 not_the_text Unstorable fault same = cc
 
--- a store that refuses a text for what it says is as it was
+-- a store that rejects a malformed statement is unchanged
 pub refused_unchanged : (old new : State) (sql : List ℕ) (e : Error) (fault : CompileError) → e ≡ SqlInputError fault
     → ((params : Row) → IsNotRun old new sql params e) → IsUnchanged old new
 unfolding IsNotRun
@@ -28,7 +28,7 @@ refused_unchanged old new sql e fault is h = elim (h []) [
   | inr failed ↦ absurd (not_the_text failed.0 fault (sym is ∙ failed.1))
 ]
 
--- a store that did not run a text, and is open, has what it had, or what was committed last
+-- a store that did not run a statement, and is open, has its content from before, or the last commit
 pub not_run_left : (old new : State) (sql : List ℕ) (e : Error) → ((params : Row) → IsNotRun old new sql params e) → IsTrue new.is_open → IsLeft old new
 unfolding IsNotRun
 not_run_left old new sql e h is_open = elim (h []) [

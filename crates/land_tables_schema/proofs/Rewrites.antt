@@ -1,4 +1,4 @@
--- What a table has after some of its rows were written anew, in whatever order.
+-- The content of a table after some of its rows were rewritten, in unspecified order.
 use Rattle.std.proofs.Common.{◌≡◌, ℤ, List, [], ◌∷◌, ◌++◌, map, filter, Bool, true, false, not, ◌||◌, cond, refl, sym, ap, ap₂, subst, ◌∙◌, IsPermutation}
 use Rattle.std.specs.List.{AllByRecursion, IsDistinct, list_any}
 use Rattle.std.specs.Ordering.{int_eq}
@@ -10,7 +10,7 @@ use Rattle.sqlite_rules.specs.Edit.{without_all}
 use Rattle.sqlite_trees.specs.Tree.{has_rowid, without_rowid}
 use Rattle.sqlite_value.specs.Order.{Row}
 
--- those that pass, turned, and then the others, are all of them, each turned if it passes
+-- the items that pass, changed, and then the others: together they are all items, each changed if it passes
 pub turned_are : {X : Type 0} (p : X → Bool) (f : X → X) (xs : List X) → IsPermutation (map f (filter p xs) ++ filter (λ x. not (p x)) xs) (map (λ x. cond (p x) (f x) x) xs)
 turned_are p f [] = IsPermutation-refl []
 turned_are {X} p f (x ∷ xs) = go (p x) (turned_are p f xs)
@@ -20,7 +20,7 @@ turned_are {X} p f (x ∷ xs) = go (p x) (turned_are p f xs)
     go true rest = IsPermutation-cons (f x) _ _ rest
     go false rest = IsPermutation-trans _ (x ∷ (map f (filter p xs) ++ filter (λ x. not (p x)) xs)) _ (IsPermutation-middle (map f (filter p xs)) x (filter (λ x. not (p x)) xs)) (IsPermutation-cons x _ _ rest)
 
--- to take out by several rowids is to keep the rows that have none of them
+-- removing several rowids leaves the rows that have none of them
 pub without_is : (ids : List ℤ) (rows : List Row) → without_all rows ids ≡ filter (λ r. not (list_any (λ id. has_rowid id r) ids)) rows
 without_is [] rows = sym (all_kept rows)
   where
@@ -40,13 +40,13 @@ without_is (id ∷ ids) rows = without_is ids (without_rowid id rows) ∙ twice 
         go false true is rest = rw is rest
         go false false is rest = rw is (ap (λ l. r ∷ l) rest)
 
--- a filter by a test that is the same for each of the list
+-- filters by tests that agree on the list
 pub filter_by : {X : Type 0} (p q : X → Bool) (xs : List X) → AllByRecursion (λ x. p x ≡ q x) xs → filter p xs ≡ filter q xs
 filter_by p q [] same = refl
 filter_by p q (x ∷ xs) same = ap₂ (λ b l. cond b (x ∷ l) l) same.0 (filter_by p q xs same.1)
 
 module _ {X : Type 0} (id : X → ℤ) (p : X → Bool) where
-  -- whether one with the same number passes
+  -- whether an item with the same number passes
   abbrev is_among : List X → X → Bool
   is_among xs x = list_any (λ i. int_eq (id x) i) (map id (filter p xs))
 
@@ -68,7 +68,7 @@ module _ {X : Type 0} (id : X → ℤ) (p : X → Bool) where
       go true rest = rw (apart.0) rest
       go false rest = rest
 
-  -- where numbers are apart, one with the same number passes exactly where the thing itself does
+  -- if numbers are distinct, an item with the same number passes if and only if the item itself does
   pub among_is : (xs : List X) → IsDistinct int_eq (map id xs) → AllByRecursion (λ x. is_among xs x ≡ p x) xs
   among_is [] apart = tt
   among_is (x ∷ xs) apart =

@@ -1,4 +1,4 @@
--- What an INSERT of one row and an UPDATE do, whatever indexes there are.
+-- The effect of an INSERT of one row and of an UPDATE, for all indexes.
 use Rattle.std.proofs.Common.{◌≡◌, ◌≢◌, ◌⊎◌, inl, inr, ℕ, true, false, List, [], ◌∷◌, None, Some, Ok, Err, Result, Option, slice_get, length, ◌/◌, refl, sym, ap, subst, ◌∙◌, append-nil}
 use Rattle.std.specs.List.{AllByRecursion}
 use Rattle.sqlite.proofs.Callers.{command_of, IsPlain, statement_of, runs_as, one_step}
@@ -25,11 +25,11 @@ use Rattle.sqlite_schema.specs.declared.schema.Schema.{Schema}
 use Rattle.sqlite_schema.specs.declared.schema.Table.{Table}
 use Rattle.sqlite_value.specs.Order.{Row}
 
--- a table with no foreign key, no default that is computed and no counter
+-- a table without foreign keys, computed defaults and counters
 abbrev pub bare : Table → Table
 bare t = record t { references = []; computed = []; stamps = record { places = []; terms = []; formats = [] }; is_counted = false }
 
--- a part that gave a value did not stop on the way
+-- a part that returned a value did not stop early
 went : {B E R : Type 0} {b : B} {Stops : E → Type 0} → ((stop : E) × Stops stop × (Ok b ≡ Err stop)) ⊎ R → R
 went (inl stopped) = absurd (let e = stopped.2 in cc)
 went (inr on) = on
@@ -37,14 +37,14 @@ went (inr on) = on
 same_value : {B E : Type 0} {a b : B} → ◌≡◌ {A = Result B E} (Ok a) (Ok b) → a ≡ b
 same_value e = cc
 
--- a table after an edit, and all others as they were
+-- a table after an edit, and all others unchanged
 pub record IsEdited (schema : Schema) (edit : Edit) (old new : Database) : Type 0 where
   pub schema_is : new.schema ≡ schema
   pub fresh : are_fresh (left_by old.trees edit) edit.news ≡ true
   pub rows : new.trees edit.table.tree ≡ edited old.trees edit
   pub others : AllByRecursion (λ (u : Table). u.tree ≢ edit.table.tree → new.trees u.tree ≡ old.trees u.tree) schema.tables
 
--- the text puts in one row of these terms
+-- the statement inserts one row of these terms
 pub record IsInsertion (schema : Schema) (text : List ℕ) (place : ℕ) (t : Table) (terms : List Term) (width : ℕ) : Type 0 where
   pub command : command_of (understood schema text) ≡ Insert place (Values terms width)
   pub plain : IsPlain (understood schema text)
@@ -83,14 +83,14 @@ module _ (schema : Schema) (text : List ℕ) (place : ℕ) (t : Table) (terms : 
       let w = runs_as text params old new schema has (Insert place (Values terms width)) is.command is.plain count h in
       inserted w _ refl is.table (subst (λ s. Does old.step_limit (mode_of old) params (record old.now { schema = s }) (statement_of text (understood schema text)) None (Insert place (Values terms width)) (Ok (w.tally, new.now))) has w.changed)
 
--- the text writes the rows anew that the query finds
+-- the statement rewrites the rows that the query finds
 pub record IsUpdate (schema : Schema) (text : List ℕ) (place : ℕ) (t : Table) (q : Query) : Type 0 where
   pub command : command_of (understood schema text) ≡ Update place (record { lets = []; body = q })
   pub plain : IsPlain (understood schema text)
   pub table : slice_get schema.tables place ≡ Some (bare t)
   pub alone : (keys : Keys) (olds news : List Row) → works schema keys 0 t.tree olds news ≡ []
 
--- what the query found was written anew
+-- the rows found were rewritten
 pub record IsUpdated (schema : Schema) (t : Table) (q : Query) (params : Row) (old new : Database) : Type 0 where
   pub found : List Row
   pub answer : IsAnswer q (overlay old.trees []) params found

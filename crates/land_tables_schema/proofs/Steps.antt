@@ -1,4 +1,4 @@
--- Calls inside a transaction, one after another.
+-- Calls inside a transaction, in order.
 use Rattle.std.proofs.Common.{◌≡◌, inl, inr, ℕ, List, Ok, Err, Result, OnOk, IsErr, IsTrue, Bool, true, false, refl, sym, ◌∙◌, arith}
 use Rattle.land_tables_schema.specs.Steps.{IsStep}
 use Rattle.sqlite.proofs.StateLemmas.{survives_then}
@@ -9,7 +9,7 @@ use Rattle.sqlite.specs.Store.{Ghosts}
 use Rattle.sqlite.specs.declared.error.Error.{Error}
 use Rattle.sqlite_value.specs.Order.{Row}
 
--- what is undone has kept the commit
+-- a rolled-back transaction has kept the commit
 rolled_back_keeps : (old new : State) → IsRolledBack old new → KeepsCommit old new
 rolled_back_keeps old new h = record { was_open = h.was_open; committed = λ t. (h.undone t).1 }
 
@@ -24,7 +24,7 @@ executed_keeps old new sql params (Err e) (inl h) = elim h.1 [
 ]
 executed_keeps old new sql params (Err e) (inr h) = shows_keeps old new h.2.0
 
--- commits that were kept by one call and the next
+-- commits that two calls keep, one after the other
 pub keeps_then : (a b c : State) → KeepsCommit a b → KeepsCommit b c → KeepsCommit a c
 keeps_then a b c h k = record { was_open = λ t. h.was_open (k.was_open t); committed = λ t. k.committed t ∙ h.committed (k.was_open t) }
 
@@ -32,7 +32,7 @@ keeps_then a b c h k = record { was_open = λ t. h.was_open (k.was_open t); comm
 pub was_clean : (a b : State) → Survives a b (λ _. ⊥) → HasCleanDisk b → HasCleanDisk a
 was_clean a b s clean = omega (arith, s.clean)
 
--- what nothing at all has done
+-- the effect of no call
 pub no_step : {X E : Type 0} (x : X) (Done : Database → Database → Type 0) (a : State) → (HasCleanDisk a → Done a.now a.now) → IsStep {X = X} {E = E} (Ok x) Done a a
 no_step x Done a done = record {
   done = done;
@@ -41,7 +41,7 @@ no_step x Done a done = record {
   survives = record { clean = omega arith; shield = λ x. x; counts = omega arith; limit = refl; closes = λ _ t. inl t; crash = λ _ _ x. inl x };
 }
 
--- a call that succeeds after others
+-- a successful call after others
 pub step_then : {X Y Z E : Type 0} {x : X} {y : Y} {z : Z} {First Next All : Database → Database → Type 0} (a b c : State) → IsStep {X = X} {E = E} (Ok x) First a b → IsStep {X = Y} {E = E} (Ok y) Next b c
     → (HasCleanDisk c → First a.now b.now → Next b.now c.now → All a.now c.now) → IsStep {X = Z} {E = E} (Ok z) All a c
 step_then a b c first next all =
@@ -53,7 +53,7 @@ step_then a b c first next all =
       survives = survives_then a b c (λ _. ⊥) (λ _. ⊥) (λ _. ⊥) (λ _ _ n. n) (λ _ _ n. n) first.survives next.survives;
     }
 
--- a call that fails after others
+-- a failed call after others
 pub step_fails : {X Y Z E F : Type 0} {x : X} {next : Result Y F} {First Next All : Database → Database → Type 0} (a b c : State) (r : Result Z E) → IsErr r → IsStep {X = X} {E = E} (Ok x) First a b → IsStep next Next b c
     → IsStep r All a c
 step_fails a b c (Err e) failed first next =
@@ -66,7 +66,7 @@ step_fails a b c (Err e) failed first next =
     }
 step_fails a b c (Ok z) failed first next = absurd (let is = failed in cc)
 
--- what was done, in other words
+-- the effect, in another form
 pub step_says : {X E : Type 0} {Did Done : Database → Database → Type 0} (a b : State) (r : Result X E) → IsStep r Did a b → (HasCleanDisk b → Did a.now b.now → Done a.now b.now) → IsStep r Done a b
 step_says a b (Ok x) step says = record { done = λ clean. says clean (step.done clean); inside = step.inside; kept = step.kept; survives = step.survives }
 step_says a b (Err e) step says = record { done = λ _. tt; inside = step.inside; kept = step.kept; survives = step.survives }
@@ -95,7 +95,8 @@ module _ {S : Type 0} (g : Ghosts S) (old new : Held S) (sql : List ℕ) (params
   keeps_inside true is r none runs = executed_keeps (state g old) (state g new) sql params r (runs (rw is refl))
   keeps_inside false is r none runs = rw (none is).1 (record { was_open = λ t. t; committed = λ _. refl })
 
-  -- One statement is a step, where what it does is known of one that succeeds. With no transaction it is refused, and nothing changes.
+  -- One statement satisfies `IsStep`, if its effect is known when it succeeds. Without a transaction it is
+  -- rejected, and nothing changes.
   pub statement_steps : (r : Result ℕ Error) → IsRefused r → (HasCleanDisk (state g new) → Runs r) → Survives (state g old) (state g new) (λ _. ⊥) → (HasCleanDisk (state g old) → IsDoing)
       → IsStep r Done (state g old) (state g new)
   statement_steps r none runs safe does = record {

@@ -1,4 +1,4 @@
--- The texts make the schema of a new register, one after another.
+-- The statements create the schema of a new register, in order.
 use Rattle.std.proofs.Common.{◌≡◌, ◌∙◌, ℕ, List, [], ◌∷◌, ◌++◌, ap, drop, refl, subst, sym, take}
 use Rattle.land_tables_schema.proofs.Dropping.{drops_ready, next_is}
 use Rattle.land_tables_schema.specs.Definitions.{AreDefinitions, IsDefinition, made, made_by}
@@ -25,11 +25,11 @@ use Rattle.sqlite_tied.specs.Compute.{everything}
 abbrev so_far : ℕ → ℕ → Schema
 so_far tables indexes = record { tables = take tables land_tables; indexes = take indexes made_indexes; views = [] }
 
--- the tables of the first version, and the first of its indexes
+-- the tables of version 1, and the first of its indexes
 abbrev first_so_far : ℕ → Schema
 first_so_far indexes = first_with [] (take indexes first_indexes)
 
--- a text is a CREATE that makes one schema of another
+-- a statement is a CREATE that turns one schema into another
 record Makes (s : Schema) (text : List ℕ) (next : Schema) : Type 0 where
   made_is : made_by s text ≡ next
   definition : IsDefinition s text
@@ -114,7 +114,7 @@ mandate_agent_indexed : Makes (so_far 12 17) mandate.INDEX_AGENT.now (so_far 12 
 unfolding understood everything
 mandate_agent_indexed = record { made_is = refl; definition = record { plain = (refl, refl); whole = refl; defining = tt } }
 
--- ---- the indexes of the first version
+-- ---- the indexes of version 1
 
 first_rrr_party : Makes (first_so_far 9) rrr.INDEX_PARTY.now (first_so_far 10)
 unfolding understood everything
@@ -146,7 +146,7 @@ first_role_role = record { made_is = refl; definition = record { plain = (refl, 
 
 -- ---- all together
 
--- from one schema on, texts are CREATEs that make another
+-- from one schema on, statements are CREATEs that yield another
 record Finish (last s : Schema) (texts : List (List ℕ)) : Type 0 where
   definitions : AreDefinitions s texts
   made_is : made s texts ≡ last
@@ -166,7 +166,7 @@ indexes_finish =
     one_more rrr_party_indexed (one_more rrr_unit_indexed (one_more parcel_unit_indexed (one_more member_party_indexed
     (one_more names_unit_indexed (one_more mutation_lodger_indexed (one_more role_role_indexed (one_more mandate_agent_indexed (done made_schema))))))))
 
--- the tables of the first version, and then other texts
+-- the tables of version 1, and then other statements
 tables_first : (last : Schema) (texts : List (List ℕ)) → Finish last (so_far 11 9) texts → Finish last no_schema (take 11 land_texts ++ texts)
 tables_first last texts rest =
     one_more edition_made (one_more moments_made (one_more party_made (one_more role_made (one_more member_made
@@ -182,7 +182,8 @@ first_finish =
     (one_more first_rrr_party (one_more first_rrr_unit (one_more first_parcel_unit (one_more first_member_party
     (one_more first_names_unit (one_more first_mutation_lodger (one_more first_role_role (done first_schema))))))))
 
--- without the plain indexes, and with the mandates, the first version has what a new register has before its plain indexes
+-- Without the plain indexes, and with `mandate`, schema version 1 is the schema of a new register before its
+-- plain indexes.
 first_with_mandates : with_mandates (without_joins first_schema) ≡ so_far 12 10
 unfolding everything
 first_with_mandates = refl
@@ -190,7 +191,7 @@ first_with_mandates = refl
 pub texts_finish : TextsLaw
 texts_finish = record { creates = finish.definitions; makes = finish.made_is }
 
--- the CREATE TABLE of each table defines that table
+-- the CREATE TABLE statement of each table defines that table
 pub texts_define : TableTextsLaw
 unfolding understood everything
 texts_define = record {
@@ -208,7 +209,7 @@ texts_define = record {
   the_mandate = refl;
 }
 
--- the texts of the first version make its schema, which becomes that of a new register
+-- the statements of version 1 create its schema, which becomes that of a new register
 pub versions_differ : VersionsLaw
 unfolding everything
 versions_differ = record {

@@ -1,4 +1,4 @@
--- What an UPDATE makes of what a table holds.
+-- The effect of an UPDATE on the content of a table.
 use Rattle.std.proofs.Common.{◌≡◌, ℕ, ℤ, pos, negsuc, List, [], ◌∷◌, ◌++◌, map, filter, flat_map, drop, Bool, true, false, not, ◌||◌, None, cond, refl, sym, ap, ap₂, subst, ◌∙◌, IsPermutation}
 use Rattle.std.specs.List.{AllByRecursion, list_all, list_any}
 use Rattle.std.specs.Ordering.{is_eq, int_eq}
@@ -29,7 +29,7 @@ use Rattle.sqlite_trees.specs.View.{is_int}
 use Rattle.sqlite_value.proofs.OrderLemmas.{value_cmp-Int}
 use Rattle.sqlite_value.specs.Order.{Row, value_cmp}
 
--- a query of one table with no DISTINCT, ORDER BY, LIMIT or GROUP BY
+-- a query of one table without DISTINCT, ORDER BY, LIMIT and GROUP BY
 abbrev pub plainly : ℕ → List Term → List Term → Query
 plainly tree filter project =
     record { from = inner tree end; filter = filter; group = None; project = project; distinct = false; collations = []; order = []; limit = lit (Int (negsuc 0)); offset = lit (Int (pos 0)) }
@@ -38,7 +38,7 @@ plainly tree filter project =
 abbrev pub passes : List Term → Row → Row → Bool
 passes filter params r = list_all (holds (params ∷ r ∷ [])) filter
 
--- what the query finds in one table
+-- the rows that the query finds in one table
 found_in : (filter : List Term) (g : Env → Row) (params : Row) (rows : List Row)
     → map g (flat_map (λ r. cond (passes filter params r) ((params ∷ r ∷ []) ∷ []) []) rows) ≡ map (λ r. g (params ∷ r ∷ [])) (Rattle.std.proofs.Common.filter (passes filter params) rows)
 found_in filter g params [] = refl
@@ -50,7 +50,7 @@ found_in filter g params (r ∷ rs) = go (passes filter params r) (found_in filt
     go true rest = ap (λ l. g (params ∷ r ∷ []) ∷ l) rest
     go false rest = rest
 
--- an answer has what is shown of each row that passes, in whatever order
+-- a result has the columns of each row that passes, in unspecified order
 pub answer_is : (tree : ℕ) (filter project : List Term) (db : Trees) (params : Row) (rows : List Row) → IsAnswer (plainly tree filter project) db params rows
     → IsPermutation (map (λ r. eval_all project (params ∷ r ∷ [])) (Rattle.std.proofs.Common.filter (passes filter params) (db tree))) rows
 answer_is tree filter project db params rows a =
@@ -61,18 +61,18 @@ answer_is tree filter project db params rows a =
     subst (λ l. IsPermutation l rows) (ap (map (λ (o : Output). o.1)) kept ∙ map-map (λ (o : Output). o.1) (output q) all ∙ found_in filter (eval_all project) params (db tree))
     (subst (IsPermutation (map (λ (o : Output). o.1) a.kept)) (sym a.shown) moved)
 
--- given rowids are left as they are
+-- given rowids are unchanged
 pub numbered_given : (rows news : List Row) → numbered Given rows news ≡ news
 numbered_given rows [] = refl
 numbered_given rows (n ∷ ns) = ap (λ l. n ∷ l) (numbered_given (put_row n rows) ns)
 
--- the same by the rowid of a row and by its number
+-- likewise by the rowid of a row and by its number
 has_is : (ids : List ℤ) (r : Row) → is_int (rowid r) ≡ true → list_any (λ id. has_rowid id r) ids ≡ list_any (λ i. int_eq (id_in (rowid r)) i) ids
 has_is [] r whole = refl
 has_is (id ∷ ids) r whole = ap₂ ◌||◌ (ap is_eq (ap (λ v. value_cmp v (Int id)) (int_is (rowid r) whole) ∙ value_cmp-Int (id_in (rowid r)) id)) (has_is ids r whole)
 
--- How a statement turns the things of a table: it finds those that pass, and writes each anew under its rowid. Of a row it looks at its rowid and at the
--- columns that count, and at nothing else.
+-- How a statement changes the values of a table: it finds those that pass, and rewrites each under its rowid.
+-- It reads only the rowid of a row, and the columns that count.
 pub record IsTurning {X : Type 0} (form : Form X) (filter project : List Term) (params : Row) (passing : X → Bool) (turn : X → X) : Type 0 where
   pub read : (db : Trees) → overlay db [] form.table.tree ≡ db form.table.tree
   pub fills : (id : ℤ) (x : X) → columns_from 1 form.width (Int id ∷ form.cells x) ≡ form.cells x
@@ -82,7 +82,7 @@ pub record IsTurning {X : Type 0} (form : Form X) (filter project : List Term) (
   pub id_shown : (r : Row) → rowid (eval_all project (params ∷ r ∷ [])) ≡ rowid r
   pub writes : (id : ℤ) (x : X) → cast_row (bare form.table) (drop 1 (eval_all project (params ∷ (Int id ∷ form.cells x) ∷ []))) ≡ Int id ∷ form.cells (turn x)
 
--- each thing that passes is turned
+-- each value that passes is changed
 abbrev pub turned : {X : Type 0} → (X → Bool) → (X → X) → X → X
 turned passing turn x = cond (passing x) (turn x) x
 
@@ -92,18 +92,18 @@ module _ {X : Type 0} (form : Form X) (filter project : List Term) (params : Row
   abbrev cells_in : Row → Row
   cells_in r = columns_from 1 form.width r
 
-  -- what is written for a row
+  -- the new row
   abbrev written : Row → Row
   written r = cast_row (bare form.table) (drop 1 (eval_all project (params ∷ r ∷ [])))
 
   abbrev step : Row → Row
   step r = cond (passes filter params r) (written r) r
 
-  -- what that is for the cells of a row
+  -- the new row, for the cells of a row
   abbrev cell_step : Row → Row
   cell_step c = cells_in (step (Int (pos 0) ∷ c))
 
-  -- each row is one of a thing, under its rowid
+  -- each row is that of a value, under its rowid
   abbrev IsOne : Row → Type 0
   IsOne r = (x : X) × (rowid r ≡ Int (id_in (rowid r))) × (cells_in r ≡ form.cells x)
 
@@ -119,7 +119,7 @@ module _ {X : Type 0} (form : Form X) (filter project : List Term) (params : Row
   ones = ones_of l (all_from_test (λ r. is_int (rowid r)) l n.whole)
       (all-permutation (λ c. (x : X) × (c ≡ form.cells x)) (map form.cells xs) (map cells_in l) (IsPermutation-sym (map cells_in l) (map form.cells xs) rows_are) (all_cells xs))
 
-  -- what is seen of a row that is one of a thing
+  -- the columns read from the row of a value
   seen : (r : Row) (one : IsOne r) → rowid r ∷ cells_in r ≡ Int (id_in (rowid r)) ∷ form.cells one.0
   seen r one = ap₂ (λ a b. a ∷ b) one.1 one.2
 
@@ -129,7 +129,7 @@ module _ {X : Type 0} (form : Form X) (filter project : List Term) (params : Row
   written_is : (r : Row) (one : IsOne r) → written r ≡ Int (id_in (rowid r)) ∷ form.cells (turn one.0)
   written_is r one = ap (λ s. cast_row (bare form.table) (drop 1 s)) (is.shows_alike r ∙ ap (λ s. eval_all project (params ∷ s ∷ [])) (seen r one)) ∙ is.writes (id_in (rowid r)) one.0
 
-  -- a row that is one of a thing is turned with it
+  -- the row of a value is changed with the value
   step_cells : (r : Row) (one : IsOne r) → cells_in (step r) ≡ form.cells (turned passing turn one.0)
   step_cells r one = ap₂ (λ b w. cells_in (cond b w r)) (passes_if r one) (written_is r one) ∙ chosen (passing one.0)
     where
@@ -137,7 +137,7 @@ module _ {X : Type 0} (form : Form X) (filter project : List Term) (params : Row
       chosen true = is.fills (id_in (rowid r)) (turn one.0)
       chosen false = one.2
 
-  -- and keeps its rowid
+  -- and its rowid is unchanged
   step_id : (r : Row) (one : IsOne r) → rowid r ≡ rowid (step r)
   step_id r one = chosen (passes filter params r)
     where
@@ -160,7 +160,7 @@ module _ {X : Type 0} (form : Form X) (filter project : List Term) (params : Row
   cells_stepped [] = refl
   cells_stepped (y ∷ ys) = ap₂ (λ a b. a ∷ b) (cells_step (form.cells y) y refl) (cells_stepped ys)
 
-  -- the rows, each turned if it passes, are those of the things, each turned if it passes
+  -- the rows, each changed if it passes, are those of the values, each changed if it passes
   turned_rows : IsPermutation (map cells_in (map step l)) (map form.cells (map (turned passing turn) xs))
   turned_rows = subst (λ a. IsPermutation a (map form.cells (map (turned passing turn) xs))) (sym (stepped l ones))
       (subst (IsPermutation (map cell_step (map cells_in l))) (cells_stepped xs) (IsPermutation-map cell_step (map cells_in l) (map form.cells xs) rows_are))
@@ -168,7 +168,7 @@ module _ {X : Type 0} (form : Form X) (filter project : List Term) (params : Row
   turned_numbered : AreNumbered (map step l)
   turned_numbered = numbered_same l (map step l) (same_ids l ones) n
 
-  -- what an UPDATE leaves of the rows
+  -- the rows after an UPDATE
   module _ (found : List Row) (answer : IsPermutation (map (λ r. eval_all project (params ∷ r ∷ [])) (Rattle.std.proofs.Common.filter (passes filter params) l)) found)
       (fresh : are_fresh (without_all l (ids_of found)) (map (λ s. cast_row (bare form.table) (drop 1 s)) found) ≡ true) where
     abbrev passed : List Row

@@ -1,4 +1,4 @@
--- What the statements do that begin and close a version of something.
+-- The effect of the statements that insert and close a version.
 use Rattle.std.proofs.Common.{◌≡◌, ◌&&◌, ℕ, zero, suc, ◌+◌, ℤ, List, [], ◌∷◌, ◌++◌, Bool, Ok, subst}
 use Rattle.std.specs.Ordering.{int_eq}
 use Rattle.land_tables_schema.proofs.KnownSchemas.{but_for_indexes}
@@ -19,16 +19,17 @@ use Rattle.sqlite_schema.specs.declared.schema.Index.{Index}
 use Rattle.sqlite_schema.specs.declared.schema.Table.{Table}
 use Rattle.sqlite_value.specs.Order.{Row}
 
--- some columns of a slot, from one on
+-- columns of a slot, starting at one
 abbrev pub columns_of : (slot from count : ℕ) → List Term
 columns_of slot from zero = []
 columns_of slot from (suc count) = col slot from ∷ columns_of slot (suc from) count
 
--- what a statement that begins a version puts in: no rowid, the cells and the beginning, which are its parameters, and the open end
+-- the row that an inserting statement adds: no rowid, the cells and the start, which are its parameters, and
+-- the open end
 abbrev pub begin_terms : ℕ → List Term
 begin_terms count = lit Null ∷ (columns_of 0 0 (suc count) ++ lit (Int never) ∷ [])
 
--- a text begins a version, of things with some number of cells
+-- a statement inserts a version of values with this number of cells
 pub record IsBeginning {C : Type 0} (table : Table) (cells : C → Row) (text : List ℕ) (place count : ℕ) : Type 0 where
   pub insertion : (indexes : List Index) → IsInsertion (land_with indexes) text place table (begin_terms count) (count + 3)
   pub fills : (id : ℤ) (v : Version C) → columns_from 1 (suc (suc count)) (Int id ∷ (cells v.what ++ Int v.since ∷ Int v.until ∷ [])) ≡ cells v.what ++ Int v.since ∷ Int v.until ∷ []
@@ -43,11 +44,12 @@ module _ {C : Type 0} (table : Table) (cells : C → Row) (text : List ℕ) (pla
       let did = inserts (land_with indexes) text place table (begin_terms count) (count + 3) (is.insertion indexes) old new (cells c ++ Int since ∷ []) done has h in
       adds (versions_in table count cells) (begun c since) is.fills indexes old.now new.now (subst (λ row. IsEdited (land_with indexes) (edit_of old.now.trees (bare table) [] Chosen 0 (row ∷ [])) old.now new.now) (is.shows c since) did) has (is.exact c since)
 
--- what a statement that closes a version writes: the rowid, then the row as it was but for its end, which is a parameter
+-- the row that a closing statement writes: the rowid, then the row unchanged except for its end, which is a
+-- parameter
 abbrev pub close_terms : (count key : ℕ) → List Term
 close_terms count key = col 1 0 ∷ (columns_of 1 0 (count + 2) ++ col 0 key ∷ [])
 
--- a text closes the versions of what is meant by some cells
+-- a statement closes the versions of the values with these cells
 pub record IsClosing {C : Type 0} (table : Table) (count : ℕ) (cells : C → Row) (text : List ℕ) (place : ℕ) (filter project : List Term) (key : Row) (meant : C → Bool) : Type 0 where
   pub update : (indexes : List Index) → IsUpdate (land_with indexes) text place table (plainly table.tree filter project)
   pub turning : (stamp : ℤ) → IsTurning (versions_in table count cells) filter project (key ++ Int stamp ∷ []) (λ v. meant v.what && int_eq v.until never) (λ v. record v { until = stamp })

@@ -1,5 +1,5 @@
-//! Commands over files, in the folder in which the tests run. What is done is written over any machine, and done on this one by
-//! `land_commands::local`.
+//! Commands on files, in the folder in which the tests run. The steps are written for any host, and run on
+//! this one by `land_commands::local`.
 use land_commands::host::Host;
 use land_commands::local::machine::{Work, on_local_host};
 use land_commands::program_fault::ProgramFault;
@@ -18,46 +18,46 @@ use std::fs;
 use std::net::TcpListener;
 use std::rt::HostRuntime;
 
-/// A file of a test, and the log beside it.
+/// The paths of a test's file and of its write-ahead log.
 #[derive(Clone, Copy)]
 struct Place(&'static str, &'static str);
 
-/// What is to be done with a file.
+/// A command on a file.
 #[derive(Clone, Copy)]
 enum Deed {
-    /// A register is made.
+    /// Creates a register.
     New,
-    /// The register is checked.
+    /// Checks the register.
     Check,
-    /// The register is migrated.
+    /// Migrates the register.
     Migrate,
-    /// A connection is served on this port.
+    /// Serves one connection on this port.
     Serve(u16),
-    /// The entries are extracted that this party sees in this role at a moment, or now.
+    /// Extracts the entries that this party sees in this role, at a moment or now.
     Extract(u64, Role, Option<i64>),
 }
 
-/// What is done with a file, the status that it ends with, what it says, and what it says on the output of errors.
+/// A command on a file, with its exit status, its output, and its error output.
 #[derive(Clone, Copy)]
 struct Step(Deed, u8, &'static str, &'static str);
 
-/// What is said of a new register.
+/// The output of a check of a new register.
 const NEW_IS_SOUND: &str = "sound: last 0, next 2\n";
 
 const CANNOT_OPEN: &str = "land: cannot open\n";
 
 const CANNOT_LISTEN: &str = "land: cannot listen\n";
 
-/// Said where a register was to be made in a store that has tables.
+/// The error of `new` if the store has tables.
 const HAS_TABLES: &str = "land: fault 502\n";
 
-/// Said of what has not the tables of a register.
+/// The error if the tables are not those of a register.
 const NOT_OURS: &str = "land: fault 520\n";
 
-/// Said of a register of another version.
+/// The error if the register has another schema version.
 const OTHER_VERSION: &str = "land: fault 523\n";
 
-/// The words that ask for a deed.
+/// Returns the command line of a command.
 fn command(deed: Deed, file: &'static str) -> Command<'static> {
     match deed {
         Deed::New => Command::New { file },
@@ -78,19 +78,19 @@ fn command(deed: Deed, file: &'static str) -> Command<'static> {
     }
 }
 
-/// Does a command on a machine, and gives its status.
+/// Runs a command on a host, and returns its exit status.
 fn status<H: Host>(host: &mut H, command: Command<'_>, output: &mut Sink, errors: &mut Sink) -> u8 {
     let mut input: &[u8] = b"";
     let mut clock = Readings { left: &[] };
     run_command(host, command, &mut input, output, errors, &mut clock)
 }
 
-/// Whether a command has said that there was no memory.
+/// Returns whether a command has reported that it was out of memory (501).
 fn lacked_memory(errors: &Sink) -> bool {
     errors.taken.as_slice() == b"land: fault 501\n".as_slice()
 }
 
-/// A command has ended as a step says. Want of memory stops the test.
+/// Checks the result of a command against its step. An out-of-memory error stops the test.
 fn expect_end(
     file: &'static str,
     place: usize,
@@ -107,7 +107,7 @@ fn expect_end(
     expect(is_said && status == step.1, file, place)
 }
 
-/// A step ends as it says, on this output.
+/// Runs a step and checks its result, with this output.
 fn take_on<H: Host>(
     host: &mut H,
     file: &'static str,
@@ -120,13 +120,13 @@ fn take_on<H: Host>(
     expect_end(file, place, step, status, output, &errors)
 }
 
-/// A step ends as it says.
+/// Runs a step and checks its result.
 fn take<H: Host>(host: &mut H, file: &'static str, place: usize, step: Step) -> Result<(), Stop> {
     let mut output = open_sink(host.alloc(), 64)?;
     take_on(host, file, place, step, &mut output)
 }
 
-/// Steps end one after another as they say.
+/// Runs steps in order and checks their results.
 fn take_all<H: Host>(host: &mut H, file: &'static str, steps: &[Step]) -> Result<(), Stop> {
     for (place, step) in steps.iter().enumerate() {
         take(host, file, place, *step)?;
@@ -134,7 +134,7 @@ fn take_all<H: Host>(host: &mut H, file: &'static str, steps: &[Step]) -> Result
     Ok(())
 }
 
-/// Nothing stands in a place.
+/// Deletes the files of a test, if they exist.
 fn clear(rt: &HostRuntime, place: Place) {
     let _ = fs::remove_file(rt, place.0);
     let _ = fs::remove_file(rt, place.1);
@@ -146,14 +146,14 @@ fn write(rt: &HostRuntime, place: Place, bytes: &[u8]) -> Result<(), Stop> {
     Ok(fs::write(rt, place.0, bytes)?)
 }
 
-/// A file still has these bytes, and no log beside it.
+/// Checks that a file still has these bytes, and no write-ahead log.
 fn expect_untouched(rt: &HostRuntime, place: Place, bytes: &[u8]) -> Result<(), Stop> {
     let has_log = fs::exists(rt, place.1)?;
     let read = fs::read(rt, place.0)?;
     expect(read.as_slice() == bytes && !has_log, place.0, usize::MAX)
 }
 
-/// What is tried over files.
+/// The test cases on files.
 #[derive(Clone, Copy)]
 enum Case {
     New,
@@ -168,7 +168,7 @@ enum Case {
     Taken,
 }
 
-/// A case, and what lets a test look at files by itself.
+/// A test case, with the runtime for its own file access.
 #[derive(Clone, Copy)]
 struct Trial<'a> {
     rt: &'a HostRuntime,
@@ -194,14 +194,14 @@ impl Work for Trial<'_> {
     }
 }
 
-/// Tries a case on the machine that the tests run on.
+/// Runs a test case on this host.
 fn tried(rt: &HostRuntime, case: Case) -> Result<(), Stop> {
     on_local_host(rt, Trial { rt, case })
 }
 
 const NEW: Place = Place("land_new.land", "land_new.land-wal");
 
-/// A register is made once.
+/// A register is created only once.
 const MADE: &[Step] = &[
     Step(Deed::New, 0, "", ""),
     Step(Deed::Check, 0, NEW_IS_SOUND, ""),
@@ -209,7 +209,7 @@ const MADE: &[Step] = &[
     Step(Deed::Check, 0, NEW_IS_SOUND, ""),
 ];
 
-/// A register that is made is sound, and is not made again.
+/// Checks that a created register is sound, and is not created again.
 fn new_is_sound<H: Host>(rt: &HostRuntime, host: &mut H) -> Result<(), Stop> {
     clear(rt, NEW);
     take_all(host, NEW.0, MADE)?;
@@ -222,7 +222,7 @@ pub fn a_new_register_is_sound(rt: &HostRuntime) -> Result<(), Stop> {
     tried(rt, Case::New)
 }
 
-/// Why a test stops where a store cannot be opened.
+/// Returns the reason for stopping a test if a store cannot be opened.
 fn stop_of(fault: ProgramFault) -> Stop {
     match fault {
         ProgramFault::NoMemory => Stop::Memory,
@@ -230,7 +230,7 @@ fn stop_of(fault: ProgramFault) -> Stop {
     }
 }
 
-/// The store of a file, which is made.
+/// Opens the store of a new file.
 fn opened<H: Host>(
     rt: &HostRuntime,
     host: &mut H,
@@ -243,7 +243,7 @@ fn opened<H: Host>(
     }
 }
 
-/// The tables of a new register in a file.
+/// Creates a register in a new file.
 fn made<H: Host>(rt: &HostRuntime, host: &mut H, place: Place) -> Result<Tables<H::Store>, Stop> {
     match Tables::create(opened(rt, host, place)?) {
         Ok(tables) => Ok(tables),
@@ -251,7 +251,7 @@ fn made<H: Host>(rt: &HostRuntime, host: &mut H, place: Place) -> Result<Tables<
     }
 }
 
-/// The store of a new register in a file over which the scenario is played.
+/// Plays the scenario on a new register in a file, and returns its store.
 fn played<H: Host>(
     rt: &HostRuntime,
     host: &mut H,
@@ -262,7 +262,7 @@ fn played<H: Host>(
     Ok(keeper.into_tables().into_connection())
 }
 
-/// Plays the scenario over a new register in a file.
+/// Plays the scenario on a new register in a file.
 fn play<H: Host>(rt: &HostRuntime, host: &mut H, place: Place) -> Result<(), Stop> {
     played(rt, host, place)?;
     Ok(())
@@ -280,10 +280,10 @@ const ENTRIES: &str = r#"number,unit,party,name,class,share,amount,currency,rank
 29,25,3,Ben,ownership,1/1,,,,,19
 "#;
 
-/// The entries of somebody who sees none.
+/// The extract of a caller who sees no entry.
 const NO_ENTRIES: &str = "number,unit,party,name,class,share,amount,currency,rank,words,source\n";
 
-/// The last stamp and the next number after the scenario, and extracts.
+/// Last stamp, next number and extracts after the scenario.
 const AFTER_STEPS: &[Step] = &[
     Step(Deed::Check, 0, "sound: last 1017, next 30\n", ""),
     Step(Deed::Extract(3, Role::Citizen, None), 0, ENTRIES, ""),
@@ -307,7 +307,7 @@ const AFTER_STEPS: &[Step] = &[
     ),
 ];
 
-/// The register is sound after the scenario, and is extracted.
+/// Checks that the register is sound after the scenario, and its extracts.
 fn played_is_sound<H: Host>(rt: &HostRuntime, host: &mut H) -> Result<(), Stop> {
     play(rt, host, PLAYED)?;
     take_all(host, PLAYED.0, AFTER_STEPS)?;
@@ -322,7 +322,7 @@ pub fn the_scenario_leaves_a_sound_register(rt: &HostRuntime) -> Result<(), Stop
 
 const OLD: Place = Place("land_old.land", "land_old.land-wal");
 
-/// Plays the scenario over a new register in a file, and makes one of the first version of it.
+/// Plays the scenario on a new register in a file, and turns it into one of schema version 1.
 fn play_old<H: Host>(rt: &HostRuntime, host: &mut H) -> Result<(), Stop> {
     let mut conn = played(rt, host, OLD)?;
     run(
@@ -331,7 +331,7 @@ fn play_old<H: Host>(rt: &HostRuntime, host: &mut H) -> Result<(), Stop> {
     )
 }
 
-/// A register of the first version is migrated once, and is then one of the second.
+/// A register of schema version 1 is migrated once, and then has version 2.
 const MIGRATED: &[Step] = &[
     Step(Deed::Check, 1, "", OTHER_VERSION),
     Step(Deed::Migrate, 0, "migrated: last 1017, next 30\n", ""),
@@ -341,7 +341,7 @@ const MIGRATED: &[Step] = &[
     Step(Deed::Extract(3, Role::Citizen, None), 0, ENTRIES, ""),
 ];
 
-/// A register of the first version is migrated, and no other.
+/// Checks that only a register of schema version 1 is migrated.
 fn old_is_migrated<H: Host>(rt: &HostRuntime, host: &mut H) -> Result<(), Stop> {
     play_old(rt, host)?;
     take_all(host, OLD.0, MIGRATED)?;
@@ -349,14 +349,14 @@ fn old_is_migrated<H: Host>(rt: &HostRuntime, host: &mut H) -> Result<(), Stop> 
     Ok(())
 }
 
-/// A register of the first version is migrated once.
+/// A register of schema version 1 is migrated once.
 pub fn a_register_of_the_first_version_is_migrated_once(rt: &HostRuntime) -> Result<(), Stop> {
     tried(rt, Case::Old)
 }
 
 const MISSING: Place = Place("land_missing.land", "land_missing.land-wal");
 
-/// No register can be found, for the file cannot be opened.
+/// No register is opened if the file cannot be opened.
 const UNOPENED: &[Step] = &[
     Step(Deed::Check, 1, "", CANNOT_OPEN),
     Step(Deed::Migrate, 1, "", CANNOT_OPEN),
@@ -364,10 +364,10 @@ const UNOPENED: &[Step] = &[
     Step(Deed::Extract(1, Role::Citizen, None), 1, "", CANNOT_OPEN),
 ];
 
-/// Nor can one be made.
+/// And none is created.
 const UNMADE: &[Step] = &[Step(Deed::New, 1, "", CANNOT_OPEN)];
 
-/// A file that is missing stays so.
+/// Checks that no command creates a missing file.
 fn missing_is_not_made<H: Host>(rt: &HostRuntime, host: &mut H) -> Result<(), Stop> {
     clear(rt, MISSING);
     take_all(host, MISSING.0, UNOPENED)?;
@@ -376,15 +376,15 @@ fn missing_is_not_made<H: Host>(rt: &HostRuntime, host: &mut H) -> Result<(), St
     expect(!is_there && !has_log, MISSING.0, usize::MAX)
 }
 
-/// What is not there is not made.
+/// No command creates a missing file, except `new`.
 pub fn what_is_not_there_is_not_made(rt: &HostRuntime) -> Result<(), Stop> {
     tried(rt, Case::Missing)
 }
 
-/// Names under which no file can be: a folder, none, one in a folder that is not there.
+/// Names that are not files: a folder, the empty name, a file in a missing folder.
 const NO_FILES: &[&str] = &[".", "", "no/such/folder"];
 
-/// No register is found or made under such a name.
+/// Checks that no register is opened or created under such a name.
 fn no_file_is_opened<H: Host>(host: &mut H) -> Result<(), Stop> {
     for name in NO_FILES {
         take_all(host, name, UNOPENED)?;
@@ -393,21 +393,21 @@ fn no_file_is_opened<H: Host>(host: &mut H) -> Result<(), Stop> {
     Ok(())
 }
 
-/// What is no file cannot be opened.
+/// A name that is not a file cannot be opened.
 pub fn what_is_no_file_cannot_be_opened(rt: &HostRuntime) -> Result<(), Stop> {
     tried(rt, Case::NoFile)
 }
 
 const EMPTY: Place = Place("land_empty.land", "land_empty.land-wal");
 
-/// A file has no tables of a register.
+/// A file without the tables of a register.
 const UNOWNED: &[Step] = &[
     Step(Deed::Check, 1, "", NOT_OURS),
     Step(Deed::Migrate, 1, "", NOT_OURS),
     Step(Deed::Serve(1), 1, "", NOT_OURS),
 ];
 
-/// An empty file is no register and stays empty, until one is made in it.
+/// Checks that an empty file is not a register and stays empty, until one is created in it.
 fn empty_stays_empty<H: Host>(rt: &HostRuntime, host: &mut H) -> Result<(), Stop> {
     write(rt, EMPTY, b"")?;
     take_all(host, EMPTY.0, UNOWNED)?;
@@ -417,17 +417,17 @@ fn empty_stays_empty<H: Host>(rt: &HostRuntime, host: &mut H) -> Result<(), Stop
     Ok(())
 }
 
-/// An empty file is no register and stays empty.
+/// An empty file is not a register and stays empty.
 pub fn an_empty_file_is_no_register_and_stays_empty(rt: &HostRuntime) -> Result<(), Stop> {
     tried(rt, Case::Empty)
 }
 
 const NOTES: Place = Place("land_notes.txt", "land_notes.txt-wal");
 
-/// What stands in a file that is no store.
+/// The bytes of a file that is not a store.
 const NOTE: &[u8] = b"SQLite format 3, and no more\n";
 
-/// A file that is no store is left as it is.
+/// Checks that a file that is not a store stays unchanged.
 fn notes_stay<H: Host>(rt: &HostRuntime, host: &mut H) -> Result<(), Stop> {
     write(rt, NOTES, NOTE)?;
     take_all(host, NOTES.0, UNOPENED)?;
@@ -437,29 +437,29 @@ fn notes_stay<H: Host>(rt: &HostRuntime, host: &mut H) -> Result<(), Stop> {
     Ok(())
 }
 
-/// Another file is left as it is.
+/// A file that is not a store stays unchanged.
 pub fn another_file_is_left_as_it_is(rt: &HostRuntime) -> Result<(), Stop> {
     tried(rt, Case::Notes)
 }
 
 const FOREIGN: Place = Place("land_foreign.db", "land_foreign.db-wal");
 
-/// Runs a text on a store.
+/// Runs SQL statements on a store.
 fn run<S: Alter>(conn: &mut Connection<S>, text: &str) -> Result<(), Stop> {
     conn.execute_batch(text)?;
     Ok(())
 }
 
-/// Makes a store of another application.
+/// Creates a store of another application.
 fn make_foreign<H: Host>(rt: &HostRuntime, host: &mut H) -> Result<(), Stop> {
     let mut conn = opened(rt, host, FOREIGN)?;
     run(&mut conn, "CREATE TABLE note (title TEXT)")
 }
 
-/// No register is made in it.
+/// No register is created in it.
 const OWNED_ELSEWHERE: &[Step] = &[Step(Deed::New, 1, "", HAS_TABLES)];
 
-/// A store of another application is no register, and none is made in it.
+/// Checks that a store of another application is not a register, and no register is created in it.
 fn foreign_is_refused<H: Host>(rt: &HostRuntime, host: &mut H) -> Result<(), Stop> {
     make_foreign(rt, host)?;
     take_all(host, FOREIGN.0, UNOWNED)?;
@@ -469,14 +469,14 @@ fn foreign_is_refused<H: Host>(rt: &HostRuntime, host: &mut H) -> Result<(), Sto
     Ok(())
 }
 
-/// A store of another application is refused.
+/// A store of another application is rejected.
 pub fn a_store_of_another_application_is_refused(rt: &HostRuntime) -> Result<(), Stop> {
     tried(rt, Case::Foreign)
 }
 
 const HELD: Place = Place("land_held.land", "land_held.land-wal");
 
-/// A file cannot be opened while its tables are in other hands, which then let them go.
+/// Checks that a file cannot be opened while its tables are open elsewhere, and then closes them.
 fn take_while_held<H: Host>(host: &mut H, tables: Tables<H::Store>) -> Result<(), Stop> {
     let found = take_all(host, HELD.0, UNOPENED);
     let made = take_all(host, HELD.0, UNMADE);
@@ -484,10 +484,10 @@ fn take_while_held<H: Host>(host: &mut H, tables: Tables<H::Store>) -> Result<()
     found.and(made)
 }
 
-/// What is let go is as it was.
+/// After closing, the register is unchanged.
 const LET_GO: &[Step] = &[Step(Deed::Check, 0, NEW_IS_SOUND, "")];
 
-/// A file that is held elsewhere is refused until it is let go.
+/// Checks that a file that is open elsewhere is rejected until it is closed.
 fn held_is_refused<H: Host>(rt: &HostRuntime, host: &mut H) -> Result<(), Stop> {
     let tables = made(rt, host, HELD)?;
     take_while_held(host, tables)?;
@@ -496,14 +496,14 @@ fn held_is_refused<H: Host>(rt: &HostRuntime, host: &mut H) -> Result<(), Stop> 
     Ok(())
 }
 
-/// A file that is held elsewhere cannot be opened.
+/// A file that is open elsewhere cannot be opened.
 pub fn a_file_that_is_held_elsewhere_cannot_be_opened(rt: &HostRuntime) -> Result<(), Stop> {
     tried(rt, Case::Held)
 }
 
 const TAKEN: Place = Place("land_taken.land", "land_taken.land-wal");
 
-/// A register that is to be served on a port that is taken.
+/// Checks that a register cannot be served on a port in use.
 fn serve_on<H: Host>(rt: &HostRuntime, host: &mut H, port: u16) -> Result<(), Stop> {
     clear(rt, TAKEN);
     take(host, TAKEN.0, 0, Step(Deed::New, 0, "", ""))?;
@@ -517,7 +517,7 @@ fn serve_on<H: Host>(rt: &HostRuntime, host: &mut H, port: u16) -> Result<(), St
     Ok(())
 }
 
-/// The same on the port of a listener.
+/// Checks the same on the port of a listener.
 fn serve_beside<H: Host>(
     rt: &HostRuntime,
     host: &mut H,
@@ -527,13 +527,13 @@ fn serve_beside<H: Host>(
     serve_on(rt, host, at.port())
 }
 
-/// A port that is taken cannot be listened on.
+/// A port in use cannot be listened on.
 fn taken_is_refused<H: Host>(rt: &HostRuntime, host: &mut H) -> Result<(), Stop> {
     let listener = TcpListener::bind(rt, "127.0.0.1:0")?;
     serve_beside(rt, host, &listener)
 }
 
-/// A port that is taken cannot be listened on.
+/// A port in use cannot be listened on.
 pub fn a_port_that_is_taken_cannot_be_listened_on(rt: &HostRuntime) -> Result<(), Stop> {
     tried(rt, Case::Taken)
 }

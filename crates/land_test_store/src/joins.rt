@@ -1,4 +1,4 @@
-//! Trials of the texts of joins: that they run, over the kit's sqlite in memory, and give the numbers that a reader finds in the rows
-//! by hand.
+//! Tests of the queries of `land_select_joins`: they run on SQLite in memory, and return the numbers that a
+//! reader of the rows expects.
 
 pub mod sights;

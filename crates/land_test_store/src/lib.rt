@@ -1,6 +1,7 @@
-//! Trials of what lies in a store: tables row by row (`rows`), what rows say (`versions`), selections (`joins`), and of the commands over
-//! files (`commands`) with the one that serves connections (`town`). A trial is a public function that answers why it stops, if it does;
-//! the tests that call them are in `land_test_run_store`. Nothing here has a contract: it is for tests alone.
+//! Test cases on stores: tables row by row (`rows`), decoded rows (`versions`), queries (`joins`), commands
+//! on files (`commands`), and the command that serves connections (`town`). A test case is a public function
+//! that returns an error if it fails; the tests that call them are in `land_test_run_store`. Nothing here has
+//! a contract, because it is only for tests.
 #![tactic(auto)]
 
 pub mod commands;

@@ -1,4 +1,4 @@
-//! Trials of `land_tables_schema` and of the rows in its tables: that the calls succeed, over the kit's sqlite in memory.
+//! Tests of `land_tables_schema` and of the rows in its tables, on SQLite in memory.
 
 pub mod openness;
 pub mod register;

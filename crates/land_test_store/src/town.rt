@@ -1,4 +1,4 @@
-//! Connections that a command serves one after another.
+//! Connections that a command serves, one after another.
 ghost use Rattle.std.specs.Prelude.{None, unwrap_or};
 ghost use Rattle.std.specs.Option.{option_map};
 
@@ -17,7 +17,7 @@ use sqlite::{Connection, MemStore};
 use std::alloc::Global;
 use std::io;
 
-/// A machine with a register in memory under every name, and with connections that are heard once.
+/// A host with a register in memory under every name, and with connections that are accepted once.
 #[derive(Drop)]
 struct TownHost<L> {
     alloc: Global,
@@ -68,7 +68,7 @@ impl<L: Connections + Drop> Host for TownHost<L> {
     }
 }
 
-/// Does the command that serves so many of these connections, and gives its status.
+/// Runs the command that serves this number of connections, and returns its exit status.
 fn status<L: Connections + Drop>(
     alloc: Global,
     visits: L,
@@ -90,16 +90,16 @@ fn status<L: Connections + Drop>(
     run_command(&mut town, command, &mut input, output, errors, &mut clock)
 }
 
-/// Connections that a command serves: how many, the status that it ends with, and what it says on the output of errors.
+/// The number of connections to serve, the exit status, and the error output.
 #[derive(Clone, Copy)]
 struct Ending(u32, u8, &'static str);
 
-/// Whether a command has said that there was no memory.
+/// Returns whether a command has reported that it was out of memory (501).
 fn lacked_memory(errors: &Sink) -> bool {
     errors.taken.as_slice() == b"land: fault 501\n".as_slice()
 }
 
-/// A command has ended so, and has said nothing else. Want of memory stops the test.
+/// Checks the result of a command, which has no output. An out-of-memory error stops the test.
 fn expect_ending(ending: Ending, status: u8, output: &Sink, errors: &Sink) -> Result<(), Stop> {
     if lacked_memory(errors) {
         return Err(Stop::Memory);
@@ -108,7 +108,7 @@ fn expect_ending(ending: Ending, status: u8, output: &Sink, errors: &Sink) -> Re
     expect(is_said && status == ending.1, "the ending", 0)
 }
 
-/// The command that serves what is heard ends so.
+/// Runs the command that serves the connections, and checks its result.
 fn expect_end<L: Connections + Drop>(alloc: Global, visits: L, ending: Ending) -> Result<(), Stop> {
     let mut output = open_sink(alloc, 0)?;
     let mut errors = open_sink(alloc, 64)?;
@@ -116,7 +116,7 @@ fn expect_end<L: Connections + Drop>(alloc: Global, visits: L, ending: Ending) -
     expect_ending(ending, status, &output, &errors)
 }
 
-/// The command that serves these connections ends so, and on each of them is told what it is to be.
+/// Runs the command that serves these connections, and checks its result and all replies.
 fn expect_service(alloc: Global, calls: &'static [Call], ending: Ending) -> Result<(), Stop> {
     let mut sinks = sinks(alloc, calls)?;
     let visits = Calls {
@@ -132,7 +132,7 @@ pub fn a_command_serves_connections(alloc: Global) -> Result<(), Stop> {
     expect_service(alloc, CALLS, Ending(5, 0, ""))
 }
 
-/// A command tells that a connection cannot be had.
+/// A command reports that a connection cannot be accepted.
 pub fn a_command_tells_that_a_connection_cannot_be_had(alloc: Global) -> Result<(), Stop> {
     let ending = Ending(2, 1, "land: input or output failed\n");
     expect_service(alloc, &CALLS[..1], ending)

@@ -1,6 +1,6 @@
-//! Trials of `land_tables_rows` and `land_tables_history`: that the definitions of what a row says, of what stands at a moment and of which
-//! histories are lawful say what docs/TABLES.md says, and that the calls succeed. The rows come from the kit's sqlite in memory, which
-//! gives any cells that it is asked for.
+//! Tests of `land_tables_rows` and `land_tables_history`: the definitions of decoded rows, of the register at
+//! a moment and of valid histories agree with docs/TABLES.md, and the functions succeed. SQLite in memory
+//! returns the rows, with any cells that a test requests.
 
 mod cell;
 pub mod contents;

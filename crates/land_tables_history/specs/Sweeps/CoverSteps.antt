@@ -1,49 +1,56 @@
--- Pieces in order: how far a key is offered without a gap, and how far it is asked for, piece by piece.
-use Rattle.std.specs.Prelude.{ℤ, Bool, true, false, ◌&&◌, ◌==◌, int_le, int_lt, List, [], ◌∷◌, Option, Some, None, if◌then◌else◌}
+-- Spans in order: how far a key is provided without a gap, and how far it is required.
+use Rattle.std.specs.Prelude.{ℤ, Bool, true, false, ◌&&◌, ◌==◌, int_le, int_lt, List, [], ◌∷◌, Option, Some}
+use Rattle.std.specs.Prelude.{None, if◌then◌else◌}
 use Rattle.std.specs.Option.{option_map_or}
 use Rattle.std.specs.Ordering.{bool_cmp, int_cmp, nat_cmp, ordering_then}
 use Rattle.std.specs.declared.cmp.Ordering.{Ordering}
 use Rattle.land_tables_history.specs.declared.sweeps.cover.Piece.{Piece}
 use Rattle.land_tables_history.specs.declared.sweeps.cover.Reach.{Reach}
 
--- by key, then by beginning, what is offered before what is asked for
+-- by key, then by start; provided spans come before required ones
 abbrev pub piece_cmp : Piece → Piece → Ordering
 piece_cmp a b = ordering_then (nat_cmp a.first b.first) (ordering_then (nat_cmp a.second b.second)
-    (ordering_then (int_cmp a.since b.since) (ordering_then (bool_cmp a.asked b.asked) (int_cmp a.until b.until))))
+    (ordering_then (int_cmp a.since b.since) (ordering_then (bool_cmp a.asked b.asked)
+    (int_cmp a.until b.until))))
 
 -- the later of two moments
 abbrev pub later : ℤ → ℤ → ℤ
 later a b = if int_lt a b then b else a
 
--- a piece is of the key that was reached
+-- a span has the key of the reach
 abbrev pub is_same_key : Reach → Piece → Bool
 is_same_key s x = (s.first == x.first) && (s.second == x.second)
 
--- a piece that is offered after a gap
-abbrev pub begun : Piece → Reach
-begun x = record { first = x.first; second = x.second; since = x.since; reach = x.until; need = x.since }
+-- a provided span after a gap starts a new reach
+abbrev pub first_reach : Piece → Reach
+first_reach x =
+    record { first = x.first; second = x.second; since = x.since; reach = x.until; need = x.since }
 
--- a piece that is asked for has to begin within what is reached
+-- a required span must start within the reach
 abbrev pub asked : Reach → Piece → Option Reach
-asked s x = if is_same_key s x && int_lt x.since s.reach then Some (record s { need = later s.need x.until }) else None
+asked s x =
+    if is_same_key s x && int_lt x.since s.reach then
+    Some (record s { need = later s.need x.until })
+    else None
 
--- a piece that is offered goes on from what is reached, or begins after a gap, before which all that was asked for has to end
+-- a provided span extends the reach, or starts a new one after a gap, if all required moments before the gap
+-- are provided
 abbrev pub offered : Reach → Piece → Option Reach
 offered s x =
     if is_same_key s x && int_le x.since s.reach then Some (record s { reach = later s.reach x.until })
-    else if int_le s.need s.reach then Some (begun x) else None
+    else if int_le s.need s.reach then Some (first_reach x) else None
 
--- how far a piece goes after what was reached, if nothing is missing
+-- the reach after one more span, if all required moments can still be provided
 abbrev pub step : Option Reach → Piece → Option Reach
-step None x = if x.asked then None else Some (begun x)
+step None x = if x.asked then None else Some (first_reach x)
 step (Some s) x = if x.asked then asked s x else offered s x
 
--- what was asked for so far ends where it is still offered
+-- all required moments are within the reach
 abbrev pub ends_well : Option Reach → Bool
 ends_well None = true
 ends_well (Some s) = int_le s.need s.reach
 
--- nothing is missing, after what was reached
+-- all required moments of the remaining spans are provided, from this reach on
 abbrev pub covered_from : Option Reach → List Piece → Bool
 covered_from reached [] = ends_well reached
 covered_from reached (x ∷ xs) = option_map_or (λ s. covered_from (Some s) xs) (step reached x) false

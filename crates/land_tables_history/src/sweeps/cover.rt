@@ -1,41 +1,42 @@
-//! Whether what is asked for is offered, key by key, at each moment.
+//! Checks that required moments are provided, key by key.
 ghost use Rattle.std.specs.List.{list_all};
 ghost use Rattle.std.specs.Prelude.{◌≡◌, ◌↔◌, true, None, int_lt};
 ghost use Rattle.land_tables_history.specs.Sweeps.Cover.{IsCovered};
-ghost use Rattle.land_tables_history.specs.Sweeps.CoverSteps.{asked, begun, covered_from, is_same_key, later, offered, step};
+ghost use Rattle.land_tables_history.specs.Sweeps.CoverSteps.{asked, first_reach, covered_from, is_same_key};
+ghost use Rattle.land_tables_history.specs.Sweeps.CoverSteps.{later, offered, step};
 
-/// A key is offered or asked for, from a moment on and before another. The order of the fields is the order in which pieces are gone
-/// through.
+/// A span of time in which a key is provided or required. The order of the fields is the order of the sweep.
 #[derive(Clone, Copy, Debug, PartialEq, Eq, PartialOrd, Ord)]
 pub struct Piece {
     /// The first number of the key.
     pub first: u64,
     /// The second number of the key.
     pub second: u64,
-    /// When it begins, in milliseconds since 1970 UTC.
+    /// The start, inclusive, in Unix milliseconds.
     pub since: i64,
-    /// Whether it is asked for. It is offered otherwise. Of what begins at one moment, what is offered comes first.
+    /// Whether the key is required; if not, it is provided. Of spans with the same start, provided ones come
+    /// first.
     pub asked: bool,
-    /// When it ends, in milliseconds since 1970 UTC. This moment is not within it.
+    /// The end, exclusive, in Unix milliseconds.
     pub until: i64,
 }
 
-/// Since when and until when a key is offered without a gap, by the pieces so far, and until when it is asked for.
+/// How far the spans until now provide a key without a gap, and how far they require it.
 #[derive(Clone, Copy, Debug)]
 pub(crate) struct Reach {
     /// The first number of the key.
     first: u64,
     /// The second number of the key.
     second: u64,
-    /// When it began to be offered.
+    /// The start of the provided time.
     since: i64,
-    /// Until when it is offered.
+    /// The end of the provided time.
     reach: i64,
-    /// Until when it is asked for.
+    /// The end of the required time.
     need: i64,
 }
 
-/// Whether each key is offered at each moment at which it is asked for. The pieces are put in order and gone through once.
+/// Returns whether each key is provided at each moment at which it is required, in one sort and one pass.
 pub fn is_covered(pieces: &mut Vec<Piece>) -> bool
     requires { list_all (λ x. int_lt x.since x.until) pieces.old.items ≡ true }
     ensures { (result ≡ true) ↔ IsCovered pieces.old.items }
@@ -44,7 +45,7 @@ pub fn is_covered(pieces: &mut Vec<Piece>) -> bool
     is_covered_in_order(pieces.as_slice())
 }
 
-/// The same of pieces in order.
+/// Checks the same for sorted spans.
 fn is_covered_in_order(pieces: &[Piece]) -> bool
     ensures { result ≡ covered_from None pieces.now }
 {
@@ -63,21 +64,21 @@ fn is_covered_in_order(pieces: &[Piece]) -> bool
     }
 }
 
-/// How far it goes with one piece more. None where something is asked for and not offered.
+/// Returns the reach after one more span, or `None` if a required moment is not provided.
 fn step(reached: Option<Reach>, piece: &Piece) -> Option<Reach>
     ensures { result ≡ step reached piece.now }
 {
     match reached {
         None if piece.asked => None,
-        None => Some(begun(piece)),
+        None => Some(first_reach(piece)),
         Some(reach) if piece.asked => asked(reach, piece),
         Some(reach) => offered(reach, piece),
     }
 }
 
-/// A key begins to be offered, after a gap or at first.
-fn begun(piece: &Piece) -> Reach
-    ensures { result ≡ begun piece.now }
+/// Returns the reach of a provided span, the first one or one after a gap.
+fn first_reach(piece: &Piece) -> Reach
+    ensures { result ≡ first_reach piece.now }
 {
     Reach {
         first: piece.first,
@@ -88,7 +89,7 @@ fn begun(piece: &Piece) -> Reach
     }
 }
 
-/// What is asked for has to begin while it is offered.
+/// Extends the required time. The span must start within the provided time.
 fn asked(reach: Reach, piece: &Piece) -> Option<Reach>
     ensures { result ≡ asked reach piece.now }
 {
@@ -102,7 +103,8 @@ fn asked(reach: Reach, piece: &Piece) -> Option<Reach>
     }
 }
 
-/// What is offered goes on without a gap, or begins after one, before which all that was asked for has to end.
+/// Extends the provided time, or starts a new one after a gap. All required time before the gap must have
+/// ended.
 fn offered(reach: Reach, piece: &Piece) -> Option<Reach>
     ensures { result ≡ offered reach piece.now }
 {
@@ -112,20 +114,20 @@ fn offered(reach: Reach, piece: &Piece) -> Option<Reach>
             ..reach
         })
     } else if reach.need <= reach.reach {
-        Some(begun(piece))
+        Some(first_reach(piece))
     } else {
         None
     }
 }
 
-/// The later of two moments.
+/// Returns the later of two moments.
 fn later(a: i64, b: i64) -> i64
     ensures { result ≡ later a b }
 {
     if a < b { b } else { a }
 }
 
-/// Whether a piece is of the key that is offered.
+/// Returns whether a span has the key of the reach.
 fn is_same_key(reach: Reach, piece: &Piece) -> bool
     ensures { result ≡ is_same_key reach piece.now }
 {

@@ -1,51 +1,53 @@
-//! Whether what stands together under a key is sound, at each moment.
+//! Checks values that are current together under a key, at each moment.
 ghost use Rattle.std.specs.List.Sorted.{IsPermutation};
 ghost use Rattle.std.specs.Prelude.{◌≡◌, ◌↔◌, ◌++◌, Bool, List, [], true, IfOk, filter, map as map_list};
 ghost use Rattle.land_tables_history.specs.Sweeps.Sweep.{AreSound, is_at};
-ghost use Rattle.land_tables_history.specs.Sweeps.SweepSteps.{beginning, begun_by, end, is_begun_by, left_by, sound_from, ticks_of};
+ghost use Rattle.land_tables_history.specs.Sweeps.SweepSteps.{beginning, begun_by, end, is_begun_by, left_by};
+ghost use Rattle.land_tables_history.specs.Sweeps.SweepSteps.{sound_from, ticks_of};
 
 use std::alloc::{AllocError, Global};
 
-/// Something stands under a key, from a moment on and before another.
+/// A value under a key, with a lifespan.
 #[derive(Clone, Copy, Debug, PartialEq, Eq, PartialOrd, Ord)]
 pub struct Lived<T> {
     /// The key.
     pub key: u64,
-    /// When it begins to stand, in milliseconds since 1970 UTC.
+    /// The start of the lifespan, inclusive, in Unix milliseconds.
     pub since: i64,
-    /// When it ends, in milliseconds since 1970 UTC. At this moment it does not stand.
+    /// The end of the lifespan, exclusive, in Unix milliseconds.
     pub until: i64,
-    /// What stands.
+    /// The value.
     pub what: T,
 }
 
-/// Something begins or ends under a key.
+/// A start or an end of a lifespan under a key.
 #[derive(Clone, Copy, Debug, PartialEq, Eq, PartialOrd, Ord)]
 pub(crate) struct Tick {
     /// The key.
     key: u64,
-    /// The moment, in milliseconds since 1970 UTC.
+    /// The moment, in Unix milliseconds.
     at: i64,
 }
 
-/// What is sound or not where it stands together.
+/// Values that are sound or unsound together.
 pub trait Judged: Copy + Ord {
-    /// Whether what stands together is sound.
+    /// Whether these values are sound together.
     ghost is_sound: { List Self → Bool };
 
-    /// The same of what stands, with its key and its time.
+    /// Returns whether these values are sound together. Returns an error only if it is out of memory.
     fn judge(alloc: Global, there: &[Lived<Self>]) -> Result<bool, AllocError>
         ensures { IfOk result (λ it. it ≡ is_sound (map_list (λ x. x.what) there.now)) };
 
-    /// Where nothing stands, that is sound.
+    /// No values are sound together.
     ghost empty_is_sound: { is_sound [] ≡ true };
 
-    /// It does not matter in which order they lie.
+    /// Their order does not matter.
     ghost in_any_order: { (xs ys : List Self) → IsPermutation xs ys → is_sound xs ≡ is_sound ys };
 }
 
-/// Whether what stands together under each key at each moment is sound. It is put in order, and judged where something begins or ends:
-/// as often as that, and each time no more than stands then.
+/// Returns whether the values that are current together under each key are sound, at each moment. Sorts them,
+/// and checks them only at starts and ends, each time only the values that are current then. Returns an error
+/// only if it is out of memory.
 pub fn are_sound<T: Judged>(alloc: Global, lived: &mut Vec<Lived<T>>) -> Result<bool, AllocError>
     ensures { IfOk result (λ it. (it ≡ true) ↔ AreSound T.Judged.is_sound lived.old.items) }
 {
@@ -55,7 +57,7 @@ pub fn are_sound<T: Judged>(alloc: Global, lived: &mut Vec<Lived<T>>) -> Result<
     are_sound_in_order(alloc, lived.as_slice(), ticks.as_slice())
 }
 
-/// All beginnings and ends.
+/// Returns all starts and ends.
 fn ticks_of<T>(alloc: Global, lived: &[Lived<T>]) -> Result<Vec<Tick>, AllocError>
     ensures { IfOk result (λ it. it.items ≡ ticks_of lived.now) }
 {
@@ -69,7 +71,7 @@ fn ticks_of<T>(alloc: Global, lived: &[Lived<T>]) -> Result<Vec<Tick>, AllocErro
     Ok(ticks)
 }
 
-/// When something begins.
+/// Returns the start of a lifespan.
 fn beginning<T>(one: &Lived<T>) -> Tick
     ensures { result ≡ beginning one.now }
 {
@@ -79,7 +81,7 @@ fn beginning<T>(one: &Lived<T>) -> Tick
     }
 }
 
-/// When something ends.
+/// Returns the end of a lifespan.
 fn end<T>(one: &Lived<T>) -> Tick
     ensures { result ≡ end one.now }
 {
@@ -89,7 +91,7 @@ fn end<T>(one: &Lived<T>) -> Tick
     }
 }
 
-/// The same of what lies in order, at beginnings and ends in order.
+/// Checks the same for sorted values, at sorted starts and ends.
 fn are_sound_in_order<T: Judged>(
     alloc: Global,
     lived: &[Lived<T>],
@@ -109,13 +111,14 @@ fn are_sound_in_order<T: Judged>(
     Ok(true)
 }
 
-/// Adds what comes by a tick, and gives what comes later.
+/// Adds the values that start by a tick, and returns those that start later.
 fn come<'a, T: Copy>(
     there: &mut Vec<Lived<T>>,
     later: &'a [Lived<T>],
     tick: Tick,
 ) -> Result<&'a [Lived<T>], AllocError>
-    ensures { IfOk result (λ it. (there.new.items ≡ there.old.items ++ begun_by tick later.now) × (it.now ≡ left_by tick later.now)) }
+    ensures { IfOk result (λ it. (there.new.items ≡ there.old.items ++ begun_by tick later.now)
+        × (it.now ≡ left_by tick later.now)) }
 {
     let mut rest = later;
     while let [one, others @ ..] = rest {
@@ -128,21 +131,21 @@ fn come<'a, T: Copy>(
     Ok(rest)
 }
 
-/// Lets go what does not stand at a tick.
+/// Removes the values that are not current at a tick.
 fn leave<T: Copy>(there: &mut Vec<Lived<T>>, tick: &Tick)
     ensures { there.new.items ≡ filter (is_at tick.now.key tick.now.at) there.old.items }
 {
     there.retain(|one| is_at(tick, one));
 }
 
-/// Whether something has an earlier key than a tick, or has begun.
+/// Returns whether a value has an earlier key than a tick, or has started.
 fn is_begun_by<T>(tick: Tick, one: &Lived<T>) -> bool
     ensures { result ≡ is_begun_by tick one.now }
 {
     one.key < tick.key || one.key == tick.key && one.since <= tick.at
 }
 
-/// Whether something stands at a tick.
+/// Returns whether a value is current at a tick.
 fn is_at<T>(tick: &Tick, one: &Lived<T>) -> bool
     ensures { result ≡ is_at tick.now.key tick.now.at one.now }
 {

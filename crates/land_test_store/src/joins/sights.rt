@@ -1,4 +1,4 @@
-//! What callers see of a small register.
+//! The visible objects of a small register.
 ghost use Rattle.land_tables_schema.specs.Land.{IsLand};
 ghost use Rattle.sqlite.specs.Held.{state};
 ghost use Rattle.sqlite.specs.State.{HasCleanDisk};
@@ -16,8 +16,9 @@ use land_test_scenario::stop::{Stop, expect};
 use sqlite::{Connection, Error, ErrorCode, MemStore};
 use std::alloc::Global;
 
-/// A unit with an owner, a bank's mortgage and a tenant until 2000; a unit that a group owns, of which the tenant is a member. A
-/// conveyancer lodged two mutations: one on the group's unit is undecided, one on the other unit is approved.
+/// A unit with an owner, a bank's mortgage and a tenant until 2000; a unit that a group owns, of which the tenant
+/// is a member. A conveyancer lodged two mutations: one on the group's unit is undecided, one on the other
+/// unit is approved.
 const ROWS: &str = "
 INSERT INTO party (number, name, kind, since, until) VALUES
   (2, 'Owner', 'naturalPerson', 1000, 4102444800000), (3, 'Tenant', 'naturalPerson', 1000, 4102444800000),
@@ -39,7 +40,7 @@ INSERT INTO names (mutation, unit, since, until) VALUES
   (30, 11, 1000, 4102444800000), (31, 10, 1000, 4102444800000);
 ";
 
-/// A look: who asks, in which role, for which kind, at which moment, and what is seen.
+/// A read: the caller's party and role, the kind, the requested moment, and the visible numbers.
 type Look = (u64, Role, Kind, i64, &'static [u64]);
 
 const LOOKS: &[Look] = &[
@@ -49,7 +50,7 @@ const LOOKS: &[Look] = &[
     (2, Role::Citizen, Kind::Party, 1500, &[2, 3, 5]),
     (2, Role::Citizen, Kind::Mutation, 1500, &[31]),
     (2, Role::Citizen, Kind::Source, 1500, &[]),
-    // the tenant, who is shown no mortgage, and who holds through its group
+    // the tenant, who sees no mortgage, and who also holds through the group
     (3, Role::Citizen, Kind::Unit, 1999, &[10, 11]),
     (3, Role::Citizen, Kind::Rrr, 1999, &[20, 22, 23]),
     (3, Role::Citizen, Kind::Party, 1999, &[2, 3, 4]),
@@ -68,14 +69,14 @@ const LOOKS: &[Look] = &[
     (6, Role::Conveyancer, Kind::Rrr, 1500, &[23]),
     (6, Role::Conveyancer, Kind::Party, 1500, &[4, 6]),
     (6, Role::Conveyancer, Kind::Mutation, 1500, &[30, 31]),
-    // who sees all, and who sees little
+    // callers who see everything, and callers who see little
     (1, Role::Notary, Kind::Party, 1500, &[1, 2, 3, 4, 5, 6]),
     (1, Role::StateAdministrator, Kind::Unit, 1500, &[10, 11]),
     (1, Role::Notary, Kind::Source, 1500, &[40]),
     (1, Role::Notary, Kind::Unit, 999, &[]),
     (6, Role::CertifiedSurveyor, Kind::Unit, 1500, &[]),
     (6, Role::CertifiedSurveyor, Kind::Party, 1500, &[6]),
-    // nobody
+    // unregistered callers
     (0, Role::Citizen, Kind::Unit, 1500, &[]),
     (
         18_446_744_073_709_551_615,
@@ -86,12 +87,12 @@ const LOOKS: &[Look] = &[
     ),
 ];
 
-/// What a store that is not as it should be is told as.
+/// Returns the error for a store that is not as expected.
 fn unlike() -> Error {
     Error::SqliteFailure(ErrorCode::TransactionState)
 }
 
-/// A small register in memory.
+/// Returns a small register in memory.
 fn small_register(alloc: Global) -> Result<Connection<MemStore>, Error> {
     let mut conn = Connection::open_in_memory(alloc)?;
     if !is_empty(conn.schema()) || !conn.is_autocommit() {
@@ -102,7 +103,7 @@ fn small_register(alloc: Global) -> Result<Connection<MemStore>, Error> {
     Ok(conn)
 }
 
-/// What a caller sees, where the store is open and holds the tables.
+/// Returns the numbers that a caller sees, if the store is open and has the tables.
 fn seen(
     alloc: Global,
     conn: &mut Connection<MemStore>,

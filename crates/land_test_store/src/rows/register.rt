@@ -6,7 +6,7 @@ use land_test_scenario::stop::{Stop, expect};
 use sqlite::{Connection, Error, MemStore};
 use std::alloc::Global;
 
-/// A new register in memory.
+/// Returns a new register in memory.
 pub fn new_register(alloc: Global) -> Result<Connection<MemStore>, Error> {
     let mut conn = Connection::open_in_memory(alloc)?;
     if !is_empty(conn.schema()) || !conn.is_autocommit() {
@@ -16,7 +16,7 @@ pub fn new_register(alloc: Global) -> Result<Connection<MemStore>, Error> {
     Ok(conn)
 }
 
-/// The tables of a new register that have rows.
+/// The rows of a new register.
 const FIRST: &[(Table, &str)] = &[
     (Table::Edition, "1|2|\n"),
     (Table::Moments, "0|2|\n"),
@@ -35,7 +35,7 @@ const FIRST: &[(Table, &str)] = &[
     (Table::Mandate, ""),
 ];
 
-/// A new register has the tables of one, and its first rows.
+/// A new register has the tables of a register, and its first rows.
 pub fn a_new_register_has_its_first_rows(alloc: Global) -> Result<(), Stop> {
     let mut conn = new_register(alloc)?;
     expect(is_land(conn.schema()) && conn.is_autocommit(), "tables", 0)?;

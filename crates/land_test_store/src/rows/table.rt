@@ -1,4 +1,4 @@
-//! A table as lines of text, a line for each row.
+//! A table as text, one line per row.
 use land_tables_schema::rows::tables::{
     edition, mandate, member, moments, mutation, names, parcel, party, role, rrr, source, unit,
 };
@@ -25,12 +25,12 @@ pub enum Table {
     Mandate,
 }
 
-/// What a store that is not as it should be is told as.
+/// Returns the error for a store that is not as expected.
 pub fn unlike() -> Error {
     Error::SqliteFailure(ErrorCode::TransactionState)
 }
 
-/// All rows of a table.
+/// Returns all rows of a table.
 fn rows<S: Alter>(conn: &mut Connection<S>, table: Table) -> Result<Vec<Row>, Error> {
     if !is_land(conn.schema()) {
         return Err(unlike());
@@ -51,7 +51,7 @@ fn rows<S: Alter>(conn: &mut Connection<S>, table: Table) -> Result<Vec<Row>, Er
     }
 }
 
-/// A cell as text.
+/// Writes a cell as text.
 fn write_cell(text: &mut String, cell: ValueRef<'_>) -> Result<(), Error> {
     match cell {
         ValueRef::Null => text.push_str("NULL")?,
@@ -65,7 +65,7 @@ fn write_cell(text: &mut String, cell: ValueRef<'_>) -> Result<(), Error> {
     Ok(())
 }
 
-/// A row as a line: its cells, each with a bar after it.
+/// Writes a row as a line: each cell, with a bar after it.
 fn write_row(text: &mut String, row: &Row) -> Result<(), Error> {
     for place in 0..row.column_count() {
         write_cell(text, row.get_ref(place)?)?;
@@ -75,7 +75,7 @@ fn write_row(text: &mut String, row: &Row) -> Result<(), Error> {
     Ok(())
 }
 
-/// A table as lines, in the order in which the store gives its rows.
+/// Returns a table as lines, in the order of the store.
 fn lines<S: Alter>(alloc: Global, conn: &mut Connection<S>, table: Table) -> Result<String, Error> {
     let mut text = String::new(alloc);
     for row in &rows(conn, table)? {
@@ -84,7 +84,7 @@ fn lines<S: Alter>(alloc: Global, conn: &mut Connection<S>, table: Table) -> Res
     Ok(text)
 }
 
-/// Goes on where these tables have these rows.
+/// Checks that these tables have these rows.
 pub fn expect_tables<S: Alter>(
     alloc: Global,
     conn: &mut Connection<S>,

@@ -1,7 +1,6 @@
-//! Versions that begin and are closed, in each table.
-ghost use Rattle.land_tables_schema.specs.Land.{IsLand};
+//! Versions that are inserted and closed, in each table.
+ghost use Rattle.land_tables_schema.specs.Connections.{HasRegisterTables};
 ghost use Rattle.sqlite.specs.Held.{state};
-ghost use Rattle.sqlite.specs.State.{HasCleanDisk};
 
 use crate::rows::register::new_register;
 use crate::rows::table::{Table, expect_tables, unlike};
@@ -60,7 +59,7 @@ const WAY: RrrCells<'static> = RrrCells {
     source: 20,
 };
 
-/// A mutation as it is lodged.
+/// A mutation when it is lodged.
 const MUTATION: MutationCells<'static> = MutationCells {
     number: 15,
     lodger: 3,
@@ -72,7 +71,7 @@ const MUTATION: MutationCells<'static> = MutationCells {
     state: "lodged",
 };
 
-/// What is done to the tables, and when.
+/// A write to a table, with its moment.
 #[derive(Clone, Copy)]
 enum Write {
     Moment(i64, u32),
@@ -99,9 +98,9 @@ enum Write {
     EndMandate(u32, u32, i64),
 }
 
-/// A write of a party, a role, a member or a mandate.
+/// Runs a write of a party, a role, a member or a mandate.
 fn write_party<S: Alter>(tx: &mut Transaction<'_, S>, write: Write) -> Result<usize, Error>
-    requires { HasCleanDisk (state S.Store tx.old.conn.now) → IsLand (state S.Store tx.old.conn.now).now.schema }
+    requires { HasRegisterTables S.Store tx.old.conn.now }
 {
     match write {
         Write::Party(number, name, since) => {
@@ -124,9 +123,9 @@ fn write_party<S: Alter>(tx: &mut Transaction<'_, S>, write: Write) -> Result<us
     }
 }
 
-/// A write of a unit, a parcel or an entry.
+/// Runs a write of a unit, a parcel or an entry.
 fn write_unit<S: Alter>(tx: &mut Transaction<'_, S>, write: Write) -> Result<usize, Error>
-    requires { HasCleanDisk (state S.Store tx.old.conn.now) → IsLand (state S.Store tx.old.conn.now).now.schema }
+    requires { HasRegisterTables S.Store tx.old.conn.now }
 {
     match write {
         Write::Unit(number, checked, since) => {
@@ -153,9 +152,9 @@ fn write_unit<S: Alter>(tx: &mut Transaction<'_, S>, write: Write) -> Result<usi
     }
 }
 
-/// A write of a source, a mutation, a name or a moment.
+/// Runs a write of a source, a mutation, a row of `names` or a commit.
 fn write_source<S: Alter>(tx: &mut Transaction<'_, S>, write: Write) -> Result<usize, Error>
-    requires { HasCleanDisk (state S.Store tx.old.conn.now) → IsLand (state S.Store tx.old.conn.now).now.schema }
+    requires { HasRegisterTables S.Store tx.old.conn.now }
 {
     match write {
         Write::Moment(stamp, next) => moments::insert(tx, stamp, u64::from(next)),
@@ -172,7 +171,7 @@ fn write_source<S: Alter>(tx: &mut Transaction<'_, S>, write: Write) -> Result<u
     }
 }
 
-/// One write, in a transaction of its own: how many rows it wrote.
+/// Runs one write in its own transaction, and returns the number of rows written.
 fn write_one<S: Alter>(conn: &mut Connection<S>, write: Write) -> Result<usize, Error> {
     if !is_land(conn.schema()) || !conn.is_autocommit() {
         return Err(unlike());
@@ -196,7 +195,7 @@ fn write_one<S: Alter>(conn: &mut Connection<S>, write: Write) -> Result<usize, 
     Ok(count)
 }
 
-/// Each write, and how many rows it writes.
+/// The writes, each with its number of rows.
 const WRITES: &[(Write, usize)] = &[
     (Write::Moment(1000, 5), 1),
     (Write::Party(2, "Ada", 1000), 1),
@@ -241,7 +240,7 @@ const WRITES: &[(Write, usize)] = &[
     (Write::Mandate(2, 3, 1006), 1),
 ];
 
-/// What each table has then.
+/// The tables after the writes.
 const FOUND: &[(Table, &str)] = &[
     (Table::Moments, "0|2|\n1000|5|\n"),
     (
@@ -303,7 +302,7 @@ const FOUND: &[(Table, &str)] = &[
     ),
 ];
 
-/// Versions begin and are closed, each by one statement, and the tables then have these rows.
+/// Each statement inserts or closes versions, and then the tables have these rows.
 pub fn versions_begin_and_are_closed(alloc: Global) -> Result<(), Stop> {
     let mut conn = new_register(alloc)?;
     for (place, (write, wanted)) in WRITES.iter().enumerate() {
@@ -319,14 +318,14 @@ const OFFICE_ALONE: &[(Table, &str)] = &[(
     "1|Land Office|nonNaturalPerson|0|4102444800000|\n",
 )];
 
-/// A party that begins in a transaction that is let go is not there.
+/// A party of a transaction that is rolled back does not exist.
 pub fn what_is_not_committed_is_not_there(alloc: Global) -> Result<(), Stop> {
     let mut conn = new_register(alloc)?;
     drop_a_party(&mut conn)?;
     expect_tables(alloc, &mut conn, OFFICE_ALONE)
 }
 
-/// Begins a party, and lets the transaction go.
+/// Inserts a party, and rolls the transaction back.
 fn drop_a_party<S: Alter>(conn: &mut Connection<S>) -> Result<(), Error> {
     if !is_land(conn.schema()) || !conn.is_autocommit() {
         return Err(unlike());

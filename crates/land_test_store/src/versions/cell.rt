@@ -1,8 +1,8 @@
-//! Cells, and rows of them that a store gives.
+//! Cells, and rows of them that a store returns.
 use sqlite::types::ValueRef;
 use sqlite::{Alter, Connection, Error, Row};
 
-/// What a cell has.
+/// The content of a cell.
 #[derive(Clone, Copy)]
 pub enum Cell {
     Null,
@@ -10,7 +10,7 @@ pub enum Cell {
     Real,
     Blob,
     Words(&'static str),
-    /// A text that is not in UTF-8.
+    /// A text that is not valid UTF-8.
     Broken,
 }
 
@@ -27,10 +27,10 @@ impl Cell {
     }
 }
 
-/// A query that gives the cells that it is handed, as many as the widest table has.
+/// A query that returns its parameters, as many as the widest table has columns.
 const GIVE: &str = "SELECT ?1, ?2, ?3, ?4, ?5, ?6, ?7, ?8, ?9, ?10, ?11, ?12, ?13";
 
-/// Some cells, and NULL after them.
+/// Returns these cells, and NULL after them.
 fn values(cells: &[Cell]) -> [ValueRef<'static>; 13] {
     let mut values = [ValueRef::Null; 13];
     for (at, cell) in cells.iter().enumerate() {
@@ -41,12 +41,12 @@ fn values(cells: &[Cell]) -> [ValueRef<'static>; 13] {
     values
 }
 
-/// A row of some cells.
+/// Returns a row of these cells.
 pub fn row_of<S: Alter>(conn: &mut Connection<S>, cells: &[Cell]) -> Result<Row, Error> {
     conn.query_row(GIVE, &values(cells))
 }
 
-/// Other cells, each with its place, in the place of what is there.
+/// Replaces cells at these positions.
 fn replaced(values: [ValueRef<'static>; 13], others: &[(usize, Cell)]) -> [ValueRef<'static>; 13] {
     let mut values = values;
     for (at, cell) in others {
@@ -57,7 +57,7 @@ fn replaced(values: [ValueRef<'static>; 13], others: &[(usize, Cell)]) -> [Value
     values
 }
 
-/// A row of some cells, some of which have something else.
+/// Returns a row of these cells, some of them replaced.
 pub fn row_but<S: Alter>(
     conn: &mut Connection<S>,
     cells: &[Cell],
@@ -67,7 +67,7 @@ pub fn row_but<S: Alter>(
     conn.query_row(GIVE, &replaced(replaced(values(cells), others), more))
 }
 
-/// A row of some cells, one of which has something else.
+/// Returns a row of these cells, one of them replaced.
 pub fn row_with<S: Alter>(
     conn: &mut Connection<S>,
     cells: &[Cell],

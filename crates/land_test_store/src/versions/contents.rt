@@ -1,4 +1,4 @@
-//! The contents of mutations, by the word of the act that lodges them.
+//! The contents of mutations, by the word of the act.
 use crate::versions::cell::{Cell, row_of};
 use land_core::mutation::MutationRecord;
 use land_core::words::act_word;
@@ -10,7 +10,7 @@ use land_wire_json::texts::mutation::content_text;
 use sqlite::{Alter, Connection, Error, Row};
 use std::alloc::{AllocError, Global};
 
-/// A mutation with an act and a content.
+/// Returns a mutation with an act and a content.
 fn mutation<S: Alter>(
     conn: &mut Connection<S>,
     act: &'static str,
@@ -31,13 +31,13 @@ fn mutation<S: Alter>(
     row_of(conn, &cells)
 }
 
-/// What a content says: the text that would be written, or the number of its fault.
+/// Returns the canonical form of a content, or the number of its fault.
 enum Said {
     Text(&'static str),
     Fault(u16),
 }
 
-/// The word of an act, a content, and what it says.
+/// The word of an act, a content, and its canonical form or its fault.
 struct Content(&'static str, &'static str, Said);
 
 const CONTENTS: &[Content] = &[
@@ -134,7 +134,7 @@ const CONTENTS: &[Content] = &[
     ),
 ];
 
-/// Whether a row is a mutation with a content that says what is said of it.
+/// Returns whether a row is a mutation whose content has this canonical form, or this fault.
 fn says(alloc: Global, row: &Row, content: &Content) -> Result<bool, AllocError> {
     let read: Result<Version<(u64, MutationRecord)>, WireFault> = FromRow::from_row(alloc, row);
     match read {
@@ -144,7 +144,7 @@ fn says(alloc: Global, row: &Row, content: &Content) -> Result<bool, AllocError>
     }
 }
 
-/// Whether a mutation has an act and a content of a text.
+/// Returns whether a mutation has this act and this content.
 fn is_text(
     alloc: Global,
     mutation: &MutationRecord,

@@ -1,4 +1,4 @@
-//! Rows one of whose columns has something else than it may have.
+//! Rows with a wrong value in one column.
 use crate::versions::cell::row_with;
 use crate::versions::field::{Value, values_of};
 use crate::versions::sample::sample_of;
@@ -7,7 +7,7 @@ use land_test_scenario::stop::{Stop, expect};
 use sqlite::{Alter, Connection, Error};
 use std::alloc::Global;
 
-/// Whether a row of a table has the fault that a value has in one of its columns.
+/// Returns whether a row of a table has the fault of a wrong value in one of its columns.
 fn has_fault<S: Alter>(
     alloc: Global,
     conn: &mut Connection<S>,
@@ -20,7 +20,7 @@ fn has_fault<S: Alter>(
     Ok(found == value.1)
 }
 
-/// The place of the first value that has another fault in a column, if any.
+/// Returns the position of the first value of a column with another fault, if any.
 fn wrong_at<S: Alter>(
     alloc: Global,
     conn: &mut Connection<S>,
@@ -36,7 +36,8 @@ fn wrong_at<S: Alter>(
     Ok(None)
 }
 
-/// The first column of a table in which a value has another fault, and the place of that value, if any.
+/// Returns the first column of a table with a value that has another fault, and the position of that value,
+/// if any.
 fn wrong_in<S: Alter>(
     alloc: Global,
     conn: &mut Connection<S>,
@@ -67,7 +68,8 @@ const TABLES: &[Table] = &[
     Table::Mandate,
 ];
 
-/// Each value of each column is read, or has its fault. What is unlike is told by its table, column and value, in hundreds.
+/// Each value of each column is read, or has its fault. A failure is reported by table, column and value, in
+/// hundreds.
 pub fn each_value_of_each_column_has_its_fault(alloc: Global) -> Result<(), Stop> {
     let mut conn = Connection::open_in_memory(alloc)?;
     for (place, table) in TABLES.iter().enumerate() {

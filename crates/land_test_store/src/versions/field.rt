@@ -1,20 +1,20 @@
-//! The fields of rows, and what may and may not stand in each.
+//! The columns of rows, with valid and wrong values of each.
 use crate::versions::cell::Cell;
 
-/// What a column holds.
+/// The type of a column.
 #[derive(Clone, Copy)]
 pub enum Field {
-    /// An integer from 0 on.
+    /// An integer from 0.
     Natural,
     /// The number of an object.
     Number,
-    /// The number that the next new object takes.
+    /// The number of the next new object.
     Next,
     /// A moment.
     Moment,
     /// The end of a lifespan.
     End,
-    /// Whether something is so.
+    /// A truth value.
     Flag,
     /// A name, a title or words.
     Name,
@@ -30,7 +30,7 @@ pub enum Field {
     SourceKind,
     /// The state of a mutation.
     State,
-    /// The act that lodges a mutation.
+    /// The act of a mutation.
     Act,
     /// The content of a discharge.
     Content,
@@ -44,14 +44,14 @@ pub enum Field {
     Amount,
     /// The currency of a mortgage.
     Currency,
-    /// What the class of an entry does not use.
+    /// A column that the class of an entry does not use.
     Unused,
 }
 
-/// What stands in a field, and the number of the fault that it has there, 0 where it is read.
+/// A value, and the number of its fault in a column, or 0 if it is valid.
 pub struct Value(pub Cell, pub u16);
 
-/// What is no integer from 0 on, of whatever range.
+/// Values that are not an integer from 0, regardless of the range.
 const NATURALS: &[Value] = &[
     Value(Cell::Null, 131),
     Value(Cell::Real, 131),
@@ -178,7 +178,7 @@ const ROLES: &[Value] = &[
     Value(Cell::Words("bank"), 0),
 ];
 
-/// Words of other classes than that of a right have other fields.
+/// Classes other than a right use other columns.
 const CLASSES: &[Value] = &[
     Value(Cell::Null, 131),
     Value(Cell::Number(1), 131),
@@ -206,7 +206,7 @@ const STATES: &[Value] = &[
     Value(Cell::Words("approved"), 0),
 ];
 
-/// The words of other acts than a discharge have other fields.
+/// Acts other than a discharge have other fields.
 const ACTS: &[Value] = &[
     Value(Cell::Null, 131),
     Value(Cell::Number(1), 131),
@@ -234,12 +234,14 @@ const CONTENTS: &[Value] = &[
 /// 202 points.
 const MANY_POINTS: &str =
     "POLYGON ((0 0,0 0,0 0,0 0,0 0,0 0,0 0,0 0,0 0,0 0,0 0,0 0,0 0,0 0,0 0,0 0,0 0,0 0,0 0,0 0,0 0,0 0,\
-    0 0,0 0,0 0,0 0,0 0,0 0,0 0,0 0,0 0,0 0,0 0,0 0,0 0,0 0,0 0,0 0,0 0,0 0,0 0,0 0,0 0,0 0,0 0,0 0,0 0,0 0,0 0,0 0,0 0,0 0,\
-    0 0,0 0,0 0,0 0,0 0,0 0,0 0,0 0,0 0,0 0,0 0,0 0,0 0,0 0,0 0,0 0,0 0,0 0,0 0,0 0,0 0,0 0,0 0,0 0,0 0,0 0,0 0,0 0,0 0,0 0,\
-    0 0,0 0,0 0,0 0,0 0,0 0,0 0,0 0,0 0,0 0,0 0,0 0,0 0,0 0,0 0,0 0,0 0,0 0,0 0,0 0,0 0,0 0,0 0,0 0,0 0,0 0,0 0,0 0,0 0,0 0,\
-    0 0,0 0,0 0,0 0,0 0,0 0,0 0,0 0,0 0,0 0,0 0,0 0,0 0,0 0,0 0,0 0,0 0,0 0,0 0,0 0,0 0,0 0,0 0,0 0,0 0,0 0,0 0,0 0,0 0,0 0,\
-    0 0,0 0,0 0,0 0,0 0,0 0,0 0,0 0,0 0,0 0,0 0,0 0,0 0,0 0,0 0,0 0,0 0,0 0,0 0,0 0,0 0,0 0,0 0,0 0,0 0,0 0,0 0,0 0,0 0,0 0,\
-    0 0,0 0,0 0,0 0,0 0,0 0,0 0,0 0,0 0,0 0,0 0,0 0,0 0,0 0,0 0,0 0,0 0,0 0,0 0,0 0,0 0,0 0,0 0,0 0,0 0,0 0,0 0,0 0,0 0,0 0))";
+    0 0,0 0,0 0,0 0,0 0,0 0,0 0,0 0,0 0,0 0,0 0,0 0,0 0,0 0,0 0,0 0,0 0,0 0,0 0,0 0,0 0,0 0,0 0,0 0,\
+    0 0,0 0,0 0,0 0,0 0,0 0,0 0,0 0,0 0,0 0,0 0,0 0,0 0,0 0,0 0,0 0,0 0,0 0,0 0,0 0,0 0,0 0,0 0,0 0,\
+    0 0,0 0,0 0,0 0,0 0,0 0,0 0,0 0,0 0,0 0,0 0,0 0,0 0,0 0,0 0,0 0,0 0,0 0,0 0,0 0,0 0,0 0,0 0,0 0,\
+    0 0,0 0,0 0,0 0,0 0,0 0,0 0,0 0,0 0,0 0,0 0,0 0,0 0,0 0,0 0,0 0,0 0,0 0,0 0,0 0,0 0,0 0,0 0,0 0,\
+    0 0,0 0,0 0,0 0,0 0,0 0,0 0,0 0,0 0,0 0,0 0,0 0,0 0,0 0,0 0,0 0,0 0,0 0,0 0,0 0,0 0,0 0,0 0,0 0,\
+    0 0,0 0,0 0,0 0,0 0,0 0,0 0,0 0,0 0,0 0,0 0,0 0,0 0,0 0,0 0,0 0,0 0,0 0,0 0,0 0,0 0,0 0,0 0,0 0,\
+    0 0,0 0,0 0,0 0,0 0,0 0,0 0,0 0,0 0,0 0,0 0,0 0,0 0,0 0,0 0,0 0,0 0,0 0,0 0,0 0,0 0,0 0,0 0,0 0,\
+    0 0,0 0,0 0,0 0,0 0,0 0,0 0,0 0,0 0,0 0,0 0,0 0))";
 
 const OUTLINES: &[Value] = &[
     Value(Cell::Null, 131),
@@ -267,7 +269,7 @@ const OUTLINES: &[Value] = &[
     Value(Cell::Words("POLYGON ((0 0, 1 0, 0 1, 0 0))"), 0),
 ];
 
-/// Beside the denominator 2.
+/// With the denominator 2.
 const NUMERATORS: &[Value] = &[
     Value(Cell::Null, 131),
     Value(Cell::Real, 131),
@@ -278,7 +280,7 @@ const NUMERATORS: &[Value] = &[
     Value(Cell::Number(3), 102),
 ];
 
-/// Beside the numerator 1.
+/// With the numerator 1.
 const DENOMINATORS: &[Value] = &[
     Value(Cell::Null, 131),
     Value(Cell::Real, 131),
@@ -314,7 +316,7 @@ const CURRENCIES: &[Value] = &[
     Value(Cell::Words("AZZ"), 0),
 ];
 
-/// Nothing may stand there, not even 0 or no words.
+/// Only NULL is valid, neither 0 nor the empty text.
 const NOTHING: &[Value] = &[
     Value(Cell::Number(0), 131),
     Value(Cell::Number(1), 131),
@@ -324,7 +326,7 @@ const NOTHING: &[Value] = &[
     Value(Cell::Null, 0),
 ];
 
-/// What may and may not stand in a field.
+/// Returns valid and wrong values of a column.
 pub fn values_of(field: Field) -> &'static [Value] {
     match field {
         Field::Natural => NATURALS,

@@ -1,4 +1,4 @@
-//! Histories, made of rows.
+//! Histories, built from rows.
 use crate::versions::cell::{Cell, row_but};
 use crate::versions::sample::sample_of;
 use crate::versions::table::Table;
@@ -9,14 +9,14 @@ use land_wire_json::bodies::wire_fault::WireFault;
 use sqlite::{Alter, Connection, Error, ErrorCode, Row};
 use std::alloc::{AllocError, Global};
 
-/// The end of what still stands.
+/// The end of a current version's lifespan.
 pub const OPEN: i64 = 4_102_444_800_000;
 
-/// A version: its table, what it has in columns otherwise than the sample there, when it begins and when it ends.
+/// A version: its table, the columns that differ from the sample, its start and its end.
 #[derive(Clone, Copy)]
 pub struct Span(pub Table, pub &'static [(usize, Cell)], pub i64, pub i64);
 
-/// Nothing at any time.
+/// Returns an empty history.
 pub fn nothing(alloc: Global) -> History {
     History {
         parties: Sequence::new(alloc),
@@ -32,7 +32,7 @@ pub fn nothing(alloc: Global) -> History {
     }
 }
 
-/// A row of a version.
+/// Returns the row of a version.
 fn row_of<S: Alter>(conn: &mut Connection<S>, span: &Span) -> Result<Row, Error> {
     let cells = sample_of(span.0).cells;
     let width = cells.len();
@@ -43,7 +43,7 @@ fn row_of<S: Alter>(conn: &mut Connection<S>, span: &Span) -> Result<Row, Error>
     row_but(conn, cells, span.1, &lifespan)
 }
 
-/// One version more.
+/// Adds a version.
 fn push<X: FromRow>(alloc: Global, versions: &mut Sequence<X>, row: &Row) -> Result<(), Error> {
     match X::from_row(alloc, row) {
         Ok(version) => Ok(versions.push(version)?),
@@ -52,7 +52,7 @@ fn push<X: FromRow>(alloc: Global, versions: &mut Sequence<X>, row: &Row) -> Res
     }
 }
 
-/// One version more of a table.
+/// Adds a version of a table.
 fn push_to(alloc: Global, history: &mut History, table: Table, row: &Row) -> Result<(), Error> {
     match table {
         Table::Party => push(alloc, &mut history.parties, row),
@@ -69,7 +69,7 @@ fn push_to(alloc: Global, history: &mut History, table: Table, row: &Row) -> Res
     }
 }
 
-/// One version more.
+/// Adds a version.
 pub fn add<S: Alter>(
     alloc: Global,
     conn: &mut Connection<S>,
@@ -80,7 +80,7 @@ pub fn add<S: Alter>(
     push_to(alloc, history, span.0, &row)
 }
 
-/// The history of some versions.
+/// Returns the history of these versions.
 pub fn history_of<S: Alter>(
     alloc: Global,
     conn: &mut Connection<S>,

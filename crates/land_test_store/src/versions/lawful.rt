@@ -1,4 +1,4 @@
-//! Which histories are lawful.
+//! Valid and invalid histories.
 ghost use Rattle.std.specs.Prelude.{◌≡◌};
 ghost use Rattle.land_tables_lawful.specs.Pieces.{are_in_time};
 
@@ -13,7 +13,7 @@ use land_test_scenario::stop::{Stop, expect};
 use sqlite::{Alter, Connection, Error};
 use std::alloc::Global;
 
-/// The cells of the land office, and of its role.
+/// The cells of the Land Office, and of its role.
 const OFFICE: &[(usize, Cell)] = &[
     (0, Cell::Number(1)),
     (1, Cell::Words("Land Office")),
@@ -31,7 +31,7 @@ const NEW: &[Span] = &[
     Span(Table::Role, ADMINISTRATOR, 0, OPEN),
 ];
 
-/// A mutation with all that it refers to, and the unit that it names. The unit need not stand.
+/// A mutation with all records that it refers to, and the unit of its row of `names`, which need not exist.
 const LODGED: &[Span] = &[
     Span(Table::Party, OFFICE, 0, OPEN),
     Span(Table::Role, ADMINISTRATOR, 0, OPEN),
@@ -41,19 +41,19 @@ const LODGED: &[Span] = &[
     Span(Table::Names, &[], 1000, OPEN),
 ];
 
-/// When the register was changed, the versions, and whether the history is lawful.
+/// The commits, the versions, and whether the history is valid.
 struct Case(&'static [Moment], &'static [Span], bool);
 
 const CASES: &[Case] = &[
     Case(&[Moment { stamp: 0, next: 2 }], NEW, true),
-    // there is no moment, or one stamp twice
+    // without a commit, or with one stamp twice
     Case(&[], &[], false),
     Case(
         &[Moment { stamp: 0, next: 2 }, Moment { stamp: 0, next: 2 }],
         NEW,
         false,
     ),
-    // the next number falls, however the moments lie
+    // the next number decreases, in any order of the commits
     Case(
         &[
             Moment { stamp: 0, next: 5 },
@@ -102,8 +102,8 @@ const CASES: &[Case] = &[
         NEW,
         false,
     ),
-    // a register of a moment is not sound: no administrator, a role of nobody, a number that is not below the next one, a unit that
-    // nobody owns
+    // the register is unsound at a commit: no administrator, a role without a party, a number that is not
+    // below the next one, a unit without an owner
     Case(
         &[
             Moment { stamp: 0, next: 2 },
@@ -181,7 +181,8 @@ const CASES: &[Case] = &[
         ],
         false,
     ),
-    // the names are those of the mutation: they are, one is of no mutation, one lacks, one is of another unit, one ends before
+    // the rows of `names` and the mutation: they agree; one is without a mutation, one is missing, one has
+    // another unit, one ends earlier
     Case(
         &[
             Moment { stamp: 0, next: 2 },
@@ -267,7 +268,7 @@ const CASES: &[Case] = &[
         ],
         false,
     ),
-    // a mandate is between two single parties that stand and differ
+    // a mandate is between two different single parties that exist
     Case(
         &[
             Moment { stamp: 0, next: 2 },
@@ -321,7 +322,7 @@ const CASES: &[Case] = &[
     ),
 ];
 
-/// Whether all moments are before the end of what stands.
+/// Returns whether all stamps are before the end of a current version's lifespan.
 fn are_in_time(moments: &[Moment]) -> bool
     ensures { result ≡ are_in_time moments.now }
 {
@@ -330,7 +331,7 @@ fn are_in_time(moments: &[Moment]) -> bool
         .all(|moment| moment.stamp < 4_102_444_800_000)
 }
 
-/// Whether the lifespans of a history are as they may be, and it is as lawful as its case says.
+/// Returns whether a history has valid intervals, and is valid if its case states so.
 fn is_as_said<S: Alter>(
     alloc: Global,
     conn: &mut Connection<S>,
@@ -343,7 +344,7 @@ fn is_as_said<S: Alter>(
     Ok(is_lawful(alloc, &history, case.0)? == case.2)
 }
 
-/// Histories are lawful, or have what makes them not so.
+/// Histories are valid, or have a fault that makes them invalid.
 pub fn histories_are_lawful_or_not(alloc: Global) -> Result<(), Stop> {
     let mut conn = Connection::open_in_memory(alloc)?;
     for (place, case) in CASES.iter().enumerate() {
@@ -357,7 +358,7 @@ const LAST: Moment = Moment {
     next: 9,
 };
 
-/// In no order.
+/// Unsorted.
 const MOMENTS: &[Moment] = &[
     Moment {
         stamp: 1000,
@@ -367,7 +368,7 @@ const MOMENTS: &[Moment] = &[
     LAST,
 ];
 
-/// A moment, and the number that the next new object takes then.
+/// A moment, and the number of the next new object then.
 struct Next(i64, u64);
 
 const NEXTS: &[Next] = &[
@@ -380,7 +381,7 @@ const NEXTS: &[Next] = &[
     Next(4_102_444_799_999, 9),
 ];
 
-/// The latest moment is found, and the next number at each.
+/// The latest commit is found, and the next number at each moment.
 pub fn the_latest_moment_is_found() -> Result<(), Stop> {
     let is_last = last(&[]) == None && last(MOMENTS) == Some(LAST);
     expect(is_last && next_at(&[], 5) == 2, "moments", 0)?;

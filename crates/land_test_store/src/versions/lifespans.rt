@@ -1,4 +1,4 @@
-//! What stands at a moment, and which lifespans there may be.
+//! The register at a moment, and valid lifespans.
 use crate::versions::cell::Cell;
 use crate::versions::histories::{OPEN, Span, add, history_of, nothing};
 use crate::versions::table::Table;
@@ -14,7 +14,7 @@ use land_test_scenario::stop::{Stop, expect};
 use sqlite::{Alter, Connection, Error};
 use std::alloc::Global;
 
-/// Samples that stand together, and what one of them becomes.
+/// Samples that are current together, and a later version of one of them.
 const SPANS: &[Span] = &[
     Span(Table::Party, &[], 1000, 1005),
     Span(Table::Party, &[(1, Cell::Words("Anna Stone"))], 1005, OPEN),
@@ -45,7 +45,7 @@ const MANDATE: Mandate = Mandate {
     agent: 5,
 };
 
-/// How many of the samples stand in a register, its party and the members of its group aside.
+/// Returns the number of samples in a register, without its party and the members of its group.
 fn count(register: &Register) -> usize {
     usize::from(register.roles.contains(NOTARY))
         + usize::from(register.units.get(9).is_some())
@@ -58,7 +58,7 @@ fn count(register: &Register) -> usize {
         + usize::from(register.mandates.contains(MANDATE))
 }
 
-/// Whether a party of that name stands under the sample's number, or none does.
+/// Returns whether the party of the sample has this name, or does not exist.
 fn is_called(register: &Register, name: &str) -> bool {
     match register.parties.get(2) {
         Some(party) => party.name.as_str() == name,
@@ -66,7 +66,7 @@ fn is_called(register: &Register, name: &str) -> bool {
     }
 }
 
-/// Whether the group of the sample has its two members, or there is none.
+/// Returns whether the group of the sample has its two members, or does not exist.
 fn is_group(register: &Register, stands: bool) -> bool {
     match register.members.get(7) {
         Some(members) => stands && are_two(members),
@@ -74,7 +74,7 @@ fn is_group(register: &Register, stands: bool) -> bool {
     }
 }
 
-/// A moment, what the party is called then, and whether the other samples stand.
+/// A moment, the name of the party then, and whether the other samples exist.
 struct At(i64, &'static str, bool);
 
 const AT: &[At] = &[
@@ -95,7 +95,7 @@ fn is_as_said(register: &Register, at: &At) -> bool {
         && register.next == 19
 }
 
-/// Whether what stands at each moment is what is said of it.
+/// Returns whether the register at each moment is the expected one.
 fn are_as_said<S: Alter>(alloc: Global, conn: &mut Connection<S>) -> Result<bool, Error> {
     let history = history_of(alloc, conn, SPANS)?;
     for at in AT {
@@ -106,13 +106,13 @@ fn are_as_said<S: Alter>(alloc: Global, conn: &mut Connection<S>) -> Result<bool
     Ok(true)
 }
 
-/// A lifespan has its beginning, and not its end.
+/// A lifespan includes its start, and not its end.
 pub fn a_lifespan_has_its_beginning_and_not_its_end(alloc: Global) -> Result<(), Stop> {
     let mut conn = Connection::open_in_memory(alloc)?;
     expect(are_as_said(alloc, &mut conn)?, "register", 0)
 }
 
-/// When the register was changed.
+/// The commits.
 const MOMENTS: &[Moment] = &[
     Moment {
         stamp: 1005,
@@ -142,7 +142,7 @@ const VERSIONED: &[Table] = &[
     Table::Mandate,
 ];
 
-/// Lifespans of one key, and whether a history may have them.
+/// Lifespans of one key, and whether they are valid in a history.
 struct Lives(&'static [(i64, i64)], bool);
 
 const LIVES: &[Lives] = &[
@@ -150,23 +150,23 @@ const LIVES: &[Lives] = &[
     Lives(&[(1000, 1005)], true),
     Lives(&[(0, OPEN)], true),
     Lives(&[(1003, OPEN), (1000, 1003)], true),
-    // the one ends after the other begins
+    // one ends after the other starts
     Lives(&[(1000, 1005), (1003, OPEN)], false),
     Lives(&[(1003, OPEN), (1000, 1005)], false),
     Lives(&[(1000, 1003), (1000, 1003)], false),
     Lives(&[(0, OPEN), (1000, 1003)], false),
     Lives(&[(0, 1000), (1003, 1005), (1000, OPEN)], false),
-    // its beginning or its end is no stamp
+    // its start or its end is not a stamp
     Lives(&[(1001, 1005)], false),
     Lives(&[(1001, OPEN)], false),
     Lives(&[(1000, 1004)], false),
     Lives(&[(1000, 4_102_444_799_999)], false),
-    // its end is not after its beginning
+    // its end is not after its start
     Lives(&[(1003, 1003)], false),
     Lives(&[(1003, 1000)], false),
 ];
 
-/// Whether a history may have some lifespans of the sample of a table.
+/// Returns whether a history may have these lifespans of the sample of a table.
 fn may_have<S: Alter>(
     alloc: Global,
     conn: &mut Connection<S>,
@@ -192,7 +192,8 @@ pub fn lifespans_of_one_key_do_not_overlap(alloc: Global) -> Result<(), Stop> {
     Ok(())
 }
 
-/// A table, what another version has in a column otherwise than the sample there, and whether both may stand together.
+/// A table, the column of another version that differs from the sample, and whether both may be current
+/// together.
 struct Beside(Table, &'static [(usize, Cell)], bool);
 
 const BESIDE: &[Beside] = &[
@@ -219,7 +220,7 @@ const BESIDE: &[Beside] = &[
     Beside(Table::Mandate, &[(1, Cell::Number(4))], true),
 ];
 
-/// Whether a sample and another version may stand together.
+/// Returns whether a sample and another version may be current together.
 fn may_stand<S: Alter>(
     alloc: Global,
     conn: &mut Connection<S>,

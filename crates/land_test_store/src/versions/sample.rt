@@ -1,9 +1,9 @@
-//! Rows that are read, one of each table.
+//! Sample rows, one per table.
 use crate::versions::cell::Cell;
 use crate::versions::field::Field;
 use crate::versions::table::Table;
 
-/// A row of a table: its cells, and what each of its columns holds.
+/// A row of a table: its cells, and the type of each column.
 pub struct Sample {
     pub cells: &'static [Cell],
     pub fields: &'static [Field],
@@ -266,7 +266,7 @@ const MANDATE: Sample = Sample {
     fields: &[Field::Number, Field::Number, Field::Moment, Field::End],
 };
 
-/// The row of a table.
+/// Returns the sample row of a table.
 pub fn sample_of(table: Table) -> &'static Sample {
     match table {
         Table::Edition => &EDITION,

@@ -1,4 +1,4 @@
-//! Rows that are read, and what they say, however it is spelled.
+//! Rows with the same value in different representations.
 use crate::versions::cell::{Cell, row_but};
 use crate::versions::sample::sample_of;
 use crate::versions::table::Table;
@@ -26,12 +26,12 @@ use land_wire_json::bodies::wire_fault::WireFault;
 use sqlite::{Alter, Connection, Error, Row};
 use std::alloc::{AllocError, Global};
 
-/// What the sample of a table says.
+/// Returns the decoded sample of a table.
 trait Expected: FromRow {
     fn is_expected(&self) -> bool;
 }
 
-/// Whether a version has the lifespan of the samples.
+/// Returns whether a version has the lifespan of the samples.
 fn lasts<X>(version: &Version<X>) -> bool {
     version.since == 1000 && version.until == 1005
 }
@@ -112,7 +112,7 @@ fn is_mortgage(amount: u64, currency: &str, rank: u64) -> bool {
     amount == 25_000_000 && currency == "EUR" && rank == 1
 }
 
-/// Whether the entry of a number has a class.
+/// Returns whether an entry of this number has this class.
 fn is_class(number: u64, class: &Class) -> bool {
     match class {
         Class::Right { right_type, share } => {
@@ -128,7 +128,7 @@ fn is_class(number: u64, class: &Class) -> bool {
     }
 }
 
-/// Whether the entry of a number has a party and a source.
+/// Returns whether an entry of this number has this party and this source.
 fn is_of(number: u64, party: u64, source: u64) -> bool {
     if number == 16 {
         party == 4 && source == 14
@@ -192,7 +192,7 @@ impl Expected for Version<Mandate> {
     }
 }
 
-/// Whether a row says, as `X`, what the sample says.
+/// Returns whether a row decodes, as `X`, to the same value as the sample.
 fn says<X: Expected>(alloc: Global, row: &Row) -> Result<bool, AllocError> {
     match X::from_row(alloc, row) {
         Ok(it) => Ok(it.is_expected()),
@@ -201,7 +201,7 @@ fn says<X: Expected>(alloc: Global, row: &Row) -> Result<bool, AllocError> {
     }
 }
 
-/// Whether a row of a table says what the sample says.
+/// Returns whether a row of a table decodes to the same value as the sample.
 fn says_sample(alloc: Global, table: Table, row: &Row) -> Result<bool, AllocError> {
     match table {
         Table::Edition => says::<Edition>(alloc, row),
@@ -221,7 +221,7 @@ fn says_sample(alloc: Global, table: Table, row: &Row) -> Result<bool, AllocErro
     }
 }
 
-/// A table, and what stands in some columns of its sample in the place of what is there, with the same meaning.
+/// A table, and other representations of the values in some columns of its sample.
 struct Spelling(Table, &'static [(usize, Cell)]);
 
 const SPELLINGS: &[Spelling] = &[
@@ -239,7 +239,7 @@ const SPELLINGS: &[Spelling] = &[
     Spelling(Table::Mutation, &[]),
     Spelling(Table::Names, &[]),
     Spelling(Table::Mandate, &[]),
-    // 2/4, and a half whose numerator and denominator are both above the bound
+    // 2/4, and a half with numerator and denominator above the bound
     Spelling(Table::Member, &[(2, Cell::Number(2)), (3, Cell::Number(4))]),
     Spelling(Table::Right, &[(4, Cell::Number(2)), (5, Cell::Number(4))]),
     Spelling(
@@ -249,19 +249,19 @@ const SPELLINGS: &[Spelling] = &[
             (5, Cell::Number(4_000_000_000)),
         ],
     ),
-    // clockwise, in other letters and other numbers
+    // clockwise, in other letters and with other digits
     Spelling(
         Table::Parcel,
         &[(3, Cell::Words("polygon((7.0 -3,+2 -3,2 04,7 4,7 -3))"))],
     ),
-    // with spaces, its keys in another order
+    // with spaces, and its keys in another order
     Spelling(
         Table::Mutation,
         &[(6, Cell::Words(" { \"unit\" : 9 ,\n\"mortgage\" : 16 } "))],
     ),
 ];
 
-/// Whether a row is read as the sample of its table.
+/// Returns whether a row decodes to the sample of its table.
 fn is_read<S: Alter>(
     alloc: Global,
     conn: &mut Connection<S>,
@@ -271,7 +271,7 @@ fn is_read<S: Alter>(
     Ok(says_sample(alloc, spelling.0, &row)?)
 }
 
-/// Rows say the same however they are spelled.
+/// Rows with the same value decode alike, in any representation.
 pub fn rows_say_the_same_however_spelled(alloc: Global) -> Result<(), Stop> {
     let mut conn = Connection::open_in_memory(alloc)?;
     for (place, spelling) in SPELLINGS.iter().enumerate() {

@@ -1,4 +1,4 @@
-//! The tables, and how their rows are read.
+//! The tables, and how their rows are decoded.
 use land_core::mandates::Mandate;
 use land_core::mutation::MutationRecord;
 use land_core::parcel::ParcelRecord;
@@ -17,7 +17,7 @@ use land_wire_json::bodies::wire_fault::WireFault;
 use sqlite::Row;
 use std::alloc::{AllocError, Global};
 
-/// A table of the register; of `rrr`, what the class of an entry makes of it.
+/// A table of the register; `rrr` once per class of entries.
 #[derive(Clone, Copy)]
 pub enum Table {
     Edition,
@@ -36,7 +36,7 @@ pub enum Table {
     Mandate,
 }
 
-/// The number of the fault that a row has as `X`, 0 where it is read.
+/// Returns the number of the fault of a row as `X`, or 0 if it is valid.
 fn fault_as<X: FromRow>(alloc: Global, row: &Row) -> Result<u16, AllocError> {
     match X::from_row(alloc, row) {
         Ok(_) => Ok(0),
@@ -45,7 +45,7 @@ fn fault_as<X: FromRow>(alloc: Global, row: &Row) -> Result<u16, AllocError> {
     }
 }
 
-/// The number of the fault that a row of a table has, 0 where it is read.
+/// Returns the number of the fault of a row of a table, or 0 if it is valid.
 pub fn fault_of(alloc: Global, table: Table, row: &Row) -> Result<u16, AllocError> {
     match table {
         Table::Edition => fault_as::<Edition>(alloc, row),

@@ -42,7 +42,7 @@ const CLASSES: &[Cell] = &[
     Cell::Words("mortgage"),
 ];
 
-/// Whether what was read is what was meant.
+/// Returns whether the decoded value is the expected one.
 fn is<T: PartialEq + Copy>(read: Result<T, WireFault>, meant: T) -> bool {
     match read {
         Ok(found) => found == meant,
@@ -88,7 +88,7 @@ fn are_known<S: Alter>(conn: &mut Connection<S>) -> Result<bool, Error> {
     Ok(are_words(&words) && are_roles(&roles) && are_classes(&classes))
 }
 
-/// Each word stands for one thing, and no other word does.
+/// Each word has one meaning, and no other word has it.
 pub fn each_word_stands_for_one_thing(alloc: Global) -> Result<(), Stop> {
     let mut conn = Connection::open_in_memory(alloc)?;
     expect(are_known(&mut conn)?, "words", 0)

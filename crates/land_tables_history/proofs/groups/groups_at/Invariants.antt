@@ -4,6 +4,6 @@ use Rattle.land_tables_history.specs.Groups.{with_members}
 use Rattle.land_tables_history.specs.Standing.{standing}
 use Rattle.land_tables_history.proofs.groups.groups_at.Given as goal
 
--- who is left to join leads to the same
+-- the remaining members build the same result
 abbrev pub invariant-loop-version : goal.invariant-loop-version
 invariant-loop-version l = with_members l.groups (standing l.fn.at (drop l.version-index l.versions)) ≡ with_members map.empty (standing l.fn.at l.versions)

@@ -4,7 +4,7 @@ use Rattle.land_tables_history.specs.Moments.{latest, next_at}
 use Rattle.land_tables_history.specs.declared.moment.Moment.{Moment}
 use Rattle.land_tables_history.proofs.moments.next_at.Goals as goal
 
--- the next number of a moment that was found, 2 where there is none
+-- the next number of the commit found, or 2 without one
 abbrev next_of : Option Moment → ℕ
 next_of found = option_map_or (λ m. m.next) found 2
 

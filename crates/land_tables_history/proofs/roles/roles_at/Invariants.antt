@@ -5,6 +5,6 @@ use Rattle.land_core.specs.Grants.{marks}
 use Rattle.land_tables_history.specs.Standing.{standing}
 use Rattle.land_tables_history.proofs.roles.roles_at.Given as goal
 
--- what is left to give leads to the same
+-- the remaining mandates build the same result
 abbrev pub invariant-loop-version : goal.invariant-loop-version
 invariant-loop-version l = with_entries l.roles (marks (standing l.fn.at (drop l.version-index l.versions))) ≡ with_entries map.empty (marks (standing l.fn.at l.versions))

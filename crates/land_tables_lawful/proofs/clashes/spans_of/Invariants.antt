@@ -3,7 +3,7 @@ use Rattle.land_tables_lawful.specs.ApartSpans.{spans_where}
 use Rattle.land_tables_lawful.specs.Places.{place_of}
 use Rattle.land_tables_lawful.proofs.clashes.spans_of.Given as goal
 
--- the lifespans so far, and those to come
+-- the lifespans of the prefix, and the remaining ones
 abbrev pub invariant-loop-entry : goal.invariant-loop-entry
 invariant-loop-entry l =
     l.spans.items ++ spans_where (λ e. place_of e.1) (drop l.entry-index l.entries) ≡ spans_where (λ e. place_of e.1) l.entries

@@ -3,7 +3,7 @@ use Rattle.land_tables_lawful.specs.Lived.{what_stands}
 use Rattle.land_tables_lawful.specs.Memberships.{member_shares}
 use Rattle.land_tables_lawful.proofs.groups.is_group_size.Given as goal
 
--- the members so far, and those still to come, are all; so far there are not too many
+-- the members of the prefix and the remaining ones are all; the prefix has at most 64
 abbrev pub invariant-loop-one : goal.invariant-loop-one
 invariant-loop-one l =
     (l.members + length (member_shares (what_stands (drop l.one-index l.there))) ≡ length (member_shares (what_stands l.there)))

@@ -2,7 +2,7 @@ use Rattle.std.proofs.Common.{◌≡◌, ◌++◌, drop, take}
 use Rattle.land_tables_lawful.specs.Memberships.{groups_lived, members_lived}
 use Rattle.land_tables_lawful.proofs.groups.memberships_in.Given as goal
 
--- the groups so far, and those still to come
+-- the groups of the prefix, and the remaining ones
 abbrev pub invariant-loop-party : goal.invariant-loop-party
 invariant-loop-party l = l.lived.items ++ groups_lived (drop l.party-index l.parties) ≡ groups_lived l.parties
 

@@ -3,7 +3,7 @@ use Rattle.land_tables_lawful.specs.KeyPairs.{paired}
 use Rattle.land_tables_lawful.specs.NamedUnits.{named_pairs}
 use Rattle.land_tables_lawful.proofs.namings.add_mutations.Given as goal
 
--- what was added, and then what is to come
+-- the spans added, and then the remaining ones
 abbrev pub invariant-loop-mutation : goal.invariant-loop-mutation
 invariant-loop-mutation l =
     l.pieces.items ++ flat_map (paired l.asked named_pairs) (drop l.mutation-index l.mutations)

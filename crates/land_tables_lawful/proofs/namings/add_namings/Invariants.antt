@@ -3,7 +3,7 @@ use Rattle.land_tables_lawful.specs.KeyPairs.{paired}
 use Rattle.land_tables_lawful.specs.NamedUnits.{naming_pair}
 use Rattle.land_tables_lawful.proofs.namings.add_namings.Given as goal
 
--- what was added, and then what is to come
+-- the spans added, and then the remaining ones
 abbrev pub invariant-loop-naming : goal.invariant-loop-naming
 invariant-loop-naming l =
     l.pieces.items ++ flat_map (paired l.asked naming_pair) (drop l.naming-index l.namings)

@@ -3,7 +3,7 @@ use Rattle.land_tables_lawful.specs.KeyPairs.{pair_at}
 use Rattle.land_tables_lawful.specs.NamedUnits.{with_units}
 use Rattle.land_tables_lawful.proofs.namings.add_units.Given as goal
 
--- what was added, and then what is to come
+-- the spans added, and then the remaining ones
 abbrev pub invariant-loop-unit : goal.invariant-loop-unit
 invariant-loop-unit l =
     l.pieces.items

@@ -3,7 +3,7 @@ use Rattle.std.specs.List.{list_all}
 use Rattle.land_tables_lawful.specs.NumbersInUse.{has_used_numbers, passes_since}
 use Rattle.land_tables_lawful.proofs.numbers.are_entries_used.Given as goal
 
--- what is left leads to the same
+-- the remaining entries yield the same result
 abbrev pub invariant-loop-entry : goal.invariant-loop-entry
 invariant-loop-entry l =
     list_all (passes_since has_used_numbers l.fn.moments) (drop l.entry-index l.entries)

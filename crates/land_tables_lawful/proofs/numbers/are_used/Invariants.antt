@@ -3,7 +3,7 @@ use Rattle.std.specs.List.{list_all}
 use Rattle.land_tables_lawful.specs.NumbersInUse.{has_used_number, passes_since}
 use Rattle.land_tables_lawful.proofs.numbers.are_used.Given as goal
 
--- what is left leads to the same
+-- the remaining entries yield the same result
 abbrev pub invariant-loop-version : goal.invariant-loop-version
 invariant-loop-version g l =
     list_all (passes_since has_used_number l.fn.moments) (drop l.version-index l.versions)

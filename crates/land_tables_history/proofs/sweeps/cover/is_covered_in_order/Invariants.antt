@@ -2,7 +2,7 @@ use Rattle.std.proofs.Common.{◌≡◌, None, length}
 use Rattle.land_tables_history.specs.Sweeps.CoverSteps.{covered_from}
 use Rattle.land_tables_history.proofs.sweeps.cover.is_covered_in_order.Given as goal
 
--- what is left decides, after what was reached
+-- the remaining spans decide, from the reach so far
 abbrev pub invariant-loop-rest : goal.invariant-loop-rest
 invariant-loop-rest l = covered_from l.reached l.rest ≡ covered_from None l.pieces
 

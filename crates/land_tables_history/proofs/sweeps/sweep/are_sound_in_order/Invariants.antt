@@ -2,6 +2,6 @@ use Rattle.std.proofs.Common.{◌≡◌, [], drop}
 use Rattle.land_tables_history.specs.Sweeps.SweepSteps.{sound_from}
 use Rattle.land_tables_history.proofs.sweeps.sweep.are_sound_in_order.Given as goal
 
--- what is there, and what comes later, is judged at the ticks that are left
+-- the current values, and those that start later, are checked at the remaining ticks
 abbrev pub invariant-loop-tick : goal.invariant-loop-tick
 invariant-loop-tick g l = sound_from g.T.Judged.is_sound l.there.items l.later (drop l.tick-index l.ticks) ≡ sound_from g.T.Judged.is_sound [] l.lived l.ticks
