@@ -1,4 +1,4 @@
--- What calls leave of a store that holds a timeline.
+-- The effect of calls on a store that holds a timeline.
 use Rattle.std.specs.Prelude.{◌≡◌, ◌≢◌, ℕ, ℤ, IfErr, IfOk, IsTrue, OnOk, Err, Result}
 use Rattle.land_core.specs.declared.change.Change.{Change}
 use Rattle.land_keep.specs.declared.store_fault.StoreFault.{StoreFault}
@@ -8,24 +8,26 @@ use Rattle.sqlite.specs.Effect.{Database}
 use Rattle.sqlite.specs.State.{HasCleanDisk, State, Survives}
 use Rattle.sqlite_trees.specs.Tree.{Trees}
 
--- an open store shows what it showed, all of it committed
+-- an open store has the same content as before, all of it committed
 pub record IsSame (old new : State) : Type 0 where
   pub is_open : IsTrue new.is_open
   pub now : new.now ≡ old.now
   pub committed : new.committed ≡ new.now
 
--- A read of a store that is open and has all committed: where it succeeds it gives this. But for a fault 502 the store is as it was.
+-- A read of an open store that is fully committed: if it succeeds, the result has this property. The store is
+-- unchanged unless the fault is 502.
 pub record IsSafeRead {X : Type 0} (r : Result X StoreFault) (Given : X → Type 0) (old new : State) : Type 0 where
   pub given : HasCleanDisk new → IfOk r Given
   pub same : HasCleanDisk new → r ≢ Err Store → IsSame old new
   pub survives : Survives old new (λ _. ⊥)
 
--- what a crash may find besides what was there: the rows with a change
+-- a state that a crash may leave in addition to the old ones: the tables with the change
 abbrev pub MayRecord : Change → (next : ℕ) → (stamp : ℤ) → (old : Database) → Trees → Type 0
 MayRecord change next stamp old db = (new : Database) × Records change next stamp old new × (db ≡ new.trees)
 
--- A write into a store that is open and has all committed: where it succeeds this was done, and committed. But for a fault 502 the store
--- is else as it was. A crash leaves what it left before, or what the commit leaves.
+-- A write to an open store that is fully committed: if it succeeds, this was done and committed. Otherwise
+-- the store is unchanged unless the fault is 502. A crash leaves the same states as before, or the committed
+-- one.
 pub record IsSafeWrite {X : Type 0} (r : Result X StoreFault) (Done : Database → Database → Type 0) (Commits : Trees → Type 0) (old new : State) : Type 0 where
   pub done : HasCleanDisk new → OnOk r (Done old.now new.now)
   pub kept : HasCleanDisk new → OnOk r (IsTrue new.is_open × (new.committed ≡ new.now))

@@ -1,4 +1,4 @@
-//! A store is taken for a register's.
+//! Opens a store as a register file.
 ghost use Rattle.std.specs.Prelude.{◌≡◌, ◌≢◌, ◌⊎◌, ◌≤ℤ◌, false, IfErr, IfOk, IsTrue};
 ghost use Rattle.land_keep.specs.Moments.{last_moment};
 ghost use Rattle.land_tables.specs.Adopting.{IsJudgement, IsRefused, IsRegisterTo};
@@ -21,7 +21,7 @@ use land_tables_schema::rows::openness::is_open;
 use sqlite::{Alter, Connection};
 use std::alloc::Global;
 
-/// What a store of the second version holds, judged.
+/// Reads a store of schema version 2 and validates it.
 fn judge_second<S: Alter>(alloc: Global, conn: &mut Connection<S>) -> Result<Moment, AdoptFault>
     ensures look { IsLook result (IsRegisterTo the_second (state S.Store conn.old).now) (state S.Store conn.old) (state S.Store conn.new) }
     ensures refused { HasCleanDisk (state S.Store conn.new) → IfErr result (λ fault. IsRefused the_second fault (state S.Store conn.old).now) }
@@ -38,7 +38,7 @@ fn judge_second<S: Alter>(alloc: Global, conn: &mut Connection<S>) -> Result<Mom
     judge(alloc, &found)
 }
 
-/// What a store of the first version holds, judged.
+/// Reads a store of schema version 1 and validates it.
 fn judge_first<S: Alter>(alloc: Global, conn: &mut Connection<S>) -> Result<Moment, AdoptFault>
     ensures look { IsLook result (IsRegisterTo the_first (state S.Store conn.old).now) (state S.Store conn.old) (state S.Store conn.new) }
     ensures refused { HasCleanDisk (state S.Store conn.new) → IfErr result (λ fault. IsRefused the_first fault (state S.Store conn.old).now) }
@@ -55,7 +55,7 @@ fn judge_first<S: Alter>(alloc: Global, conn: &mut Connection<S>) -> Result<Mome
     judge(alloc, &found)
 }
 
-/// The fault of a look that failed: its own where the store is still open, else 502.
+/// Returns the fault of a failed read: its own if the store is still open, else `Store` (502).
 fn failed<S: Alter>(conn: &mut Connection<S>, fault: AdoptFault) -> AdoptFault
     ensures fault { (result ≡ fault) ⊎ (result ≡ why.Store) }
     ensures same { HasCleanDisk (state S.Store conn.new) → result ≢ why.Store → IsUnchanged (state S.Store conn.old) (state S.Store conn.new) }
@@ -70,8 +70,8 @@ fn failed<S: Alter>(conn: &mut Connection<S>, fault: AdoptFault) -> AdoptFault
     }
 }
 
-/// The moment of the last change to the register that a store of the second version holds. A store that is open is as it was, and but for a
-/// fault 502 it is open.
+/// Returns the moment of the last change to the register in a store of schema version 2. A store that is open
+/// is unchanged, and it is open unless the fault is 502.
 pub(crate) fn adopt_store<S: Alter>(
     alloc: Global,
     conn: &mut Connection<S>,
@@ -87,8 +87,8 @@ pub(crate) fn adopt_store<S: Alter>(
     }
 }
 
-/// The moment of the last change to the register that a store of the first version holds. A store that is open is as it was, and but for a
-/// fault 502 it is open.
+/// Returns the moment of the last change to the register in a store of schema version 1. A store that is open
+/// is unchanged, and it is open unless the fault is 502.
 pub(crate) fn first_store<S: Alter>(
     alloc: Global,
     conn: &mut Connection<S>,

@@ -1,4 +1,4 @@
-//! A new register is made.
+//! Creates a new register.
 ghost use Rattle.std.specs.Prelude.{◌≡◌, ◌≢◌, false, IsTrue, Err, IfErr, OnErr, OnOk};
 ghost use Rattle.land_keep.specs.Timeline.{new_timeline};
 ghost use Rattle.land_keep.specs.declared.store_fault.StoreFault.TheVariants as store;
@@ -18,7 +18,8 @@ use land_tables_rows::writing::laws::new_registers_are_held;
 use land_tables_schema::rows::creation::make_register;
 use sqlite::{Alter, Connection};
 
-/// Makes the tables with a new register, in one transaction. A store that is open after a failure is as it was.
+/// Creates the tables with a new register, in one transaction. Errors: `NoMemory` (501), `Store` (502). A
+/// store that is open after an error is unchanged.
 pub(crate) fn begin_register<S: Alter>(conn: &mut Connection<S>) -> Result<(), StoreFault>
     requires alone { conn.old.in_transaction ≡ false }
     requires empty { HasCleanDisk (state S.Store conn.old) → (state S.Store conn.old).now.schema ≡ no_schema }

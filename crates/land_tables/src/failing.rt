@@ -1,4 +1,4 @@
-//! Looks at a store that fail.
+//! Failed reads of a store.
 ghost use Rattle.std.specs.Prelude.{◌≡◌, ◌≢◌, false, IsTrue};
 ghost use Rattle.land_keep.specs.declared.store_fault.StoreFault.TheVariants as store;
 ghost use Rattle.land_tables_schema.specs.Rows.Looks.{IsLeft};
@@ -10,7 +10,8 @@ use land_tables_rows::listing::fault::ReadFault;
 use land_tables_schema::rows::openness::is_open;
 use sqlite::{Alter, Connection};
 
-/// Returns the fault of a failed read: `NoMemory` (501) only if it ran out of memory, and then only if the store is still open; else `Store` (502).
+/// Returns the fault of a failed read: `NoMemory` (501) only if it ran out of memory, and then only if the
+/// store is still open; else `Store` (502).
 pub fn failed<S: Alter>(conn: &mut Connection<S>, fault: ReadFault) -> StoreFault
     ensures open { result ≢ store.Closed }
     ensures memory { result ≡ store.NoMemory → fault ≡ ReadFault.NoMemory }

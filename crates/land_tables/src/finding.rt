@@ -1,4 +1,4 @@
-//! What is found in the tables of a store.
+//! Reads and decodes the tables of a store.
 ghost use Rattle.std.specs.Prelude.{◌≡◌, ◌≢◌, false, IfErr};
 ghost use Rattle.land_tables.specs.Findings.{AreMandates, FindsFirst, SaysFirstRows};
 ghost use Rattle.land_tables_rows.specs.Listing.Reading as listing;
@@ -23,18 +23,18 @@ use land_tables_rows::rowids::rowids;
 use sqlite::{Alter, Connection};
 use std::alloc::Global;
 
-/// All that the rows of the tables say.
+/// The decoded rows of all tables.
 #[derive(Debug, Drop)]
 pub(crate) struct Findings {
-    /// By which version of their shapes the tables were made.
+    /// The schema version of the tables.
     pub(crate) editions: Sequence<Edition>,
-    /// When the register was changed.
+    /// The moments at which the register changed.
     pub(crate) moments: Sequence<Moment>,
     /// All versions of its records.
     pub(crate) history: History,
 }
 
-/// What all rows of the tables of the first version say, which has no mandates.
+/// Reads all rows of the tables of schema version 1, which has no mandates.
 fn first_rows<S: Alter>(alloc: Global, conn: &mut Connection<S>) -> Result<Findings, ReadFault>
     requires { HasCleanDisk (state S.Store conn.old) → HasFirstTables (state S.Store conn.old).now.schema }
     ensures look { IsLook result (SaysFirstRows (state S.Store conn.old).now.trees) (state S.Store conn.old) (state S.Store conn.new) }
@@ -51,7 +51,7 @@ fn first_rows<S: Alter>(alloc: Global, conn: &mut Connection<S>) -> Result<Findi
     })
 }
 
-/// Whether each row of a version lies under a rowid of its own, as all do in a store that is not damaged.
+/// Checks that the rows of versions have unique rowids, as they do unless the file is corrupted.
 fn first_rowids<S: Alter>(alloc: Global, conn: &mut Connection<S>) -> Result<(), ReadFault>
     requires { HasCleanDisk (state S.Store conn.old) → HasFirstTables (state S.Store conn.old).now.schema }
     ensures look { IsLook result (λ _. AreFirstKeyed (state S.Store conn.old).now.trees) (state S.Store conn.old) (state S.Store conn.new) }
@@ -62,7 +62,8 @@ fn first_rowids<S: Alter>(alloc: Global, conn: &mut Connection<S>) -> Result<(),
     Ok(())
 }
 
-/// What is found in the tables of the first version. A value that cannot be read as its field is told, and what the store lacks.
+/// Reads the tables of schema version 1. Errors: `Unreadable` if a value is not a valid value of its field;
+/// `NoMemory`; `Store`.
 pub(crate) fn find_first<S: Alter>(
     alloc: Global,
     conn: &mut Connection<S>,
@@ -76,7 +77,7 @@ pub(crate) fn find_first<S: Alter>(
     first_rows(alloc, conn)
 }
 
-/// Whether each row of the mandates lies under a rowid of its own.
+/// Checks that the rows of mandates have unique rowids.
 fn mandate_rowids<S: Alter>(alloc: Global, conn: &mut Connection<S>) -> Result<(), ReadFault>
     requires { HasCleanDisk (state S.Store conn.old) → IsLand (state S.Store conn.old).now.schema }
     ensures look { IsLook result (λ _. AreKeyed table.mandate (state S.Store conn.old).now.trees) (state S.Store conn.old) (state S.Store conn.new) }
@@ -87,7 +88,8 @@ fn mandate_rowids<S: Alter>(alloc: Global, conn: &mut Connection<S>) -> Result<(
     Ok(())
 }
 
-/// The mandates that are found in their table. A value that cannot be read as its field is told, and what the store lacks.
+/// Reads the table of mandates. Errors: `Unreadable` if a value is not a valid value of its field;
+/// `NoMemory`; `Store`.
 pub(crate) fn find_mandates<S: Alter>(
     alloc: Global,
     conn: &mut Connection<S>,
@@ -101,7 +103,7 @@ pub(crate) fn find_mandates<S: Alter>(
     reading::read_table(alloc, conn)
 }
 
-/// What was found in the tables of the first version, with mandates.
+/// Adds mandates to the contents of the tables of schema version 1.
 pub(crate) fn with_mandates(found: Findings, listed: Sequence<Version<Mandate>>) -> Findings
     ensures { result ≡ record found { history = record found.history { mandates = listed } } }
 {

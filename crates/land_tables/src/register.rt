@@ -1,4 +1,4 @@
-//! The register at a moment, read from whole tables.
+//! Reads the register at a moment from whole tables.
 ghost use Rattle.std.specs.Prelude.{◌≡◌, ◌≢◌, false, Err};
 ghost use Rattle.land_keep.specs.Timeline.{register_at};
 ghost use Rattle.land_keep.specs.declared.store_fault.StoreFault.TheVariants as store;
@@ -25,7 +25,7 @@ use land_tables_rows::listing::reading::moments;
 use sqlite::{Alter, Connection};
 use std::alloc::Global;
 
-/// The register that stands at a moment, with the next number then.
+/// Reads the register at a moment, with the next number at that moment.
 fn read_tables<S: Alter>(
     alloc: Global,
     conn: &mut Connection<S>,
@@ -41,7 +41,8 @@ fn read_tables<S: Alter>(
     Ok(register::register_at(alloc, &history, at, next)?)
 }
 
-/// The rows of all tables that stand at a moment, as a register. A store that it leaves without a fault 502 is open, and as it was.
+/// Reads the rows of all tables that are current at a moment, as a register. The store is open and unchanged
+/// unless the fault is 502.
 fn read_at<S: Alter>(
     alloc: Global,
     conn: &mut Connection<S>,
@@ -59,8 +60,8 @@ fn read_at<S: Alter>(
     }
 }
 
-/// The timeline's register at a moment: nothing before the first, and after the last what stands at it. A store that it leaves without a
-/// fault 502 is open, and as it was.
+/// Returns the timeline's register at a time: empty before the first moment, and the last one after the last
+/// moment. The store is open and unchanged unless the fault is 502.
 pub(crate) fn register_in<S: Alter>(
     alloc: Global,
     conn: &mut Connection<S>,

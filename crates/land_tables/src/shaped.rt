@@ -1,4 +1,4 @@
-//! What the tables of a store hold, where a version of their shapes made them.
+//! Reads the tables of a store of a given schema version.
 ghost use Rattle.std.specs.Prelude.{◌≡◌, false, IfErr};
 ghost use Rattle.land_tables.specs.Adopting.{IsFound, IsFoundBy, IsMissing, IsRefused};
 ghost use Rattle.land_tables.specs.Registers.{the_first, the_second};
@@ -14,8 +14,9 @@ use land_tables_schema::schema::is_land;
 use sqlite::{Alter, Connection};
 use std::alloc::Global;
 
-/// What the tables of the first version hold, in a store that this version made. 520: one of them is missing, a value cannot be read as its
-/// field, or there is not one edition. 523: another version made it.
+/// Reads the tables of schema version 1, in a store whose edition is of the given version. Errors: `NotOurs`
+/// (520) if a table is missing, a value is not a valid value of its field, or there is not exactly one
+/// edition; `Version` (523) if the edition is of another version.
 fn found_of<S: Alter>(
     alloc: Global,
     conn: &mut Connection<S>,
@@ -33,7 +34,8 @@ fn found_of<S: Alter>(
     Ok(found)
 }
 
-/// What a store holds that the second version made: besides, it has the mandates. 520: it lacks them, or one of them cannot be read.
+/// Reads a store of schema version 2, which has mandates. Errors: those of reading the tables of version 1,
+/// and `NotOurs` (520) if the table of mandates is missing or does not decode.
 pub(crate) fn found_second<S: Alter>(
     alloc: Global,
     conn: &mut Connection<S>,
@@ -50,7 +52,8 @@ pub(crate) fn found_second<S: Alter>(
     Ok(with_mandates(first, mandates))
 }
 
-/// What a store holds that the first version made: it has no other tables. 520: it has one.
+/// Reads a store of schema version 1, which has no other tables. Errors: those of reading its tables, and
+/// `NotOurs` (520) if there is another table.
 pub(crate) fn found_first<S: Alter>(
     alloc: Global,
     conn: &mut Connection<S>,

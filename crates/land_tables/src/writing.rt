@@ -1,4 +1,4 @@
-//! A change of the register is written.
+//! Writes a change of the register and commits it.
 ghost use Rattle.std.specs.Prelude.{◌≡◌, ◌≢◌, ◌&&◌, ◌≤ℤ◌, pos, false, int_le, IsTrue, Err, OnErr, OnOk};
 ghost use Rattle.land_keep.specs.Moments.{last_moment};
 ghost use Rattle.land_keep.specs.declared.store_fault.StoreFault.TheVariants as store;
@@ -26,7 +26,7 @@ fn can_record(change: &Change, stamp: i64) -> bool
     0 <= stamp && stamp <= LAST_MOMENT && fits(change)
 }
 
-/// Writes a change in one transaction, whose last call of the store is the commit.
+/// Writes a change in one transaction, whose last store operation is the commit.
 fn record_at_once<S: Alter>(
     alloc: Global,
     conn: &mut Connection<S>,
@@ -51,8 +51,8 @@ fn record_at_once<S: Alter>(
     tx.commit()
 }
 
-/// Writes a change with its stamp. A store that it leaves without a fault 502 is open, with all committed: what it had, or that with the
-/// change.
+/// Writes a change with its stamp. Unless the fault is 502, the store is open and fully committed: with its
+/// old content, or with the change.
 pub(crate) fn record<S: Alter>(
     alloc: Global,
     conn: &mut Connection<S>,

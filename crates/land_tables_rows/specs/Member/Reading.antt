@@ -1,4 +1,4 @@
--- What a row of `member` says (LA_PartyMember): the group, the party, its share in two columns, since, until.
+-- Decodes a row of `member` (LA_PartyMember): the group, the party, its share in two columns, since, until.
 use Rattle.std.specs.Prelude.{Result, Ok}
 use Rattle.land_tables_history.specs.declared.group_member.GroupMember.{GroupMember}
 use Rattle.land_tables_history.specs.declared.version.Version.{Version}

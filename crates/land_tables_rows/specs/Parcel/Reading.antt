@@ -1,4 +1,5 @@
--- What a row of `parcel` says (LA_SpatialUnit): number, unit, label, outline, source, since, until. An outline is read in any spelling.
+-- Decodes a row of `parcel` (LA_SpatialUnit): number, unit, label, outline, source, since, until. The outline
+-- may be in any valid form.
 use Rattle.std.specs.Prelude.{ℕ, Result, Ok}
 use Rattle.land_core.specs.declared.parcel.ParcelRecord.{ParcelRecord}
 use Rattle.land_tables_history.specs.declared.version.Version.{Version}

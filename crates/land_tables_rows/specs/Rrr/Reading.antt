@@ -1,5 +1,6 @@
--- What a row of `rrr` says (LA_RRR): number, unit, party, class, the share of a right in two columns, amount, currency and rank of a
--- mortgage, words of a restriction or a responsibility, source, since, until. What a class does not use is NULL.
+-- Decodes a row of `rrr` (LA_RRR): number, unit, party, class, the share of a right in two columns, amount,
+-- currency and rank of a mortgage, words of a restriction or a responsibility, source, since, until. Columns
+-- that the class does not use are NULL.
 use Rattle.std.specs.Prelude.{ℕ, List, Result, Ok, ⊤}
 use Rattle.land_core.specs.declared.rrr.Class.{Class}
 use Rattle.land_core.specs.declared.rrr.Class.TheVariants as class
@@ -14,7 +15,7 @@ use Rattle.land_wire_json.specs.Bodies.WireFaults.{◌>>=◌}
 use Rattle.land_wire_json.specs.declared.bodies.wire_fault.WireFault.{WireFault}
 use Rattle.sqlite_value.specs.Order.{Row, column}
 
--- the columns of a right, of a burden and of a mortgage are empty
+-- the columns of a right, of a burden and of a mortgage are NULL
 unfoldable pub no_right_in : Row → Result ⊤ WireFault
 no_right_in row = null_in (column row 4) >>= λ num. null_in (column row 5)
 
@@ -43,7 +44,7 @@ mortgage_in row = do
   words ← null_in (column row 9)
   Ok (class.Mortgage amount currency rank)
 
--- what an entry of a class says
+-- decodes the columns of a class
 abbrev pub class_by : ClassWord → Row → Result Class WireFault
 class_by (word.Right type) row = right_in type row
 class_by word.Restriction row = burden_in row >>= λ words. Ok (class.Restriction words)

@@ -9,7 +9,7 @@ ghost use Rattle.sqlite.specs.State.{HasCleanDisk};
 use land_tables_schema::rows::tables as rows;
 use sqlite::{Alter, Error, Transaction};
 
-/// Puts in that the tables are of the second version.
+/// Inserts edition 2.
 pub fn insert<S: Alter>(tx: &mut Transaction<'_, S>) -> Result<usize, Error>
     requires { HasCleanDisk (state S.Store tx.old.conn.now) → IsLand (state S.Store tx.old.conn.now).now.schema }
     ensures same_reference { tx.new.conn.ghost_name ≡ tx.old.conn.ghost_name }

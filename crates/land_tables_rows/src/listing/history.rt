@@ -1,4 +1,4 @@
-//! All versions that the tables hold.
+//! Reads all versions in the tables.
 ghost use Rattle.std.specs.Prelude.{◌≡◌, false, IfErr};
 ghost use Rattle.land_tables_rows.specs.Listing.Groups.{SaysHoldings, SaysPapers, SaysPersons};
 ghost use Rattle.land_tables_rows.specs.Listing.Reading.{CannotSay, SaysFirst, SaysHistory};
@@ -24,7 +24,7 @@ use land_tables_history::version::Version;
 use sqlite::{Alter, Connection};
 use std::alloc::Global;
 
-/// Versions of who there is.
+/// Versions of parties, roles and members.
 #[derive(Debug, Drop)]
 struct Persons {
     parties: Sequence<Version<(u64, PartyRecord)>>,
@@ -32,7 +32,7 @@ struct Persons {
     members: Sequence<Version<GroupMember>>,
 }
 
-/// Versions of what is held.
+/// Versions of units, parcels and entries.
 #[derive(Debug, Drop)]
 struct Holdings {
     units: Sequence<Version<(u64, UnitRecord)>>,
@@ -40,7 +40,7 @@ struct Holdings {
     rrrs: Sequence<Version<(u64, RrrRecord)>>,
 }
 
-/// Versions of what was handed in.
+/// Versions of sources, of mutations, and of their links to units.
 #[derive(Debug, Drop)]
 struct Papers {
     sources: Sequence<Version<(u64, SourceRecord)>>,
@@ -96,8 +96,8 @@ fn all_papers<S: Alter>(alloc: Global, conn: &mut Connection<S>) -> Result<Paper
     })
 }
 
-/// All versions that the tables of the first version hold, of each kind in whatever order, and no mandates. 520: a value cannot be read as its
-/// field. 501, 502: as for each look.
+/// Reads all versions in the tables of schema version 1, of each kind in unspecified order, without mandates.
+/// Errors: `Unreadable` (520) if a value is not a valid value of its field; `NoMemory` (501); `Store` (502).
 pub fn first_history<S: Alter>(
     alloc: Global,
     conn: &mut Connection<S>,
@@ -124,7 +124,8 @@ pub fn first_history<S: Alter>(
     })
 }
 
-/// All versions, of each kind in whatever order. 520: a value cannot be read as its field. 501, 502: as for each look.
+/// Reads all versions, of each kind in unspecified order. Errors: `Unreadable` (520) if a value is not a
+/// valid value of its field; `NoMemory` (501); `Store` (502).
 pub fn history<S: Alter>(alloc: Global, conn: &mut Connection<S>) -> Result<History, ReadFault>
     requires { HasCleanDisk (state S.Store conn.old) → IsLand (state S.Store conn.old).now.schema }
     ensures look { IsLook result (λ it. SaysHistory (state S.Store conn.old).now.trees it) (state S.Store conn.old) (state S.Store conn.new) }

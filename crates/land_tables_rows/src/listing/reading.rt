@@ -1,4 +1,4 @@
-//! The rows of the tables, read as versions.
+//! Reads the rows of the tables as versions.
 ghost use Rattle.std.specs.Prelude.{◌≡◌, false, IfErr};
 ghost use Rattle.land_tables_rows.specs.Listing.Reading.{IsRead, IsUnreadable, Says, editions, moments};
 ghost use Rattle.land_tables_schema.specs.Land.{HasFirstTables};
@@ -15,14 +15,15 @@ use land_tables_history::moment::Moment;
 use sqlite::{Alter, Connection, Row};
 use std::alloc::Global;
 
-/// What some rows say. 520: one of them cannot be read. 501: there was no memory.
+/// Decodes rows. Errors: `Unreadable` (520) if one of them does not decode; `NoMemory` (501).
 fn read<X: FromRow>(alloc: Global, rows: &[Row]) -> Result<Sequence<X>, ReadFault>
     ensures { IsRead X.FromRow.said rows.now result }
 {
     Ok(read_all(alloc, rows)?)
 }
 
-/// What all rows of a table say, in whatever order. 520: one of them cannot be read. 501, 502: as for the look.
+/// Reads all rows of a table and decodes them, in unspecified order. Errors: `Unreadable` (520) if one of
+/// them does not decode; `NoMemory` (501); `Store` (502).
 pub fn read_table<S: Alter, X: Listed>(
     alloc: Global,
     conn: &mut Connection<S>,
@@ -36,7 +37,7 @@ pub fn read_table<S: Alter, X: Listed>(
     read(alloc, rows.as_slice())
 }
 
-/// All moments at which the register was changed, in whatever order.
+/// Reads all moments at which the register changed, in unspecified order.
 pub fn moments<S: Alter>(
     alloc: Global,
     conn: &mut Connection<S>,
@@ -49,7 +50,7 @@ pub fn moments<S: Alter>(
     read_table(alloc, conn)
 }
 
-/// All rows that say by which version of their shapes the tables were made.
+/// Reads all rows of `edition`: the schema version of the tables.
 pub fn editions<S: Alter>(
     alloc: Global,
     conn: &mut Connection<S>,

@@ -1,4 +1,4 @@
-//! The mandates that parties have given.
+//! Mandates that parties have given.
 ghost use Rattle.std.specs.Prelude.{◌≡◌, ◌<◌, ◌^◌, IsTrue};
 ghost use Rattle.land_tables_history.specs.Intervals.{is_same_mandate};
 ghost use Rattle.land_tables_rows.specs.Mandate.Writing.{fits_mandate, mandates};
@@ -20,7 +20,7 @@ pub fn fits(mandate: Mandate) -> bool
     is_number(mandate.principal) && is_number(mandate.agent)
 }
 
-/// Begins a version of a mandate: from then on the agent looks as the principal does.
+/// Begins a version of a mandate: from its beginning on the agent has the sight of the principal.
 pub fn begin<S: Alter>(
     tx: &mut Transaction<'_, S>,
     mandate: Mandate,
@@ -35,7 +35,7 @@ pub fn begin<S: Alter>(
     rows::mandate::begin(tx, mandate.principal, mandate.agent, since)
 }
 
-/// Closes the version of a mandate that stands.
+/// Closes the current version of a mandate.
 pub fn close<S: Alter>(
     tx: &mut Transaction<'_, S>,
     mandate: Mandate,

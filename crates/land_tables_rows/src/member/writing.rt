@@ -1,4 +1,4 @@
-//! The members of groups (LA_PartyMember).
+//! Members of groups (LA_PartyMember).
 ghost use Rattle.std.specs.Prelude.{◌≡◌, ◌<◌, ◌^◌, IsTrue, nat_eq};
 ghost use Rattle.land_tables_rows.specs.Member.Writing.{fits_member, members};
 ghost use Rattle.land_tables_rows.specs.Writing.Holding.{Begins, Closes, IsMoment};
@@ -43,7 +43,7 @@ pub fn begin<S: Alter>(
     )
 }
 
-/// Closes the versions of all members of a group that stand.
+/// Closes the current versions of all members of a group.
 pub fn close<S: Alter>(tx: &mut Transaction<'_, S>, group: u64, stamp: i64) -> Result<usize, Error>
     requires group_fits { group < 2 ^ 63 }
     requires moment { IsMoment stamp }

@@ -1,4 +1,4 @@
-//! The moments at which the register was changed.
+//! Moments at which the register changed.
 ghost use Rattle.std.specs.Prelude.{◌≡◌, IsTrue};
 ghost use Rattle.land_tables_rows.specs.Moment.Writing.{AddsMoment};
 ghost use Rattle.land_tables_rows.specs.Reading.Cells.{is_next};
@@ -11,14 +11,14 @@ ghost use Rattle.sqlite.specs.State.{HasCleanDisk};
 use land_tables_schema::rows::tables as rows;
 use sqlite::{Alter, Error, Transaction};
 
-/// Whether a number can be written as the next one: 2 to 1_000_000_001.
+/// Whether a number can be written as the next number: 2 to 1,000,000,001.
 pub fn fits(next: u64) -> bool
     ensures { result ≡ is_next next }
 {
     2 <= next && next <= 1_000_000_001
 }
 
-/// Puts a moment in at which the register was changed, with the number that the next new object takes from then on.
+/// Inserts a moment at which the register changed, with the number that the next new object takes after that.
 pub fn insert<S: Alter>(tx: &mut Transaction<'_, S>, stamp: i64, next: u64) -> Result<usize, Error>
     requires fits { IsTrue (is_next next) }
     requires moment { IsMoment stamp }

@@ -17,8 +17,8 @@ use land_wire_json::texts::mutation::content_text;
 use sqlite::{Alter, Error, Transaction};
 use std::alloc::Global;
 
-/// Whether a mutation can be written: its numbers, its reference and what it asks for are within their limits, and it was lodged at a
-/// moment.
+/// Whether a mutation can be written: its numbers, its reference and its content are within their limits, and
+/// it was lodged at a moment.
 pub fn fits(number: u64, mutation: &MutationRecord) -> bool
     ensures { result ≡ fits_mutation (number, mutation.now) }
 {
@@ -49,7 +49,7 @@ pub fn begin<S: Alter>(
     )
 }
 
-/// Closes the version of a mutation that stands.
+/// Closes the current version of a mutation.
 pub fn close<S: Alter>(tx: &mut Transaction<'_, S>, number: u64, stamp: i64) -> Result<usize, Error>
     requires number_fits { number < 2 ^ 63 }
     requires moment { IsMoment stamp }

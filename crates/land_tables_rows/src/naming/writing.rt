@@ -1,4 +1,4 @@
-//! Which units mutations name. Nothing closes a naming: it stands as long as its mutation.
+//! Links of mutations to units. A link is never closed: it exists as long as its mutation.
 ghost use Rattle.std.specs.Prelude.{◌≡◌, IsTrue};
 ghost use Rattle.land_tables_rows.specs.Naming.Writing.{fits_naming, namings};
 ghost use Rattle.land_tables_rows.specs.Writing.Holding.{Begins, IsMoment};
@@ -12,14 +12,14 @@ use land_tables_history::naming::Naming;
 use land_tables_schema::rows::tables as rows;
 use sqlite::{Alter, Error, Transaction};
 
-/// Whether a naming can be written: the numbers of the mutation and of the unit are within their limits.
+/// Whether a link can be written: the numbers of the mutation and of the unit are within their limits.
 pub fn fits(naming: Naming) -> bool
     ensures { result ≡ fits_naming naming }
 {
     is_number(naming.mutation) && is_number(naming.unit)
 }
 
-/// Begins a version of a naming.
+/// Begins a version of a link.
 pub fn begin<S: Alter>(
     tx: &mut Transaction<'_, S>,
     naming: Naming,

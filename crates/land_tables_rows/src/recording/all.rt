@@ -1,4 +1,4 @@
-//! Loops over what is begun, and over what is closed.
+//! Loops that begin versions and that close them.
 ghost use Rattle.std.specs.Prelude.{◌≡◌, ◌++◌, IsTrue, map};
 ghost use Rattle.std.specs.List.{list_all, list_any};
 ghost use Rattle.land_tables_rows.specs.Recording.{BeginsAll, Changes};
@@ -12,7 +12,7 @@ use crate::recording::recorded::{Closing, Known, Recorded};
 use sqlite::{Alter, Error, Transaction};
 use std::alloc::Global;
 
-/// Whether all can be written.
+/// Whether all records can be written.
 pub fn fit<X: Recorded>(put: &[X]) -> bool
     ensures { result ≡ list_all X.fits put.now }
 {
@@ -26,7 +26,7 @@ pub fn keys_fit<K, X: Closing<K>>(keys: &[K]) -> bool
     keys.iter().all(|key| X::fits_key(key))
 }
 
-/// Begins a version of each.
+/// Begins a version of each record.
 pub fn begin_all<S: Alter, X: Recorded>(
     alloc: Global,
     tx: &mut Transaction<'_, S>,
@@ -45,7 +45,7 @@ pub fn begin_all<S: Alter, X: Recorded>(
     Ok(())
 }
 
-/// Closes what is known by some keys.
+/// Closes the current versions with the given keys.
 pub fn close_all<S: Alter, K, X: Closing<K>>(
     tx: &mut Transaction<'_, S>,
     keys: &[K],
@@ -63,7 +63,7 @@ pub fn close_all<S: Alter, K, X: Closing<K>>(
     Ok(())
 }
 
-/// Closes what is known by the keys of what is put.
+/// Closes the current versions with the keys of the inserted records.
 pub fn close_put<S: Alter, K, P: Known<K>, X: Closing<K>>(
     tx: &mut Transaction<'_, S>,
     put: &[P],
@@ -81,7 +81,8 @@ pub fn close_put<S: Alter, K, P: Known<K>, X: Closing<K>>(
     Ok(())
 }
 
-/// Closes what is known by the keys of what is put and by other keys, and begins what is put.
+/// Closes the current versions with the keys of the inserted records and with the ended keys, then begins
+/// versions of the inserted records.
 pub fn change<S: Alter, K, X: Known<K> + Closing<K>>(
     alloc: Global,
     tx: &mut Transaction<'_, S>,

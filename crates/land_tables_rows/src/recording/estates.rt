@@ -1,4 +1,4 @@
-//! Units, parcels, and the entries of units are written.
+//! Writes units, parcels, and the entries of units.
 ghost use Rattle.std.specs.Prelude.{◌≡◌, IsTrue};
 ghost use Rattle.land_tables_rows.specs.Recording.Whole.{Edits, changed_estates, fits_estates};
 ghost use Rattle.land_tables_rows.specs.Writing.Holding.{IsMoment};
@@ -13,7 +13,7 @@ use land_core::change::Change;
 use sqlite::{Alter, Error, Transaction};
 use std::alloc::Global;
 
-/// Writes what a change says of units, parcels and entries.
+/// Writes the units, parcels and entries of a change.
 pub(crate) fn record_estates<S: Alter>(
     alloc: Global,
     tx: &mut Transaction<'_, S>,

@@ -1,4 +1,4 @@
-//! What a change says of one kind: what it puts, and the keys of what it ends.
+//! Writes a change of one kind: its inserted records, and the keys of its ended ones.
 ghost use Rattle.std.specs.FinMap as map;
 ghost use Rattle.std.specs.List.{list_all, list_any};
 ghost use Rattle.std.specs.Prelude.{◌≡◌, ◌++◌, IsTrue, map as map_list};
@@ -26,14 +26,14 @@ use land_tables_history::group_member::GroupMember;
 use sqlite::{Alter, Error, Transaction};
 use std::alloc::Global;
 
-/// Whether what is put can be written, and so can the keys of what ends.
+/// Whether the inserted records and the ended keys can be written.
 pub(crate) fn fit_kind<K, X: Closing<K>>(put: &Sequence<X>, ended: &Sequence<K>) -> bool
     ensures { result ≡ fits_kind X.fits X.fits_key put.now ended.now }
 {
     fit(put.as_slice()) && keys_fit::<K, X>(ended.as_slice())
 }
 
-/// Whether groups can be written, and so can the numbers of those that end.
+/// Whether groups can be written, and the numbers of those that end.
 pub(crate) fn groups_fit(put: &Sequence<(u64, Members)>, ended: &NumberList) -> bool
     ensures { result ≡ fits_kind fits_group is_number put.now ended.now }
 {
@@ -61,7 +61,7 @@ fn are_numbers(members: &Members) -> bool
     members.iter().all(|(party, _)| is_number(*party))
 }
 
-/// Writes what is put and ended of a kind.
+/// Writes the inserted records and the ended keys of a kind.
 pub(crate) fn change_kind<S: Alter, K, X: Known<K> + Closing<K>>(
     alloc: Global,
     tx: &mut Transaction<'_, S>,
@@ -81,7 +81,7 @@ pub(crate) fn change_kind<S: Alter, K, X: Known<K> + Closing<K>>(
     change(alloc, tx, put.as_slice(), ended.as_slice(), stamp)
 }
 
-/// Writes the members of groups: those of the groups that are put begin, and all that were in a changed group end.
+/// Writes the members of groups: all current members of a changed group end, and the new members begin.
 pub(crate) fn change_members<S: Alter>(
     alloc: Global,
     tx: &mut Transaction<'_, S>,
@@ -102,7 +102,7 @@ pub(crate) fn change_members<S: Alter>(
     begin_all(alloc, tx, listed.as_slice(), stamp)
 }
 
-/// Writes which units new mutations name: those whose numbers are none below the next one.
+/// Writes the links of new mutations to units. A mutation is new if its number is at least the next number.
 pub(crate) fn begin_names<S: Alter>(
     alloc: Global,
     tx: &mut Transaction<'_, S>,

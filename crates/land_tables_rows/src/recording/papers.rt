@@ -1,4 +1,4 @@
-//! Sources and mutations are written, and the units that new mutations name.
+//! Writes sources and mutations, and the links of new mutations to units.
 ghost use Rattle.std.specs.Prelude.{◌≡◌, IsTrue};
 ghost use Rattle.land_tables_rows.specs.Recording.Whole.{Edits, changed_papers, fits_papers};
 ghost use Rattle.land_tables_rows.specs.Writing.Holding.{IsMoment};
@@ -13,7 +13,8 @@ use land_core::change::Change;
 use sqlite::{Alter, Error, Transaction};
 use std::alloc::Global;
 
-/// Writes what a change says of sources and mutations, and the units that those mutations name whose numbers are none below `next`.
+/// Writes the sources and mutations of a change, and the links of mutations whose numbers are at least
+/// `next`.
 pub(crate) fn record_papers<S: Alter>(
     alloc: Global,
     tx: &mut Transaction<'_, S>,

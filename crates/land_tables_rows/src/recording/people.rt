@@ -1,4 +1,4 @@
-//! Parties, their roles, the members of groups, and mandates are written.
+//! Writes parties, their roles, the members of groups, and mandates.
 ghost use Rattle.std.specs.Prelude.{◌≡◌, IsTrue};
 ghost use Rattle.land_tables_rows.specs.Recording.Whole.{Edits, changed_people, fits_people};
 ghost use Rattle.land_tables_rows.specs.Writing.Holding.{IsMoment};
@@ -13,7 +13,7 @@ use land_core::change::Change;
 use sqlite::{Alter, Error, Transaction};
 use std::alloc::Global;
 
-/// Writes what a change says of parties, roles, members and mandates.
+/// Writes the parties, roles, members and mandates of a change.
 pub(crate) fn record_people<S: Alter>(
     alloc: Global,
     tx: &mut Transaction<'_, S>,

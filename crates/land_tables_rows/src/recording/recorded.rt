@@ -1,4 +1,4 @@
-//! What has versions in a table.
+//! Records that have versions in a table.
 ghost use Rattle.std.specs.Prelude.{◌≡◌, Bool, IsTrue};
 ghost use Rattle.land_tables_rows.specs.Writing.Holding.{Begins, Closes, IsMoment, Reading};
 ghost use Rattle.land_tables_schema.specs.Land.{IsLand};
@@ -9,19 +9,19 @@ ghost use Rattle.sqlite.specs.State.{HasCleanDisk};
 use sqlite::{Alter, Error, Transaction};
 use std::alloc::Global;
 
-/// What has versions in a table.
+/// A record that has versions in a table.
 pub trait Recorded {
-    /// How its versions are read from the table.
+    /// How its versions are decoded from the table.
     ghost reading: { Reading Self };
 
-    /// Whether it can be written.
+    /// Whether the record can be written.
     ghost fits: { Self → Bool };
 
-    /// Whether it can be written.
+    /// Whether the record can be written.
     fn fits(&self) -> bool
         ensures { result ≡ fits self.now };
 
-    /// Begins a version of it.
+    /// Begins a version of the record.
     fn begin<S: Alter>(
         &self,
         alloc: Global,
@@ -35,12 +35,12 @@ pub trait Recorded {
         ensures step { IsStep result (Begins reading self.now since) (state S.Store tx.old.conn.now) (state S.Store tx.new.conn.now) };
 }
 
-/// What has a key.
+/// A record that has a key.
 pub trait Known<K> {
-    /// Its key.
+    /// Returns its key.
     ghost key: { Self → K };
 
-    /// Its key.
+    /// Returns its key.
     fn key(&self) -> &K
         ensures { result.now ≡ key self.now };
 }
@@ -53,9 +53,9 @@ impl<V> Known<u64> for (u64, V) {
     }
 }
 
-/// What has versions in a table that are closed by a key.
+/// A record whose versions in a table are closed by key.
 pub trait Closing<K>: Recorded {
-    /// Whether it is known by a key.
+    /// Whether the record has a key.
     ghost has: { Self → K → Bool };
 
     /// Whether a key can be written.
@@ -65,7 +65,7 @@ pub trait Closing<K>: Recorded {
     fn fits_key(key: &K) -> bool
         ensures { result ≡ fits_key key.now };
 
-    /// Closes the versions of what is known by a key, where they stand.
+    /// Closes the current versions with a key.
     fn close<S: Alter>(tx: &mut Transaction<'_, S>, key: &K, stamp: i64) -> Result<usize, Error>
         requires fits { IsTrue (fits_key key.now) }
         requires moment { IsMoment stamp }

@@ -1,4 +1,4 @@
-//! The roles of parties (LA_PartyRoleType).
+//! Roles of parties (LA_PartyRoleType).
 ghost use Rattle.std.specs.Prelude.{◌≡◌, ◌<◌, ◌^◌, IsTrue};
 ghost use Rattle.land_tables_history.specs.Intervals.{is_same_grant};
 ghost use Rattle.land_tables_rows.specs.Role.Writing.{fits_grant, roles};
@@ -21,7 +21,7 @@ pub fn fits(grant: Grant) -> bool
     is_number(grant.party)
 }
 
-/// Begins a version of a grant: from then on the party holds the role.
+/// Begins a version of a grant: from its beginning on the party holds the role.
 pub fn begin<S: Alter>(
     tx: &mut Transaction<'_, S>,
     grant: Grant,
@@ -36,7 +36,7 @@ pub fn begin<S: Alter>(
     rows::role::begin(tx, grant.party, role_word(grant.role), since)
 }
 
-/// Closes the version of a grant that stands.
+/// Closes the current version of a grant.
 pub fn close<S: Alter>(
     tx: &mut Transaction<'_, S>,
     grant: Grant,

@@ -1,4 +1,4 @@
-//! Whether the rows of each table of versions lie under rowids of their own.
+//! Checks that the rows of each table of versions have unique rowids.
 ghost use Rattle.std.specs.Prelude.{◌≡◌, false};
 ghost use Rattle.land_tables_rows.specs.Rowids.{AreFirstKeyed, AreHoldingsKeyed, AreKeyed, ArePapersKeyed, ArePersonsKeyed};
 ghost use Rattle.land_tables_schema.specs.Land.{HasFirstTables, IsLand};
@@ -23,7 +23,7 @@ use land_tables_history::version::Version;
 use sqlite::{Alter, Connection, Error};
 use std::alloc::Global;
 
-/// Refuses a table in which two rows lie under one rowid, or one under none.
+/// Checks that the rows of a table have unique rowids.
 fn judge_table<S: Alter, X: Keyed>(alloc: Global, conn: &mut Connection<S>) -> Result<(), Error>
     requires { HasCleanDisk (state S.Store conn.old) → X.has (state S.Store conn.old).now.schema }
     ensures look { IsLook result (λ _. AreKeyed X.listing.table (state S.Store conn.old).now.trees) (state S.Store conn.old) (state S.Store conn.new) }
@@ -33,7 +33,7 @@ fn judge_table<S: Alter, X: Keyed>(alloc: Global, conn: &mut Connection<S>) -> R
     are_numbered(alloc, rows.as_slice())
 }
 
-/// The tables of who there is.
+/// Checks the tables of parties, roles and members.
 fn persons<S: Alter>(alloc: Global, conn: &mut Connection<S>) -> Result<(), Error>
     requires { HasCleanDisk (state S.Store conn.old) → HasFirstTables (state S.Store conn.old).now.schema }
     ensures look { IsLook result (λ _. ArePersonsKeyed (state S.Store conn.old).now.trees) (state S.Store conn.old) (state S.Store conn.new) }
@@ -44,7 +44,7 @@ fn persons<S: Alter>(alloc: Global, conn: &mut Connection<S>) -> Result<(), Erro
     judge_table::<S, Version<GroupMember>>(alloc, conn)
 }
 
-/// The tables of what is held.
+/// Checks the tables of units, parcels and entries.
 fn holdings<S: Alter>(alloc: Global, conn: &mut Connection<S>) -> Result<(), Error>
     requires { HasCleanDisk (state S.Store conn.old) → HasFirstTables (state S.Store conn.old).now.schema }
     ensures look { IsLook result (λ _. AreHoldingsKeyed (state S.Store conn.old).now.trees) (state S.Store conn.old) (state S.Store conn.new) }
@@ -55,7 +55,7 @@ fn holdings<S: Alter>(alloc: Global, conn: &mut Connection<S>) -> Result<(), Err
     judge_table::<S, Version<(u64, RrrRecord)>>(alloc, conn)
 }
 
-/// The tables of what was handed in.
+/// Checks the tables of sources, mutations and their units.
 fn papers<S: Alter>(alloc: Global, conn: &mut Connection<S>) -> Result<(), Error>
     requires { HasCleanDisk (state S.Store conn.old) → HasFirstTables (state S.Store conn.old).now.schema }
     ensures look { IsLook result (λ _. ArePapersKeyed (state S.Store conn.old).now.trees) (state S.Store conn.old) (state S.Store conn.new) }
@@ -66,8 +66,9 @@ fn papers<S: Alter>(alloc: Global, conn: &mut Connection<S>) -> Result<(), Error
     judge_table::<S, Version<Naming>>(alloc, conn)
 }
 
-/// Refuses tables of versions, of those that the first version has, in which two rows lie under one rowid, or one under none, as those of a
-/// damaged store. Other errors are the store's own. A store that it leaves open is as it was.
+/// Checks that the rows of all tables of schema version 1 that hold versions have unique rowids. Errors:
+/// `Store` (502) if they do not, since the file is then corrupted, or if a read fails; `NoMemory` (501). A
+/// store that is still open is unchanged.
 pub fn are_first_keyed<S: Alter>(alloc: Global, conn: &mut Connection<S>) -> Result<(), Error>
     requires { HasCleanDisk (state S.Store conn.old) → HasFirstTables (state S.Store conn.old).now.schema }
     ensures look { IsLook result (λ _. AreFirstKeyed (state S.Store conn.old).now.trees) (state S.Store conn.old) (state S.Store conn.new) }
@@ -78,7 +79,7 @@ pub fn are_first_keyed<S: Alter>(alloc: Global, conn: &mut Connection<S>) -> Res
     papers(alloc, conn)
 }
 
-/// The same of the table of mandates.
+/// Checks the table of mandates likewise.
 pub fn are_mandates_keyed<S: Alter>(alloc: Global, conn: &mut Connection<S>) -> Result<(), Error>
     requires { HasCleanDisk (state S.Store conn.old) → IsLand (state S.Store conn.old).now.schema }
     ensures look { IsLook result (λ _. AreKeyed table.mandate (state S.Store conn.old).now.trees) (state S.Store conn.old) (state S.Store conn.new) }

@@ -14,7 +14,7 @@ use land_core::rrr::RrrRecord;
 use land_tables_schema::rows::tables as rows;
 use sqlite::{Alter, Error, Transaction};
 
-/// Whether an entry can be written: its numbers and what it says are within their limits.
+/// Whether an entry can be written: its numbers and the fields of its class are within their limits.
 pub fn fits(number: u64, entry: &RrrRecord) -> bool
     ensures { result ≡ fits_rrr (number, entry.now) }
 {
@@ -39,7 +39,7 @@ pub fn begin<S: Alter>(
     rows::rrr::begin(tx, rrr_cells(number, entry), since)
 }
 
-/// Closes the version of an entry that stands.
+/// Closes the current version of an entry.
 pub fn close<S: Alter>(tx: &mut Transaction<'_, S>, number: u64, stamp: i64) -> Result<usize, Error>
     requires number_fits { number < 2 ^ 63 }
     requires moment { IsMoment stamp }

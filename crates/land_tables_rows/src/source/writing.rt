@@ -42,7 +42,7 @@ pub fn begin<S: Alter>(
     )
 }
 
-/// Closes the version of a source that stands.
+/// Closes the current version of a source.
 pub fn close<S: Alter>(tx: &mut Transaction<'_, S>, number: u64, stamp: i64) -> Result<usize, Error>
     requires number_fits { number < 2 ^ 63 }
     requires moment { IsMoment stamp }

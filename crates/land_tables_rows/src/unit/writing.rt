@@ -35,7 +35,7 @@ pub fn begin<S: Alter>(
     rows::unit::begin(tx, number, unit.name.as_str(), unit.checked, since)
 }
 
-/// Closes the version of a unit that stands.
+/// Closes the current version of a unit.
 pub fn close<S: Alter>(tx: &mut Transaction<'_, S>, number: u64, stamp: i64) -> Result<usize, Error>
     requires number_fits { number < 2 ^ 63 }
     requires moment { IsMoment stamp }
