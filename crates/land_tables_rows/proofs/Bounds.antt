@@ -17,7 +17,7 @@ bound (Err e) next b h = absurd (let k = h in cc)
 pub same_ok : {A : Type 0} {a b : A} → ◌≡◌ {A = Result A WireFault} (Ok a) (Ok b) → a ≡ b
 same_ok h = let k = h in cc
 
--- to 16 parcels become one => 2 to 16 parcels are merged
+-- a check that succeeds
 pub test_passes : {A : Type 0} {E : Type 0} (b : Bool) (a : A) (e : E) → b ≡ true → ◌≡◌ {A = Result A E} (if b then Ok a else Err e) (Ok a)
 test_passes true a e h = refl
 test_passes false a e h = absurd (let k = h in cc)
