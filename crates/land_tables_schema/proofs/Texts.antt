@@ -190,7 +190,7 @@ first_with_mandates = refl
 pub texts_finish : TextsLaw
 texts_finish = record { creates = finish.definitions; makes = finish.made_is }
 
--- the CREATE TABLE of each table defines that table
+-- the CREATE TABLE statement of each table defines that table
 pub texts_define : TableTextsLaw
 unfolding understood everything
 texts_define = record {

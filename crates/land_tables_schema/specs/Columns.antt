@@ -1,4 +1,5 @@
--- The columns and the forms of tables, as sqlite keeps them in its schema. Words and printed forms are TEXT, all else is INTEGER.
+-- Columns and tables as SQLite describes them in its schema. Words and canonical texts are TEXT, all other
+-- columns are INTEGER.
 use Rattle.std.specs.Prelude.{ℕ, suc, List, [], ◌∷◌, ◌++◌, Bool, true, false, Some, None, codes, length}
 use Rattle.sqlite_schema.specs.declared.schema.Column.{Column}
 use Rattle.sqlite_schema.specs.declared.schema.Kind.{Kind}
@@ -10,31 +11,40 @@ use Rattle.sqlite_sql.specs.declared.ops.CompareOp.TheVariants.{Lt}
 use Rattle.sqlite_value.specs.declared.keys.Collation.TheVariants.{Binary}
 use Rattle.sqlite_value.specs.declared.value.Value.TheVariants.{Null}
 
--- a column of a STRICT table with this name and type, which takes NULL or not; it has no default, and texts compare byte by byte
+-- a column of a STRICT table with this name and type, NOT NULL if `is_needed`; without a default, compared
+-- byte by byte
 abbrev pub a_column : List ℕ → Kind → Bool → Column
-a_column name kind not_null = record { name = name; kind = kind; is_strict = true; not_null = not_null; default = Null; collation = Binary }
+a_column name kind not_null =
+    record {
+      name = name;
+      kind = kind;
+      is_strict = true;
+      not_null = not_null;
+      default = Null;
+      collation = Binary;
+    }
 
--- a whole number in each row
+-- an integer column, NOT NULL
 abbrev pub number : List ℕ → Column
 number name = a_column name Integer true
 
--- a text in each row
+-- a text column, NOT NULL
 abbrev pub words : List ℕ → Column
 words name = a_column name Text true
 
--- a whole number, or NULL
+-- an integer column that may be NULL
 abbrev pub number_or_null : List ℕ → Column
 number_or_null name = a_column name Integer false
 
--- a text, or NULL
+-- a text column that may be NULL
 abbrev pub words_or_null : List ℕ → Column
 words_or_null name = a_column name Text false
 
--- CHECK (since < until), by the places of the two columns: a lifespan begins before it ends
+-- CHECK (since < until), by the positions of the two columns: a lifespan begins before it ends
 abbrev pub ordered : ℕ → ℕ → List Term
 ordered since until = op2 (Compare Lt Binary) (col 1 since) (col 1 until) ∷ []
 
--- a table whose rows lie under the number in their first column, with no CHECK
+-- a table whose rowid is its first column (INTEGER PRIMARY KEY), without a CHECK
 abbrev pub numbered : List ℕ → ℕ → List Column → Table
 numbered name tree columns = record {
   name = name;
@@ -51,7 +61,7 @@ numbered name tree columns = record {
   is_counted = false;
 }
 
--- a table with a primary key of these places, all ascending, and these CHECKs
+-- a table with a primary key on these columns, all ascending, and with these CHECKs
 abbrev pub keyed : List ℕ → ℕ → List Column → List ℕ → List Term → Table
 keyed name tree columns key checks = record {
   name = name;
@@ -68,9 +78,10 @@ keyed name tree columns key checks = record {
   is_counted = false;
 }
 
--- a versioned table: after its own columns come since and until, each lifespan begins before it ends, and since ends the primary key, after
--- the places of the named key
+-- A versioned table: its own columns, then `since` and `until`. Each lifespan begins before it ends. The
+-- primary key is the positions of the named key, then `since`.
 abbrev pub versioned : List ℕ → ℕ → List ℕ → List Column → Table
 versioned name tree key columns =
     let since = suc (length columns) in
-    keyed name tree (columns ++ number (codes "since") ∷ number (codes "until") ∷ []) (key ++ since ∷ []) (ordered since (suc since))
+    keyed name tree (columns ++ number (codes "since") ∷ number (codes "until") ∷ []) (key ++ since ∷ [])
+    (ordered since (suc since))

@@ -1,5 +1,6 @@
--- What CREATEs and DROPs of indexes make of a schema, as sqlite understands their texts.
-use Rattle.std.specs.Prelude.{◌≡◌, ℕ, List, [], ◌∷◌, fold, false, true, is_ok, Option, Some, None, Ok, Err, Result, slice_get, ⊤}
+-- The effect of CREATE and DROP INDEX statements on a schema, as SQLite compiles them.
+use Rattle.std.specs.Prelude.{◌≡◌, ℕ, List, [], ◌∷◌, fold, false, true, is_ok, Option, Some, None, Ok, Err}
+use Rattle.std.specs.Prelude.{Result, slice_get, ⊤}
 use Rattle.sqlite.proofs.Callers.{command_of, statement_of}
 use Rattle.sqlite.specs.Command.{Command}
 use Rattle.sqlite.specs.Command.TheVariants.{CreateTable, CreateIndex, DropIndex, Nothing}
@@ -14,75 +15,75 @@ use Rattle.sqlite_schema.specs.declared.schema.Index.{Index}
 use Rattle.sqlite_schema.specs.declared.schema.Schema.{Schema}
 use Rattle.sqlite_schema.specs.declared.schema.Table.{Table}
 
--- a table that a text defines is made; a text that defines none makes nothing
+-- adds the table that a statement defines; leaves the schema unchanged if the statement defines none
 abbrev pub table_made : Schema → Result Table CompileError → Schema
 table_made s (Ok t) = created s t
 table_made s (Err e) = s
 
--- so is an index on a table
+-- adds the index that a statement defines; leaves the schema unchanged if the statement defines none
 abbrev pub index_made : Schema → Table → Result Index CompileError → Schema
 index_made s t (Ok i) = indexed s t i
 index_made s t (Err e) = s
 
--- an index is made on a table that is there
+-- adds an index to an existing table; leaves the schema unchanged without that table
 abbrev pub index_on : Schema → List ℕ → Option Table → Schema
 index_on s text (Some t) = index_made s t (index_defined_by t text)
 index_on s text None = s
 
--- an index is dropped by its tree
+-- drops an index by its tree
 abbrev pub index_dropped : Schema → Option Index → Schema
 index_dropped s (Some i) = without_index s i.tree
 index_dropped s None = s
 
--- the schema after a text that is understood as this command
+-- the schema after a statement that compiles to this command
 abbrev pub made_as : Schema → List ℕ → Command → Schema
 made_as s text CreateTable = table_made s (table_defined_by text)
 made_as s text (CreateIndex at) = index_on s text (slice_get s.tables at)
 made_as s text (DropIndex at) = index_dropped s (slice_get s.indexes at)
 made_as s text _ = s
 
--- the schema after a text
+-- the schema after one statement
 abbrev pub made_by : Schema → List ℕ → Schema
 made_by s text = made_as s text (command_of (understood s text))
 
--- the schema after texts, one after another
+-- the schema after these statements, in order
 abbrev pub made : Schema → List (List ℕ) → Schema
 made = fold made_by
 
--- the command makes a table, none that counts its rows, or an index
+-- the command creates a table without AUTOINCREMENT, or an index
 abbrev pub IsDefining : Command → Schema → Type 0
 IsDefining CreateTable after = lacks_sequence after ≡ false
 IsDefining (CreateIndex at) after = ⊤
 IsDefining _ after = ⊥
 
--- the text is one CREATE and nothing else
+-- the statement is one CREATE and nothing else
 pub record IsDefinition (s : Schema) (text : List ℕ) : Type 0 where
   pub plain : IsPlain (understood s text)
   pub whole : statement_of text (understood s text) ≡ text
   pub defining : IsDefining (command_of (understood s text)) (made_by s text)
 
--- each text is one CREATE and nothing else, after those before it
+-- each statement, run after those before it, is one CREATE and nothing else
 abbrev pub AreDefinitions : Schema → List (List ℕ) → Type 0
 AreDefinitions s [] = ⊤
 AreDefinitions s (text ∷ texts) = IsDefinition s text × AreDefinitions (made_by s text) texts
 
--- the command makes a table or an index, or drops an index, or has none to drop
+-- the command creates a table or an index, drops an index, or finds no index to drop
 abbrev pub IsChanging : Command → Schema → Type 0
 IsChanging (DropIndex at) after = ⊤
 IsChanging Nothing after = ⊤
 IsChanging command after = IsDefining command after
 
--- the text is one CREATE, or one DROP INDEX IF EXISTS, and nothing else
+-- the statement is one CREATE, or one DROP INDEX IF EXISTS, and nothing else
 pub record IsChange (s : Schema) (text : List ℕ) : Type 0 where
   pub plain : IsPlain (understood s text)
   pub whole : statement_of text (understood s text) ≡ text
   pub changing : IsChanging (command_of (understood s text)) (made_by s text)
 
--- the text is such a one, or is refused, as a CREATE is whose name is taken
+-- the statement is such a one, or it does not compile, like a CREATE whose name exists already
 abbrev pub IsReady : Schema → List ℕ → Type 0
 IsReady s text = is_ok (understood s text) ≡ true → IsChange s text
 
--- so is each text, after those before it
+-- each statement is such a one, run after those before it
 abbrev pub AreReady : Schema → List (List ℕ) → Type 0
 AreReady s [] = ⊤
 AreReady s (text ∷ texts) = IsReady s text × AreReady (made_by s text) texts

@@ -1,111 +1,119 @@
--- The schemas that hold the register, and the one that is made.
+-- The schemas of a register, in both schema versions, and the schema of a new register.
 use Rattle.std.specs.Cmp.Lexicographic.{pointwise}
 use Rattle.std.specs.List.{list_all, list_any}
-use Rattle.std.specs.Prelude.{◌≡◌, ◌+◌, ◌⊎◌, ◌&&◌, ◌||◌, if◌then◌else◌, filter, not, nat_eq, nat_lt, ℕ, List, [], ◌∷◌, ◌++◌, Bool, false, true, codes}
+use Rattle.std.specs.Prelude.{◌≡◌, ◌+◌, ◌⊎◌, ◌&&◌, ◌||◌, if◌then◌else◌, filter, not, nat_eq, nat_lt, ℕ, List}
+use Rattle.std.specs.Prelude.{[], ◌∷◌, ◌++◌, Bool, false, true, codes}
 use Rattle.land_tables_schema.specs.Tables.{first_tables, land_tables, mandate}
 use Rattle.sqlite_schema.specs.Names.{same_name}
 use Rattle.sqlite_schema.specs.declared.schema.Index.{Index}
 use Rattle.sqlite_schema.specs.declared.schema.Schema.{Schema}
 use Rattle.sqlite_schema.specs.declared.schema.Table.{Table}
 
--- an index is over the columns of a table's primary key
+-- the index has the columns of the table's primary key
 abbrev pub is_key_of : Index → Table → Bool
 is_key_of index table = nat_eq index.table table.tree && pointwise nat_eq index.columns table.primary
 
--- an index refuses no row that the keys of these tables let in: it is plain, or that of such a key
+-- the index rejects no row that the primary keys of these tables allow: it is not unique, or it covers one of
+-- these keys
 abbrev pub refuses_no_more : List Table → Index → Bool
 refuses_no_more tables index = not index.is_unique || list_any (is_key_of index) tables
 
--- a schema holds the register where its tables are the wanted ones, no index refuses more than their keys do, and it has no views
+-- Schema version 2: exactly the register's tables, no views, and no index that rejects more rows than the
+-- primary keys do.
 pub record IsLand (s : Schema) : Type 0 where
   pub tables : s.tables ≡ land_tables
   pub indexes : list_all (refuses_no_more s.tables) s.indexes ≡ true
   pub views : s.views ≡ []
 
--- a schema holds the register in its first version, in which nobody gives mandates
+-- Schema version 1, which has no table `mandate`: exactly its tables, no views, and no index that rejects
+-- more rows than the primary keys do.
 pub record IsFirst (s : Schema) : Type 0 where
   pub tables : s.tables ≡ first_tables
   pub indexes : list_all (refuses_no_more s.tables) s.indexes ≡ true
   pub views : s.views ≡ []
 
--- the tables of the first version come first, whatever others follow, and there are no views
+-- the first tables are those of schema version 1, any tables may follow, and there are no views
 pub record HasFirstTables (s : Schema) : Type 0 where
   pub tables : (more : List Table) × (s.tables ≡ first_tables ++ more)
   pub views : s.views ≡ []
 
--- an index is on one of these tables
+-- the index is on one of these tables
 abbrev pub is_on : List Table → Index → Bool
 is_on tables index = list_any (λ t. nat_eq index.table t.tree) tables
 
--- an index refuses no row of these tables that their keys let in
+-- the index is on another table, or rejects no row that the primary keys allow
 abbrev pub spares : List Table → Index → Bool
 spares tables index = not (is_on tables index) || refuses_no_more tables index
 
--- A schema may be that of a register, in its first version or its second: the tables of the first version, and then no other or one more,
--- no index that refuses more of their rows than their keys do, and no views. What the one more is, and which indexes it has, is not said.
+-- A schema that may be a register's, in version 1 or 2: the tables of version 1, then at most one table more,
+-- no views, and no index that rejects more rows of the first tables than their primary keys do. Nothing is
+-- said of the additional table and of its indexes.
 pub record MayBeLand (s : Schema) : Type 0 where
   pub tables : (s.tables ≡ first_tables) ⊎ ((t : Table) × (s.tables ≡ first_tables ++ t ∷ []))
   pub indexes : list_all (spares first_tables) s.indexes ≡ true
   pub views : s.views ≡ []
 
--- the names of the plain indexes of the first version, by which joins and look-ups find rows
+-- the names of the plain indexes of schema version 1, which serve joins and lookups
 abbrev pub join_names : List (List ℕ)
 join_names =
-    codes "rrr_party" ∷ codes "rrr_unit" ∷ codes "parcel_unit" ∷ codes "member_party" ∷ codes "names_unit" ∷ codes "mutation_lodger"
+    codes "rrr_party" ∷ codes "rrr_unit" ∷ codes "parcel_unit" ∷ codes "member_party" ∷ codes "names_unit"
+    ∷ codes "mutation_lodger"
     ∷ codes "role_role" ∷ []
 
--- an index has one of these names, as sqlite compares names: without regard to case
+-- the index has one of these names; SQLite compares names case-insensitively
 abbrev pub is_named : List (List ℕ) → Index → Bool
 is_named names index = list_any (same_name index.name) names
 
--- a schema without the indexes that have one of these names
+-- the schema without the indexes of these names
 abbrev pub without_named : List (List ℕ) → Schema → Schema
 without_named names s = record s { indexes = filter (λ i. not (is_named names i)) s.indexes }
 
--- an index has the name of a plain one of the first version
+-- the index has the name of a plain index of schema version 1
 abbrev pub is_join : Index → Bool
 is_join = is_named join_names
 
--- a schema without these
+-- the schema without the plain indexes of version 1
 abbrev pub without_joins : Schema → Schema
 without_joins = without_named join_names
 
--- two indexes lie in one tree exactly where they have one name
+-- two indexes have the same tree if and only if they have the same name
 abbrev pub is_apart : Index → Index → Bool
 is_apart i j = if same_name j.name i.name then nat_eq j.tree i.tree else not (nat_eq j.tree i.tree)
 
--- indexes are told apart by their names, as they are by their trees
+-- all indexes differ by tree if and only if they differ by name
 abbrev pub are_apart : List Index → Bool
 are_apart indexes = list_all (λ i. list_all (is_apart i) indexes) indexes
 
--- an index is a plain one of the first version, or comes before the tree of the mandates
+-- the index is a plain index of version 1, or its tree comes before that of `mandate`
 abbrev pub comes_before : Index → Bool
 comes_before index = is_join index || nat_lt index.tree 20
 
--- an index that is none of these lies right before the tree of the mandates
+-- the index is not a plain index of version 1, and its tree comes directly before that of `mandate`
 abbrev pub is_last_key : Index → Bool
 is_last_key index = not (is_join index) && nat_eq index.tree 19
 
--- a schema of the first version, in which the next table gets the tree of the mandates once the plain indexes are dropped
+-- a schema of version 1 that can be migrated: once its plain indexes are dropped, the next table gets the
+-- tree of `mandate`
 pub record IsRaisable (s : Schema) : Type 0 where
   pub first : IsFirst s
   pub apart : are_apart s.indexes ≡ true
   pub before : list_all comes_before s.indexes ≡ true
   pub last : list_any is_last_key s.indexes ≡ true
 
--- no table, no index and no view
+-- the empty schema: no table, no index and no view
 abbrev pub no_schema : Schema
 no_schema = record { tables = []; indexes = []; views = [] }
 
--- the tables, with some indexes
+-- the tables of version 2, with these indexes
 abbrev pub land_with : List Index → Schema
 land_with indexes = record { tables = land_tables; indexes = indexes; views = [] }
 
--- the tables of the first version and others after them, with some indexes
+-- the tables of version 1, then other tables, with these indexes
 abbrev pub first_with : List Table → List Index → Schema
 first_with more indexes = record { tables = first_tables ++ more; indexes = indexes; views = [] }
 
--- an index over columns of a table, all ascending: its name, its tree, the tree of its table, the places of the columns, whether it is unique
+-- an index on columns of a table, all ascending: its name, its tree, the tree of its table, the positions of
+-- the columns, and whether it is unique
 abbrev pub an_index : List ℕ → ℕ → ℕ → List ℕ → Bool → Index
 an_index name tree table columns is_unique = record {
   name = name;
@@ -116,7 +124,8 @@ an_index name tree table columns is_unique = record {
   is_unique = is_unique;
 }
 
--- the indexes that sqlite makes by itself, one for each primary key of a versioned table of the first version, in the tree after the table's
+-- the indexes that SQLite creates itself, one for each primary key of a versioned table of version 1, in the
+-- tree after the table's
 abbrev pub key_indexes : List Index
 key_indexes =
     an_index (codes "sqlite_autoindex_party_1") 3 2 (1 ∷ 4 ∷ []) true
@@ -130,8 +139,8 @@ key_indexes =
     ∷ an_index (codes "sqlite_autoindex_names_1") 19 18 (1 ∷ 2 ∷ 3 ∷ []) true
     ∷ []
 
--- the indexes by which joins and look-ups find rows: the party and the unit of an entry, the unit of a parcel, the party of a member, the unit
--- of a pair of names, the lodger of a mutation, the role of a party; in the trees from one on
+-- The plain indexes for joins and lookups, in consecutive trees: party and unit of an entry, unit of a
+-- parcel, party of a member, unit of a row of `names`, lodger of a mutation, role.
 abbrev pub join_indexes : ℕ → List Index
 join_indexes tree =
     an_index (codes "rrr_party") tree 12 (3 ∷ []) false
@@ -143,15 +152,15 @@ join_indexes tree =
     ∷ an_index (codes "role_role") (tree + 6) 4 (2 ∷ []) false
     ∷ []
 
--- the indexes of a new register of the first version
+-- the indexes of a new register of schema version 1
 abbrev pub first_indexes : List Index
 first_indexes = key_indexes ++ join_indexes 20
 
--- the index of the key of the mandates, which sqlite makes by itself
+-- the index of the primary key of `mandate`, which SQLite creates itself
 abbrev pub mandate_keys : Index
 mandate_keys = an_index (codes "sqlite_autoindex_mandate_1") 21 20 (1 ∷ 2 ∷ 3 ∷ []) true
 
--- the index by which the mandates of an agent are found
+-- the index on the agent of a mandate
 abbrev pub mandate_agents : Index
 mandate_agents = an_index (codes "mandate_agent") 29 20 (2 ∷ []) false
 
@@ -159,11 +168,11 @@ mandate_agents = an_index (codes "mandate_agent") 29 20 (2 ∷ []) false
 abbrev pub made_indexes : List Index
 made_indexes = key_indexes ++ mandate_keys ∷ (join_indexes 22 ++ mandate_agents ∷ [])
 
--- the schema of a new register of the first version
+-- the schema of a new register of schema version 1
 abbrev pub first_schema : Schema
 first_schema = first_with [] first_indexes
 
--- a schema with the table of the mandates
+-- the schema with the table `mandate` added
 abbrev pub with_mandates : Schema → Schema
 with_mandates s = record s { tables = s.tables ++ mandate ∷ []; indexes = s.indexes ++ mandate_keys ∷ [] }
 

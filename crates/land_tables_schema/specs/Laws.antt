@@ -1,8 +1,10 @@
--- Laws of the tables and of the texts that make them, each over the definitions alone.
+-- Laws of the tables and of the SQL statements that create them, on definitions only.
 use Rattle.std.specs.List.{list_all}
 use Rattle.std.specs.Prelude.{◌≡◌, ◌↔◌, ◌++◌, ℕ, List, Ok, drop, map, take, true}
 use Rattle.land_tables_schema.specs.Definitions.{AreDefinitions, made}
-use Rattle.land_tables_schema.specs.Land.{HasFirstTables, IsFirst, IsLand, IsRaisable, MayBeLand, first_schema, land_with, made_schema, no_schema, refuses_no_more, with_mandates, without_joins}
+use Rattle.land_tables_schema.specs.Land.{HasFirstTables, IsFirst, IsLand, IsRaisable, MayBeLand}
+use Rattle.land_tables_schema.specs.Land.{first_schema, land_with, made_schema, no_schema, refuses_no_more}
+use Rattle.land_tables_schema.specs.Land.{with_mandates, without_joins}
 use Rattle.land_tables_schema.specs.Tables as table
 use Rattle.land_tables_schema.specs.Tables.{land_tables}
 use Rattle.land_tables_schema.specs.declared.tables.TheConstants.{DROPS, TEXTS}
@@ -23,11 +25,11 @@ use Rattle.sqlite_catalog.specs.Change.{next_tree}
 use Rattle.sqlite_schema.specs.declared.schema.Schema.{Schema}
 use Rattle.sqlite_schema.specs.declared.schema.Table.{Table}
 
--- sqlite understands a text as the definition of a table; which tree its rows get is chosen as it is made
+-- SQLite compiles the statement to this table, except for the tree, which is chosen when the statement runs
 abbrev pub Defines : List ℕ → Table → Type 0
 Defines text t = table_defined_by text ≡ Ok (record t { tree = 0 })
 
--- the CREATE TABLE of each table defines that table
+-- the CREATE TABLE statement of each table defines that table
 pub record TableTextsLaw : Type 0 where
   pub the_edition : Defines edition.CREATE.now table.edition
   pub the_moments : Defines moments.CREATE.now table.moments
@@ -42,39 +44,43 @@ pub record TableTextsLaw : Type 0 where
   pub the_names : Defines names.CREATE.now table.names
   pub the_mandate : Defines mandate.CREATE.now table.mandate
 
--- the texts, in the order in which they are run
+-- the statements that create a register, in the order in which they run
 abbrev pub land_texts : List (List ℕ)
 land_texts = map (λ t. t.now) TEXTS
 
--- those of the plain indexes
+-- the statements that create the plain indexes
 abbrev pub index_texts : List (List ℕ)
 index_texts = drop 12 land_texts
 
--- the texts that drop the plain indexes of the first version
+-- the statements that drop the plain indexes of version 1
 abbrev pub drop_texts : List (List ℕ)
 drop_texts = map (λ t. t.now) DROPS
 
--- the texts of the first version: all tables but the mandates, and the plain indexes on them
+-- the statements of schema version 1: all tables except `mandate`, and the plain indexes on them
 abbrev pub first_texts : List (List ℕ)
 first_texts = take 11 land_texts ++ take 7 index_texts
 
--- a schema of the first version that has become one of the second: its plain indexes are dropped, the mandates are made, and then the plain
--- indexes by their texts
+-- a migrated schema of version 1: the plain indexes are dropped, `mandate` is added, and then all plain
+-- indexes are created by their statements
 abbrev pub raised : Schema → Schema
 raised s = made (with_mandates (without_joins s)) index_texts
 
--- each text is one CREATE and nothing else, and together they make of nothing the schema of a new register
+-- each statement is one CREATE and nothing else, and together they turn the empty schema into that of a new
+-- register
 pub record TextsLaw : Type 0 where
   pub creates : AreDefinitions no_schema land_texts
   pub makes : made no_schema land_texts ≡ made_schema
 
--- a schema holds the register exactly where it is that of the register with the indexes that it has, and none of these refuses more than
--- the keys of its tables do
+-- a schema is a register's if and only if it has the register's tables, no views, and only indexes that
+-- reject no more rows than the primary keys do
 abbrev pub IndexLaw : Type 0
-IndexLaw = (s : Schema) → IsLand s ↔ ((s ≡ land_with s.indexes) × (list_all (refuses_no_more land_tables) s.indexes ≡ true))
+IndexLaw =
+    (s : Schema) → IsLand s ↔ ((s ≡ land_with s.indexes)
+    × (list_all (refuses_no_more land_tables) s.indexes ≡ true))
 
--- The schema of a new register is that of one of the first version with the mandates: what the texts of the first version make can be
--- raised, and is raised to what all of them make. The texts that drop plain indexes do so, and then the next tree is that of the mandates.
+-- The schema of a new register is a migrated schema of version 1: the statements of version 1 create a schema
+-- that can be migrated, and its migration is what all statements create. The DROP statements drop the plain
+-- indexes, and then the next tree is that of `mandate`.
 pub record VersionsLaw : Type 0 where
   pub makes : made no_schema first_texts ≡ first_schema
   pub raisable : IsRaisable first_schema
@@ -82,7 +88,8 @@ pub record VersionsLaw : Type 0 where
   pub drops : (s : Schema) → IsRaisable s → made s drop_texts ≡ without_joins s
   pub next : (s : Schema) → IsRaisable s → next_tree (without_joins s) ≡ table.mandate.tree
 
--- A schema of the register, in its first version or its second, may be one; and one of the first version that is raised is one of the second.
+-- Each schema of a register, in version 1 or 2, may be a register's; and a migrated schema of version 1 is
+-- one of version 2.
 pub record SchemasLaw : Type 0 where
   pub land : (s : Schema) → IsLand s → MayBeLand s
   pub first : (s : Schema) → IsFirst s → MayBeLand s

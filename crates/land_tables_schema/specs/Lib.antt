@@ -1,4 +1,4 @@
--- Definitions of the tables of the register.
+-- Definitions of the register's tables.
 pub mod Columns
 pub mod Connections
 pub mod Definitions

@@ -1,4 +1,4 @@
--- What is done to a database by texts that make its tables.
+-- The effect on a database of the SQL statements that create its tables.
 use Rattle.std.specs.Prelude.{◌≡◌, ℕ, List, []}
 use Rattle.std.specs.List.{AllByRecursion}
 use Rattle.land_tables_schema.specs.Definitions.{made, made_by}
@@ -11,19 +11,19 @@ use Rattle.sqlite_schema.specs.declared.schema.Table.{Table}
 abbrev pub AreEmpty : Database → Type 0
 AreEmpty db = AllByRecursion (λ (t : Table). db.trees t.tree ≡ []) db.schema.tables
 
--- a text makes what it defines, and no row, and all rows stay
+-- the statement changes the schema as it defines, adds no row, and leaves all rows unchanged
 pub record Defines (text : List ℕ) (old new : Database) : Type 0 where
   pub schema : new.schema ≡ made_by old.schema text
   pub empty : AreEmpty old → AreEmpty new
   pub kept : KeepsRows old.schema.tables old.trees new.trees
 
--- so do texts, one after another
+-- the statements, in order, do so
 pub record DefinesAll (texts : List (List ℕ)) (old new : Database) : Type 0 where
   pub schema : new.schema ≡ made old.schema texts
   pub empty : AreEmpty old → AreEmpty new
   pub kept : KeepsRows old.schema.tables old.trees new.trees
 
--- the tables and indexes of a new register are there, and no row
+-- the tables and indexes of a new register exist, without any row
 pub record IsMade (db : Database) : Type 0 where
   pub schema : db.schema ≡ made_schema
   pub empty : AreEmpty db

@@ -1,4 +1,4 @@
--- Definitions of what the tables of the register hold, and of the statements on it.
+-- Definitions of the rows of the register's tables, and of the statements that read and write them.
 pub mod Edition
 pub mod Forms
 pub mod Held

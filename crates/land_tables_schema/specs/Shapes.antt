@@ -1,6 +1,7 @@
 -- The tables that shapes describe.
 use Rattle.std.specs.Prelude.{◌≡◌, ℕ, List, [], ◌∷◌, map, false, Option, Some, None}
-use Rattle.land_tables_schema.specs.Columns.{keyed, number, number_or_null, numbered, ordered, words, words_or_null}
+use Rattle.land_tables_schema.specs.Columns.{keyed, number, number_or_null, numbered, ordered, words}
+use Rattle.land_tables_schema.specs.Columns.{words_or_null}
 use Rattle.land_tables_schema.specs.declared.shape.ColumnShape.{ColumnShape}
 use Rattle.land_tables_schema.specs.declared.shape.ColumnShape.TheVariants as column
 use Rattle.land_tables_schema.specs.declared.shape.Rows.{Rows}
@@ -21,28 +22,30 @@ column_of (column.OptionalWords name) = words_or_null name.now
 -- the table with these rows
 abbrev pub with_rows : Rows → List ℕ → ℕ → List Column → Table
 with_rows rows.Numbered name tree columns = numbered name tree columns
-with_rows (rows.Versioned key since until) name tree columns = keyed name tree columns key.now (ordered since until)
+with_rows (rows.Versioned key since until) name tree columns =
+    keyed name tree columns key.now (ordered since until)
 
 -- the table of a shape
 abbrev pub table_of : TableShape → Table
 table_of s = with_rows s.rows s.name.now s.tree (map column_of s.columns.now)
 
--- a table has no foreign key, no default that is computed, no default that reads the time, and no counter
+-- the table has no foreign key, no computed default, no default that reads the time, and no counter
 pub record IsPlain (t : Table) : Type 0 where
   pub references : t.references ≡ []
   pub computed : t.computed ≡ []
   pub stamps : t.stamps ≡ record { places = []; terms = []; formats = [] }
   pub uncounted : t.is_counted ≡ false
 
--- what tells the rows of a table apart, and what is asked of each
-pub record AreKept (t : Table) (key : Option ℕ) (primary : List ℕ) (uniques : List (List ℕ)) (orders : List Order) (checks : List Term) : Type 0 where
+-- the key of a table's rows, and its CHECK
+pub record AreKept (t : Table) (key : Option ℕ) (primary : List ℕ) (uniques : List (List ℕ))
+    (orders : List Order) (checks : List Term) : Type 0 where
   pub key_is : t.key ≡ key
   pub primary_is : t.primary ≡ primary
   pub uniques_are : t.uniques ≡ uniques
   pub orders_are : t.orders ≡ orders
   pub checks_are : t.checks ≡ checks
 
--- the rows of a table are told apart as a shape says
+-- the table has the key and the CHECK of a shape
 abbrev pub AreRows : Table → Rows → Type 0
 AreRows t rows.Numbered = AreKept t (Some 0) (0 ∷ []) [] [] []
 AreRows t (rows.Versioned key since until) =

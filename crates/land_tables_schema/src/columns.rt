@@ -1,4 +1,4 @@
-//! Whether columns are those of a shape.
+//! Checks columns against shapes.
 ghost use Rattle.std.specs.Prelude.{◌≡◌, ◌↔◌, IsTrue, map};
 ghost use Rattle.land_tables_schema.specs.Columns.{a_column};
 ghost use Rattle.land_tables_schema.specs.Shapes.{column_of};
@@ -8,7 +8,7 @@ use sqlite_schema::schema::{Column, Kind};
 use sqlite_value::keys::Collation;
 use sqlite_value::value::Value;
 
-/// Whether a column has this name, this type and no default, and takes NULL or not.
+/// Returns whether a column has this name and type, no default, and is NOT NULL if `is_needed`.
 fn is_field(column: &Column, name: &str, kind: Kind, is_needed: bool) -> bool
     ensures { IsTrue result ↔ (column.now ≡ a_column name.now kind is_needed) }
 {
@@ -20,7 +20,7 @@ fn is_field(column: &Column, name: &str, kind: Kind, is_needed: bool) -> bool
         && column.collation == Collation::Binary
 }
 
-/// Whether a column is that of a shape.
+/// Returns whether a column has a shape.
 fn is_column(column: &Column, shape: ColumnShape<'_>) -> bool
     ensures { IsTrue result ↔ (column.now ≡ column_of shape.entry) }
 {
@@ -32,7 +32,7 @@ fn is_column(column: &Column, shape: ColumnShape<'_>) -> bool
     }
 }
 
-/// Whether columns are those of these shapes, one by one and no others.
+/// Returns whether columns have these shapes, in this order, and no others exist.
 pub fn are_columns(columns: &[Column], shapes: &[ColumnShape<'_>]) -> bool
     ensures { IsTrue result ↔ (columns.now ≡ map column_of shapes.now) }
 {

@@ -1,4 +1,4 @@
-//! Whether a schema has the tables of the register's first version, in which nobody gives mandates.
+//! Recognizes schema version 1, which has no table `mandate`.
 ghost use Rattle.std.specs.Prelude.{◌↔◌, IsTrue};
 ghost use Rattle.land_tables_schema.specs.Land.{IsFirst, IsRaisable, MayBeLand};
 
@@ -7,8 +7,8 @@ use crate::schema::are_tables;
 use crate::tables::first_shapes;
 use sqlite_schema::schema::Schema;
 
-/// Whether a schema has the tables of the first version and no others, and no views. Of indexes it may have whatever plain ones, and unique
-/// ones over the columns of a key alone.
+/// Returns whether a schema has exactly the tables of version 1, and no views. It may have any plain indexes,
+/// and unique indexes only on the columns of a primary key.
 pub fn is_first(schema: &Schema) -> bool
     ensures { IsTrue result ↔ IsFirst schema.now }
 {
@@ -17,8 +17,8 @@ pub fn is_first(schema: &Schema) -> bool
         && schema.views.is_empty()
 }
 
-/// Whether a schema has the tables of the first version, and then no other or one more, whatever this is, and no views. Of the tables of the
-/// first version no index refuses more than their keys do.
+/// Returns whether a schema has the tables of version 1, at most one table after them, and no views. No index
+/// on the tables of version 1 may reject more rows than their primary keys do.
 pub fn may_be_land(schema: &Schema) -> bool
     ensures { IsTrue result ↔ MayBeLand schema.now }
 {
@@ -32,8 +32,8 @@ pub fn may_be_land(schema: &Schema) -> bool
         && schema.views.is_empty()
 }
 
-/// Whether a schema is that of the first version, and the next table gets the tree of the mandates once the plain indexes of this version
-/// are dropped: what else it has of indexes lies before that tree.
+/// Returns whether a schema of version 1 can be migrated: once its plain indexes are dropped, the next table
+/// gets the tree of `mandate`. So all its other indexes must lie before that tree.
 pub fn can_raise(schema: &Schema) -> bool
     ensures { IsTrue result ↔ IsRaisable schema.now }
 {

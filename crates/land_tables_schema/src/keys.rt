@@ -1,4 +1,4 @@
-//! Whether the rows of a table are told apart as a shape says.
+//! Checks the keys of a table against a shape.
 ghost use Rattle.std.specs.Prelude.{◌≡◌, ◌↔◌, [], ◌∷◌, IsTrue};
 ghost use Rattle.land_tables_schema.specs.Shapes.{AreRows, IsPlain};
 
@@ -8,7 +8,7 @@ use sqlite_items::Items;
 use sqlite_schema::schema::Table;
 use sqlite_value::keys::Order;
 
-/// Whether a table has no foreign key, no default that is computed, and no counter.
+/// Returns whether a table has no foreign key, no computed default and no counter.
 pub fn is_plain(table: &Table) -> bool
     ensures { IsTrue result ↔ IsPlain table.now }
 {
@@ -20,14 +20,14 @@ pub fn is_plain(table: &Table) -> bool
         && !table.is_counted
 }
 
-/// Whether the places are these.
+/// Returns whether the positions are equal.
 fn are_places(places: &[usize], wanted: &[usize]) -> bool
     ensures { IsTrue result ↔ (places.now ≡ wanted.now) }
 {
     places == wanted
 }
 
-/// Whether there is one unique key, of these places.
+/// Returns whether the only unique key has these positions.
 fn is_only(uniques: &Items<Items<usize>>, wanted: &[usize]) -> bool
     ensures { IsTrue result ↔ (uniques.now ≡ wanted.now ∷ []) }
 {
@@ -37,7 +37,7 @@ fn is_only(uniques: &Items<Items<usize>>, wanted: &[usize]) -> bool
     }
 }
 
-/// Whether there is one order, in which all places ascend.
+/// Returns whether there is only one order, and all its columns ascend.
 fn is_ascending(orders: &Items<Order>) -> bool
     ensures { IsTrue result ↔ (orders.now ≡ (record { digits = 0 }) ∷ []) }
 {
@@ -47,7 +47,7 @@ fn is_ascending(orders: &Items<Order>) -> bool
     }
 }
 
-/// Whether the rows of a table are told apart so, and nothing else is asked of them.
+/// Returns whether a table has this key, this CHECK, and no other constraint on its rows.
 pub fn are_rows(table: &Table, rows: Rows<'_>) -> bool
     ensures { IsTrue result ↔ AreRows table.now rows.entry }
 {

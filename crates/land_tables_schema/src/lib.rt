@@ -1,5 +1,5 @@
-//! The tables of the register in sqlite: what they are, the texts that make them, whether a schema has them; and their rows, with the
-//! statements that begin and close versions.
+//! The register's tables in SQLite: their shapes, the SQL statements that create them, checks of a schema;
+//! and their rows, with the statements that insert, close and list versions.
 #![tactic(auto)]
 
 pub mod columns;

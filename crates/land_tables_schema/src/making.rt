@@ -1,5 +1,6 @@
-//! The tables are made, and changed.
+//! Runs the statements that create the tables and change the schema.
 ghost use Rattle.std.specs.Prelude.{◌≡◌, map};
+ghost use Rattle.land_tables_schema.specs.Connections.{SameReference};
 ghost use Rattle.land_tables_schema.specs.Definitions.{AreReady, IsReady};
 ghost use Rattle.land_tables_schema.specs.Land.{no_schema};
 ghost use Rattle.land_tables_schema.specs.Making.{Defines, DefinesAll, IsMade};
@@ -11,20 +12,24 @@ use crate::laws::texts_make_the_tables;
 use crate::tables::texts;
 use sqlite::{Alter, Error, Transaction};
 
-/// Runs one CREATE, or one DROP INDEX.
+/// Runs one CREATE or one DROP INDEX statement. Returns an error if it fails.
 fn define<S: Alter>(tx: &mut Transaction<'_, S>, text: &str) -> Result<usize, Error>
-    requires { HasCleanDisk (state S.Store tx.old.conn.now) → IsReady (state S.Store tx.old.conn.now).now.schema text.now }
-    ensures same_reference { tx.new.conn.ghost_name ≡ tx.old.conn.ghost_name }
-    ensures step { IsStep result (Defines text.now) (state S.Store tx.old.conn.now) (state S.Store tx.new.conn.now) }
+    requires { HasCleanDisk (state S.Store tx.old.conn.now)
+        → IsReady (state S.Store tx.old.conn.now).now.schema text.now }
+    ensures same_reference { SameReference tx.old tx.new }
+    ensures step { IsStep result (Defines text.now) (state S.Store tx.old.conn.now)
+        (state S.Store tx.new.conn.now) }
 {
     tx.execute(text, &[])
 }
 
-/// Runs such texts, one after another.
+/// Runs these statements in order, up to the first error.
 pub(crate) fn define_all<S: Alter>(tx: &mut Transaction<'_, S>, texts: &[&str]) -> Result<(), Error>
-    requires { HasCleanDisk (state S.Store tx.old.conn.now) → AreReady (state S.Store tx.old.conn.now).now.schema (map (λ t. t.now) texts.now) }
-    ensures same_reference { tx.new.conn.ghost_name ≡ tx.old.conn.ghost_name }
-    ensures step { IsStep result (DefinesAll (map (λ t. t.now) texts.now)) (state S.Store tx.old.conn.now) (state S.Store tx.new.conn.now) }
+    requires { HasCleanDisk (state S.Store tx.old.conn.now)
+        → AreReady (state S.Store tx.old.conn.now).now.schema (map (λ t. t.now) texts.now) }
+    ensures same_reference { SameReference tx.old tx.new }
+    ensures step { IsStep result (DefinesAll (map (λ t. t.now) texts.now)) (state S.Store tx.old.conn.now)
+        (state S.Store tx.new.conn.now) }
 {
     for text in texts {
         define(tx, text)?;
@@ -32,12 +37,14 @@ pub(crate) fn define_all<S: Alter>(tx: &mut Transaction<'_, S>, texts: &[&str]) 
     Ok(())
 }
 
-/// Makes the tables of the register and the plain indexes, with no row in them, in a store that has nothing. Nothing is committed, and
-/// after a failure the transaction is to be dropped.
+/// Creates the register's tables and plain indexes, without rows, in an empty store. Commits nothing; after
+/// an error the caller drops the transaction, which rolls it back.
 pub fn make_tables<S: Alter>(tx: &mut Transaction<'_, S>) -> Result<(), Error>
-    requires { HasCleanDisk (state S.Store tx.old.conn.now) → (state S.Store tx.old.conn.now).now.schema ≡ no_schema }
-    ensures same_reference { tx.new.conn.ghost_name ≡ tx.old.conn.ghost_name }
-    ensures step { IsStep result (λ _ new. IsMade new) (state S.Store tx.old.conn.now) (state S.Store tx.new.conn.now) }
+    requires { HasCleanDisk (state S.Store tx.old.conn.now) → (state S.Store tx.old.conn.now).now.schema
+        ≡ no_schema }
+    ensures same_reference { SameReference tx.old tx.new }
+    ensures step { IsStep result (λ _ new. IsMade new) (state S.Store tx.old.conn.now)
+        (state S.Store tx.new.conn.now) }
 {
     texts_make_the_tables();
     define_all(tx, texts())

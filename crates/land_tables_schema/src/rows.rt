@@ -1,5 +1,5 @@
-//! The rows of the register's tables: versions of records with their lifespans, and the statements that begin and close them; a new
-//! register, and one of the first version that becomes one of the second.
+//! The rows of the register's tables: statements that insert, close and list versions, the rows of a new
+//! register, and the migration from schema version 1 to version 2.
 
 pub mod cells;
 pub mod creation;

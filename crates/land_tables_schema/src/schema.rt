@@ -1,4 +1,4 @@
-//! Whether a schema has the tables of the register.
+//! Recognizes the schema of a register.
 ghost use Rattle.std.specs.Prelude.{◌≡◌, ◌↔◌, IsTrue, map};
 ghost use Rattle.land_tables_schema.specs.Land.{IsLand, no_schema};
 ghost use Rattle.land_tables_schema.specs.Shapes.{table_of};
@@ -10,7 +10,7 @@ use crate::shape::TableShape;
 use crate::tables::shapes;
 use sqlite_schema::schema::{Schema, Table};
 
-/// Whether a table is that of a shape.
+/// Returns whether a table has a shape.
 fn is_table(table: &Table, shape: &TableShape<'_>) -> bool
     ensures { IsTrue result ↔ (table.now ≡ table_of shape.now) }
 {
@@ -21,7 +21,7 @@ fn is_table(table: &Table, shape: &TableShape<'_>) -> bool
         && is_plain(table)
 }
 
-/// Whether tables are those of these shapes, one by one and no others.
+/// Returns whether tables have these shapes, in this order, and no others exist.
 pub(crate) fn are_tables(tables: &[Table], shapes: &[TableShape<'_>]) -> bool
     ensures { IsTrue result ↔ (tables.now ≡ map table_of shapes.now) }
 {
@@ -36,8 +36,8 @@ pub(crate) fn are_tables(tables: &[Table], shapes: &[TableShape<'_>]) -> bool
     true
 }
 
-/// Whether a schema has the tables of the register and no others, and no views. Of indexes it may have whatever plain ones, and unique ones
-/// over the columns of a key alone.
+/// Returns whether a schema has exactly the register's tables, and no views. It may have any plain indexes,
+/// and unique indexes only on the columns of a primary key.
 pub fn is_land(schema: &Schema) -> bool
     ensures { IsTrue result ↔ IsLand schema.now }
 {
@@ -46,7 +46,7 @@ pub fn is_land(schema: &Schema) -> bool
         && schema.views.is_empty()
 }
 
-/// Whether a schema has nothing: no table, no index and no view.
+/// Returns whether a schema is empty: no table, no index and no view.
 pub fn is_empty(schema: &Schema) -> bool
     ensures { IsTrue result ↔ (schema.now ≡ no_schema) }
 {

@@ -1,44 +1,44 @@
 //! The shapes of tables, as data.
 
-/// A column: what it holds, and its name. None has a default, and texts are compared byte by byte.
+/// A column: its type, and its name. It has no default, and SQLite compares texts byte by byte.
 #[derive(Clone, Copy, Debug)]
 pub enum ColumnShape<'a> {
-    /// A whole number.
+    /// An integer.
     Number(&'a str),
     /// A text.
     Words(&'a str),
-    /// A whole number, or NULL in a row that has none.
+    /// An integer or NULL.
     OptionalNumber(&'a str),
-    /// A text, or NULL in a row that has none.
+    /// A text or NULL.
     OptionalWords(&'a str),
 }
 
-/// How the rows of a table are told apart. Columns have places, from 1 on.
+/// The key of a table's rows. Positions of columns count from 1.
 #[derive(Clone, Copy, Debug)]
 pub enum Rows<'a> {
-    /// By the first column alone, which is a number.
+    /// Only the first column, an integer, which is the rowid.
     Numbered,
-    /// By some columns, and each row has a lifespan that begins before it ends.
+    /// Several columns. Each row has a lifespan that begins before it ends.
     Versioned {
-        /// The places of the primary key.
+        /// The positions of the primary key.
         key: &'a [usize],
-        /// The place of the column that says when a lifespan begins.
+        /// The position of the column of the start of a lifespan.
         since: usize,
-        /// The place of the column that says when it ends.
+        /// The position of the column of its end.
         until: usize,
     },
 }
 
-/// A table, STRICT, with nothing but what is said here.
+/// A STRICT table with these columns, this key, and nothing else.
 #[derive(Clone, Copy, Debug)]
 pub struct TableShape<'a> {
-    /// Its name.
+    /// The name of the table.
     pub name: &'a str,
-    /// The tree that sqlite keeps its rows in: the next one in the order in which tables are made, where a key of several columns takes
-    /// one more for its index.
+    /// The tree (root) in which SQLite stores its rows: trees are numbered in the order of creation, and a
+    /// key of several columns takes one more for its index.
     pub tree: u32,
-    /// Its columns, in their order.
+    /// The columns, in order.
     pub columns: &'a [ColumnShape<'a>],
-    /// How its rows are told apart.
+    /// The key of its rows.
     pub rows: Rows<'a>,
 }

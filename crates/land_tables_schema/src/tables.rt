@@ -1,4 +1,4 @@
-//! The tables of the register, and the texts that make them.
+//! The tables of the register, and the SQL statements that create them.
 
 ghost use Rattle.std.specs.Prelude.{◌≡◌, map};
 ghost use Rattle.land_tables_schema.specs.Laws.{drop_texts, index_texts, land_texts};
@@ -21,8 +21,9 @@ pub mod rrr;
 pub mod source;
 pub mod unit;
 
-/// The tables of the register, in the order in which they are made: those of the first version, and then the mandates. Sqlite numbers trees
-/// in this order, so a table that comes later is made after them, and before the plain indexes, as VACUUM and .dump write them too.
+/// The tables of the register, in the order of their creation: those of schema version 1, then `mandate`.
+/// SQLite numbers trees in this order, so a table of a later version is created after them, and before the
+/// plain indexes. VACUUM and .dump use the same order.
 const TABLES: &[TableShape<'static>] = &[
     edition::SHAPE,
     moments::SHAPE,
@@ -38,8 +39,8 @@ const TABLES: &[TableShape<'static>] = &[
     mandate::SHAPE,
 ];
 
-/// The texts that make the tables, those of the first version first, and then the plain indexes by which joins find rows, that of the
-/// mandates last. Run one after another over an empty store they make the whole schema.
+/// The SQL statements that create the tables, those of schema version 1 first, and then the plain indexes for
+/// joins and lookups, that of `mandate` last. Run in order on an empty store, they create the whole schema.
 pub const TEXTS: [&str; 20] = [
     edition::CREATE,
     moments::CREATE,
@@ -63,7 +64,7 @@ pub const TEXTS: [&str; 20] = [
     mandate::INDEX_AGENT,
 ];
 
-/// The texts that drop the plain indexes of the first version, those that a schema has.
+/// The SQL statements that drop the plain indexes of schema version 1, if they exist.
 pub const DROPS: [&str; 7] = [
     "DROP INDEX IF EXISTS rrr_party",
     "DROP INDEX IF EXISTS rrr_unit",
@@ -74,7 +75,7 @@ pub const DROPS: [&str; 7] = [
     "DROP INDEX IF EXISTS role_role",
 ];
 
-/// The names of the plain indexes of the first version.
+/// The names of the plain indexes of schema version 1.
 pub const JOINS: [&str; 7] = [
     "rrr_party",
     "rrr_unit",
@@ -85,42 +86,42 @@ pub const JOINS: [&str; 7] = [
     "role_role",
 ];
 
-/// The shapes of the tables, in the order in which they are made.
+/// Returns the shapes of the tables, in the order of their creation.
 pub fn shapes() -> &'static [TableShape<'static>]
     ensures { map table_of result.now ≡ land_tables }
 {
     TABLES
 }
 
-/// The shapes of the tables that the first version has, in the order in which they are made.
+/// Returns the shapes of the tables of schema version 1, in the order of their creation.
 pub fn first_shapes() -> &'static [TableShape<'static>]
     ensures { map table_of result.now ≡ first_tables }
 {
     &TABLES[..11]
 }
 
-/// The texts that make the tables and the indexes, in the order in which they are run.
+/// Returns the SQL statements that create the tables and the indexes, in the order in which they run.
 pub fn texts() -> &'static [&'static str]
     ensures { map (λ t. t.now) result.now ≡ land_texts }
 {
     &TEXTS
 }
 
-/// The texts that make the plain indexes, in the order in which they are run.
+/// Returns the SQL statements that create the plain indexes, in the order in which they run.
 pub fn index_texts() -> &'static [&'static str]
     ensures { map (λ t. t.now) result.now ≡ index_texts }
 {
     &TEXTS[12..]
 }
 
-/// The texts that drop the plain indexes of the first version.
+/// Returns the SQL statements that drop the plain indexes of schema version 1.
 pub fn drop_texts() -> &'static [&'static str]
     ensures { map (λ t. t.now) result.now ≡ drop_texts }
 {
     &DROPS
 }
 
-/// The names of the plain indexes of the first version.
+/// The names of the plain indexes of schema version 1.
 pub fn join_names() -> &'static [&'static str]
     ensures { map (λ t. t.now) result.now ≡ join_names }
 {

@@ -1,4 +1,4 @@
-//! Whether the CHECK of a table says that lifespans begin before they end.
+//! Checks that the CHECK of a table is `since < until`.
 ghost use Rattle.std.specs.Prelude.{◌≡◌, ◌≢◌, ◌↔◌, ℕ, [], IfSome, IsTrue, None, Some, slice_get};
 ghost use Rattle.land_tables_schema.specs.Columns.{ordered};
 ghost use Rattle.sqlite_schema.specs.Code.{terms_in};
@@ -11,17 +11,19 @@ use sqlite_schema::code::{Op, Terms};
 use sqlite_sql::ops::{BinaryOp, CompareOp};
 use sqlite_value::keys::Collation;
 
-/// Whether there is no term.
+/// Returns whether there is no term.
 pub fn is_free(terms: &Terms) -> bool
     ensures { IsTrue result ↔ (terms.now ≡ []) }
 {
     terms.roots.is_empty()
 }
 
-/// Where the two sides of a node stand, if it says that one is less than the other.
+/// Returns the positions of the two sides of a node, if the node is a comparison by `<`.
 fn sides(nodes: &[Op], at: usize) -> Option<(usize, usize)>
-    ensures some { IfSome result (λ p. slice_get nodes.now at ≡ Some (ABinary (Compare Lt Bytewise) p.0 p.1)) }
-    ensures none { result ≡ None → (a : ℕ) → (b : ℕ) → slice_get nodes.now at ≢ Some (ABinary (Compare Lt Bytewise) a b) }
+    ensures some { IfSome result (λ p. slice_get nodes.now at
+        ≡ Some (ABinary (Compare Lt Bytewise) p.0 p.1)) }
+    ensures none { result ≡ None → (a : ℕ) → (b : ℕ) → slice_get nodes.now at
+        ≢ Some (ABinary (Compare Lt Bytewise) a b) }
 {
     match nodes.get(at) {
         Some(Op::Binary(BinaryOp::Compare(CompareOp::Lt, Collation::Binary), a, b)) => {
@@ -31,7 +33,7 @@ fn sides(nodes: &[Op], at: usize) -> Option<(usize, usize)>
     }
 }
 
-/// Whether a node is the column of a row at a place.
+/// Returns whether a node is the column of a row at this position.
 fn is_place(nodes: &[Op], at: usize, place: usize) -> bool
     ensures { IsTrue result ↔ (slice_get nodes.now at ≡ Some (AColumn 1 place)) }
 {
@@ -41,7 +43,8 @@ fn is_place(nodes: &[Op], at: usize, place: usize) -> bool
     }
 }
 
-/// Whether nodes with these roots say, and nothing else, that one column of a row is less than another.
+/// Returns whether nodes with these roots are the comparison `since < until` of two columns of a row, and
+/// nothing else.
 fn is_interval(nodes: &[Op], roots: &[usize], since: usize, until: usize) -> bool
     ensures { IsTrue result ↔ (terms_in nodes.now roots.now ≡ ordered since until) }
 {
@@ -54,7 +57,7 @@ fn is_interval(nodes: &[Op], roots: &[usize], since: usize, until: usize) -> boo
     }
 }
 
-/// Whether terms say, and nothing else, that one column of a row is less than another.
+/// Returns whether terms are the comparison `since < until` of two columns of a row, and nothing else.
 pub fn is_ordered(terms: &Terms, since: usize, until: usize) -> bool
     ensures { IsTrue result ↔ (terms.now ≡ ordered since until) }
 {

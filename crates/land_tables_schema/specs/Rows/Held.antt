@@ -1,4 +1,4 @@
--- All that the tables of the register hold.
+-- The whole content of the register's tables.
 use Rattle.std.specs.Prelude.{◌≡◌, pos, List, [], ◌∷◌, codes}
 use Rattle.land_tables_schema.specs.Land.{made_schema}
 use Rattle.land_tables_schema.specs.Rows.Edition.{Edition, current_edition, edition_row}
@@ -19,7 +19,7 @@ use Rattle.land_tables_schema.specs.Tables as table
 use Rattle.sqlite.specs.Effect.{Database}
 use Rattle.sqlite_trees.specs.Tree.{Trees}
 
--- the version of the tables, the moments at which the register was changed, and all versions of its records
+-- the schema version, the commits, and all versions of the register's records
 pub record Rows : Type 0 where
   pub editions : List Edition
   pub moments : List Moment
@@ -34,7 +34,7 @@ pub record Rows : Type 0 where
   pub namings : List (Version NamesRow)
   pub mandates : List (Version MandateRow)
 
--- the tables hold these and nothing else
+-- the tables hold these values and nothing else
 pub record HoldsRows (db : Trees) (rows : Rows) : Type 0 where
   pub the_editions : Lists table.edition edition_row db rows.editions
   pub the_moments : Lists table.moments moment_row db rows.moments
@@ -49,12 +49,13 @@ pub record HoldsRows (db : Trees) (rows : Rows) : Type 0 where
   pub the_namings : Holds namings db rows.namings
   pub the_mandates : Holds mandates db rows.mandates
 
--- a new register: from the first moment on party 1, the land office itself, is state administrator, and 2 is the next number
+-- a new register: since moment 0, party 1, the Land Office, is state administrator, and the next number is 2
 abbrev pub new_rows : Rows
 new_rows = record {
   editions = current_edition ∷ [];
   moments = record { stamp = pos 0; next = 2 } ∷ [];
-  parties = begun (record { number = 1; name = codes "Land Office"; kind = codes "nonNaturalPerson" }) (pos 0) ∷ [];
+  parties = begun (record { number = 1; name = codes "Land Office"; kind = codes "nonNaturalPerson" }) (pos 0)
+      ∷ [];
   roles = begun (record { party = 1; role = codes "stateAdministrator" }) (pos 0) ∷ [];
   members = [];
   units = [];
@@ -66,7 +67,7 @@ new_rows = record {
   mandates = [];
 }
 
--- the database of a new register: the tables and indexes, and its rows
+-- the database of a new register: its schema, and its rows
 pub record IsNew (db : Database) : Type 0 where
   pub schema : db.schema ≡ made_schema
   pub rows : HoldsRows db.trees new_rows

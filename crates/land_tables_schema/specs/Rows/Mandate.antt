@@ -5,7 +5,7 @@ use Rattle.land_tables_schema.specs.Rows.Versions.{Version, versions_in, whole}
 use Rattle.land_tables_schema.specs.Tables.{mandate}
 use Rattle.sqlite_value.specs.Order.{Row}
 
--- a mandate: the number of the party that gave it, and that of the party that looks as the first does
+-- a mandate: the numbers of its principal, who gives it, and of its agent, who sees what the principal sees
 pub record MandateRow : Type 0 where
   pub principal : ℕ
   pub agent : ℕ
@@ -16,6 +16,6 @@ mandate_cells r = whole r.principal ∷ whole r.agent ∷ []
 abbrev pub mandates : Form (Version MandateRow)
 mandates = versions_in mandate 2 mandate_cells
 
--- whether it is what that principal gave that agent
+-- whether this principal gave the mandate to this agent
 abbrev pub is_mandate : ℕ → ℕ → MandateRow → Bool
 is_mandate principal agent r = (r.principal == principal) && (r.agent == agent)

@@ -5,7 +5,8 @@ use Rattle.land_tables_schema.specs.Rows.Versions.{Version, versions_in, whole}
 use Rattle.land_tables_schema.specs.Tables.{member}
 use Rattle.sqlite_value.specs.Order.{Row}
 
--- a member of a group: the number of the group, that of the party, and the share as numerator and denominator
+-- a member of a group: the number of the group, the number of the party, and the share as numerator and
+-- denominator
 pub record MemberRow : Type 0 where
   pub grp : ℕ
   pub party : ℕ
@@ -18,6 +19,6 @@ member_cells r = whole r.grp ∷ whole r.party ∷ whole r.num ∷ whole r.den �
 abbrev pub members : Form (Version MemberRow)
 members = versions_in member 4 member_cells
 
--- whether it is a member of that group
+-- whether it is a member of this group
 abbrev pub is_member_of : ℕ → MemberRow → Bool
 is_member_of grp r = r.grp == grp

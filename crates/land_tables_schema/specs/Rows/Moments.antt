@@ -4,11 +4,11 @@ use Rattle.land_tables_schema.specs.Rows.Versions.{whole}
 use Rattle.sqlite_value.specs.Order.{Row}
 use Rattle.sqlite_value.specs.declared.value.Value.TheVariants.{Int}
 
--- when the register was changed, and the number that the next new object takes from then on
+-- a commit: its stamp, and the next number after it
 pub record Moment : Type 0 where
   pub stamp : ℤ
   pub next : ℕ
 
--- the columns of its row, which lies under the stamp
+-- the columns of the row, whose rowid is the stamp
 abbrev pub moment_row : Moment → Row
 moment_row m = Int m.stamp ∷ whole m.next ∷ []

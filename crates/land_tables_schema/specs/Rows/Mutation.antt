@@ -7,8 +7,8 @@ use Rattle.land_tables_schema.specs.declared.rows.tables.mutation.MutationCells.
 use Rattle.sqlite_value.specs.Order.{Row}
 use Rattle.sqlite_value.specs.declared.value.Value.TheVariants.{Int, Text}
 
--- a mutation: its number, that of its lodger, its reference, the number of its source, when it was lodged, the word of the act that lodged it, what it asks
--- for as it is written, and the word for how far it has come
+-- a mutation: its number, its lodger, its reference, the number of its source, the moment of its lodging, the
+-- words of its act, its content and its state
 pub record MutationRow : Type 0 where
   pub number : ℕ
   pub lodger : ℕ
@@ -20,16 +20,18 @@ pub record MutationRow : Type 0 where
   pub state : List ℕ
 
 abbrev pub mutation_cells : MutationRow → Row
-mutation_cells r = whole r.number ∷ whole r.lodger ∷ Text r.reference ∷ whole r.source ∷ Int r.lodged ∷ Text r.act ∷ Text r.content ∷ Text r.state ∷ []
+mutation_cells r =
+    whole r.number ∷ whole r.lodger ∷ Text r.reference ∷ whole r.source ∷ Int r.lodged ∷ Text r.act
+    ∷ Text r.content ∷ Text r.state ∷ []
 
 abbrev pub mutations : Form (Version MutationRow)
 mutations = versions_in mutation 8 mutation_cells
 
--- whether it is that mutation
+-- whether it has this number
 abbrev pub is_mutation : ℕ → MutationRow → Bool
 is_mutation number r = r.number == number
 
--- the mutation that the cells of a row say
+-- the mutation of the cells of a row
 abbrev pub mutation_of : MutationCells → MutationRow
 mutation_of c = record {
   number = c.number;
@@ -42,7 +44,7 @@ mutation_of c = record {
   state = c.state.now;
 }
 
--- a column can hold each of its numbers
+-- each number fits into a column
 pub record FitsMutation (c : MutationCells) : Type 0 where
   pub number : c.number < 2 ^ 63
   pub lodger : c.lodger < 2 ^ 63

@@ -5,7 +5,7 @@ use Rattle.land_tables_schema.specs.Rows.Versions.{Version, versions_in, whole}
 use Rattle.land_tables_schema.specs.Tables.{names}
 use Rattle.sqlite_value.specs.Order.{Row}
 
--- a mutation names a unit: the number of the mutation, and that of the unit
+-- a row of `names`: a mutation refers to a unit, both by number
 pub record NamesRow : Type 0 where
   pub mutation : ℕ
   pub unit : ℕ

@@ -6,7 +6,8 @@ use Rattle.land_tables_schema.specs.Tables.{parcel}
 use Rattle.sqlite_value.specs.Order.{Row}
 use Rattle.sqlite_value.specs.declared.value.Value.TheVariants.{Text}
 
--- a parcel: its number, that of its unit, its label, its outline as it is printed, and the number of its source
+-- a parcel: its number, the number of its unit, its label, its outline in canonical form, and the number of
+-- its source
 pub record ParcelRow : Type 0 where
   pub number : ℕ
   pub unit : ℕ
@@ -20,6 +21,6 @@ parcel_cells r = whole r.number ∷ whole r.unit ∷ Text r.label ∷ Text r.out
 abbrev pub parcels : Form (Version ParcelRow)
 parcels = versions_in parcel 5 parcel_cells
 
--- whether it is that parcel
+-- whether it has this number
 abbrev pub is_parcel : ℕ → ParcelRow → Bool
 is_parcel number r = r.number == number

@@ -6,7 +6,7 @@ use Rattle.land_tables_schema.specs.Tables.{party}
 use Rattle.sqlite_value.specs.Order.{Row}
 use Rattle.sqlite_value.specs.declared.value.Value.TheVariants.{Text}
 
--- a party: its number, its name, and the word for what it is
+-- a party: its number, its name, and the word of its kind
 pub record PartyRow : Type 0 where
   pub number : ℕ
   pub name : List ℕ
@@ -18,6 +18,6 @@ party_cells p = whole p.number ∷ Text p.name ∷ Text p.kind ∷ []
 abbrev pub parties : Form (Version PartyRow)
 parties = versions_in party 3 party_cells
 
--- whether it is that party
+-- whether it has this number
 abbrev pub is_party : ℕ → PartyRow → Bool
 is_party number p = p.number == number

@@ -6,7 +6,7 @@ use Rattle.land_tables_schema.specs.Tables.{role}
 use Rattle.sqlite_value.specs.Order.{Row}
 use Rattle.sqlite_value.specs.declared.value.Value.TheVariants.{Text}
 
--- a role of a party: the number of the party, and the word for the role
+-- a role of a party: the number of the party, and the word of the role
 pub record RoleRow : Type 0 where
   pub party : ℕ
   pub role : List ℕ
@@ -17,6 +17,6 @@ role_cells r = whole r.party ∷ Text r.role ∷ []
 abbrev pub roles : Form (Version RoleRow)
 roles = versions_in role 2 role_cells
 
--- whether it is that role of that party
+-- whether this party has this role by it
 abbrev pub is_grant : ℕ → List ℕ → RoleRow → Bool
 is_grant party role r = (r.party == party) && bytes_eq r.role role

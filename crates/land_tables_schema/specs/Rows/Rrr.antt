@@ -9,8 +9,9 @@ use Rattle.sqlite_typed.specs.Columns.{or_null}
 use Rattle.sqlite_value.specs.Order.{Row}
 use Rattle.sqlite_value.specs.declared.value.Value.TheVariants.{Text}
 
--- an entry of a unit: its number, that of its unit and of its party, the word for what it says, the share of a right, the amount, the currency and
--- the rank of a mortgage, the words of a restriction or a responsibility, and the number of its source
+-- an entry of a unit: its number, its unit and its party, the word of its class, the share of a right, the
+-- amount, currency and rank of a mortgage, the words of a restriction or a responsibility, and the number of
+-- its source
 pub record RrrRow : Type 0 where
   pub number : ℕ
   pub unit : ℕ
@@ -25,17 +26,19 @@ pub record RrrRow : Type 0 where
   pub source : ℕ
 
 abbrev pub rrr_cells : RrrRow → Row
-rrr_cells r = whole r.number ∷ whole r.unit ∷ whole r.party ∷ Text r.class ∷ or_null whole r.num ∷ or_null whole r.den ∷ or_null whole r.amount ∷ or_null Text r.currency
+rrr_cells r =
+    whole r.number ∷ whole r.unit ∷ whole r.party ∷ Text r.class ∷ or_null whole r.num ∷ or_null whole r.den
+    ∷ or_null whole r.amount ∷ or_null Text r.currency
     ∷ or_null whole r.place ∷ or_null Text r.words ∷ whole r.source ∷ []
 
 abbrev pub rrrs : Form (Version RrrRow)
 rrrs = versions_in rrr 11 rrr_cells
 
--- whether it is that entry
+-- whether it has this number
 abbrev pub is_rrr : ℕ → RrrRow → Bool
 is_rrr number r = r.number == number
 
--- the entry that the cells of a row say
+-- the entry of the cells of a row
 abbrev pub rrr_of : RrrCells → RrrRow
 rrr_of c = record {
   number = c.number;
@@ -51,7 +54,7 @@ rrr_of c = record {
   source = c.source;
 }
 
--- a column can hold each of its numbers
+-- each number fits into a column
 pub record FitsRrr (c : RrrCells) : Type 0 where
   pub number : c.number < 2 ^ 63
   pub unit : c.unit < 2 ^ 63

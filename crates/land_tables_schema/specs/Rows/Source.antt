@@ -6,7 +6,7 @@ use Rattle.land_tables_schema.specs.Tables.{source}
 use Rattle.sqlite_value.specs.Order.{Row}
 use Rattle.sqlite_value.specs.declared.value.Value.TheVariants.{Text}
 
--- a source: its number, the word for what it is, and its title
+-- a source: its number, the word of its kind, and its title
 pub record SourceRow : Type 0 where
   pub number : ℕ
   pub kind : List ℕ
@@ -18,6 +18,6 @@ source_cells r = whole r.number ∷ Text r.kind ∷ Text r.title ∷ []
 abbrev pub sources : Form (Version SourceRow)
 sources = versions_in source 3 source_cells
 
--- whether it is that source
+-- whether it has this number
 abbrev pub is_source : ℕ → SourceRow → Bool
 is_source number r = r.number == number

@@ -6,7 +6,7 @@ use Rattle.land_tables_schema.specs.Tables.{unit}
 use Rattle.sqlite_value.specs.Order.{Row}
 use Rattle.sqlite_value.specs.declared.value.Value.TheVariants.{Text}
 
--- a unit: its number, its name, and whether shares in it have to make a whole
+-- a unit: its number, its name, and whether it is checked, that is, whether its shares must sum to one
 pub record UnitRow : Type 0 where
   pub number : ℕ
   pub name : List ℕ
@@ -18,6 +18,6 @@ unit_cells r = whole r.number ∷ Text r.name ∷ flag r.checked ∷ []
 abbrev pub units : Form (Version UnitRow)
 units = versions_in unit 3 unit_cells
 
--- whether it is that unit
+-- whether it has this number
 abbrev pub is_unit : ℕ → UnitRow → Bool
 is_unit number r = r.number == number

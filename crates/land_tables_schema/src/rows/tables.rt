@@ -1,5 +1,6 @@
-//! One file for each table: its texts, the statements that begin and close its versions, and the look that lists them all. A
-//! statement answers how many rows it wrote; no clause says that number, and `close` that finds nothing to close is no failure.
+//! One file per table, with its SQL statements: insert a version, close the current one, list all. Writes
+//! return the number of rows written; contracts do not specify it, and a `close` that finds no current
+//! version is not an error.
 pub mod edition;
 pub mod mandate;
 pub mod member;

@@ -1,11 +1,11 @@
-//! The edition of the tables: one row, which says by which version of these shapes they were made.
+//! The schema version: one row.
 use crate::shape::ColumnShape::Number;
 use crate::shape::{Rows, TableShape};
 
 /// The shape of the table. Its columns:
 ///
 /// - `id`: always 1
-/// - `version`: the version of the tables, counted from 1: 2, or 1 where there are no mandates
+/// - `version`: the schema version: 2, or 1 if there is no table `mandate`
 pub const SHAPE: TableShape<'static> = TableShape {
     name: "edition",
     tree: 0,
@@ -13,7 +13,7 @@ pub const SHAPE: TableShape<'static> = TableShape {
     rows: Rows::Numbered,
 };
 
-/// The text that makes the table.
+/// Creates the table.
 pub const CREATE: &str = "CREATE TABLE edition (\
     id INTEGER NOT NULL, \
     version INTEGER NOT NULL, \

@@ -1,13 +1,14 @@
-//! The mandates that parties have given: a citizen lets another party look as it does. The first version of the tables has none.
+//! The mandates: a principal, who is a citizen, lets an agent see what the principal sees. Schema version 1
+//! has no such table.
 use crate::shape::ColumnShape::Number;
 use crate::shape::{Rows, TableShape};
 
 /// The shape of the table. Its columns:
 ///
-/// - `principal`: the number of the party that gave it: 1 to 1_000_000_000
-/// - `agent`: the number of the party that looks as the principal does: 1 to 1_000_000_000
-/// - `since`: when the row begins to stand: milliseconds since 1970 UTC, 0 to 4_102_444_799_999
-/// - `until`: when it ends, or 4_102_444_800_000 while it stands: milliseconds since 1970 UTC
+/// - `principal`: the number of the party that gives it: 1 to 1_000_000_000
+/// - `agent`: the number of the party that sees what the principal sees: 1 to 1_000_000_000
+/// - `since`: start of the lifespan, inclusive, in Unix milliseconds
+/// - `until`: its end, exclusive, in Unix milliseconds; the first of the year 2100 if the row is current
 pub const SHAPE: TableShape<'static> = TableShape {
     name: "mandate",
     tree: 20,
@@ -24,7 +25,7 @@ pub const SHAPE: TableShape<'static> = TableShape {
     },
 };
 
-/// The text that makes the table.
+/// Creates the table.
 pub const CREATE: &str = "CREATE TABLE mandate (\
     principal INTEGER NOT NULL, \
     agent INTEGER NOT NULL, \
@@ -33,5 +34,5 @@ pub const CREATE: &str = "CREATE TABLE mandate (\
     PRIMARY KEY (principal, agent, since), \
     CHECK (since < until)) STRICT";
 
-/// The text that makes the index by which the mandates that an agent holds are found.
+/// Creates the index on the agent of a mandate.
 pub const INDEX_AGENT: &str = "CREATE INDEX mandate_agent ON mandate (agent)";

@@ -8,8 +8,8 @@ use crate::shape::{Rows, TableShape};
 /// - `party`: the number of the member: 1 to 1_000_000_000
 /// - `num`: the numerator of its share in the group, in lowest terms: 1 to 1_000_000_000
 /// - `den`: the denominator of its share: 1 to 1_000_000_000
-/// - `since`: when the row begins to stand: milliseconds since 1970 UTC, 0 to 4_102_444_799_999
-/// - `until`: when it ends, or 4_102_444_800_000 while it stands: milliseconds since 1970 UTC
+/// - `since`: start of the lifespan, inclusive, in Unix milliseconds
+/// - `until`: its end, exclusive, in Unix milliseconds; the first of the year 2100 if the row is current
 pub const SHAPE: TableShape<'static> = TableShape {
     name: "member",
     tree: 6,
@@ -28,7 +28,7 @@ pub const SHAPE: TableShape<'static> = TableShape {
     },
 };
 
-/// The text that makes the table.
+/// Creates the table.
 pub const CREATE: &str = "CREATE TABLE member (\
     grp INTEGER NOT NULL, \
     party INTEGER NOT NULL, \
@@ -39,5 +39,5 @@ pub const CREATE: &str = "CREATE TABLE member (\
     PRIMARY KEY (grp, party, since), \
     CHECK (since < until)) STRICT";
 
-/// The text that makes the index by which the groups that a party is a member of are found.
+/// Creates the index on the party of a member.
 pub const INDEX_PARTY: &str = "CREATE INDEX member_party ON member (party)";

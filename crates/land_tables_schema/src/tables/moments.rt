@@ -1,11 +1,11 @@
-//! The moments of the changes: one row for the new register, and one for each change.
+//! The commits: one row for the new register, and one for each change.
 use crate::shape::ColumnShape::Number;
 use crate::shape::{Rows, TableShape};
 
 /// The shape of the table. Its columns:
 ///
-/// - `stamp`: when the register was so: milliseconds since 1970 UTC, 0 to 4_102_444_799_999
-/// - `next`: the number that the next new object takes from then on: 2 to 1_000_000_001
+/// - `stamp`: the moment of the commit, in Unix milliseconds; 0 for a new register
+/// - `next`: the number of the next new object after the commit, from 2
 pub const SHAPE: TableShape<'static> = TableShape {
     name: "moments",
     tree: 1,
@@ -13,7 +13,7 @@ pub const SHAPE: TableShape<'static> = TableShape {
     rows: Rows::Numbered,
 };
 
-/// The text that makes the table.
+/// Creates the table.
 pub const CREATE: &str = "CREATE TABLE moments (\
     stamp INTEGER NOT NULL, \
     next INTEGER NOT NULL, \

@@ -1,4 +1,4 @@
-//! The mutations: changes of units that somebody lodged.
+//! The mutations: lodged changes of units.
 use crate::shape::ColumnShape::{Number, Words};
 use crate::shape::{Rows, TableShape};
 
@@ -6,14 +6,14 @@ use crate::shape::{Rows, TableShape};
 ///
 /// - `number`: the number of the mutation: 1 to 1_000_000_000
 /// - `lodger`: the number of the party that lodged it: 1 to 1_000_000_000
-/// - `reference`: what its lodger calls it: 1 to 40 characters
+/// - `reference`: its reference, chosen by the lodger: 1 to 40 characters
 /// - `source`: the number of its document: 1 to 1_000_000_000
-/// - `lodged`: when it was lodged: milliseconds since 1970 UTC, 0 to 4_102_444_799_999
-/// - `act`: what it asks for: `transfer`, `subdivision`, `merger`, `mortgage` or `discharge`
-/// - `content`: the fields of what it asks for, as compact JSON
-/// - `state`: how far it has come: `lodged`, `approved` or `refused`
-/// - `since`: when the row begins to stand: milliseconds since 1970 UTC, 0 to 4_102_444_799_999
-/// - `until`: when it ends, or 4_102_444_800_000 while it stands: milliseconds since 1970 UTC
+/// - `lodged`: the moment of its lodging, in Unix milliseconds
+/// - `act`: the requested act: `transfer`, `subdivision`, `merger`, `mortgage` or `discharge`
+/// - `content`: the fields of the act, as compact JSON
+/// - `state`: its state: `lodged`, `approved` or `refused`
+/// - `since`: start of the lifespan, inclusive, in Unix milliseconds
+/// - `until`: its end, exclusive, in Unix milliseconds; the first of the year 2100 if the row is current
 pub const SHAPE: TableShape<'static> = TableShape {
     name: "mutation",
     tree: 16,
@@ -36,7 +36,7 @@ pub const SHAPE: TableShape<'static> = TableShape {
     },
 };
 
-/// The text that makes the table.
+/// Creates the table.
 pub const CREATE: &str = "CREATE TABLE mutation (\
     number INTEGER NOT NULL, \
     lodger INTEGER NOT NULL, \
@@ -51,5 +51,5 @@ pub const CREATE: &str = "CREATE TABLE mutation (\
     PRIMARY KEY (number, since), \
     CHECK (since < until)) STRICT";
 
-/// The text that makes the index by which what a party has lodged, and what it lodged under a reference, are found.
+/// Creates the index on the lodger and the reference of a mutation.
 pub const INDEX_LODGER: &str = "CREATE INDEX mutation_lodger ON mutation (lodger, reference)";

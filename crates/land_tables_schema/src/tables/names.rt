@@ -1,13 +1,13 @@
-//! Which units mutations name.
+//! The units that mutations refer to.
 use crate::shape::ColumnShape::Number;
 use crate::shape::{Rows, TableShape};
 
 /// The shape of the table. Its columns:
 ///
 /// - `mutation`: the number of the mutation: 1 to 1_000_000_000
-/// - `unit`: the number of a unit that it names: 1 to 1_000_000_000
-/// - `since`: when the row begins to stand: milliseconds since 1970 UTC, 0 to 4_102_444_799_999
-/// - `until`: when it ends, or 4_102_444_800_000 while it stands: milliseconds since 1970 UTC
+/// - `unit`: the number of a unit that it refers to: 1 to 1_000_000_000
+/// - `since`: start of the lifespan, inclusive, in Unix milliseconds
+/// - `until`: its end, exclusive, in Unix milliseconds; the first of the year 2100 if the row is current
 pub const SHAPE: TableShape<'static> = TableShape {
     name: "names",
     tree: 18,
@@ -24,7 +24,7 @@ pub const SHAPE: TableShape<'static> = TableShape {
     },
 };
 
-/// The text that makes the table.
+/// Creates the table.
 pub const CREATE: &str = "CREATE TABLE names (\
     mutation INTEGER NOT NULL, \
     unit INTEGER NOT NULL, \
@@ -33,5 +33,5 @@ pub const CREATE: &str = "CREATE TABLE names (\
     PRIMARY KEY (mutation, unit, since), \
     CHECK (since < until)) STRICT";
 
-/// The text that makes the index by which the mutations that name a unit are found.
+/// Creates the index on the unit of a row of `names`.
 pub const INDEX_UNIT: &str = "CREATE INDEX names_unit ON names (unit)";

@@ -6,11 +6,11 @@ use crate::shape::{Rows, TableShape};
 ///
 /// - `number`: the number of the parcel: 1 to 1_000_000_000
 /// - `unit`: the number of its unit: 1 to 1_000_000_000
-/// - `label`: what it is called on the map: 1 to 40 characters
-/// - `outline`: its outline as well-known text, in whole millimetres
-/// - `source`: the number of the source that it comes from: 1 to 1_000_000_000
-/// - `since`: when the row begins to stand: milliseconds since 1970 UTC, 0 to 4_102_444_799_999
-/// - `until`: when it ends, or 4_102_444_800_000 while it stands: milliseconds since 1970 UTC
+/// - `label`: its label on the map: 1 to 40 characters
+/// - `outline`: its outline as well-known text, in integer millimetres
+/// - `source`: the number of its source: 1 to 1_000_000_000
+/// - `since`: start of the lifespan, inclusive, in Unix milliseconds
+/// - `until`: its end, exclusive, in Unix milliseconds; the first of the year 2100 if the row is current
 pub const SHAPE: TableShape<'static> = TableShape {
     name: "parcel",
     tree: 10,
@@ -30,7 +30,7 @@ pub const SHAPE: TableShape<'static> = TableShape {
     },
 };
 
-/// The text that makes the table.
+/// Creates the table.
 pub const CREATE: &str = "CREATE TABLE parcel (\
     number INTEGER NOT NULL, \
     unit INTEGER NOT NULL, \
@@ -42,5 +42,5 @@ pub const CREATE: &str = "CREATE TABLE parcel (\
     PRIMARY KEY (number, since), \
     CHECK (since < until)) STRICT";
 
-/// The text that makes the index by which the parcels of a unit are found.
+/// Creates the index on the unit of a parcel.
 pub const INDEX_UNIT: &str = "CREATE INDEX parcel_unit ON parcel (unit)";

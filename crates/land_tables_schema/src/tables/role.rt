@@ -5,9 +5,9 @@ use crate::shape::{Rows, TableShape};
 /// The shape of the table. Its columns:
 ///
 /// - `party`: the number of the party: 1 to 1_000_000_000
-/// - `role`: the role: `citizen`, `conveyancer`, `notary`, `bank`, `certifiedSurveyor` or `stateAdministrator`
-/// - `since`: when the row begins to stand: milliseconds since 1970 UTC, 0 to 4_102_444_799_999
-/// - `until`: when it ends, or 4_102_444_800_000 while it stands: milliseconds since 1970 UTC
+/// - `role`: `citizen`, `conveyancer`, `notary`, `bank`, `certifiedSurveyor` or `stateAdministrator`
+/// - `since`: start of the lifespan, inclusive, in Unix milliseconds
+/// - `until`: its end, exclusive, in Unix milliseconds; the first of the year 2100 if the row is current
 pub const SHAPE: TableShape<'static> = TableShape {
     name: "role",
     tree: 4,
@@ -24,7 +24,7 @@ pub const SHAPE: TableShape<'static> = TableShape {
     },
 };
 
-/// The text that makes the table.
+/// Creates the table.
 pub const CREATE: &str = "CREATE TABLE role (\
     party INTEGER NOT NULL, \
     role TEXT NOT NULL, \
@@ -33,5 +33,5 @@ pub const CREATE: &str = "CREATE TABLE role (\
     PRIMARY KEY (party, role, since), \
     CHECK (since < until)) STRICT";
 
-/// The text that makes the index by which those who hold a role are found.
+/// Creates the index on the role.
 pub const INDEX_ROLE: &str = "CREATE INDEX role_role ON role (role)";

@@ -1,4 +1,5 @@
-//! The rights, restrictions, responsibilities and mortgages (LA_RRR). What a class does not use is NULL.
+//! The rights, restrictions, responsibilities and mortgages (LA_RRR). Columns that a class does not use are
+//! NULL.
 use crate::shape::ColumnShape::{Number, OptionalNumber, OptionalWords, Words};
 use crate::shape::{Rows, TableShape};
 
@@ -7,16 +8,16 @@ use crate::shape::{Rows, TableShape};
 /// - `number`: the number of the entry: 1 to 1_000_000_000
 /// - `unit`: the number of its unit: 1 to 1_000_000_000
 /// - `party`: the number of its party, for a mortgage the creditor: 1 to 1_000_000_000
-/// - `class`: what it says: `ownership`, `lease`, `usufruct`, `restriction`, `responsibility` or `mortgage`
+/// - `class`: its class: `ownership`, `lease`, `usufruct`, `restriction`, `responsibility` or `mortgage`
 /// - `num`: the numerator of the share of a right, in lowest terms: 1 to 1_000_000_000
 /// - `den`: the denominator of the share of a right: 1 to 1_000_000_000
 /// - `amount`: the amount of a mortgage in minor units of its currency: 1 to 1_000_000_000_000_000
 /// - `currency`: the currency of a mortgage: three letters from A to Z (ISO 4217)
 /// - `place`: the rank among the mortgages of the unit, from 1
 /// - `words`: the words of a restriction or a responsibility: 1 to 200 characters
-/// - `source`: the number of the source that it comes from: 1 to 1_000_000_000
-/// - `since`: when the row begins to stand: milliseconds since 1970 UTC, 0 to 4_102_444_799_999
-/// - `until`: when it ends, or 4_102_444_800_000 while it stands: milliseconds since 1970 UTC
+/// - `source`: the number of its source: 1 to 1_000_000_000
+/// - `since`: start of the lifespan, inclusive, in Unix milliseconds
+/// - `until`: its end, exclusive, in Unix milliseconds; the first of the year 2100 if the row is current
 pub const SHAPE: TableShape<'static> = TableShape {
     name: "rrr",
     tree: 12,
@@ -42,7 +43,7 @@ pub const SHAPE: TableShape<'static> = TableShape {
     },
 };
 
-/// The text that makes the table.
+/// Creates the table.
 pub const CREATE: &str = "CREATE TABLE rrr (\
     number INTEGER NOT NULL, \
     unit INTEGER NOT NULL, \
@@ -60,8 +61,8 @@ pub const CREATE: &str = "CREATE TABLE rrr (\
     PRIMARY KEY (number, since), \
     CHECK (since < until)) STRICT";
 
-/// The text that makes the index by which the entries of a party are found.
+/// Creates the index on the party of an entry.
 pub const INDEX_PARTY: &str = "CREATE INDEX rrr_party ON rrr (party)";
 
-/// The text that makes the index by which the entries of a unit are found.
+/// Creates the index on the unit of an entry.
 pub const INDEX_UNIT: &str = "CREATE INDEX rrr_unit ON rrr (unit)";

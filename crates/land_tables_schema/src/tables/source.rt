@@ -5,10 +5,10 @@ use crate::shape::{Rows, TableShape};
 /// The shape of the table. Its columns:
 ///
 /// - `number`: the number of the source: 1 to 1_000_000_000
-/// - `kind`: what it is: `administrative` or `spatial`
+/// - `kind`: its kind: `administrative` or `spatial`
 /// - `title`: the title of the document: 1 to 200 characters
-/// - `since`: when the row begins to stand: milliseconds since 1970 UTC, 0 to 4_102_444_799_999
-/// - `until`: when it ends, or 4_102_444_800_000 while it stands: milliseconds since 1970 UTC
+/// - `since`: start of the lifespan, inclusive, in Unix milliseconds
+/// - `until`: its end, exclusive, in Unix milliseconds; the first of the year 2100 if the row is current
 pub const SHAPE: TableShape<'static> = TableShape {
     name: "source",
     tree: 14,
@@ -26,7 +26,7 @@ pub const SHAPE: TableShape<'static> = TableShape {
     },
 };
 
-/// The text that makes the table.
+/// Creates the table.
 pub const CREATE: &str = "CREATE TABLE source (\
     number INTEGER NOT NULL, \
     kind TEXT NOT NULL, \

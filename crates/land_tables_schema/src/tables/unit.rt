@@ -5,10 +5,10 @@ use crate::shape::{Rows, TableShape};
 /// The shape of the table. Its columns:
 ///
 /// - `number`: the number of the unit: 1 to 1_000_000_000
-/// - `name`: what it is called: 1 to 200 characters
-/// - `checked`: whether the shares of each type of right in it have to make a whole: 0 for no, 1 for yes
-/// - `since`: when the row begins to stand: milliseconds since 1970 UTC, 0 to 4_102_444_799_999
-/// - `until`: when it ends, or 4_102_444_800_000 while it stands: milliseconds since 1970 UTC
+/// - `name`: its name: 1 to 200 characters
+/// - `checked`: whether the shares of each type of right must sum to one: 0 or 1
+/// - `since`: start of the lifespan, inclusive, in Unix milliseconds
+/// - `until`: its end, exclusive, in Unix milliseconds; the first of the year 2100 if the row is current
 pub const SHAPE: TableShape<'static> = TableShape {
     name: "unit",
     tree: 8,
@@ -26,7 +26,7 @@ pub const SHAPE: TableShape<'static> = TableShape {
     },
 };
 
-/// The text that makes the table.
+/// Creates the table.
 pub const CREATE: &str = "CREATE TABLE unit (\
     number INTEGER NOT NULL, \
     name TEXT NOT NULL, \

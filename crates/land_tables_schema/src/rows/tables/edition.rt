@@ -1,6 +1,6 @@
 //! The row of `edition`.
-ghost use Rattle.std.specs.Prelude.{◌≡◌, false};
-ghost use Rattle.land_tables_schema.specs.Land.{HasFirstTables, IsLand};
+ghost use Rattle.land_tables_schema.specs.Connections.{HasRegisterTables, HasV1Tables, LeavesAutocommit};
+ghost use Rattle.land_tables_schema.specs.Connections.{SameReference};
 ghost use Rattle.land_tables_schema.specs.Rows.Edition.{current_edition, edition_row, first_edition};
 ghost use Rattle.land_tables_schema.specs.Rows.Forms.{Appends};
 ghost use Rattle.land_tables_schema.specs.Rows.Looks.{IsLook, AreAllNumbered};
@@ -8,45 +8,45 @@ ghost use Rattle.land_tables_schema.specs.Rows.Raising.{Rewrites};
 ghost use Rattle.land_tables_schema.specs.Steps.{IsStep};
 ghost use Rattle.land_tables_schema.specs.Tables as table;
 ghost use Rattle.sqlite.specs.Held.{state};
-ghost use Rattle.sqlite.specs.State.{HasCleanDisk};
 
 use sqlite::{Alter, Connection, Error, Row, Transaction};
 
-/// The text that puts the row in.
+/// Inserts the row.
 const INSERT: &str = "INSERT INTO edition (id, version) VALUES (1, 2)";
 
-/// The text that says that the tables are of the second version.
+/// Sets the schema version to 2.
 const RAISE: &str = "UPDATE edition SET version = 2 WHERE id = 1";
 
-/// The text that lists all rows.
+/// Lists all rows.
 const ALL: &str = "SELECT id, version FROM edition";
 
-/// Puts the row in: the tables are of the second version.
+/// Inserts the row, with schema version 2.
 pub fn insert<S: Alter>(tx: &mut Transaction<'_, S>) -> Result<usize, Error>
-    requires { HasCleanDisk (state S.Store tx.old.conn.now) → IsLand (state S.Store tx.old.conn.now).now.schema }
-    ensures same_reference { tx.new.conn.ghost_name ≡ tx.old.conn.ghost_name }
+    requires { HasRegisterTables S.Store tx.old.conn.now }
+    ensures same_reference { SameReference tx.old tx.new }
     ensures step { IsStep result (Appends table.edition edition_row current_edition)
         (state S.Store tx.old.conn.now) (state S.Store tx.new.conn.now) }
 {
     tx.execute(INSERT, &[])
 }
 
-/// Writes the row of the first version anew: the tables are of the second one.
+/// Sets the schema version of the row to 2, in a register of version 1.
 pub fn raise<S: Alter>(tx: &mut Transaction<'_, S>) -> Result<usize, Error>
-    requires { HasCleanDisk (state S.Store tx.old.conn.now) → IsLand (state S.Store tx.old.conn.now).now.schema }
-    ensures same_reference { tx.new.conn.ghost_name ≡ tx.old.conn.ghost_name }
+    requires { HasRegisterTables S.Store tx.old.conn.now }
+    ensures same_reference { SameReference tx.old tx.new }
     ensures step { IsStep result (Rewrites first_edition current_edition)
         (state S.Store tx.old.conn.now) (state S.Store tx.new.conn.now) }
 {
     tx.execute(RAISE, &[])
 }
 
-/// All rows, as they are, in whatever order.
+/// Returns all rows, in unspecified order.
 pub fn all<S: Alter>(conn: &mut Connection<S>) -> Result<Vec<Row>, Error>
-    requires { HasCleanDisk (state S.Store conn.old) → HasFirstTables (state S.Store conn.old).now.schema }
-    ensures look { IsLook result (λ rows. AreAllNumbered table.edition (state S.Store conn.old).now.trees rows.items)
+    requires { HasV1Tables S.Store conn.old }
+    ensures look { IsLook result (λ rows. AreAllNumbered table.edition
+        (state S.Store conn.old).now.trees rows.items)
         (state S.Store conn.old) (state S.Store conn.new) }
-    ensures mode { conn.old.in_transaction ≡ false → conn.new.in_transaction ≡ false }
+    ensures mode { LeavesAutocommit conn.old conn.new }
 {
     conn.query_all(ALL, &[])
 }

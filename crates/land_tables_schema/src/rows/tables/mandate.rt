@@ -1,6 +1,6 @@
-//! The rows of `mandate`, which the first version of the tables does not have.
-ghost use Rattle.std.specs.Prelude.{◌≡◌, ◌<◌, ◌^◌, false};
-ghost use Rattle.land_tables_schema.specs.Land.{IsLand};
+//! The rows of `mandate`, which schema version 1 does not have.
+ghost use Rattle.std.specs.Prelude.{◌<◌, ◌^◌};
+ghost use Rattle.land_tables_schema.specs.Connections.{HasRegisterTables, LeavesAutocommit, SameReference};
 ghost use Rattle.land_tables_schema.specs.Rows.Forms.{Adds, Turns};
 ghost use Rattle.land_tables_schema.specs.Rows.Looks.{IsLook, AreAll};
 ghost use Rattle.land_tables_schema.specs.Rows.Mandate.{is_mandate, mandates};
@@ -8,23 +8,22 @@ ghost use Rattle.land_tables_schema.specs.Rows.Versions.{begun, closed};
 ghost use Rattle.land_tables_schema.specs.Steps.{IsStep};
 ghost use Rattle.land_tables_schema.specs.Tables as table;
 ghost use Rattle.sqlite.specs.Held.{state};
-ghost use Rattle.sqlite.specs.State.{HasCleanDisk};
 
 use crate::rows::cells::{of_moment, of_number};
 use sqlite::{Alter, Connection, Error, Row, Transaction};
 
-/// The text that begins a version.
+/// Inserts a current version.
 const BEGIN: &str =
     "INSERT INTO mandate (principal, agent, since, until) VALUES (?1, ?2, ?3, 4102444800000)";
 
-/// The text that closes what stands.
+/// Closes the current version.
 const CLOSE: &str =
     "UPDATE mandate SET until = ?3 WHERE principal = ?1 AND agent = ?2 AND until = 4102444800000";
 
-/// The text that lists all versions.
+/// Lists all versions.
 const ALL: &str = "SELECT principal, agent, since, until FROM mandate";
 
-/// Begins a version of a mandate that a party gives another.
+/// Inserts a current version of a mandate.
 pub fn begin<S: Alter>(
     tx: &mut Transaction<'_, S>,
     principal: u64,
@@ -33,9 +32,10 @@ pub fn begin<S: Alter>(
 ) -> Result<usize, Error>
     requires principal_fits { principal < 2 ^ 63 }
     requires agent_fits { agent < 2 ^ 63 }
-    requires land { HasCleanDisk (state S.Store tx.old.conn.now) → IsLand (state S.Store tx.old.conn.now).now.schema }
-    ensures same_reference { tx.new.conn.ghost_name ≡ tx.old.conn.ghost_name }
-    ensures step { IsStep result (Adds mandates (begun (record { principal = principal; agent = agent }) since))
+    requires land { HasRegisterTables S.Store tx.old.conn.now }
+    ensures same_reference { SameReference tx.old tx.new }
+    ensures step { IsStep result (Adds mandates (begun
+        (record { principal = principal; agent = agent }) since))
         (state S.Store tx.old.conn.now) (state S.Store tx.new.conn.now) }
 {
     tx.execute(
@@ -44,7 +44,7 @@ pub fn begin<S: Alter>(
     )
 }
 
-/// Closes the version of a mandate that stands.
+/// Closes the current version of a mandate.
 pub fn close<S: Alter>(
     tx: &mut Transaction<'_, S>,
     principal: u64,
@@ -53,8 +53,8 @@ pub fn close<S: Alter>(
 ) -> Result<usize, Error>
     requires principal_fits { principal < 2 ^ 63 }
     requires agent_fits { agent < 2 ^ 63 }
-    requires land { HasCleanDisk (state S.Store tx.old.conn.now) → IsLand (state S.Store tx.old.conn.now).now.schema }
-    ensures same_reference { tx.new.conn.ghost_name ≡ tx.old.conn.ghost_name }
+    requires land { HasRegisterTables S.Store tx.old.conn.now }
+    ensures same_reference { SameReference tx.old tx.new }
     ensures step { IsStep result (Turns mandates (closed (is_mandate principal agent) stamp))
         (state S.Store tx.old.conn.now) (state S.Store tx.new.conn.now) }
 {
@@ -64,12 +64,13 @@ pub fn close<S: Alter>(
     )
 }
 
-/// All versions, each as the cells of its row with its lifespan, in whatever order.
+/// Returns all versions, each as the cells of its row with its lifespan, in unspecified order.
 pub fn all<S: Alter>(conn: &mut Connection<S>) -> Result<Vec<Row>, Error>
-    requires { HasCleanDisk (state S.Store conn.old) → IsLand (state S.Store conn.old).now.schema }
-    ensures look { IsLook result (λ rows. AreAll table.mandate 2 (state S.Store conn.old).now.trees rows.items)
+    requires { HasRegisterTables S.Store conn.old }
+    ensures look { IsLook result (λ rows. AreAll table.mandate 2
+        (state S.Store conn.old).now.trees rows.items)
         (state S.Store conn.old) (state S.Store conn.new) }
-    ensures mode { conn.old.in_transaction ≡ false → conn.new.in_transaction ≡ false }
+    ensures mode { LeavesAutocommit conn.old conn.new }
 {
     conn.query_all(ALL, &[])
 }

@@ -1,6 +1,7 @@
 //! The rows of `member`.
-ghost use Rattle.std.specs.Prelude.{◌≡◌, ◌<◌, ◌^◌, false};
-ghost use Rattle.land_tables_schema.specs.Land.{HasFirstTables, IsLand};
+ghost use Rattle.std.specs.Prelude.{◌<◌, ◌^◌};
+ghost use Rattle.land_tables_schema.specs.Connections.{HasRegisterTables, HasV1Tables, LeavesAutocommit};
+ghost use Rattle.land_tables_schema.specs.Connections.{SameReference};
 ghost use Rattle.land_tables_schema.specs.Rows.Forms.{Adds, Turns};
 ghost use Rattle.land_tables_schema.specs.Rows.Looks.{IsLook, AreAll};
 ghost use Rattle.land_tables_schema.specs.Rows.Member.{is_member_of, members};
@@ -8,22 +9,21 @@ ghost use Rattle.land_tables_schema.specs.Rows.Versions.{begun, closed};
 ghost use Rattle.land_tables_schema.specs.Steps.{IsStep};
 ghost use Rattle.land_tables_schema.specs.Tables as table;
 ghost use Rattle.sqlite.specs.Held.{state};
-ghost use Rattle.sqlite.specs.State.{HasCleanDisk};
 
 use crate::rows::cells::{of_moment, of_number};
 use sqlite::{Alter, Connection, Error, Row, Transaction};
 
-/// The text that begins a version.
+/// Inserts a current version.
 const BEGIN: &str = "INSERT INTO member (grp, party, num, den, since, until) \
     VALUES (?1, ?2, ?3, ?4, ?5, 4102444800000)";
 
-/// The text that closes what stands.
+/// Closes the current version.
 const CLOSE: &str = "UPDATE member SET until = ?2 WHERE grp = ?1 AND until = 4102444800000";
 
-/// The text that lists all versions.
+/// Lists all versions.
 const ALL: &str = "SELECT grp, party, num, den, since, until FROM member";
 
-/// Begins a version of a member of a group.
+/// Inserts a current version of a member of a group.
 pub fn begin<S: Alter>(
     tx: &mut Transaction<'_, S>,
     grp: u64,
@@ -36,9 +36,10 @@ pub fn begin<S: Alter>(
     requires party_fits { party < 2 ^ 63 }
     requires num_fits { num < 2 ^ 63 }
     requires den_fits { den < 2 ^ 63 }
-    requires land { HasCleanDisk (state S.Store tx.old.conn.now) → IsLand (state S.Store tx.old.conn.now).now.schema }
-    ensures same_reference { tx.new.conn.ghost_name ≡ tx.old.conn.ghost_name }
-    ensures step { IsStep result (Adds members (begun (record { grp = grp; party = party; num = num; den = den }) since))
+    requires land { HasRegisterTables S.Store tx.old.conn.now }
+    ensures same_reference { SameReference tx.old tx.new }
+    ensures step { IsStep result (Adds members (begun
+        (record { grp = grp; party = party; num = num; den = den }) since))
         (state S.Store tx.old.conn.now) (state S.Store tx.new.conn.now) }
 {
     tx.execute(
@@ -53,23 +54,23 @@ pub fn begin<S: Alter>(
     )
 }
 
-/// Closes the versions of all members of a group that stand.
+/// Closes the current versions of all members of a group.
 pub fn close<S: Alter>(tx: &mut Transaction<'_, S>, grp: u64, stamp: i64) -> Result<usize, Error>
     requires grp_fits { grp < 2 ^ 63 }
-    requires land { HasCleanDisk (state S.Store tx.old.conn.now) → IsLand (state S.Store tx.old.conn.now).now.schema }
-    ensures same_reference { tx.new.conn.ghost_name ≡ tx.old.conn.ghost_name }
+    requires land { HasRegisterTables S.Store tx.old.conn.now }
+    ensures same_reference { SameReference tx.old tx.new }
     ensures step { IsStep result (Turns members (closed (is_member_of grp) stamp))
         (state S.Store tx.old.conn.now) (state S.Store tx.new.conn.now) }
 {
     tx.execute(CLOSE, &[of_number(grp), of_moment(stamp)])
 }
 
-/// All versions, each as the cells of its row with its lifespan, in whatever order.
+/// Returns all versions, each as the cells of its row with its lifespan, in unspecified order.
 pub fn all<S: Alter>(conn: &mut Connection<S>) -> Result<Vec<Row>, Error>
-    requires { HasCleanDisk (state S.Store conn.old) → HasFirstTables (state S.Store conn.old).now.schema }
+    requires { HasV1Tables S.Store conn.old }
     ensures look { IsLook result (λ rows. AreAll table.member 4 (state S.Store conn.old).now.trees rows.items)
         (state S.Store conn.old) (state S.Store conn.new) }
-    ensures mode { conn.old.in_transaction ≡ false → conn.new.in_transaction ≡ false }
+    ensures mode { LeavesAutocommit conn.old conn.new }
 {
     conn.query_all(ALL, &[])
 }

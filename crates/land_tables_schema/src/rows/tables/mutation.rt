@@ -1,6 +1,7 @@
 //! The rows of `mutation`.
-ghost use Rattle.std.specs.Prelude.{◌≡◌, ◌<◌, ◌^◌, false};
-ghost use Rattle.land_tables_schema.specs.Land.{HasFirstTables, IsLand};
+ghost use Rattle.std.specs.Prelude.{◌<◌, ◌^◌};
+ghost use Rattle.land_tables_schema.specs.Connections.{HasRegisterTables, HasV1Tables, LeavesAutocommit};
+ghost use Rattle.land_tables_schema.specs.Connections.{SameReference};
 ghost use Rattle.land_tables_schema.specs.Rows.Forms.{Adds, Turns};
 ghost use Rattle.land_tables_schema.specs.Rows.Looks.{IsLook, AreAll};
 ghost use Rattle.land_tables_schema.specs.Rows.Mutation.{FitsMutation, is_mutation, mutation_of, mutations};
@@ -8,54 +9,53 @@ ghost use Rattle.land_tables_schema.specs.Rows.Versions.{begun, closed};
 ghost use Rattle.land_tables_schema.specs.Steps.{IsStep};
 ghost use Rattle.land_tables_schema.specs.Tables as table;
 ghost use Rattle.sqlite.specs.Held.{state};
-ghost use Rattle.sqlite.specs.State.{HasCleanDisk};
 
 use crate::rows::cells::{of_moment, of_number, of_text};
 use sqlite::{Alter, Connection, Error, Row, Transaction};
 
-/// The text that begins a version.
+/// Inserts a current version.
 const BEGIN: &str = "INSERT INTO mutation \
     (number, lodger, reference, source, lodged, act, content, state, since, until) \
     VALUES (?1, ?2, ?3, ?4, ?5, ?6, ?7, ?8, ?9, 4102444800000)";
 
-/// The text that closes what stands.
+/// Closes the current version.
 const CLOSE: &str = "UPDATE mutation SET until = ?2 WHERE number = ?1 AND until = 4102444800000";
 
-/// The text that lists all versions.
+/// Lists all versions.
 const ALL: &str = "SELECT \
     number, lodger, reference, source, lodged, act, content, state, since, until \
     FROM mutation";
 
-/// What the cells of a mutation's row hold.
+/// The cells of a row of `mutation`.
 #[derive(Clone, Copy, Debug)]
 pub struct MutationCells<'a> {
     /// The mutation's number.
     pub number: u64,
     /// The number of the party that lodged it.
     pub lodger: u64,
-    /// What its lodger calls it.
+    /// Its reference, chosen by the lodger.
     pub reference: &'a str,
     /// The number of its source.
     pub source: u64,
-    /// When it was lodged, in milliseconds since 1970 UTC.
+    /// The moment of its lodging, in Unix milliseconds.
     pub lodged: i64,
     /// The word of the act that lodged it.
     pub act: &'a str,
-    /// What it asks for, as it is written.
+    /// Its content, as compact JSON.
     pub content: &'a str,
-    /// The word for how far it has come.
+    /// The word of its state.
     pub state: &'a str,
 }
 
-/// Begins a version of a mutation.
+/// Inserts a current version of a mutation.
 pub fn begin<S: Alter>(
     tx: &mut Transaction<'_, S>,
     cells: MutationCells<'_>,
     since: i64,
 ) -> Result<usize, Error>
     requires fits { FitsMutation cells }
-    requires land { HasCleanDisk (state S.Store tx.old.conn.now) → IsLand (state S.Store tx.old.conn.now).now.schema }
-    ensures same_reference { tx.new.conn.ghost_name ≡ tx.old.conn.ghost_name }
+    requires land { HasRegisterTables S.Store tx.old.conn.now }
+    ensures same_reference { SameReference tx.old tx.new }
     ensures step { IsStep result (Adds mutations (begun (mutation_of cells.entry) since))
         (state S.Store tx.old.conn.now) (state S.Store tx.new.conn.now) }
 {
@@ -75,23 +75,24 @@ pub fn begin<S: Alter>(
     )
 }
 
-/// Closes the version of a mutation that stands.
+/// Closes the current version of a mutation.
 pub fn close<S: Alter>(tx: &mut Transaction<'_, S>, number: u64, stamp: i64) -> Result<usize, Error>
     requires number_fits { number < 2 ^ 63 }
-    requires land { HasCleanDisk (state S.Store tx.old.conn.now) → IsLand (state S.Store tx.old.conn.now).now.schema }
-    ensures same_reference { tx.new.conn.ghost_name ≡ tx.old.conn.ghost_name }
+    requires land { HasRegisterTables S.Store tx.old.conn.now }
+    ensures same_reference { SameReference tx.old tx.new }
     ensures step { IsStep result (Turns mutations (closed (is_mutation number) stamp))
         (state S.Store tx.old.conn.now) (state S.Store tx.new.conn.now) }
 {
     tx.execute(CLOSE, &[of_number(number), of_moment(stamp)])
 }
 
-/// All versions, each as the cells of its row with its lifespan, in whatever order.
+/// Returns all versions, each as the cells of its row with its lifespan, in unspecified order.
 pub fn all<S: Alter>(conn: &mut Connection<S>) -> Result<Vec<Row>, Error>
-    requires { HasCleanDisk (state S.Store conn.old) → HasFirstTables (state S.Store conn.old).now.schema }
-    ensures look { IsLook result (λ rows. AreAll table.mutation 8 (state S.Store conn.old).now.trees rows.items)
+    requires { HasV1Tables S.Store conn.old }
+    ensures look { IsLook result (λ rows. AreAll table.mutation 8
+        (state S.Store conn.old).now.trees rows.items)
         (state S.Store conn.old) (state S.Store conn.new) }
-    ensures mode { conn.old.in_transaction ≡ false → conn.new.in_transaction ≡ false }
+    ensures mode { LeavesAutocommit conn.old conn.new }
 {
     conn.query_all(ALL, &[])
 }

@@ -1,6 +1,7 @@
 //! The rows of `rrr`.
-ghost use Rattle.std.specs.Prelude.{◌≡◌, ◌<◌, ◌^◌, false};
-ghost use Rattle.land_tables_schema.specs.Land.{HasFirstTables, IsLand};
+ghost use Rattle.std.specs.Prelude.{◌<◌, ◌^◌};
+ghost use Rattle.land_tables_schema.specs.Connections.{HasRegisterTables, HasV1Tables, LeavesAutocommit};
+ghost use Rattle.land_tables_schema.specs.Connections.{SameReference};
 ghost use Rattle.land_tables_schema.specs.Rows.Forms.{Adds, Turns};
 ghost use Rattle.land_tables_schema.specs.Rows.Looks.{IsLook, AreAll};
 ghost use Rattle.land_tables_schema.specs.Rows.Rrr.{FitsRrr, is_rrr, rrr_of, rrrs};
@@ -8,25 +9,24 @@ ghost use Rattle.land_tables_schema.specs.Rows.Versions.{begun, closed};
 ghost use Rattle.land_tables_schema.specs.Steps.{IsStep};
 ghost use Rattle.land_tables_schema.specs.Tables as table;
 ghost use Rattle.sqlite.specs.Held.{state};
-ghost use Rattle.sqlite.specs.State.{HasCleanDisk};
 
 use crate::rows::cells::{of_moment, of_number, of_number_or_null, of_text, of_text_or_null};
 use sqlite::{Alter, Connection, Error, Row, Transaction};
 
-/// The text that begins a version.
+/// Inserts a current version.
 const BEGIN: &str = "INSERT INTO rrr \
     (number, unit, party, class, num, den, amount, currency, place, words, source, since, until) \
     VALUES (?1, ?2, ?3, ?4, ?5, ?6, ?7, ?8, ?9, ?10, ?11, ?12, 4102444800000)";
 
-/// The text that closes what stands.
+/// Closes the current version.
 const CLOSE: &str = "UPDATE rrr SET until = ?2 WHERE number = ?1 AND until = 4102444800000";
 
-/// The text that lists all versions.
+/// Lists all versions.
 const ALL: &str = "SELECT \
     number, unit, party, class, num, den, amount, currency, place, words, source, since, until \
     FROM rrr";
 
-/// What the cells of an entry's row hold. What its class does not use is `None`.
+/// The cells of a row of `rrr`. Those that its class does not use are `None`.
 #[derive(Clone, Copy, Debug)]
 pub struct RrrCells<'a> {
     /// The entry's number.
@@ -35,7 +35,7 @@ pub struct RrrCells<'a> {
     pub unit: u64,
     /// The number of its party.
     pub party: u64,
-    /// The word for what it says.
+    /// The word of its class.
     pub class: &'a str,
     /// The share of a right: its numerator.
     pub num: Option<u64>,
@@ -53,15 +53,15 @@ pub struct RrrCells<'a> {
     pub source: u64,
 }
 
-/// Begins a version of an entry.
+/// Inserts a current version of an entry.
 pub fn begin<S: Alter>(
     tx: &mut Transaction<'_, S>,
     cells: RrrCells<'_>,
     since: i64,
 ) -> Result<usize, Error>
     requires fits { FitsRrr cells }
-    requires land { HasCleanDisk (state S.Store tx.old.conn.now) → IsLand (state S.Store tx.old.conn.now).now.schema }
-    ensures same_reference { tx.new.conn.ghost_name ≡ tx.old.conn.ghost_name }
+    requires land { HasRegisterTables S.Store tx.old.conn.now }
+    ensures same_reference { SameReference tx.old tx.new }
     ensures step { IsStep result (Adds rrrs (begun (rrr_of cells.entry) since))
         (state S.Store tx.old.conn.now) (state S.Store tx.new.conn.now) }
 {
@@ -84,23 +84,23 @@ pub fn begin<S: Alter>(
     )
 }
 
-/// Closes the version of an entry that stands.
+/// Closes the current version of an entry.
 pub fn close<S: Alter>(tx: &mut Transaction<'_, S>, number: u64, stamp: i64) -> Result<usize, Error>
     requires number_fits { number < 2 ^ 63 }
-    requires land { HasCleanDisk (state S.Store tx.old.conn.now) → IsLand (state S.Store tx.old.conn.now).now.schema }
-    ensures same_reference { tx.new.conn.ghost_name ≡ tx.old.conn.ghost_name }
+    requires land { HasRegisterTables S.Store tx.old.conn.now }
+    ensures same_reference { SameReference tx.old tx.new }
     ensures step { IsStep result (Turns rrrs (closed (is_rrr number) stamp))
         (state S.Store tx.old.conn.now) (state S.Store tx.new.conn.now) }
 {
     tx.execute(CLOSE, &[of_number(number), of_moment(stamp)])
 }
 
-/// All versions, each as the cells of its row with its lifespan, in whatever order.
+/// Returns all versions, each as the cells of its row with its lifespan, in unspecified order.
 pub fn all<S: Alter>(conn: &mut Connection<S>) -> Result<Vec<Row>, Error>
-    requires { HasCleanDisk (state S.Store conn.old) → HasFirstTables (state S.Store conn.old).now.schema }
+    requires { HasV1Tables S.Store conn.old }
     ensures look { IsLook result (λ rows. AreAll table.rrr 11 (state S.Store conn.old).now.trees rows.items)
         (state S.Store conn.old) (state S.Store conn.new) }
-    ensures mode { conn.old.in_transaction ≡ false → conn.new.in_transaction ≡ false }
+    ensures mode { LeavesAutocommit conn.old conn.new }
 {
     conn.query_all(ALL, &[])
 }

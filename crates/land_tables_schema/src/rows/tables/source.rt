@@ -1,6 +1,7 @@
 //! The rows of `source`.
 ghost use Rattle.std.specs.Prelude.{◌<◌, ◌^◌};
-ghost use Rattle.land_tables_schema.specs.Connections.{HasRegisterTables, HasV1Tables, LeavesAutocommit, SameReference};
+ghost use Rattle.land_tables_schema.specs.Connections.{HasRegisterTables, HasV1Tables, LeavesAutocommit};
+ghost use Rattle.land_tables_schema.specs.Connections.{SameReference};
 ghost use Rattle.land_tables_schema.specs.Rows.Forms.{Adds, Turns};
 ghost use Rattle.land_tables_schema.specs.Rows.Looks.{IsLook, AreAll};
 ghost use Rattle.land_tables_schema.specs.Rows.Source.{is_source, sources};
@@ -12,17 +13,17 @@ ghost use Rattle.sqlite.specs.Held.{state};
 use crate::rows::cells::{of_moment, of_number, of_text};
 use sqlite::{Alter, Connection, Error, Row, Transaction};
 
-/// The text that begins a version.
+/// Inserts a current version.
 const BEGIN: &str =
     "INSERT INTO source (number, kind, title, since, until) VALUES (?1, ?2, ?3, ?4, 4102444800000)";
 
-/// The text that closes what stands.
+/// Closes the current version.
 const CLOSE: &str = "UPDATE source SET until = ?2 WHERE number = ?1 AND until = 4102444800000";
 
-/// The text that lists all versions.
+/// Lists all versions.
 const ALL: &str = "SELECT number, kind, title, since, until FROM source";
 
-/// Begins a version of a source.
+/// Inserts a current version of a source.
 pub fn begin<S: Alter>(
     tx: &mut Transaction<'_, S>,
     number: u64,
@@ -33,7 +34,8 @@ pub fn begin<S: Alter>(
     requires number_fits { number < 2 ^ 63 }
     requires land { HasRegisterTables S.Store tx.old.conn.now }
     ensures same_reference { SameReference tx.old tx.new }
-    ensures step { IsStep result (Adds sources (begun (record { number = number; kind = kind.now; title = title.now }) since))
+    ensures step { IsStep result (Adds sources (begun
+        (record { number = number; kind = kind.now; title = title.now }) since))
         (state S.Store tx.old.conn.now) (state S.Store tx.new.conn.now) }
 {
     tx.execute(
@@ -47,7 +49,7 @@ pub fn begin<S: Alter>(
     )
 }
 
-/// Closes the version of a source that stands.
+/// Closes the current version of a source.
 pub fn close<S: Alter>(tx: &mut Transaction<'_, S>, number: u64, stamp: i64) -> Result<usize, Error>
     requires number_fits { number < 2 ^ 63 }
     requires land { HasRegisterTables S.Store tx.old.conn.now }
@@ -58,7 +60,7 @@ pub fn close<S: Alter>(tx: &mut Transaction<'_, S>, number: u64, stamp: i64) -> 
     tx.execute(CLOSE, &[of_number(number), of_moment(stamp)])
 }
 
-/// All versions, each as the cells of its row with its lifespan, in whatever order.
+/// Returns all versions, each as the cells of its row with its lifespan, in unspecified order.
 pub fn all<S: Alter>(conn: &mut Connection<S>) -> Result<Vec<Row>, Error>
     requires { HasV1Tables S.Store conn.old }
     ensures look { IsLook result (λ rows. AreAll table.source 3 (state S.Store conn.old).now.trees rows.items)

@@ -1,6 +1,7 @@
 //! The rows of `unit`.
-ghost use Rattle.std.specs.Prelude.{◌≡◌, ◌<◌, ◌^◌, false};
-ghost use Rattle.land_tables_schema.specs.Land.{HasFirstTables, IsLand};
+ghost use Rattle.std.specs.Prelude.{◌<◌, ◌^◌};
+ghost use Rattle.land_tables_schema.specs.Connections.{HasRegisterTables, HasV1Tables, LeavesAutocommit};
+ghost use Rattle.land_tables_schema.specs.Connections.{SameReference};
 ghost use Rattle.land_tables_schema.specs.Rows.Forms.{Adds, Turns};
 ghost use Rattle.land_tables_schema.specs.Rows.Looks.{IsLook, AreAll};
 ghost use Rattle.land_tables_schema.specs.Rows.Unit.{is_unit, units};
@@ -8,22 +9,21 @@ ghost use Rattle.land_tables_schema.specs.Rows.Versions.{begun, closed};
 ghost use Rattle.land_tables_schema.specs.Steps.{IsStep};
 ghost use Rattle.land_tables_schema.specs.Tables as table;
 ghost use Rattle.sqlite.specs.Held.{state};
-ghost use Rattle.sqlite.specs.State.{HasCleanDisk};
 
 use crate::rows::cells::{of_flag, of_moment, of_number, of_text};
 use sqlite::{Alter, Connection, Error, Row, Transaction};
 
-/// The text that begins a version.
+/// Inserts a current version.
 const BEGIN: &str =
     "INSERT INTO unit (number, name, checked, since, until) VALUES (?1, ?2, ?3, ?4, 4102444800000)";
 
-/// The text that closes what stands.
+/// Closes the current version.
 const CLOSE: &str = "UPDATE unit SET until = ?2 WHERE number = ?1 AND until = 4102444800000";
 
-/// The text that lists all versions.
+/// Lists all versions.
 const ALL: &str = "SELECT number, name, checked, since, until FROM unit";
 
-/// Begins a version of a unit.
+/// Inserts a current version of a unit.
 pub fn begin<S: Alter>(
     tx: &mut Transaction<'_, S>,
     number: u64,
@@ -32,9 +32,10 @@ pub fn begin<S: Alter>(
     since: i64,
 ) -> Result<usize, Error>
     requires number_fits { number < 2 ^ 63 }
-    requires land { HasCleanDisk (state S.Store tx.old.conn.now) → IsLand (state S.Store tx.old.conn.now).now.schema }
-    ensures same_reference { tx.new.conn.ghost_name ≡ tx.old.conn.ghost_name }
-    ensures step { IsStep result (Adds units (begun (record { number = number; name = name.now; checked = checked }) since))
+    requires land { HasRegisterTables S.Store tx.old.conn.now }
+    ensures same_reference { SameReference tx.old tx.new }
+    ensures step { IsStep result (Adds units (begun
+        (record { number = number; name = name.now; checked = checked }) since))
         (state S.Store tx.old.conn.now) (state S.Store tx.new.conn.now) }
 {
     tx.execute(
@@ -48,23 +49,23 @@ pub fn begin<S: Alter>(
     )
 }
 
-/// Closes the version of a unit that stands.
+/// Closes the current version of a unit.
 pub fn close<S: Alter>(tx: &mut Transaction<'_, S>, number: u64, stamp: i64) -> Result<usize, Error>
     requires number_fits { number < 2 ^ 63 }
-    requires land { HasCleanDisk (state S.Store tx.old.conn.now) → IsLand (state S.Store tx.old.conn.now).now.schema }
-    ensures same_reference { tx.new.conn.ghost_name ≡ tx.old.conn.ghost_name }
+    requires land { HasRegisterTables S.Store tx.old.conn.now }
+    ensures same_reference { SameReference tx.old tx.new }
     ensures step { IsStep result (Turns units (closed (is_unit number) stamp))
         (state S.Store tx.old.conn.now) (state S.Store tx.new.conn.now) }
 {
     tx.execute(CLOSE, &[of_number(number), of_moment(stamp)])
 }
 
-/// All versions, each as the cells of its row with its lifespan, in whatever order.
+/// Returns all versions, each as the cells of its row with its lifespan, in unspecified order.
 pub fn all<S: Alter>(conn: &mut Connection<S>) -> Result<Vec<Row>, Error>
-    requires { HasCleanDisk (state S.Store conn.old) → HasFirstTables (state S.Store conn.old).now.schema }
+    requires { HasV1Tables S.Store conn.old }
     ensures look { IsLook result (λ rows. AreAll table.unit 3 (state S.Store conn.old).now.trees rows.items)
         (state S.Store conn.old) (state S.Store conn.new) }
-    ensures mode { conn.old.in_transaction ≡ false → conn.new.in_transaction ≡ false }
+    ensures mode { LeavesAutocommit conn.old conn.new }
 {
     conn.query_all(ALL, &[])
 }
