@@ -4,7 +4,8 @@ use Rattle.land_keep.specs.Timeline.{IsSoundTimeline, Timeline, last_register, l
 use Rattle.land_tables.specs.Calls.{IsSame}
 use Rattle.land_tables.specs.Findings.{Finds, FindsFirst, is_one_edition, is_version}
 use Rattle.land_tables.specs.Office.{IsHonest, IsOffice, Office}
-use Rattle.land_tables.specs.Registers.{AreIntervals, AreOf, AreOurs, IsRegister, MayBeOurs, Shapes, the_second}
+use Rattle.land_tables.specs.Registers.{AreIntervals, AreOf, AreOurs, IsRegister, MayBeOurs, Shapes}
+use Rattle.land_tables.specs.Registers.{the_second}
 use Rattle.land_tables.specs.Standing.{HoldsTimeline, timeline_in}
 use Rattle.land_tables.specs.declared.fault.AdoptFault.{AdoptFault}
 use Rattle.land_tables.specs.declared.fault.AdoptFault.TheVariants as fault
@@ -26,9 +27,17 @@ abbrev pub IsRefused : Shapes → AdoptFault → Database → Type 0
 IsRefused shapes fault.NotOurs db = ¬ AreOurs shapes db
 IsRefused shapes fault.Version db = AreOurs shapes db × (¬ AreOf shapes db)
 IsRefused shapes fault.Interval db = AreOf shapes db × (¬ AreIntervals shapes db)
-IsRefused shapes fault.Unsound db = AreIntervals shapes db × ((tl : Timeline) → HoldsTimeline (shapes.rows db.trees) tl → ¬ IsSoundTimeline tl)
+IsRefused shapes fault.Unsound db =
+    AreIntervals shapes db
+    × ((tl : Timeline) → HoldsTimeline (shapes.rows db.trees) tl → ¬ IsSoundTimeline tl)
 IsRefused shapes fault.NoMemory db = ⊤
 IsRefused shapes fault.Store db = ⊤
+
+-- a read fails only with a fault for which the store is refused as a register of this schema version
+abbrev pub IsRefusedBy : {S X : Type 0} → Ghosts S → Result X AdoptFault → Shapes → (old new : Held S)
+    → Type 0
+IsRefusedBy g r shapes old new =
+    HasCleanDisk (state g new) → IfErr r (λ fault. IsRefused shapes fault (state g old).now)
 
 -- a store that is refused, except if out of memory or for a store error, does not hold a register
 abbrev pub HoldsNone : Shapes → AdoptFault → Database → Type 0

@@ -1,7 +1,8 @@
 -- The numbers of `AdoptFault`, and the fault of a failed read.
 use Rattle.std.specs.Prelude.{ℕ}
 use Rattle.land_tables.specs.declared.fault.AdoptFault.{AdoptFault}
-use Rattle.land_tables.specs.declared.fault.AdoptFault.TheVariants.{NotOurs, Interval, Unsound, Version, NoMemory, Store}
+use Rattle.land_tables.specs.declared.fault.AdoptFault.TheVariants.{NotOurs, Interval, Unsound, Version}
+use Rattle.land_tables.specs.declared.fault.AdoptFault.TheVariants.{NoMemory, Store}
 use Rattle.land_tables_rows.specs.declared.listing.fault.ReadFault.{ReadFault}
 use Rattle.land_tables_rows.specs.declared.listing.fault.ReadFault.TheVariants as read
 

@@ -1,5 +1,6 @@
 -- The decoded tables of a store, and the tests that they pass.
-use Rattle.std.specs.Prelude.{◌≡◌, ◌<ℤ◌, ◌==◌, ℕ, Bool, true, false, List, [], ◌∷◌, Result, Ok, Err, Some, None, ⊤}
+use Rattle.std.specs.Prelude.{◌≡◌, ◌<ℤ◌, ◌==◌, ℕ, Bool, true, false, List, [], ◌∷◌, Result, Ok, Err, Some}
+use Rattle.std.specs.Prelude.{None, ⊤}
 use Rattle.land_core.specs.declared.mandates.Mandate.{Mandate}
 use Rattle.land_keep.specs.Moments.{last_moment}
 use Rattle.land_tables.specs.declared.fault.AdoptFault.{AdoptFault}
@@ -77,7 +78,8 @@ abbrev pub Misses : AdoptFault → Findings → Type 0
 Misses fault.NotOurs found = ⊥
 Misses fault.Version found = ⊥
 Misses fault.Interval found = has_intervals found.moments found.history ≡ false
-Misses fault.Unsound found = (has_intervals found.moments found.history ≡ true) × (¬ IsLawful found.moments found.history)
+Misses fault.Unsound found =
+    (has_intervals found.moments found.history ≡ true) × (¬ IsLawful found.moments found.history)
 Misses fault.NoMemory found = ⊤
 Misses fault.Store found = (m : Moment) × (last found.moments ≡ Some m) × (last_moment <ℤ m.stamp)
 

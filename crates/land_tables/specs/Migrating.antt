@@ -66,4 +66,6 @@ pub record StaysSame (old new : State) : Type 0 where
 
 -- a crash of a store that was open leaves the last commit, or schema version 2
 abbrev pub LeavesOrRaises : (old new : State) → Type 0
-LeavesOrRaises old new = HasCleanDisk new → IsTrue old.is_open → (db : Trees) → new.may_leave db → (db ≡ old.committed.trees) ⊎ AreRaised old.now db
+LeavesOrRaises old new =
+    HasCleanDisk new → IsTrue old.is_open → (db : Trees) → new.may_leave db → (db ≡ old.committed.trees)
+    ⊎ AreRaised old.now db

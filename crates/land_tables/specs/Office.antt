@@ -24,8 +24,10 @@ pub record Office (S : Type 0) : Type 0 where
 
 abbrev pub office_code : {S : Type 0} → Coded S → Coded (Office S)
 office_code {S} store =
-    code_by (Held S × (ℤ × (ℕ × Bool))) (coded× (held_code store) (coded× coded_ℤ (coded× coded_ℕ coded_bool)))
-    (λ o. (o.conn, (o.last, (o.next, o.is_closed)))) (λ p. record { conn = p.0; last = p.1.0; next = p.1.1.0; is_closed = p.1.1.1 }) (λ _. refl)
+    code_by (Held S × (ℤ × (ℕ × Bool)))
+    (coded× (held_code store) (coded× coded_ℤ (coded× coded_ℕ coded_bool)))
+    (λ o. (o.conn, (o.last, (o.next, o.is_closed))))
+    (λ p. record { conn = p.0; last = p.1.0; next = p.1.1.0; is_closed = p.1.1.1 }) (λ _. refl)
 
 -- an open store has the tables of schema version 2, with valid intervals, and they hold a sound timeline, all
 -- of it committed
@@ -69,7 +71,8 @@ Rests g o = o.is_closed ≡ false → Leaves g o (λ db. HoldsTimeline db (held 
 
 -- if no call had failed before, a crash leaves one of these two timelines
 abbrev pub LeavesEither : {S : Type 0} → Ghosts S → (old new : Office S) → (before after : Timeline) → Type 0
-LeavesEither g old new before after = old.is_closed ≡ false → Leaves g new (λ db. HoldsTimeline db before ⊎ HoldsTimeline db after)
+LeavesEither g old new before after =
+    old.is_closed ≡ false → Leaves g new (λ db. HoldsTimeline db before ⊎ HoldsTimeline db after)
 
 -- a new register was created: the tables hold the new timeline
 pub record IsNewOffice (s : State) : Type 0 where
@@ -94,7 +97,9 @@ pub record StaysUntouched (old new : State) : Type 0 where
 
 -- a crash of a store that was open leaves the last commit, or the new register
 abbrev pub LeavesOrBegins : (old new : State) → Type 0
-LeavesOrBegins old new = HasCleanDisk new → IsTrue old.is_open → (db : Trees) → new.may_leave db → (db ≡ old.committed.trees) ⊎ HoldsTimeline db new_timeline
+LeavesOrBegins old new =
+    HasCleanDisk new → IsTrue old.is_open → (db : Trees) → new.may_leave db → (db ≡ old.committed.trees)
+    ⊎ HoldsTimeline db new_timeline
 
 -- a store that is open after a fault has its old content, or the last committed content
 abbrev pub IsKept : (old new : State) → Type 0

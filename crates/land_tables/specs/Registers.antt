@@ -59,7 +59,8 @@ pub record AreOf (shapes : Shapes) (db : Database) : Type 0 where
 -- each lifespan begins at a stamp, and ends at a later stamp or never; lifespans of one key are disjoint
 pub record AreIntervals (shapes : Shapes) (db : Database) : Type 0 where
   pub made : AreOf shapes db
-  pub intervals : has_intervals (told_by moments (shapes.rows db.trees)) (history_in (shapes.rows db.trees)) ≡ true
+  pub intervals : has_intervals (told_by moments (shapes.rows db.trees)) (history_in (shapes.rows db.trees))
+      ≡ true
 
 -- the tables hold a sound timeline
 pub record IsRegister (shapes : Shapes) (db : Database) : Type 0 where

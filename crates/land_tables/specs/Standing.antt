@@ -35,4 +35,6 @@ pub record HoldsTimeline (db : Trees) (tl : Timeline) : Type 0 where
 -- the register read from tables at a moment: its current versions, with the next number of the latest moment
 -- up to it
 abbrev pub ReadsAt : Trees → ℤ → Register → Type 0
-ReadsAt db t register = (listed : List Moment) × (history : History) × Says moments db listed × SaysHistory db history × (register ≡ register_at t history (next_at listed t))
+ReadsAt db t register =
+    (listed : List Moment) × (history : History) × Says moments db listed × SaysHistory db history
+    × (register ≡ register_at t history (next_at listed t))

@@ -23,13 +23,16 @@ use sqlite::{Alter, Connection};
 pub(crate) fn begin_register<S: Alter>(conn: &mut Connection<S>) -> Result<(), StoreFault>
     requires alone { conn.old.in_transaction ≡ false }
     requires empty { HasCleanDisk (state S.Store conn.old) → (state S.Store conn.old).now.schema ≡ no_schema }
-    ensures made { HasCleanDisk (state S.Store conn.new) → OnOk result (IsNewOffice (state S.Store conn.new)) }
+    ensures made { HasCleanDisk (state S.Store conn.new)
+        → OnOk result (IsNewOffice (state S.Store conn.new)) }
     ensures neither { HasCleanDisk (state S.Store conn.new) → IsTrue (state S.Store conn.new).is_open
         → OnErr result ((state S.Store conn.new).now ≡ (state S.Store conn.old).committed) }
     ensures untouched { HasCleanDisk (state S.Store conn.new)
-        → IfErr result (λ fault. fault ≢ store.Store → AreUntouched (state S.Store conn.old) (state S.Store conn.new)) }
+        → IfErr result
+        (λ fault. fault ≢ store.Store → AreUntouched (state S.Store conn.old) (state S.Store conn.new)) }
     ensures open { result ≢ Err store.Closed }
-    ensures crash { Survives (state S.Store conn.old) (state S.Store conn.new) (λ db. HoldsTimeline db new_timeline) }
+    ensures crash { Survives (state S.Store conn.old) (state S.Store conn.new)
+        (λ db. HoldsTimeline db new_timeline) }
     ensures ended { conn.new.in_transaction ≡ false }
 {
     versions_stand_for_one();

@@ -1,9 +1,10 @@
 //! Failed reads of a store.
-ghost use Rattle.std.specs.Prelude.{◌≡◌, ◌≢◌, false, IsTrue};
+ghost use Rattle.std.specs.Prelude.{◌≡◌, ◌≢◌};
 ghost use Rattle.land_keep.specs.declared.store_fault.StoreFault.TheVariants as store;
-ghost use Rattle.land_tables_schema.specs.Rows.Looks.{IsLeft};
+ghost use Rattle.land_tables.specs.Calls.{CommitsNothing, IsLeftIfOpen};
+ghost use Rattle.land_tables_schema.specs.Connections.{LeavesAutocommit};
 ghost use Rattle.sqlite.specs.Held.{state};
-ghost use Rattle.sqlite.specs.State.{HasCleanDisk, IsUnchanged, Survives};
+ghost use Rattle.sqlite.specs.State.{HasCleanDisk, IsUnchanged};
 
 use land_keep::store_fault::StoreFault;
 use land_tables_rows::listing::fault::ReadFault;
@@ -15,10 +16,11 @@ use sqlite::{Alter, Connection};
 pub fn failed<S: Alter>(conn: &mut Connection<S>, fault: ReadFault) -> StoreFault
     ensures open { result ≢ store.Closed }
     ensures memory { result ≡ store.NoMemory → fault ≡ ReadFault.NoMemory }
-    ensures same { HasCleanDisk (state S.Store conn.new) → result ≢ store.Store → IsUnchanged (state S.Store conn.old) (state S.Store conn.new) }
-    ensures left { HasCleanDisk (state S.Store conn.new) → IsTrue (state S.Store conn.new).is_open → IsLeft (state S.Store conn.old) (state S.Store conn.new) }
-    ensures survives { Survives (state S.Store conn.old) (state S.Store conn.new) (λ _. ⊥) }
-    ensures mode { conn.old.in_transaction ≡ false → conn.new.in_transaction ≡ false }
+    ensures same { HasCleanDisk (state S.Store conn.new) → result ≢ store.Store
+        → IsUnchanged (state S.Store conn.old) (state S.Store conn.new) }
+    ensures left { IsLeftIfOpen S.Store conn.old conn.new }
+    ensures survives { CommitsNothing S.Store conn.old conn.new }
+    ensures mode { LeavesAutocommit conn.old conn.new }
 {
     if is_open(conn) && fault == ReadFault::NoMemory {
         StoreFault::NoMemory

@@ -1,10 +1,11 @@
 //! Migrates a register from schema version 1 to 2.
 ghost use Rattle.std.specs.Prelude.{◌≡◌, ◌≢◌, ◌⊎◌, ◌≤ℤ◌, false, IfErr, IfOk, IsTrue, OnErr, OnOk};
 ghost use Rattle.land_keep.specs.Moments.{last_moment};
+ghost use Rattle.land_tables.specs.Calls.{CommitsNothing, IsCommittedIfOpen, IsLeftIfOpen};
 ghost use Rattle.land_tables.specs.Migrating.{IsMigration};
 ghost use Rattle.land_tables.specs.declared.fault.AdoptFault.TheVariants as why;
+ghost use Rattle.land_tables_schema.specs.Connections.{LeavesAutocommit};
 ghost use Rattle.land_tables_schema.specs.Land.{IsRaisable};
-ghost use Rattle.land_tables_schema.specs.Rows.Looks.{IsLeft};
 ghost use Rattle.land_tables_schema.specs.Rows.Raising.{MayRaise, Raises};
 ghost use Rattle.sqlite.specs.Held.{state};
 ghost use Rattle.sqlite.specs.State.{HasCleanDisk, IsUnchanged, Survives};
@@ -26,10 +27,11 @@ use std::alloc::Global;
 /// else `Store` (502).
 fn not_raised<S: Alter>(conn: &mut Connection<S>, error: Error) -> AdoptFault
     ensures fault { (result ≡ why.NoMemory) ⊎ (result ≡ why.Store) }
-    ensures same { HasCleanDisk (state S.Store conn.new) → result ≢ why.Store → IsUnchanged (state S.Store conn.old) (state S.Store conn.new) }
-    ensures left { HasCleanDisk (state S.Store conn.new) → IsTrue (state S.Store conn.new).is_open → IsLeft (state S.Store conn.old) (state S.Store conn.new) }
-    ensures survives { Survives (state S.Store conn.old) (state S.Store conn.new) (λ _. ⊥) }
-    ensures mode { conn.old.in_transaction ≡ false → conn.new.in_transaction ≡ false }
+    ensures same { HasCleanDisk (state S.Store conn.new) → result ≢ why.Store
+        → IsUnchanged (state S.Store conn.old) (state S.Store conn.new) }
+    ensures left { IsLeftIfOpen S.Store conn.old conn.new }
+    ensures survives { CommitsNothing S.Store conn.old conn.new }
+    ensures mode { LeavesAutocommit conn.old conn.new }
 {
     match failed(conn, ReadFault::from(error)) {
         StoreFault::NoMemory => AdoptFault::NoMemory,
@@ -43,17 +45,25 @@ fn not_raised<S: Alter>(conn: &mut Connection<S>, error: Error) -> AdoptFault
 /// which case nothing is done. A store that is open after an error is unchanged.
 fn raise_store<S: Alter>(conn: &mut Connection<S>, latest: Moment) -> Result<Moment, AdoptFault>
     requires alone { conn.old.in_transaction ≡ false }
-    requires settled { HasCleanDisk (state S.Store conn.old) → (state S.Store conn.old).now ≡ (state S.Store conn.old).committed }
+    requires settled { HasCleanDisk (state S.Store conn.old)
+        → (state S.Store conn.old).now ≡ (state S.Store conn.old).committed }
     ensures latest { IfOk result (λ it. it ≡ latest) }
     ensures raisable { OnOk result (IsRaisable (state S.Store conn.old).now.schema) }
-    ensures done { HasCleanDisk (state S.Store conn.new) → OnOk result (Raises (state S.Store conn.old).now (state S.Store conn.new).now) }
-    ensures committed { HasCleanDisk (state S.Store conn.new) → OnOk result ((state S.Store conn.new).committed ≡ (state S.Store conn.new).now) }
-    ensures open { HasCleanDisk (state S.Store conn.new) → OnOk result (IsTrue (state S.Store conn.new).is_open) }
+    ensures done { HasCleanDisk (state S.Store conn.new)
+        → OnOk result (Raises (state S.Store conn.old).now (state S.Store conn.new).now) }
+    ensures committed { HasCleanDisk (state S.Store conn.new)
+        → OnOk result ((state S.Store conn.new).committed ≡ (state S.Store conn.new).now) }
+    ensures open { HasCleanDisk (state S.Store conn.new)
+        → OnOk result (IsTrue (state S.Store conn.new).is_open) }
     ensures fault { IfErr result (λ fault. (fault ≡ why.NoMemory) ⊎ (fault ≡ why.Store)) }
-    ensures same { HasCleanDisk (state S.Store conn.new) → IfErr result (λ fault. fault ≢ why.Store → IsTrue (state S.Store conn.new).is_open) }
+    ensures same { HasCleanDisk (state S.Store conn.new)
+        → IfErr result (λ fault. fault ≢ why.Store → IsTrue (state S.Store conn.new).is_open) }
     ensures undone { HasCleanDisk (state S.Store conn.new) → IsTrue (state S.Store conn.new).is_open
-        → OnErr result (((state S.Store conn.new).now ≡ (state S.Store conn.old).committed) × ((state S.Store conn.new).committed ≡ (state S.Store conn.old).committed)) }
-    ensures crash { Survives (state S.Store conn.old) (state S.Store conn.new) (MayRaise (state S.Store conn.old).now) }
+        → OnErr result
+        (((state S.Store conn.new).now ≡ (state S.Store conn.old).committed)
+        × ((state S.Store conn.new).committed ≡ (state S.Store conn.old).committed)) }
+    ensures crash { Survives (state S.Store conn.old) (state S.Store conn.new)
+        (MayRaise (state S.Store conn.old).now) }
     ensures ended { conn.new.in_transaction ≡ false }
 {
     if !can_raise(conn.schema()) {
@@ -73,7 +83,7 @@ pub(crate) fn migrate_store<S: Alter>(
     conn: &mut Connection<S>,
 ) -> Result<Moment, AdoptFault>
     requires alone { conn.old.in_transaction ≡ false }
-    requires settled { IsTrue (state S.Store conn.old).is_open → (state S.Store conn.old).now ≡ (state S.Store conn.old).committed }
+    requires settled { IsCommittedIfOpen S.Store conn.old }
     ensures migration { IsMigration result (state S.Store conn.old) (state S.Store conn.new) }
     ensures moment { IfOk result (λ latest. latest.stamp ≤ℤ last_moment) }
     ensures ended { conn.new.in_transaction ≡ false }

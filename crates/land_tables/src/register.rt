@@ -1,12 +1,12 @@
 //! Reads the register at a moment from whole tables.
-ghost use Rattle.std.specs.Prelude.{◌≡◌, ◌≢◌, false, Err};
+ghost use Rattle.std.specs.Prelude.{◌≡◌, ◌≢◌, Err};
 ghost use Rattle.land_keep.specs.Timeline.{register_at};
 ghost use Rattle.land_keep.specs.declared.store_fault.StoreFault.TheVariants as store;
 ghost use Rattle.land_tables.specs.Calls.{IsSafeRead};
 ghost use Rattle.land_tables.specs.Office.{HoldsRegister};
 ghost use Rattle.land_tables.specs.Standing.{ReadsAt, timeline_in};
-ghost use Rattle.land_tables_schema.specs.Land.{IsLand};
-ghost use Rattle.land_tables_schema.specs.Rows.Looks.{IsLook};
+ghost use Rattle.land_tables_rows.specs.Effects.{ReadsTables};
+ghost use Rattle.land_tables_schema.specs.Connections.{HasRegisterTables, LeavesAutocommit};
 ghost use Rattle.sqlite.specs.Held.{state};
 ghost use Rattle.sqlite.specs.State.{HasCleanDisk};
 
@@ -31,9 +31,9 @@ fn read_tables<S: Alter>(
     conn: &mut Connection<S>,
     at: i64,
 ) -> Result<Register, ReadFault>
-    requires { HasCleanDisk (state S.Store conn.old) → IsLand (state S.Store conn.old).now.schema }
-    ensures look { IsLook result (ReadsAt (state S.Store conn.old).now.trees at) (state S.Store conn.old) (state S.Store conn.new) }
-    ensures mode { conn.old.in_transaction ≡ false → conn.new.in_transaction ≡ false }
+    requires { HasRegisterTables S.Store conn.old }
+    ensures look { ReadsTables S.Store result (λ db. ReadsAt db at) conn.old conn.new }
+    ensures mode { LeavesAutocommit conn.old conn.new }
 {
     let moments = moments(alloc, conn)?;
     let history = history(alloc, conn)?;
@@ -48,11 +48,13 @@ fn read_at<S: Alter>(
     conn: &mut Connection<S>,
     at: i64,
 ) -> Result<Register, StoreFault>
-    requires land { HasCleanDisk (state S.Store conn.old) → IsLand (state S.Store conn.old).now.schema }
-    requires committed { HasCleanDisk (state S.Store conn.old) → (state S.Store conn.old).committed ≡ (state S.Store conn.old).now }
+    requires land { HasRegisterTables S.Store conn.old }
+    requires committed { HasCleanDisk (state S.Store conn.old)
+        → (state S.Store conn.old).committed ≡ (state S.Store conn.old).now }
     ensures open { result ≢ Err store.Closed }
-    ensures safe { IsSafeRead result (ReadsAt (state S.Store conn.old).now.trees at) (state S.Store conn.old) (state S.Store conn.new) }
-    ensures mode { conn.old.in_transaction ≡ false → conn.new.in_transaction ≡ false }
+    ensures safe { IsSafeRead result (ReadsAt (state S.Store conn.old).now.trees at) (state S.Store conn.old)
+        (state S.Store conn.new) }
+    ensures mode { LeavesAutocommit conn.old conn.new }
 {
     match read_tables(alloc, conn, at) {
         Ok(register) => Ok(register),
@@ -69,8 +71,10 @@ pub(crate) fn register_in<S: Alter>(
 ) -> Result<Register, StoreFault>
     requires { HasCleanDisk (state S.Store conn.old) → HoldsRegister (state S.Store conn.old) }
     ensures open { result ≢ Err store.Closed }
-    ensures safe { IsSafeRead result (λ it. it ≡ register_at (timeline_in (state S.Store conn.old).now.trees) at) (state S.Store conn.old) (state S.Store conn.new) }
-    ensures mode { conn.old.in_transaction ≡ false → conn.new.in_transaction ≡ false }
+    ensures safe { IsSafeRead result
+        (λ it. it ≡ register_at (timeline_in (state S.Store conn.old).now.trees) at) (state S.Store conn.old)
+        (state S.Store conn.new) }
+    ensures mode { LeavesAutocommit conn.old conn.new }
 {
     versions_stand_for_one();
     order_does_not_matter();

@@ -1,8 +1,9 @@
 //! Reads the tables of a store of a given schema version.
-ghost use Rattle.std.specs.Prelude.{◌≡◌, false, IfErr};
-ghost use Rattle.land_tables.specs.Adopting.{IsFound, IsFoundBy, IsMissing, IsRefused};
+ghost use Rattle.std.specs.Prelude.{IfErr};
+ghost use Rattle.land_tables.specs.Adopting.{IsFound, IsFoundBy, IsMissing, IsRefusedBy};
+ghost use Rattle.land_tables.specs.Calls.{ReadsStore};
 ghost use Rattle.land_tables.specs.Registers.{the_first, the_second};
-ghost use Rattle.land_tables_schema.specs.Rows.Looks.{IsLook};
+ghost use Rattle.land_tables_schema.specs.Connections.{LeavesAutocommit};
 ghost use Rattle.sqlite.specs.Held.{state};
 ghost use Rattle.sqlite.specs.State.{HasCleanDisk};
 
@@ -22,9 +23,10 @@ fn found_of<S: Alter>(
     conn: &mut Connection<S>,
     version: u64,
 ) -> Result<Findings, AdoptFault>
-    ensures look { IsLook result (IsFound version (state S.Store conn.old).now) (state S.Store conn.old) (state S.Store conn.new) }
-    ensures missing { HasCleanDisk (state S.Store conn.new) → IfErr result (λ fault. IsMissing version fault (state S.Store conn.old).now) }
-    ensures mode { conn.old.in_transaction ≡ false → conn.new.in_transaction ≡ false }
+    ensures look { ReadsStore S.Store result (IsFound version) conn.old conn.new }
+    ensures missing { HasCleanDisk (state S.Store conn.new)
+        → IfErr result (λ fault. IsMissing version fault (state S.Store conn.old).now) }
+    ensures mode { LeavesAutocommit conn.old conn.new }
 {
     if !may_be_land(conn.schema()) {
         return Err(AdoptFault::NotOurs);
@@ -40,9 +42,9 @@ pub(crate) fn found_second<S: Alter>(
     alloc: Global,
     conn: &mut Connection<S>,
 ) -> Result<Findings, AdoptFault>
-    ensures look { IsLook result (IsFoundBy the_second (state S.Store conn.old).now) (state S.Store conn.old) (state S.Store conn.new) }
-    ensures refused { HasCleanDisk (state S.Store conn.new) → IfErr result (λ fault. IsRefused the_second fault (state S.Store conn.old).now) }
-    ensures mode { conn.old.in_transaction ≡ false → conn.new.in_transaction ≡ false }
+    ensures look { ReadsStore S.Store result (IsFoundBy the_second) conn.old conn.new }
+    ensures refused { IsRefusedBy S.Store result the_second conn.old conn.new }
+    ensures mode { LeavesAutocommit conn.old conn.new }
 {
     let first = found_of(alloc, conn, 2)?;
     if !is_land(conn.schema()) {
@@ -58,9 +60,9 @@ pub(crate) fn found_first<S: Alter>(
     alloc: Global,
     conn: &mut Connection<S>,
 ) -> Result<Findings, AdoptFault>
-    ensures look { IsLook result (IsFoundBy the_first (state S.Store conn.old).now) (state S.Store conn.old) (state S.Store conn.new) }
-    ensures refused { HasCleanDisk (state S.Store conn.new) → IfErr result (λ fault. IsRefused the_first fault (state S.Store conn.old).now) }
-    ensures mode { conn.old.in_transaction ≡ false → conn.new.in_transaction ≡ false }
+    ensures look { ReadsStore S.Store result (IsFoundBy the_first) conn.old conn.new }
+    ensures refused { IsRefusedBy S.Store result the_first conn.old conn.new }
+    ensures mode { LeavesAutocommit conn.old conn.new }
 {
     let found = found_of(alloc, conn, 1)?;
     if !is_first(conn.schema()) {

@@ -3,7 +3,8 @@ ghost use Rattle.std.specs.Prelude.{◌≡◌, ◌≢◌, ◌≤ℤ◌, true, fa
 ghost use Rattle.land_keep.specs.Keeping.{CanWrite, Closes, IsLive};
 ghost use Rattle.land_keep.specs.Machine.{written};
 ghost use Rattle.land_keep.specs.Moments.{last_moment};
-ghost use Rattle.land_keep.specs.Timeline.{IsSoundTimeline, last_register, last_stamp, new_timeline, register_at};
+ghost use Rattle.land_keep.specs.Timeline.{IsSoundTimeline, last_register, last_stamp, new_timeline};
+ghost use Rattle.land_keep.specs.Timeline.{register_at};
 ghost use Rattle.land_keep.specs.declared.store_fault.StoreFault.TheVariants as store;
 ghost use Rattle.land_tables.specs.Adopting.{HoldsNone, IsAdopted, IsRefused};
 ghost use Rattle.land_tables.specs.Calls.{IsSame};
@@ -67,7 +68,8 @@ impl<S: Alter + Drop> Drop for Tables<S> {
 }
 
 impl<S: Alter> Tables<S> {
-    ghost use Rattle.land_tables.specs.Office.{IsCreated, IsHonest, IsKept, LeavesEither, LeavesOrBegins, Rests, StaysUntouched, held};
+    ghost use Rattle.land_tables.specs.Office.{IsCreated, IsHonest, IsKept, LeavesEither, LeavesOrBegins};
+    ghost use Rattle.land_tables.specs.Office.{Rests, StaysUntouched, held};
 
     /// Creates the tables of a new register in an empty store, in one transaction. Errors: `Store` (502) if
     /// the store has tables or a transaction is active, in which case nothing is done, or on a store error;
@@ -77,11 +79,16 @@ impl<S: Alter> Tables<S> {
         ensures taken { (state S.Store conn).now.schema ≢ no_schema → result ≡ Err (conn, store.Store) }
         ensures created { IfOk result (IsCreated S.Store) }
         ensures kept { IfErr result (λ e. IsKept (state S.Store conn) (state S.Store e.0)) }
-        ensures crash_after { IfOk result (λ t. Survives (state S.Store conn) (state S.Store t.conn) (λ db. HoldsTimeline db new_timeline)) }
-        ensures crash { IfErr result (λ e. Survives (state S.Store conn) (state S.Store e.0) (λ db. HoldsTimeline db new_timeline)) }
+        ensures crash_after { IfOk result
+            (λ t. Survives (state S.Store conn) (state S.Store t.conn)
+            (λ db. HoldsTimeline db new_timeline)) }
+        ensures crash { IfErr result
+            (λ e. Survives (state S.Store conn) (state S.Store e.0) (λ db. HoldsTimeline db new_timeline)) }
         ensures rests { IfOk result (Rests S.Store) }
         ensures either { IfErr result (λ e. LeavesOrBegins (state S.Store conn) (state S.Store e.0)) }
-        ensures untouched { IfErr result (λ e. HasCleanDisk (state S.Store e.0) → e.1 ≢ store.Store → StaysUntouched (state S.Store conn) (state S.Store e.0)) }
+        ensures untouched { IfErr result
+            (λ e. HasCleanDisk (state S.Store e.0) → e.1 ≢ store.Store
+            → StaysUntouched (state S.Store conn) (state S.Store e.0)) }
     {
         let mut conn = conn;
         if !conn.is_autocommit() || !is_empty(conn.schema()) {
@@ -112,10 +119,15 @@ impl<S: Alter> Tables<S> {
     ) -> Result<Tables<S>, (Connection<S>, AdoptFault)>
         ensures begun { conn.in_transaction ≡ true → result ≡ Err (conn, why.Store) }
         ensures adopted { IfOk result (IsAdopted S.Store conn) }
-        ensures refused { IfErr result (λ e. HasCleanDisk (state S.Store e.0) → IsRefused the_second e.1 (state S.Store conn).now) }
-        ensures none { IfErr result (λ e. HasCleanDisk (state S.Store e.0) → HoldsNone the_second e.1 (state S.Store conn).now) }
-        ensures same { IfErr result (λ e. HasCleanDisk (state S.Store e.0) → e.1 ≢ why.Store → IsSame (state S.Store conn) (state S.Store e.0)) }
-        ensures crash_after { IfOk result (λ t. Survives (state S.Store conn) (state S.Store t.conn) (λ _. ⊥)) }
+        ensures refused { IfErr result
+            (λ e. HasCleanDisk (state S.Store e.0) → IsRefused the_second e.1 (state S.Store conn).now) }
+        ensures none { IfErr result
+            (λ e. HasCleanDisk (state S.Store e.0) → HoldsNone the_second e.1 (state S.Store conn).now) }
+        ensures same { IfErr result
+            (λ e. HasCleanDisk (state S.Store e.0) → e.1 ≢ why.Store
+            → IsSame (state S.Store conn) (state S.Store e.0)) }
+        ensures crash_after { IfOk result
+            (λ t. Survives (state S.Store conn) (state S.Store t.conn) (λ _. ⊥)) }
         ensures crash { IfErr result (λ e. Survives (state S.Store conn) (state S.Store e.0) (λ _. ⊥)) }
     {
         let mut conn = conn;
@@ -144,13 +156,21 @@ impl<S: Alter> Tables<S> {
     ) -> Result<Tables<S>, (Connection<S>, AdoptFault)>
         ensures begun { conn.in_transaction ≡ true → result ≡ Err (conn, why.Store) }
         ensures migrated { IfOk result (IsMigrated S.Store conn) }
-        ensures refused { IfErr result (λ e. HasCleanDisk (state S.Store e.0) → IsRefused the_first e.1 (state S.Store conn).now) }
-        ensures none { IfErr result (λ e. HasCleanDisk (state S.Store e.0) → HoldsNone the_first e.1 (state S.Store conn).now) }
-        ensures same { IfErr result (λ e. HasCleanDisk (state S.Store e.0) → e.1 ≢ why.Store → StaysSame (state S.Store conn) (state S.Store e.0)) }
+        ensures refused { IfErr result
+            (λ e. HasCleanDisk (state S.Store e.0) → IsRefused the_first e.1 (state S.Store conn).now) }
+        ensures none { IfErr result
+            (λ e. HasCleanDisk (state S.Store e.0) → HoldsNone the_first e.1 (state S.Store conn).now) }
+        ensures same { IfErr result
+            (λ e. HasCleanDisk (state S.Store e.0) → e.1 ≢ why.Store
+            → StaysSame (state S.Store conn) (state S.Store e.0)) }
         ensures kept { conn.in_transaction ≡ false
-            → IfErr result (λ e. HasCleanDisk (state S.Store e.0) → IsTrue (state S.Store e.0).is_open → StaysSame (state S.Store conn) (state S.Store e.0)) }
-        ensures crash_after { IfOk result (λ t. Survives (state S.Store conn) (state S.Store t.conn) (AreRaised (state S.Store conn).now)) }
-        ensures crash { IfErr result (λ e. Survives (state S.Store conn) (state S.Store e.0) (AreRaised (state S.Store conn).now)) }
+            → IfErr result
+            (λ e. HasCleanDisk (state S.Store e.0) → IsTrue (state S.Store e.0).is_open
+            → StaysSame (state S.Store conn) (state S.Store e.0)) }
+        ensures crash_after { IfOk result
+            (λ t. Survives (state S.Store conn) (state S.Store t.conn) (AreRaised (state S.Store conn).now)) }
+        ensures crash { IfErr result
+            (λ e. Survives (state S.Store conn) (state S.Store e.0) (AreRaised (state S.Store conn).now)) }
         ensures rests { IfOk result (Rests S.Store) }
         ensures either { IfErr result (λ e. LeavesOrRaises (state S.Store conn) (state S.Store e.0)) }
     {
@@ -173,9 +193,11 @@ impl<S: Alter> Tables<S> {
     /// Returns the stamp of the last accepted change, Unix time in milliseconds; 0 in a new register.
     pub fn last(&self) -> i64
         ensures value { result ≡ self.now.last }
-        ensures last { IsLive (IsHonest S.Store self.now) self.now.is_closed → result ≡ last_stamp (held S.Store self.now) }
+        ensures last { IsLive (IsHonest S.Store self.now) self.now.is_closed
+            → result ≡ last_stamp (held S.Store self.now) }
         ensures moment { result ≤ℤ last_moment }
-        ensures sound { IsLive (IsHonest S.Store self.now) self.now.is_closed → IsSoundTimeline (held S.Store self.now) }
+        ensures sound { IsLive (IsHonest S.Store self.now) self.now.is_closed
+            → IsSoundTimeline (held S.Store self.now) }
     {
         self.last
     }
@@ -183,7 +205,8 @@ impl<S: Alter> Tables<S> {
     /// Returns the number that the next new object takes.
     pub fn next(&self) -> u64
         ensures value { result ≡ self.now.next }
-        ensures next { IsLive (IsHonest S.Store self.now) self.now.is_closed → result ≡ (last_register (held S.Store self.now)).next }
+        ensures next { IsLive (IsHonest S.Store self.now) self.now.is_closed
+            → result ≡ (last_register (held S.Store self.now)).next }
     {
         self.next
     }
@@ -206,7 +229,8 @@ impl<S: Alter> Tables<S> {
     /// Proves that between calls, while none has failed, the tables hold a register that `adopt` accepts, of
     /// schema version 2 and with valid intervals. Does nothing at run time.
     pub fn holds_register(&self)
-        ensures { IsLive (IsHonest S.Store self.now) self.now.is_closed → IsRegister the_second (state S.Store self.now.conn).now }
+        ensures { IsLive (IsHonest S.Store self.now) self.now.is_closed
+            → IsRegister the_second (state S.Store self.now.conn).now }
     {
         let _conn = &self.conn;
     }
@@ -215,8 +239,10 @@ impl<S: Alter> Tables<S> {
     /// last it is the current one. Errors: `NoMemory` (501); `Store` (502) on a store error, after which
     /// every call returns `Closed` (503). The tables are unchanged.
     pub fn read_at(&mut self, alloc: Global, at: i64) -> Result<Register, StoreFault>
-        ensures value { IsHonest S.Store self.new → IfOk result (λ it. it ≡ register_at (held S.Store self.old) at) }
-        ensures same { IsLive (IsHonest S.Store self.new) self.new.is_closed → held S.Store self.new ≡ held S.Store self.old }
+        ensures value { IsHonest S.Store self.new
+            → IfOk result (λ it. it ≡ register_at (held S.Store self.old) at) }
+        ensures same { IsLive (IsHonest S.Store self.new) self.new.is_closed
+            → held S.Store self.new ≡ held S.Store self.old }
         ensures was { IsHonest S.Store self.new → IsHonest S.Store self.old }
         ensures last { self.new.last ≡ self.old.last }
         ensures next { self.new.next ≡ self.old.next }
@@ -237,9 +263,11 @@ impl<S: Alter> Tables<S> {
 
     /// Reads the current register. Errors are those of `read_at`. The tables are unchanged.
     pub fn last_register(&mut self, alloc: Global) -> Result<Register, StoreFault>
-        ensures value { IsHonest S.Store self.new → IfOk result (λ it. it ≡ last_register (held S.Store self.old)) }
+        ensures value { IsHonest S.Store self.new
+            → IfOk result (λ it. it ≡ last_register (held S.Store self.old)) }
         ensures last { self.new.last ≡ self.old.last }
-        ensures same { IsLive (IsHonest S.Store self.new) self.new.is_closed → held S.Store self.new ≡ held S.Store self.old }
+        ensures same { IsLive (IsHonest S.Store self.new) self.new.is_closed
+            → held S.Store self.new ≡ held S.Store self.old }
         ensures was { IsHonest S.Store self.new → IsHonest S.Store self.old }
         ensures closes { Closes self.old.is_closed self.new.is_closed result }
     {
@@ -252,14 +280,19 @@ impl<S: Alter> Tables<S> {
     /// the change cannot be written (a string longer than its field, an invalid number), after which every
     /// call returns `Closed` (503). After an error an open store is unchanged.
     pub fn write(&mut self, alloc: Global, change: &Change, stamp: i64) -> Result<(), StoreFault>
-        requires { IsLive (IsHonest S.Store self.old) self.old.is_closed → CanWrite (held S.Store self.old) change.now stamp }
-        ensures ok { IsLive (IsHonest S.Store self.new) self.new.is_closed → OnOk result (held S.Store self.new ≡ written (held S.Store self.old) change.now stamp) }
-        ensures err { IsLive (IsHonest S.Store self.new) self.new.is_closed → OnErr result (held S.Store self.new ≡ held S.Store self.old) }
+        requires { IsLive (IsHonest S.Store self.old) self.old.is_closed
+            → CanWrite (held S.Store self.old) change.now stamp }
+        ensures ok { IsLive (IsHonest S.Store self.new) self.new.is_closed
+            → OnOk result (held S.Store self.new ≡ written (held S.Store self.old) change.now stamp) }
+        ensures err { IsLive (IsHonest S.Store self.new) self.new.is_closed
+            → OnErr result (held S.Store self.new ≡ held S.Store self.old) }
         ensures was { IsHonest S.Store self.new → IsHonest S.Store self.old }
         ensures closes { Closes self.old.is_closed self.new.is_closed result }
-        ensures survives { self.old.is_closed ≡ false → Survives (state S.Store self.old.conn) (state S.Store self.new.conn)
+        ensures survives { self.old.is_closed ≡ false
+            → Survives (state S.Store self.old.conn) (state S.Store self.new.conn)
             (λ db. HoldsTimeline db (written (held S.Store self.old) change.now stamp)) }
-        ensures crash { LeavesEither S.Store self.old self.new (held S.Store self.old) (written (held S.Store self.old) change.now stamp) }
+        ensures crash { LeavesEither S.Store self.old self.new (held S.Store self.old)
+            (written (held S.Store self.old) change.now stamp) }
         ensures rests { Rests S.Store self.new }
     {
         if self.is_closed {

@@ -1,4 +1,4 @@
--- Records of three cells, the first of them their number, decode as they were written.
+-- Records of three cells, the first of them their number, decode to the written value.
 use Rattle.std.proofs.Common.{◌≡◌, ◌==◌, ℕ, ℤ, [], ◌∷◌, ◌++◌, nat_eq, Ok, Result, refl, sym, ap, ◌∙◌}
 use Rattle.land_tables_history.specs.declared.version.Version.{Version}
 use Rattle.land_tables_rows.proofs.Bounds.{bound, same_ok, three}

@@ -12,9 +12,12 @@ use Rattle.land_tables_history.specs.declared.moment.Moment.{Moment}
 
 -- versions that represent a sound timeline are a valid history
 abbrev pub SoundTimelinesAreLawful : Type 0
-SoundTimelinesAreLawful = (moments : List Moment) (versions : History) (tl : Timeline) → StandsFor moments versions tl → IsSoundTimeline tl → IsLawful moments versions
+SoundTimelinesAreLawful =
+    (moments : List Moment) (versions : History) (tl : Timeline) → StandsFor moments versions tl
+    → IsSoundTimeline tl → IsLawful moments versions
 
 -- whether intervals are valid does not depend on their order
 abbrev pub OrderKeepsIntervals : Type 0
 OrderKeepsIntervals =
-    (moments others : List Moment) (one other : History) → IsPermutation moments others → IsReordered one other → has_intervals others other ≡ has_intervals moments one
+    (moments others : List Moment) (one other : History) → IsPermutation moments others
+    → IsReordered one other → has_intervals others other ≡ has_intervals moments one

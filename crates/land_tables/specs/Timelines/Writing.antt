@@ -16,11 +16,14 @@ abbrev pub WritesStand : Type 0
 WritesStand =
     (moments : List Moment) (versions : History) (tl : Timeline) (change : Change) (stamp : ℤ)
     → IsSoundTimeline tl → StandsFor moments versions tl → CanWrite tl change stamp
-    → StandsFor (record { stamp = stamp; next = change.next } ∷ moments) (changed (last_register tl).next change stamp versions) (written tl change stamp)
+    → StandsFor (record { stamp = stamp; next = change.next } ∷ moments)
+    (changed (last_register tl).next change stamp versions) (written tl change stamp)
 
 -- if the intervals were valid, they are valid with the change and its moment
 abbrev pub WritesKeepIntervals : Type 0
 WritesKeepIntervals =
     (moments : List Moment) (versions : History) (tl : Timeline) (change : Change) (stamp : ℤ)
-    → IsSoundTimeline tl → StandsFor moments versions tl → CanWrite tl change stamp → IsSoundTimeline (written tl change stamp) → has_intervals moments versions ≡ true
-    → has_intervals (record { stamp = stamp; next = change.next } ∷ moments) (changed (last_register tl).next change stamp versions) ≡ true
+    → IsSoundTimeline tl → StandsFor moments versions tl → CanWrite tl change stamp
+    → IsSoundTimeline (written tl change stamp) → has_intervals moments versions ≡ true
+    → has_intervals (record { stamp = stamp; next = change.next } ∷ moments)
+    (changed (last_register tl).next change stamp versions) ≡ true

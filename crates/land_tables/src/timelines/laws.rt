@@ -1,5 +1,7 @@
 //! Laws, each over the definitions only.
-ghost use Rattle.land_tables.specs.Timelines.Laws.{LastMomentIsTheLastStamp, LawfulVersionsStand, OrderDoesNotMatter, ReadingIsTheRegister, VersionsStandForOne};
+ghost use Rattle.land_tables.specs.Timelines.Laws.{LastMomentIsTheLastStamp, LawfulVersionsStand};
+ghost use Rattle.land_tables.specs.Timelines.Laws.{OrderDoesNotMatter, ReadingIsTheRegister};
+ghost use Rattle.land_tables.specs.Timelines.Laws.{VersionsStandForOne};
 
 use land_core::laws::soundness_by_look_ups;
 

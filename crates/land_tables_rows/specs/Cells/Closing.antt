@@ -24,7 +24,10 @@ is_numbered number e = e.0 == number
 
 -- Columns that decode were laid out from a record. If the cells of a record decode, they decode after it is
 -- closed too: to the same value, closed if it was current and matched.
-pub record AreTold {K A C : Type 0} (read : Row → Result (Version A) WireFault) (columns : ℕ) (form : Form (laid.Version C)) (meant_row : K → C → Bool) (meant : K → A → Bool) : Type 0 where
-  pub found : (r : Row) (v : Version A) → read (columns_from 1 columns r) ≡ Ok v → (p : laid.Version C) × (form.cells p ≡ columns_from 1 columns r)
-  pub closes : (key : K) (stamp : ℤ) (p : laid.Version C) (v : Version A) → IsMoment stamp → read (form.cells p) ≡ Ok v
+pub record AreTold {K A C : Type 0} (read : Row → Result (Version A) WireFault) (columns : ℕ)
+    (form : Form (laid.Version C)) (meant_row : K → C → Bool) (meant : K → A → Bool) : Type 0 where
+  pub found : (r : Row) (v : Version A) → read (columns_from 1 columns r) ≡ Ok v → (p : laid.Version C)
+      × (form.cells p ≡ columns_from 1 columns r)
+  pub closes : (key : K) (stamp : ℤ) (p : laid.Version C) (v : Version A) → IsMoment stamp
+      → read (form.cells p) ≡ Ok v
       → read (form.cells (closed (meant_row key) stamp p)) ≡ Ok (ended (meant key) stamp v)

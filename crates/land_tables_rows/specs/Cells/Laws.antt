@@ -15,7 +15,8 @@ use Rattle.land_tables_rows.specs.Mutation.Reading.{mutation_in}
 use Rattle.land_tables_rows.specs.Parcel.Cells.{IsExactParcel, fits_parcel, parcel_row_of}
 use Rattle.land_tables_rows.specs.Parcel.Reading.{parcel_in}
 use Rattle.land_tables_rows.specs.Reading.Cells.{text_in}
-use Rattle.land_tables_rows.specs.Reading.Words.{class_word_in, party_kind_in, role_in, source_kind_in, state_in}
+use Rattle.land_tables_rows.specs.Reading.Words.{class_word_in, party_kind_in, role_in, source_kind_in}
+use Rattle.land_tables_rows.specs.Reading.Words.{state_in}
 use Rattle.land_tables_rows.specs.Rrr.Cells.{IsExactRrr, class_word, fits_rrr, rrr_row_of}
 use Rattle.land_tables_rows.specs.Rrr.Reading.{rrr_in}
 use Rattle.land_tables_rows.specs.declared.reading.words.ClassWord.{ClassWord}
@@ -36,18 +37,23 @@ pub record WordsAreRead : Type 0 where
 
 -- a parcel within its limits decodes from its cells, as a version that begins at a moment
 abbrev pub ParcelsReadBack : Type 0
-ParcelsReadBack = (e : ℕ × ParcelRecord) (since : ℤ) → fits_parcel e ≡ true → IsExactParcel e.1 → IsMoment since
-    → parcel_in (parcels.cells (begun (parcel_row_of e) since)) ≡ Ok (record { what = e; since = since; until = never })
+ParcelsReadBack =
+    (e : ℕ × ParcelRecord) (since : ℤ) → fits_parcel e ≡ true → IsExactParcel e.1 → IsMoment since
+    → parcel_in (parcels.cells (begun (parcel_row_of e) since))
+    ≡ Ok (record { what = e; since = since; until = never })
 
 -- an entry within its limits likewise
 abbrev pub RrrsReadBack : Type 0
 RrrsReadBack = (e : ℕ × RrrRecord) (since : ℤ) → fits_rrr e ≡ true → IsExactRrr e.1 → IsMoment since
-    → rrr_in (rrrs.cells (begun (rrr_row_of e) since)) ≡ Ok (record { what = e; since = since; until = never })
+    → rrr_in (rrrs.cells (begun (rrr_row_of e) since))
+    ≡ Ok (record { what = e; since = since; until = never })
 
 -- a mutation within its limits likewise
 abbrev pub MutationsReadBack : Type 0
-MutationsReadBack = (e : ℕ × MutationRecord) (since : ℤ) → fits_mutation e ≡ true → IsExactMutation e.1 → IsMoment since
-    → mutation_in (mutations.cells (begun (mutation_row_of e) since)) ≡ Ok (record { what = e; since = since; until = never })
+MutationsReadBack =
+    (e : ℕ × MutationRecord) (since : ℤ) → fits_mutation e ≡ true → IsExactMutation e.1 → IsMoment since
+    → mutation_in (mutations.cells (begun (mutation_row_of e) since))
+    ≡ Ok (record { what = e; since = since; until = never })
 
 -- the cells of parcels, of entries and of mutations determine them
 abbrev pub ParcelsAreTold : Type 0

@@ -1,5 +1,6 @@
 -- The rows of three tables at a time, decoded.
-use Rattle.land_tables_rows.specs.Listing.Reading.{Says, members, mutations, namings, parcels, parties, roles, rrrs, sources, units}
+use Rattle.land_tables_rows.specs.Listing.Reading.{Says, members, mutations, namings, parcels, parties, roles}
+use Rattle.land_tables_rows.specs.Listing.Reading.{rrrs, sources, units}
 use Rattle.land_tables_rows.specs.declared.listing.history.Holdings.{Holdings}
 use Rattle.land_tables_rows.specs.declared.listing.history.Papers.{Papers}
 use Rattle.land_tables_rows.specs.declared.listing.history.Persons.{Persons}

@@ -1,5 +1,5 @@
 -- How versions are decoded from the rows of a table.
-use Rattle.std.specs.Prelude.{◌≡◌, ◌≢◌, ℕ, List, [], ◌∷◌, map, IsPermutation, Result, Ok, Err}
+use Rattle.std.specs.Prelude.{◌≡◌, ◌≢◌, ℕ, List, [], ◌∷◌, map, IsPermutation, Result, Ok, Err, IfErr}
 use Rattle.land_core.specs.declared.mandates.Mandate.{Mandate}
 use Rattle.land_core.specs.declared.mutation.MutationRecord.{MutationRecord}
 use Rattle.land_core.specs.declared.parcel.ParcelRecord.{ParcelRecord}
@@ -35,6 +35,9 @@ use Rattle.land_wire_json.specs.declared.bodies.wire_fault.WireFault.{WireFault}
 use Rattle.sqlite_schema.specs.declared.schema.Table.{Table}
 use Rattle.sqlite_trees.specs.Tree.{Trees}
 use Rattle.sqlite_value.specs.Order.{Row, column}
+use Rattle.sqlite.specs.Held.{Held, state}
+use Rattle.sqlite.specs.State.{HasCleanDisk}
+use Rattle.sqlite.specs.Store.{Ghosts}
 
 -- how records are decoded from the rows of a table: the table, the columns that are read, and the decoder
 pub record Listing (X : Type 0) : Type 0 where
@@ -48,7 +51,8 @@ AreListed listing db rows = IsPermutation (map listing.shown (db listing.table.t
 
 -- the rows of the table decode to these records, in any order
 abbrev pub Says : {X : Type 0} → Listing X → Trees → List X → Type 0
-Says listing db xs = IsPermutation (map (λ r. listing.said (listing.shown r)) (db listing.table.tree)) (map (λ x. Ok x) xs)
+Says listing db xs =
+    IsPermutation (map (λ r. listing.said (listing.shown r)) (db listing.table.tree)) (map (λ x. Ok x) xs)
 
 abbrev pub parties : Listing (Version (ℕ × PartyRecord))
 parties = record { table = table.party; shown = columns_from 1 5; said = party_in }
@@ -114,9 +118,11 @@ pub record SaysHistory (db : Trees) (history : History) : Type 0 where
 
 -- the result of decoding rows: their values, or a fault; except out of memory, a fault means that they do not
 -- decode
-abbrev pub IsRead : {X : Type 0} → (Row → Result X WireFault) → (List Row) → Result (List X) ReadFault → Type 0
+abbrev pub IsRead : {X : Type 0} → (Row → Result X WireFault) → (List Row) → Result (List X) ReadFault
+    → Type 0
 IsRead said rows (Ok xs) = each_of said rows ≡ Ok xs
-IsRead {X} said rows (Err fault) = fault ≢ NoMemory → (fault ≡ Unreadable) × ((xs : List X) → each_of said rows ≢ Ok xs)
+IsRead {X} said rows (Err fault) =
+    fault ≢ NoMemory → (fault ≡ Unreadable) × ((xs : List X) → each_of said rows ≢ Ok xs)
 
 -- a fault `Unreadable` is returned only if the rows decode to no value
 abbrev pub CannotSay : {X : Type 0} → (X → Type 0) → ReadFault → Type 0
@@ -124,3 +130,9 @@ CannotSay {X} Said fault = fault ≡ Unreadable → (x : X) → ¬ Said x
 
 abbrev pub IsUnreadable : {X : Type 0} → Listing X → Trees → ReadFault → Type 0
 IsUnreadable listing db = CannotSay (Says listing db)
+
+-- a read returns a fault `Unreadable` only if no value has this relation to the tables
+abbrev pub FailsOnlyIfNone : {S X : Type 0} → Ghosts S → Result X ReadFault → (Trees → X → Type 0)
+    → (old new : Held S) → Type 0
+FailsOnlyIfNone g r Said old new =
+    HasCleanDisk (state g new) → IfErr r (CannotSay (Said (state g old).now.trees))

@@ -1,7 +1,8 @@
 -- The decoded value of tables whose rows all decode.
 use Rattle.std.specs.Prelude.{List, [], map, Result, Ok, Err}
 use Rattle.land_tables_history.specs.declared.history.History.{History}
-use Rattle.land_tables_rows.specs.Listing.Reading.{Listing, mandates, members, mutations, namings, parcels, parties, roles, rrrs, sources, units}
+use Rattle.land_tables_rows.specs.Listing.Reading.{Listing, mandates, members, mutations, namings, parcels}
+use Rattle.land_tables_rows.specs.Listing.Reading.{parties, roles, rrrs, sources, units}
 use Rattle.land_tables_rows.specs.Reading.Readings.{each_of}
 use Rattle.land_wire_json.specs.declared.bodies.wire_fault.WireFault.{WireFault}
 use Rattle.sqlite_trees.specs.Tree.{Trees}

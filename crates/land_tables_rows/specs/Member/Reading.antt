@@ -14,4 +14,8 @@ member_in row = do
   share ← share_in (column row 2) (column row 3)
   since ← moment_in (column row 4)
   until ← end_in (column row 5)
-  Ok (record { what = record { group = group; member = record { party = party; share = share } }; since = since; until = until })
+  Ok (record {
+    what = record { group = group; member = record { party = party; share = share } };
+    since = since;
+    until = until;
+  })

@@ -1,4 +1,4 @@
--- Mutations as they are written.
+-- The cells in which mutations are written.
 use Rattle.std.specs.Prelude.{ℕ, ℤ, pos, ◌&&◌, Bool, true, int_le, List, Option, Some, None}
 use Rattle.std.specs.List.{list_all}
 use Rattle.std.specs.Str.{is_utf8}
@@ -53,7 +53,9 @@ is_moment z = int_le (pos 0) z && int_le z (pos 4102444799999)
 -- its numbers, its reference and its content are within their limits, and it was lodged at a moment
 abbrev pub fits_mutation : ℕ × MutationRecord → Bool
 fits_mutation e =
-    is_number e.0 && (is_number e.1.lodger && (is_kept is_reference e.1.reference && (is_number e.1.source && (is_moment e.1.lodged
+    is_number e.0
+    && (is_number e.1.lodger
+    && (is_kept is_reference e.1.reference && (is_number e.1.source && (is_moment e.1.lodged
     && (is_content_kept e.1.content && is_well_formed_content e.1.content)))))
 
 -- the share in its content is a fraction, and its outlines are valid rings

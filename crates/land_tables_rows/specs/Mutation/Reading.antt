@@ -24,7 +24,17 @@ mutation_in row = do
   since ← moment_in (column row 8)
   until ← end_in (column row 9)
   Ok (record {
-    what = (number, record { lodger = lodger; reference = reference; source = source; lodged = lodged; state = state; content = content });
+    what = (
+      number,
+      record {
+        lodger = lodger;
+        reference = reference;
+        source = source;
+        lodged = lodged;
+        state = state;
+        content = content;
+      },
+    );
     since = since;
     until = until;
   })

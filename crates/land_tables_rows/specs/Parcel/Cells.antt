@@ -1,4 +1,4 @@
--- Parcels as they are written.
+-- The cells in which parcels are written.
 use Rattle.std.specs.Prelude.{ℕ, ◌&&◌, ◌<◌, ◌^◌, Bool, string_bytes}
 use Rattle.land_core.specs.Numbers.{is_number}
 use Rattle.land_core.specs.Texts.{is_label}
@@ -11,11 +11,25 @@ use Rattle.land_tables_schema.specs.Rows.Parcel.{ParcelRow}
 
 -- its outline in canonical form
 abbrev pub parcel_row_of : ℕ × ParcelRecord → ParcelRow
-parcel_row_of e = record { number = e.0; unit = e.1.unit; label = e.1.label; outline = printed e.1.outline; source = e.1.source }
+parcel_row_of e =
+    record {
+      number = e.0;
+      unit = e.1.unit;
+      label = e.1.label;
+      outline = printed e.1.outline;
+      source = e.1.source;
+    }
 
 -- the parcel that the cells of a row represent
 abbrev pub parcel_of : ParcelCells → ParcelRow
-parcel_of c = record { number = c.number; unit = c.unit; label = c.label.now; outline = string_bytes c.outline; source = c.source }
+parcel_of c =
+    record {
+      number = c.number;
+      unit = c.unit;
+      label = c.label.now;
+      outline = string_bytes c.outline;
+      source = c.source;
+    }
 
 -- a column can hold each of its numbers
 pub record FitsParcel (c : ParcelCells) : Type 0 where

@@ -19,4 +19,8 @@ parcel_in row = do
   source ← number_in (column row 4)
   since ← moment_in (column row 5)
   until ← end_in (column row 6)
-  Ok (record { what = (number, record { unit = unit; label = label; outline = outline; source = source }); since = since; until = until })
+  Ok (record {
+    what = (number, record { unit = unit; label = label; outline = outline; source = source });
+    since = since;
+    until = until;
+  })

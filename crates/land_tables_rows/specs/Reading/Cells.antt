@@ -1,6 +1,7 @@
 -- The value of a cell: a value of its field, or the fault of the same field in a request. NULL and values of
 -- another type are fault 131.
-use Rattle.std.specs.Prelude.{ℕ, ℤ, pos, negsuc, ◌&&◌, ◌==◌, Bool, true, false, List, nat_le, int_le, Result, Ok, Err, if◌then◌else◌, ⊤}
+use Rattle.std.specs.Prelude.{ℕ, ℤ, pos, negsuc, ◌&&◌, ◌==◌, Bool, true, false, List, nat_le, int_le, Result}
+use Rattle.std.specs.Prelude.{Ok, Err, if◌then◌else◌, ⊤}
 use Rattle.std.specs.Str.{is_utf8}
 use Rattle.land_core.specs.Contents.{is_amount, is_currency}
 use Rattle.land_core.specs.Numbers.{is_number}

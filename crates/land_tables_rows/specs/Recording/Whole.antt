@@ -6,7 +6,8 @@ use Rattle.land_core.specs.Members.{Members, members_in}
 use Rattle.land_core.specs.Numbers.{is_number}
 use Rattle.land_core.specs.declared.change.Change.{Change}
 use Rattle.land_core.specs.declared.content.Content.{Content}
-use Rattle.land_tables_history.specs.Changed.{changed, changed_mandates, changed_members, changed_namings, changed_part, changed_roles}
+use Rattle.land_tables_history.specs.Changed.{changed, changed_mandates, changed_members, changed_namings}
+use Rattle.land_tables_history.specs.Changed.{changed_part, changed_roles}
 use Rattle.land_tables_history.specs.History.{named_units}
 use Rattle.land_tables_history.specs.declared.group_member.GroupMember.{GroupMember}
 use Rattle.land_tables_history.specs.declared.history.History.{History}
@@ -59,7 +60,8 @@ fits_papers change =
 
 -- a change can be written if its records, its ended keys and its next number can
 abbrev pub fits_change : Change → Bool
-fits_change change = fits_people change && (fits_estates change && (fits_papers change && is_next change.next))
+fits_change change =
+    fits_people change && (fits_estates change && (fits_papers change && is_next change.next))
 
 -- ---- lists
 
@@ -79,8 +81,10 @@ mutation_names mutation content = names_of mutation (named_units content)
 -- the tables hold the rewritten history; the moments and the edition are unchanged
 pub record Edits (edit : History → History) (old new : Database) : Type 0 where
   pub schema : new.schema ≡ old.schema
-  pub held : (moments : List Moment) (history : History) → HoldsHistory old.trees moments history → HoldsHistory new.trees moments (edit history)
-  pub editions : (editions : List Edition) → KeepsEditions old.trees editions → KeepsEditions new.trees editions
+  pub held : (moments : List Moment) (history : History) → HoldsHistory old.trees moments history
+      → HoldsHistory new.trees moments (edit history)
+  pub editions : (editions : List Edition) → KeepsEditions old.trees editions
+      → KeepsEditions new.trees editions
 
 -- the parties, roles, members and mandates that a change inserts and ends
 abbrev pub changed_people : Change → (stamp : ℤ) → History → History
@@ -112,5 +116,7 @@ changed_papers next change stamp h = record h {
 pub record Records (change : Change) (next : ℕ) (stamp : ℤ) (old new : Database) : Type 0 where
   pub schema : new.schema ≡ old.schema
   pub held : (moments : List Moment) (history : History) → HoldsHistory old.trees moments history
-      → HoldsHistory new.trees (record { stamp = stamp; next = change.next } ∷ moments) (changed next change stamp history)
-  pub editions : (editions : List Edition) → KeepsEditions old.trees editions → KeepsEditions new.trees editions
+      → HoldsHistory new.trees (record { stamp = stamp; next = change.next } ∷ moments)
+      (changed next change stamp history)
+  pub editions : (editions : List Edition) → KeepsEditions old.trees editions
+      → KeepsEditions new.trees editions

@@ -1,4 +1,4 @@
--- Entries of units as they are written.
+-- The cells in which entries of units are written.
 use Rattle.std.specs.Prelude.{ℕ, ◌&&◌, ◌^◌, Bool, true, nat_lt, List, codes, Some, None, ⊤}
 use Rattle.land_core.specs.Contents.{is_amount, is_currency}
 use Rattle.land_core.specs.Numbers.{is_number}
@@ -38,10 +38,12 @@ blank_row e which = record {
 
 -- the cells of an entry of each class
 abbrev pub class_row : ℕ × RrrRecord → Class → RrrRow
-class_row e (Right type share) = record (blank_row e (word.Right type)) { num = Some share.numerator; den = Some share.denominator }
+class_row e (Right type share) =
+    record (blank_row e (word.Right type)) { num = Some share.numerator; den = Some share.denominator }
 class_row e (Restriction words) = record (blank_row e word.Restriction) { words = Some words }
 class_row e (Responsibility words) = record (blank_row e word.Responsibility) { words = Some words }
-class_row e (Mortgage amount currency rank) = record (blank_row e word.Mortgage) { amount = Some amount; currency = Some currency; place = Some rank }
+class_row e (Mortgage amount currency rank) =
+    record (blank_row e word.Mortgage) { amount = Some amount; currency = Some currency; place = Some rank }
 
 abbrev pub rrr_row_of : ℕ × RrrRecord → RrrRow
 rrr_row_of e = class_row e e.1.class
@@ -51,11 +53,13 @@ abbrev pub fits_class : Class → Bool
 fits_class (Right type share) = true
 fits_class (Restriction words) = is_kept are_words words
 fits_class (Responsibility words) = is_kept are_words words
-fits_class (Mortgage amount currency rank) = is_amount amount && (is_kept is_currency currency && nat_lt rank (2 ^ 63))
+fits_class (Mortgage amount currency rank) =
+    is_amount amount && (is_kept is_currency currency && nat_lt rank (2 ^ 63))
 
 -- its numbers and the fields of its class are within their limits
 abbrev pub fits_rrr : ℕ × RrrRecord → Bool
-fits_rrr e = is_number e.0 && (is_number e.1.unit && (is_number e.1.party && (fits_class e.1.class && is_number e.1.source)))
+fits_rrr e = is_number e.0
+    && (is_number e.1.unit && (is_number e.1.party && (fits_class e.1.class && is_number e.1.source)))
 
 -- the share of a right is a fraction
 abbrev pub IsExactClass : Class → Type 0

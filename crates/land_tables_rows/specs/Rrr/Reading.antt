@@ -7,7 +7,8 @@ use Rattle.land_core.specs.declared.rrr.Class.TheVariants as class
 use Rattle.land_core.specs.declared.rrr.RightType.{RightType}
 use Rattle.land_core.specs.declared.rrr.RrrRecord.{RrrRecord}
 use Rattle.land_tables_history.specs.declared.version.Version.{Version}
-use Rattle.land_tables_rows.specs.Reading.Cells.{amount_in, currency_in, end_in, moment_in, natural_in, null_in, number_in, share_in, words_in}
+use Rattle.land_tables_rows.specs.Reading.Cells.{amount_in, currency_in, end_in, moment_in, natural_in}
+use Rattle.land_tables_rows.specs.Reading.Cells.{null_in, number_in, share_in, words_in}
 use Rattle.land_tables_rows.specs.Reading.Words.{class_word_in}
 use Rattle.land_tables_rows.specs.declared.reading.words.ClassWord.{ClassWord}
 use Rattle.land_tables_rows.specs.declared.reading.words.ClassWord.TheVariants as word
@@ -20,7 +21,8 @@ unfoldable pub no_right_in : Row → Result ⊤ WireFault
 no_right_in row = null_in (column row 4) >>= λ num. null_in (column row 5)
 
 unfoldable pub no_mortgage_in : Row → Result ⊤ WireFault
-no_mortgage_in row = null_in (column row 6) >>= λ amount. null_in (column row 7) >>= λ currency. null_in (column row 8)
+no_mortgage_in row =
+    null_in (column row 6) >>= λ amount. null_in (column row 7) >>= λ currency. null_in (column row 8)
 
 unfoldable pub right_in : RightType → Row → Result Class WireFault
 right_in type row = do
@@ -61,4 +63,8 @@ rrr_in row = do
   source ← number_in (column row 10)
   since ← moment_in (column row 11)
   until ← end_in (column row 12)
-  Ok (record { what = (number, record { unit = unit; party = party; class = said; source = source }); since = since; until = until })
+  Ok (record {
+    what = (number, record { unit = unit; party = party; class = said; source = source });
+    since = since;
+    until = until;
+  })

@@ -19,27 +19,33 @@ pub record Reading (X : Type 0) : Type 0 where
 
 -- a table holds these versions: its rows decode to them, one each, in any order
 pub record Keeps {X : Type 0} (reading : Reading X) (db : Trees) (versions : List (Version X)) : Type 0 where
-  pub said : IsPermutation (map (λ r. reading.said (columns_from 1 reading.width r)) (db reading.table.tree)) (map (λ v. Ok v) versions)
+  pub said : IsPermutation (map (λ r. reading.said (columns_from 1 reading.width r)) (db reading.table.tree))
+      (map (λ v. Ok v) versions)
   pub numbered : AreNumbered (db reading.table.tree)
 
 -- one version more is held, which begins at a moment and is current
 pub record Begins {X : Type 0} (reading : Reading X) (x : X) (since : ℤ) (old new : Database) : Type 0 where
   pub schema : new.schema ≡ old.schema
-  pub held : (versions : List (Version X)) → Keeps reading old.trees versions → Keeps reading new.trees (begun x since ∷ versions)
+  pub held : (versions : List (Version X)) → Keeps reading old.trees versions
+      → Keeps reading new.trees (begun x since ∷ versions)
   pub kept : KeepsOthers reading.table old.trees new.trees
 
 -- the matching current versions end at a moment
-pub record Closes {X : Type 0} (reading : Reading X) (meant : X → Bool) (stamp : ℤ) (old new : Database) : Type 0 where
+pub record Closes {X : Type 0} (reading : Reading X) (meant : X → Bool) (stamp : ℤ) (old new : Database)
+    : Type 0 where
   pub schema : new.schema ≡ old.schema
-  pub held : (versions : List (Version X)) → Keeps reading old.trees versions → Keeps reading new.trees (map (closed meant stamp) versions)
+  pub held : (versions : List (Version X)) → Keeps reading old.trees versions
+      → Keeps reading new.trees (map (closed meant stamp) versions)
   pub kept : KeepsOthers reading.table old.trees new.trees
 
 -- a table that is keyed by a number decodes to these values, one a row, in any order
 abbrev pub Tells : {X : Type 0} → Table → (Row → Result X WireFault) → Trees → List X → Type 0
-Tells table said db xs = IsPermutation (map (λ r. said (numbered_cells r)) (db table.tree)) (map (λ x. Ok x) xs)
+Tells table said db xs =
+    IsPermutation (map (λ r. said (numbered_cells r)) (db table.tree)) (map (λ x. Ok x) xs)
 
 -- one value more is held
-pub record TellsMore {X : Type 0} (table : Table) (said : Row → Result X WireFault) (x : X) (old new : Database) : Type 0 where
+pub record TellsMore {X : Type 0} (table : Table) (said : Row → Result X WireFault) (x : X)
+    (old new : Database) : Type 0 where
   pub schema : new.schema ≡ old.schema
   pub told : (xs : List X) → Tells table said old.trees xs → Tells table said new.trees (x ∷ xs)
   pub kept : KeepsOthers table old.trees new.trees

@@ -28,13 +28,16 @@ use Rattle.sqlite_trees.specs.Tree.{Trees}
 -- if one table is rewritten and the others are unchanged, the tables hold the history with the new versions
 -- of that table
 abbrev pub HoldsWith : {X : Type 0} → Reading X → (List (Version X) → History → History) → Type 0
-HoldsWith {X} reading with = (old new : Trees) (moments : List Moment) (history : History) (versions : List (Version X))
-    → HoldsHistory old moments history → KeepsOthers reading.table old new → Keeps reading new versions → HoldsHistory new moments (with versions history)
+HoldsWith {X} reading with =
+    (old new : Trees) (moments : List Moment) (history : History) (versions : List (Version X))
+    → HoldsHistory old moments history → KeepsOthers reading.table old new → Keeps reading new versions
+    → HoldsHistory new moments (with versions history)
 
 -- this holds for each table; if only moments are written, the history is unchanged
 pub record ChangesAreHeld : Type 0 where
   pub moments : (old new : Trees) (moments others : List Moment) (history : History)
-      → HoldsHistory old moments history → KeepsOthers table.moments old new → KeepsMoments new others → HoldsHistory new others history
+      → HoldsHistory old moments history → KeepsOthers table.moments old new → KeepsMoments new others
+      → HoldsHistory new others history
   pub parties : HoldsWith party.parties (λ vs h. record h { parties = vs })
   pub roles : HoldsWith role.roles (λ vs h. record h { roles = vs })
   pub members : HoldsWith member.members (λ vs h. record h { members = vs })
@@ -62,4 +65,5 @@ pub record RaisedAreRead (db : Trees) (moments : List Moment) (held : History) :
 -- migrating tables of schema version 1 preserves their history
 abbrev pub RaisedRegistersAreHeld : Type 0
 RaisedRegistersAreHeld = (old new : Database) (moments : List Moment) (history : History)
-    → Raises old new → HoldsFirst old.trees moments history → KeepsEditions old.trees (first_edition ∷ []) → RaisedAreRead new.trees moments history
+    → Raises old new → HoldsFirst old.trees moments history → KeepsEditions old.trees (first_edition ∷ [])
+    → RaisedAreRead new.trees moments history

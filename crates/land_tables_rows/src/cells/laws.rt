@@ -1,5 +1,6 @@
 //! Laws, each over the definitions only.
-ghost use Rattle.land_tables_rows.specs.Cells.Laws.{MutationsAreTold, MutationsReadBack, ParcelsAreTold, ParcelsReadBack, RrrsAreTold, RrrsReadBack, WordsAreRead};
+ghost use Rattle.land_tables_rows.specs.Cells.Laws.{MutationsAreTold, MutationsReadBack, ParcelsAreTold};
+ghost use Rattle.land_tables_rows.specs.Cells.Laws.{ParcelsReadBack, RrrsAreTold, RrrsReadBack, WordsAreRead};
 
 /// States that the words of kinds, roles and states decode to their values.
 pub fn words_are_read()

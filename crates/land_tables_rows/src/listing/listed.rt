@@ -1,7 +1,8 @@
 //! Records that the rows of a table decode to.
-ghost use Rattle.std.specs.Prelude.{◌≡◌, false};
+ghost use Rattle.std.specs.Prelude.{◌≡◌};
+ghost use Rattle.land_tables_rows.specs.Effects.{ReadsTables};
 ghost use Rattle.land_tables_rows.specs.Listing.Reading.{AreListed, Listing};
-ghost use Rattle.land_tables_schema.specs.Rows.Looks.{IsLook};
+ghost use Rattle.land_tables_schema.specs.Connections.{LeavesAutocommit};
 ghost use Rattle.sqlite.specs.Held.{state};
 ghost use Rattle.sqlite.specs.State.{HasCleanDisk};
 ghost use Rattle.sqlite_schema.specs.declared.schema.Schema.{Schema};
@@ -20,8 +21,9 @@ pub trait Listed: FromRow {
     /// Reads all rows of the table, in unspecified order.
     fn all<S: Alter>(conn: &mut Connection<S>) -> Result<Vec<Row>, Error>
         requires { HasCleanDisk (state S.Store conn.old) → has (state S.Store conn.old).now.schema }
-        ensures look { IsLook result (λ rows. AreListed listing (state S.Store conn.old).now.trees rows.items) (state S.Store conn.old) (state S.Store conn.new) }
-        ensures mode { conn.old.in_transaction ≡ false → conn.new.in_transaction ≡ false };
+        ensures look { ReadsTables S.Store result
+            (λ db rows. AreListed listing db rows.items) conn.old conn.new }
+        ensures mode { LeavesAutocommit conn.old conn.new };
 
     /// The row decodes as `FromRow` decodes it.
     ghost says: { listing.said ≡ Self.said };

@@ -1,8 +1,7 @@
 //! Reads the rows of the tables as versions.
-ghost use Rattle.std.specs.Prelude.{◌≡◌, false, IfErr};
-ghost use Rattle.land_tables_rows.specs.Listing.Reading.{IsRead, IsUnreadable, Says, editions, moments};
-ghost use Rattle.land_tables_schema.specs.Land.{HasFirstTables};
-ghost use Rattle.land_tables_schema.specs.Rows.Looks.{IsLook};
+ghost use Rattle.land_tables_rows.specs.Effects.{ReadsTables};
+ghost use Rattle.land_tables_rows.specs.Listing.Reading.{FailsOnlyIfNone, IsRead, Says, editions, moments};
+ghost use Rattle.land_tables_schema.specs.Connections.{HasV1Tables, LeavesAutocommit};
 ghost use Rattle.sqlite.specs.Held.{state};
 ghost use Rattle.sqlite.specs.State.{HasCleanDisk};
 
@@ -29,9 +28,9 @@ pub fn read_table<S: Alter, X: Listed>(
     conn: &mut Connection<S>,
 ) -> Result<Sequence<X>, ReadFault>
     requires { HasCleanDisk (state S.Store conn.old) → X.has (state S.Store conn.old).now.schema }
-    ensures look { IsLook result (λ it. Says X.listing (state S.Store conn.old).now.trees it) (state S.Store conn.old) (state S.Store conn.new) }
-    ensures unreadable { HasCleanDisk (state S.Store conn.new) → IfErr result (IsUnreadable X.listing (state S.Store conn.old).now.trees) }
-    ensures mode { conn.old.in_transaction ≡ false → conn.new.in_transaction ≡ false }
+    ensures look { ReadsTables S.Store result (Says X.listing) conn.old conn.new }
+    ensures unreadable { FailsOnlyIfNone S.Store result (Says X.listing) conn.old conn.new }
+    ensures mode { LeavesAutocommit conn.old conn.new }
 {
     let rows = X::all(conn)?;
     read(alloc, rows.as_slice())
@@ -42,10 +41,10 @@ pub fn moments<S: Alter>(
     alloc: Global,
     conn: &mut Connection<S>,
 ) -> Result<Sequence<Moment>, ReadFault>
-    requires { HasCleanDisk (state S.Store conn.old) → HasFirstTables (state S.Store conn.old).now.schema }
-    ensures look { IsLook result (λ it. Says moments (state S.Store conn.old).now.trees it) (state S.Store conn.old) (state S.Store conn.new) }
-    ensures unreadable { HasCleanDisk (state S.Store conn.new) → IfErr result (IsUnreadable moments (state S.Store conn.old).now.trees) }
-    ensures mode { conn.old.in_transaction ≡ false → conn.new.in_transaction ≡ false }
+    requires { HasV1Tables S.Store conn.old }
+    ensures look { ReadsTables S.Store result (Says moments) conn.old conn.new }
+    ensures unreadable { FailsOnlyIfNone S.Store result (Says moments) conn.old conn.new }
+    ensures mode { LeavesAutocommit conn.old conn.new }
 {
     read_table(alloc, conn)
 }
@@ -55,10 +54,10 @@ pub fn editions<S: Alter>(
     alloc: Global,
     conn: &mut Connection<S>,
 ) -> Result<Sequence<Edition>, ReadFault>
-    requires { HasCleanDisk (state S.Store conn.old) → HasFirstTables (state S.Store conn.old).now.schema }
-    ensures look { IsLook result (λ it. Says editions (state S.Store conn.old).now.trees it) (state S.Store conn.old) (state S.Store conn.new) }
-    ensures unreadable { HasCleanDisk (state S.Store conn.new) → IfErr result (IsUnreadable editions (state S.Store conn.old).now.trees) }
-    ensures mode { conn.old.in_transaction ≡ false → conn.new.in_transaction ≡ false }
+    requires { HasV1Tables S.Store conn.old }
+    ensures look { ReadsTables S.Store result (Says editions) conn.old conn.new }
+    ensures unreadable { FailsOnlyIfNone S.Store result (Says editions) conn.old conn.new }
+    ensures mode { LeavesAutocommit conn.old conn.new }
 {
     read_table(alloc, conn)
 }

@@ -1,13 +1,15 @@
-//! Mutations as they are written.
+//! The cells in which mutations are written.
 ghost use Rattle.std.specs.Prelude.{◌≡◌, true};
 ghost use Rattle.std.specs.List.{list_all};
-ghost use Rattle.land_tables_rows.specs.Mutation.Cells.{IsExactMutation, fits_mutation, is_content_kept, is_moment, is_new_name_kept, is_part_kept, mutation_row_of};
+ghost use Rattle.land_tables_rows.specs.Mutation.Cells.{IsExactMutation, fits_mutation, is_content_kept};
+ghost use Rattle.land_tables_rows.specs.Mutation.Cells.{is_moment, is_new_name_kept, is_part_kept};
+ghost use Rattle.land_tables_rows.specs.Mutation.Cells.{mutation_row_of};
 ghost use Rattle.land_tables_schema.specs.Rows.Mutation.{FitsMutation, mutation_of};
 ghost use Rattle.land_wire_json.specs.Texts.Mutations.{content_text as text_of_content};
 
 use crate::cells::texts::{is_in_utf8, is_reference};
 use land_core::content::Content;
-use land_core::limits::is_number;
+use land_core::limits::{LAST_MOMENT, is_number};
 use land_core::mutation::MutationRecord;
 use land_core::subdivision::Part;
 use land_core::text::Text;
@@ -58,7 +60,7 @@ pub fn fits_mutation(number: u64, mutation: &MutationRecord) -> bool
 fn is_moment(at: i64) -> bool
     ensures { result ≡ is_moment at }
 {
-    0 <= at && at <= 4_102_444_799_999
+    0 <= at && at <= LAST_MOMENT
 }
 
 /// Proves that the strings of a mutation's content are in UTF-8. Does nothing at run time.

@@ -1,6 +1,7 @@
-//! Parcels as they are written (LA_SpatialUnit).
+//! The cells in which parcels are written (LA_SpatialUnit).
 ghost use Rattle.std.specs.Prelude.{◌≡◌, IfOk, true};
-ghost use Rattle.land_tables_rows.specs.Parcel.Cells.{FitsParcel, IsExactParcel, fits_parcel, parcel_of, parcel_row_of};
+ghost use Rattle.land_tables_rows.specs.Parcel.Cells.{FitsParcel, IsExactParcel, fits_parcel, parcel_of};
+ghost use Rattle.land_tables_rows.specs.Parcel.Cells.{parcel_row_of};
 
 use crate::cells::texts::is_label;
 use land_core::limits::is_number;

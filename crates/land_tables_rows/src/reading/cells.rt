@@ -1,12 +1,15 @@
 //! Decodes the cells of a row.
 ghost use Rattle.std.specs.Prelude.{◌≡◌};
-ghost use Rattle.land_tables_rows.specs.Reading.Cells.{amount_in, currency_in, end_in, flag_in, integer_in, label_in, moment_in, name_in, natural_in, next_in, null_in, number_in, reference_in, share_in, text_in, title_in, words_in};
+ghost use Rattle.land_tables_rows.specs.Reading.Cells.{amount_in, currency_in, end_in, flag_in, integer_in};
+ghost use Rattle.land_tables_rows.specs.Reading.Cells.{label_in, moment_in, name_in, natural_in, next_in};
+ghost use Rattle.land_tables_rows.specs.Reading.Cells.{null_in, number_in, reference_in, share_in, text_in};
+ghost use Rattle.land_tables_rows.specs.Reading.Cells.{title_in, words_in};
 ghost use Rattle.land_wire_json.specs.Bodies.WireFaults.{Gives, seen_by};
 ghost use Rattle.sqlite_value.specs.Order.{column};
 ghost use Rattle.sqlite_value.specs.Value.{owned};
 
 use land_core::content::is_amount;
-use land_core::limits::is_number;
+use land_core::limits::{LAST_MOMENT, is_number};
 use land_core::text::Text;
 use land_fraction::Fraction;
 use land_wire_json::bodies::content::currency_of;
@@ -137,7 +140,7 @@ pub fn moment_at(row: &Row, at: usize) -> Result<i64, WireFault>
     ensures { result ≡ moment_in (column row.now at) }
 {
     let moment = integer_at(row, at)?;
-    if 0 <= moment && moment <= 4_102_444_799_999 {
+    if 0 <= moment && moment <= LAST_MOMENT {
         Ok(moment)
     } else {
         Err(WireFault::Number)

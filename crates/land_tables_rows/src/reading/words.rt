@@ -1,6 +1,8 @@
 //! The words of kinds, roles, classes and states.
 ghost use Rattle.std.specs.Prelude.{◌≡◌};
-ghost use Rattle.land_tables_rows.specs.Reading.Words.{class_of, class_word_in, kind_of, party_kind_in, role_in, source_kind_in, source_kind_of, state_in, state_of};
+ghost use Rattle.land_tables_rows.specs.Reading.Words.{class_of, class_word_in, kind_of, party_kind_in};
+ghost use Rattle.land_tables_rows.specs.Reading.Words.{role_in, source_kind_in, source_kind_of, state_in};
+ghost use Rattle.land_tables_rows.specs.Reading.Words.{state_of};
 ghost use Rattle.land_wire_json.specs.Bodies.WireFaults.{Gives};
 ghost use Rattle.sqlite_value.specs.Order.{column};
 

@@ -1,12 +1,11 @@
 //! Writes a whole change to the register's tables.
 ghost use Rattle.std.specs.Prelude.{◌≡◌, IsTrue};
 ghost use Rattle.land_tables_history.specs.Changed.{changed};
-ghost use Rattle.land_tables_rows.specs.Recording.Whole.{Edits, Records, fits_change, fits_estates, fits_papers, fits_people};
+ghost use Rattle.land_tables_rows.specs.Effects.{Performs};
+ghost use Rattle.land_tables_rows.specs.Recording.Whole.{Edits, Records, fits_change, fits_estates};
+ghost use Rattle.land_tables_rows.specs.Recording.Whole.{fits_papers, fits_people};
 ghost use Rattle.land_tables_rows.specs.Writing.Holding.{IsMoment};
-ghost use Rattle.land_tables_schema.specs.Land.{IsLand};
-ghost use Rattle.land_tables_schema.specs.Steps.{IsStep};
-ghost use Rattle.sqlite.specs.Held.{state};
-ghost use Rattle.sqlite.specs.State.{HasCleanDisk};
+ghost use Rattle.land_tables_schema.specs.Connections.{HasRegisterTables, SameReference};
 
 use crate::moment::writing;
 use crate::recording::estates::record_estates;
@@ -66,9 +65,9 @@ pub fn record_change<S: Alter>(
 ) -> Result<(), Error>
     requires fits { IsTrue (fits_change change.now) }
     requires moment { IsMoment stamp }
-    requires land { HasCleanDisk (state S.Store tx.old.conn.now) → IsLand (state S.Store tx.old.conn.now).now.schema }
-    ensures same_reference { tx.new.conn.ghost_name ≡ tx.old.conn.ghost_name }
-    ensures step { IsStep result (Records change.now next stamp) (state S.Store tx.old.conn.now) (state S.Store tx.new.conn.now) }
+    requires land { HasRegisterTables S.Store tx.old.conn.now }
+    ensures same_reference { SameReference tx.old tx.new }
+    ensures step { Performs S.Store result (Records change.now next stamp) tx.old tx.new }
 {
     changes_are_held();
     record_objects(alloc, tx, change, next, stamp)?;
@@ -86,9 +85,9 @@ fn record_objects<S: Alter>(
 ) -> Result<(), Error>
     requires fits { IsTrue (fits_change change.now) }
     requires moment { IsMoment stamp }
-    requires land { HasCleanDisk (state S.Store tx.old.conn.now) → IsLand (state S.Store tx.old.conn.now).now.schema }
-    ensures same_reference { tx.new.conn.ghost_name ≡ tx.old.conn.ghost_name }
-    ensures step { IsStep result (Edits (changed next change.now stamp)) (state S.Store tx.old.conn.now) (state S.Store tx.new.conn.now) }
+    requires land { HasRegisterTables S.Store tx.old.conn.now }
+    ensures same_reference { SameReference tx.old tx.new }
+    ensures step { Performs S.Store result (Edits (changed next change.now stamp)) tx.old tx.new }
 {
     record_people(alloc, tx, change, stamp)?;
     record_estates(alloc, tx, change, stamp)?;

@@ -1,10 +1,8 @@
 //! Records that have versions in a table.
 ghost use Rattle.std.specs.Prelude.{◌≡◌, Bool, IsTrue};
+ghost use Rattle.land_tables_rows.specs.Effects.{Performs};
 ghost use Rattle.land_tables_rows.specs.Writing.Holding.{Begins, Closes, IsMoment, Reading};
-ghost use Rattle.land_tables_schema.specs.Land.{IsLand};
-ghost use Rattle.land_tables_schema.specs.Steps.{IsStep};
-ghost use Rattle.sqlite.specs.Held.{state};
-ghost use Rattle.sqlite.specs.State.{HasCleanDisk};
+ghost use Rattle.land_tables_schema.specs.Connections.{HasRegisterTables, SameReference};
 
 use sqlite::{Alter, Error, Transaction};
 use std::alloc::Global;
@@ -30,9 +28,9 @@ pub trait Recorded {
     ) -> Result<usize, Error>
         requires fits { IsTrue (fits self.now) }
         requires moment { IsMoment since }
-        requires land { HasCleanDisk (state S.Store tx.old.conn.now) → IsLand (state S.Store tx.old.conn.now).now.schema }
-        ensures same_reference { tx.new.conn.ghost_name ≡ tx.old.conn.ghost_name }
-        ensures step { IsStep result (Begins reading self.now since) (state S.Store tx.old.conn.now) (state S.Store tx.new.conn.now) };
+        requires land { HasRegisterTables S.Store tx.old.conn.now }
+        ensures same_reference { SameReference tx.old tx.new }
+        ensures step { Performs S.Store result (Begins reading self.now since) tx.old tx.new };
 }
 
 /// A record that has a key.
@@ -69,7 +67,8 @@ pub trait Closing<K>: Recorded {
     fn close<S: Alter>(tx: &mut Transaction<'_, S>, key: &K, stamp: i64) -> Result<usize, Error>
         requires fits { IsTrue (fits_key key.now) }
         requires moment { IsMoment stamp }
-        requires land { HasCleanDisk (state S.Store tx.old.conn.now) → IsLand (state S.Store tx.old.conn.now).now.schema }
-        ensures same_reference { tx.new.conn.ghost_name ≡ tx.old.conn.ghost_name }
-        ensures step { IsStep result (Closes Self.reading (λ x. has x key.now) stamp) (state S.Store tx.old.conn.now) (state S.Store tx.new.conn.now) };
+        requires land { HasRegisterTables S.Store tx.old.conn.now }
+        ensures same_reference { SameReference tx.old tx.new }
+        ensures step { Performs S.Store result
+            (Closes Self.reading (λ x. has x key.now) stamp) tx.old tx.new };
 }

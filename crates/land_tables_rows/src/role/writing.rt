@@ -1,12 +1,10 @@
 //! Roles of parties (LA_PartyRoleType).
 ghost use Rattle.std.specs.Prelude.{◌≡◌, ◌<◌, ◌^◌, IsTrue};
 ghost use Rattle.land_tables_history.specs.Intervals.{is_same_grant};
+ghost use Rattle.land_tables_rows.specs.Effects.{Performs};
 ghost use Rattle.land_tables_rows.specs.Role.Writing.{fits_grant, roles};
 ghost use Rattle.land_tables_rows.specs.Writing.Holding.{Begins, Closes, IsMoment};
-ghost use Rattle.land_tables_schema.specs.Land.{IsLand};
-ghost use Rattle.land_tables_schema.specs.Steps.{IsStep};
-ghost use Rattle.sqlite.specs.Held.{state};
-ghost use Rattle.sqlite.specs.State.{HasCleanDisk};
+ghost use Rattle.land_tables_schema.specs.Connections.{HasRegisterTables, SameReference};
 
 use land_core::limits::is_number;
 use land_core::roles::Grant;
@@ -29,9 +27,9 @@ pub fn begin<S: Alter>(
 ) -> Result<usize, Error>
     requires fits { IsTrue (fits_grant grant) }
     requires moment { IsMoment since }
-    requires land { HasCleanDisk (state S.Store tx.old.conn.now) → IsLand (state S.Store tx.old.conn.now).now.schema }
-    ensures same_reference { tx.new.conn.ghost_name ≡ tx.old.conn.ghost_name }
-    ensures step { IsStep result (Begins roles grant since) (state S.Store tx.old.conn.now) (state S.Store tx.new.conn.now) }
+    requires land { HasRegisterTables S.Store tx.old.conn.now }
+    ensures same_reference { SameReference tx.old tx.new }
+    ensures step { Performs S.Store result (Begins roles grant since) tx.old tx.new }
 {
     rows::role::begin(tx, grant.party, role_word(grant.role), since)
 }
@@ -44,9 +42,9 @@ pub fn close<S: Alter>(
 ) -> Result<usize, Error>
     requires party_fits { grant.party < 2 ^ 63 }
     requires moment { IsMoment stamp }
-    requires land { HasCleanDisk (state S.Store tx.old.conn.now) → IsLand (state S.Store tx.old.conn.now).now.schema }
-    ensures same_reference { tx.new.conn.ghost_name ≡ tx.old.conn.ghost_name }
-    ensures step { IsStep result (Closes roles (λ e. is_same_grant e grant) stamp) (state S.Store tx.old.conn.now) (state S.Store tx.new.conn.now) }
+    requires land { HasRegisterTables S.Store tx.old.conn.now }
+    ensures same_reference { SameReference tx.old tx.new }
+    ensures step { Performs S.Store result (Closes roles (λ e. is_same_grant e grant) stamp) tx.old tx.new }
 {
     rows::role::close(tx, grant.party, role_word(grant.role), stamp)
 }

@@ -1,6 +1,7 @@
-//! Entries of units as they are written (LA_RRR).
+//! The cells in which entries of units are written (LA_RRR).
 ghost use Rattle.std.specs.Prelude.{◌≡◌, true};
-ghost use Rattle.land_tables_rows.specs.Rrr.Cells.{IsExactClass, IsExactRrr, fits_class, fits_rrr, rrr_row_of};
+ghost use Rattle.land_tables_rows.specs.Rrr.Cells.{IsExactClass, IsExactRrr, fits_class, fits_rrr};
+ghost use Rattle.land_tables_rows.specs.Rrr.Cells.{rrr_row_of};
 ghost use Rattle.land_tables_schema.specs.Rows.Rrr.{FitsRrr, rrr_of};
 
 use crate::cells::texts::{are_words, is_currency};

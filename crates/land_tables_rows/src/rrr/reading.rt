@@ -1,6 +1,7 @@
 //! The entries of units: rights, restrictions, responsibilities and mortgages (LA_RRR).
 ghost use Rattle.std.specs.Prelude.{◌≡◌};
-ghost use Rattle.land_tables_rows.specs.Rrr.Reading.{burden_in, class_by, mortgage_in, no_mortgage_in, no_right_in, right_in, rrr_in};
+ghost use Rattle.land_tables_rows.specs.Rrr.Reading.{burden_in, class_by, mortgage_in, no_mortgage_in};
+ghost use Rattle.land_tables_rows.specs.Rrr.Reading.{no_right_in, right_in, rrr_in};
 ghost use Rattle.land_wire_json.specs.Bodies.WireFaults.{Gives};
 
 use crate::reading::cells::{

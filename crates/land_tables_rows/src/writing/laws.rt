@@ -1,5 +1,6 @@
 //! Laws, each over the definitions only.
-ghost use Rattle.land_tables_rows.specs.Writing.Laws.{ChangesAreHeld, NewRegistersAreHeld, RaisedRegistersAreHeld};
+ghost use Rattle.land_tables_rows.specs.Writing.Laws.{ChangesAreHeld, NewRegistersAreHeld};
+ghost use Rattle.land_tables_rows.specs.Writing.Laws.{RaisedRegistersAreHeld};
 
 /// States that if one table is rewritten and the others are unchanged, the tables hold the history with the
 /// new versions of that table.

@@ -60,7 +60,7 @@ const AT: &[At] = &[
     At(4_102_444_799_999, 27, 39),
 ];
 
-/// Writes an object as it is shown; the empty string if there is none.
+/// Writes an object in its shown form; the empty string if there is none.
 fn text_shown(alloc: Global, object: &Option<Object>) -> Result<String, AllocError> {
     match object {
         Some(object) => {
