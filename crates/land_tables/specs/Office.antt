@@ -54,12 +54,16 @@ held g o = timeline_in (state g o.conn).now.trees
 abbrev pub IsHonest : {S : Type 0} → Ghosts S → Office S → Type 0
 IsHonest g o = HasCleanDisk (state g o.conn)
 
+-- no call has failed, and the store is honest
+abbrev pub IsWorking : {S : Type 0} → Ghosts S → Office S → Type 0
+IsWorking g o = IsLive (IsHonest g o) o.is_closed
+
 -- the invariant of tables: no transaction is active; and if no call has failed and the store is honest, they
 -- hold a timeline
 pub record IsWhole {S : Type 0} (g : Ghosts S) (o : Office S) : Type 0 where
   pub alone : o.conn.in_transaction ≡ false
   pub moment : o.last ≤ℤ last_moment
-  pub office : IsLive (IsHonest g o) o.is_closed → IsOffice (state g o.conn) o.last o.next
+  pub office : IsWorking g o → IsOffice (state g o.conn) o.last o.next
 
 -- while the store is honest, every state that a crash leaves has this property
 abbrev pub Leaves : {S : Type 0} → Ghosts S → Office S → (Trees → Type 0) → Type 0

@@ -1,6 +1,6 @@
 //! Tables that hold the register's timeline.
 ghost use Rattle.std.specs.Prelude.{◌≡◌, ◌≢◌, ◌≤ℤ◌, true, false, Err, IfErr, IfOk, IsTrue, OnErr, OnOk};
-ghost use Rattle.land_keep.specs.Keeping.{CanWrite, Closes, IsLive};
+ghost use Rattle.land_keep.specs.Keeping.{CanWrite, Closes};
 ghost use Rattle.land_keep.specs.Machine.{written};
 ghost use Rattle.land_keep.specs.Moments.{last_moment};
 ghost use Rattle.land_keep.specs.Timeline.{IsSoundTimeline, last_register, last_stamp, new_timeline};
@@ -68,7 +68,8 @@ impl<S: Alter + Drop> Drop for Tables<S> {
 }
 
 impl<S: Alter> Tables<S> {
-    ghost use Rattle.land_tables.specs.Office.{IsCreated, IsHonest, IsKept, LeavesEither, LeavesOrBegins};
+    ghost use Rattle.land_tables.specs.Office.{IsCreated, IsHonest, IsWorking, IsKept, LeavesEither};
+    ghost use Rattle.land_tables.specs.Office.{LeavesOrBegins};
     ghost use Rattle.land_tables.specs.Office.{Rests, StaysUntouched, held};
 
     /// Creates the tables of a new register in an empty store, in one transaction. Errors: `Store` (502) if
@@ -193,11 +194,9 @@ impl<S: Alter> Tables<S> {
     /// Returns the stamp of the last accepted change, Unix time in milliseconds; 0 in a new register.
     pub fn last(&self) -> i64
         ensures value { result ≡ self.now.last }
-        ensures last { IsLive (IsHonest S.Store self.now) self.now.is_closed
-            → result ≡ last_stamp (held S.Store self.now) }
+        ensures last { IsWorking S.Store self.now → result ≡ last_stamp (held S.Store self.now) }
         ensures moment { result ≤ℤ last_moment }
-        ensures sound { IsLive (IsHonest S.Store self.now) self.now.is_closed
-            → IsSoundTimeline (held S.Store self.now) }
+        ensures sound { IsWorking S.Store self.now → IsSoundTimeline (held S.Store self.now) }
     {
         self.last
     }
@@ -205,8 +204,7 @@ impl<S: Alter> Tables<S> {
     /// Returns the number that the next new object takes.
     pub fn next(&self) -> u64
         ensures value { result ≡ self.now.next }
-        ensures next { IsLive (IsHonest S.Store self.now) self.now.is_closed
-            → result ≡ (last_register (held S.Store self.now)).next }
+        ensures next { IsWorking S.Store self.now → result ≡ (last_register (held S.Store self.now)).next }
     {
         self.next
     }
@@ -229,8 +227,7 @@ impl<S: Alter> Tables<S> {
     /// Proves that between calls, while none has failed, the tables hold a register that `adopt` accepts, of
     /// schema version 2 and with valid intervals. Does nothing at run time.
     pub fn holds_register(&self)
-        ensures { IsLive (IsHonest S.Store self.now) self.now.is_closed
-            → IsRegister the_second (state S.Store self.now.conn).now }
+        ensures { IsWorking S.Store self.now → IsRegister the_second (state S.Store self.now.conn).now }
     {
         let _conn = &self.conn;
     }
@@ -241,8 +238,7 @@ impl<S: Alter> Tables<S> {
     pub fn read_at(&mut self, alloc: Global, at: i64) -> Result<Register, StoreFault>
         ensures value { IsHonest S.Store self.new
             → IfOk result (λ it. it ≡ register_at (held S.Store self.old) at) }
-        ensures same { IsLive (IsHonest S.Store self.new) self.new.is_closed
-            → held S.Store self.new ≡ held S.Store self.old }
+        ensures same { IsWorking S.Store self.new → held S.Store self.new ≡ held S.Store self.old }
         ensures was { IsHonest S.Store self.new → IsHonest S.Store self.old }
         ensures last { self.new.last ≡ self.old.last }
         ensures next { self.new.next ≡ self.old.next }
@@ -266,8 +262,7 @@ impl<S: Alter> Tables<S> {
         ensures value { IsHonest S.Store self.new
             → IfOk result (λ it. it ≡ last_register (held S.Store self.old)) }
         ensures last { self.new.last ≡ self.old.last }
-        ensures same { IsLive (IsHonest S.Store self.new) self.new.is_closed
-            → held S.Store self.new ≡ held S.Store self.old }
+        ensures same { IsWorking S.Store self.new → held S.Store self.new ≡ held S.Store self.old }
         ensures was { IsHonest S.Store self.new → IsHonest S.Store self.old }
         ensures closes { Closes self.old.is_closed self.new.is_closed result }
     {
@@ -280,11 +275,10 @@ impl<S: Alter> Tables<S> {
     /// the change cannot be written (a string longer than its field, an invalid number), after which every
     /// call returns `Closed` (503). After an error an open store is unchanged.
     pub fn write(&mut self, alloc: Global, change: &Change, stamp: i64) -> Result<(), StoreFault>
-        requires { IsLive (IsHonest S.Store self.old) self.old.is_closed
-            → CanWrite (held S.Store self.old) change.now stamp }
-        ensures ok { IsLive (IsHonest S.Store self.new) self.new.is_closed
+        requires { IsWorking S.Store self.old → CanWrite (held S.Store self.old) change.now stamp }
+        ensures ok { IsWorking S.Store self.new
             → OnOk result (held S.Store self.new ≡ written (held S.Store self.old) change.now stamp) }
-        ensures err { IsLive (IsHonest S.Store self.new) self.new.is_closed
+        ensures err { IsWorking S.Store self.new
             → OnErr result (held S.Store self.new ≡ held S.Store self.old) }
         ensures was { IsHonest S.Store self.new → IsHonest S.Store self.old }
         ensures closes { Closes self.old.is_closed self.new.is_closed result }
