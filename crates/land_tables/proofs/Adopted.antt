@@ -1,4 +1,4 @@
--- What is found in the tables of a store says whether it is a register's, and why not.
+-- From the decoded tables of a store to whether it is a register, and if not, why.
 use Rattle.std.proofs.Common.{◌≡◌, ℕ, ℤ, pos, ◌&&◌, if◌then◌else◌, Bool, true, false, List, [], ◌∷◌, map, Some, Ok, Err, IfErr, IfOk, IsErrAnd, Result, refl, sym, ap, ◌∙◌, subst, arith, IsPermutation}
 use Rattle.std.specs.Prelude.{◌≤ℤ◌, int_le}
 use Rattle.std.proofs.lemmas.Bool.{false≢true, and_parts}
@@ -48,9 +48,9 @@ use Rattle.sqlite_trees.specs.Tree.{Trees}
 use Rattle.sqlite_value.specs.Order.{Row, column}
 use Rattle.sqlite_value.specs.declared.value.Value.{Value}
 
--- ---- one edition
+-- ---- the edition
 
--- a list of one has one order
+-- a list of one element has one order
 pub alone : {X : Type 0} (x : X) (ys : List X) → IsPermutation (x ∷ []) ys → ys ≡ x ∷ []
 alone x [] p = absurd (let e = length_permutation (x ∷ []) [] p in omega (arith, e))
 alone x (y ∷ []) p = let all = recursion_from_All (λ z. z ≡ x) (y ∷ []) (All-permutation (λ z. z ≡ x) (x ∷ []) (y ∷ []) p (All-cons (λ z. z ≡ x) x [] refl (All-nil (λ z. z ≡ x)))) in ap (λ z. z ∷ []) all.0
@@ -77,7 +77,7 @@ moment_is : (cell : Value) (z : ℤ) → moment_in cell ≡ Ok z → IsMoment z
 unfolding moment_in
 moment_is cell z h = within z (int_le (pos 0) z && int_le z last_moment) refl (subst (λ c. moment_in c ≡ Ok z) (moment_cell cell z h) h)
 
--- what a row of `moments` says is a moment
+-- a row of `moments` decodes to a moment
 change_is : (row : Row) (m : Moment) → change_in row ≡ Ok m → IsMoment m.stamp
 unfolding change_in
 change_is row m h = go (moment_in (column row 0)) (next_in (column row 1)) (λ z e. moment_is (column row 0) z e) h
@@ -108,9 +108,9 @@ are_moments db ms says =
     All-from_recursion (λ m. IsMoment m.stamp) ms
     (each_moment ms (recursion_from_All SaysMoment said (All-permutation SaysMoment rows said says (All-from_recursion SaysMoment rows (rows_say (db moments.table.tree))))))
 
--- ---- what tables hold
+-- ---- the content of the tables
 
--- tables that say a history, in rows with rowids of their own, hold it
+-- tables that decode to a history, with unique rowids, hold that history
 held_if_said : (db : Trees) (found : Findings) → SaysAll db found → AreFirstKeyed db → AreKeyed mandate db → HoldsHistory db found.moments found.history
 held_if_said db found said keyed mandates_keyed = record {
   the_moments = said.moments;
@@ -126,7 +126,7 @@ held_if_said db found said keyed mandates_keyed = record {
   the_mandates = record { said = said.history.mandates; numbered = mandates_keyed };
 }
 
--- ---- what is found first
+-- ---- the tables of schema version 1
 
 module _ (db : Database) (land : MayBeLand db.schema) (found : Findings) (finds : FindsFirst db.trees found) where
   pub told_editions : is_one_edition found.editions ≡ true → told_by editions db.trees ≡ found.editions
@@ -135,13 +135,13 @@ module _ (db : Database) (land : MayBeLand db.schema) (found : Findings) (finds 
   pub may_be : is_one_edition found.editions ≡ true → MayBeOurs db
   may_be is = record { land = land; found = found; said = finds.said; one = ap is_one_edition (told_editions is) ∙ is }
 
-  -- where not one edition is found, not one is told
+  -- if there is not exactly one edition, the decoded tables do not have one either
   not_one : is_one_edition found.editions ≡ false → ¬ MayBeOurs db
   not_one missed it =
       let same = one_is_alone (told_by editions db.trees) found.editions it.one (IsPermutation-sym found.editions (told_by editions db.trees) (told_is editions db.trees found.editions finds.said.editions)) in
       false≢true (sym missed ∙ ap is_one_edition same ∙ it.one)
 
-  -- its edition is the one that is asked for, or it is missing
+  -- the edition is that of the required version, or the tables are not of this version
   pub to_found : (version : ℕ) → IsEditionOf version found.editions (Ok tt) → IsFound version db found
   to_found version is = record { land = land; finds = finds; one = is.0; made = is.1 }
 
@@ -153,14 +153,14 @@ module _ (db : Database) (land : MayBeLand db.schema) (found : Findings) (finds 
   to_missing version NoMemory missed = tt
   to_missing version Store missed = tt
 
--- tables that are not those of the first version, or cannot be read, are not ours
+-- tables that lack schema version 1, or do not decode, are not a register
 pub other_tables : (db : Database) → (¬ MayBeLand db.schema) → ¬ MayBeOurs db
 other_tables db none it = none it.land
 
 pub unread : (db : Database) → ((found : Findings) → ¬ SaysFirstRows db.trees found) → ¬ MayBeOurs db
 unread db none it = none it.found it.said
 
--- a look at them that failed
+-- a failed read of them
 pub unread_missing : (version : ℕ) (db : Database) (fault : ReadFault) → CannotSay (SaysFirstRows db.trees) fault → IsMissing version (of_read fault) db
 unread_missing version db read.Unreadable cannot = unread db (cannot refl)
 unread_missing version db read.NoMemory cannot = tt
@@ -171,9 +171,9 @@ pub missing_after : {X : Type 0} (version : ℕ) (db : Database) (r : Result X A
 missing_after version db (Ok x) fault is cannot = tt
 missing_after version db (Err f) fault is cannot = subst (λ (g : AdoptFault). IsMissing version g db) (sym is) (unread_missing version db fault cannot)
 
--- ---- by which shapes
+-- ---- the schema version
 
--- the store may be a register's, and this version made its tables
+-- the store may be a register, of this schema version
 pub record IsMadeBy (version : ℕ) (db : Database) : Type 0 where
   pub may_be : MayBeOurs db
   pub made : is_version version (told_by editions db.trees) ≡ true
@@ -184,15 +184,15 @@ made_by version db found it = record {
   made = ap (is_version version) (told_editions db it.land found it.finds it.one) ∙ it.made;
 }
 
--- with its shapes it is one of that version
+-- with the schema of that version, it is a register of that version
 pub is_of : (shapes : Shapes) (db : Database) → IsMadeBy shapes.version db → shapes.AreThere db → AreOf shapes db
 is_of shapes db made there = record { ours = record { first = made.may_be; there = λ _. there }; version = made.made }
 
--- and without them it is not ours
+-- without it, it is not a register
 pub is_none : (shapes : Shapes) (db : Database) → IsMadeBy shapes.version db → (¬ shapes.AreThere db) → ¬ AreOurs shapes db
 is_none shapes db made none ours = none (ours.there made.made)
 
--- what is missing is refused, whatever the shapes
+-- tables that are not of the version are refused, under any schema
 pub missing_refused : (shapes : Shapes) (why : AdoptFault) (db : Database) → IsMissing shapes.version why db → IsRefused shapes why db
 missing_refused shapes NotOurs db missing = λ ours. missing ours.first
 missing_refused shapes Version db missing = (
@@ -204,12 +204,12 @@ missing_refused shapes Unsound db missing = absurd missing
 missing_refused shapes NoMemory db missing = tt
 missing_refused shapes Store db missing = tt
 
--- a fault that is handed on
+-- a propagated fault
 pub missing_on : {X : Type 0} (shapes : Shapes) (db : Database) (r : Result X AdoptFault) (fault : AdoptFault) → IsErrAnd r (λ f. f ≡ fault) → IsMissing shapes.version fault db → IfErr r (λ why. IsRefused shapes why db)
 missing_on shapes db (Ok x) fault is missing = tt
 missing_on shapes db (Err f) fault is missing = missing_refused shapes f db (subst (λ (g : AdoptFault). IsMissing shapes.version g db) (sym is) missing)
 
--- what is so of a fault is so of a result that tells it
+-- a property of a fault is one of the result that returns it
 pub told_on : {X : Type 0} (Q : AdoptFault → Type 0) (r : Result X AdoptFault) (fault : AdoptFault) → IsErrAnd r (λ f. f ≡ fault) → Q fault → IfErr r Q
 told_on Q (Ok x) fault is so = tt
 told_on Q (Err f) fault is so = subst Q (sym is) so
@@ -218,7 +218,7 @@ pub refused_on : {X : Type 0} (shapes : Shapes) (db : Database) (r : Result X Ad
 refused_on shapes db (Ok x) fault is refused = tt
 refused_on shapes db (Err f) fault is refused = subst (λ (g : AdoptFault). IsRefused shapes g db) (sym is) refused
 
--- what is found of a store with the shapes
+-- the decoded tables of a store with the schema
 module _ (a b : State) (shapes : Shapes) (found : Findings) (first : IsFound shapes.version a.now found) (same : b.now ≡ a.now) where
   pub lacks : (shapes.AreThere b.now → ⊥) → ¬ AreOurs shapes a.now
   lacks none = is_none shapes a.now (made_by shapes.version a.now found first) (λ there. none (subst shapes.AreThere (sym same) there))
@@ -226,9 +226,9 @@ module _ (a b : State) (shapes : Shapes) (found : Findings) (first : IsFound sha
   pub has : shapes.AreThere b.now → AreOf shapes a.now
   has there = is_of shapes a.now (made_by shapes.version a.now found first) (subst shapes.AreThere same there)
 
--- ---- the mandates
+-- ---- mandates
 
--- what all tables say, where those of the first version say this and the mandates that
+-- the value of all tables, from those of schema version 1 and the mandates
 all_said : (db : Trees) (found : Findings) (listed : List (Lived Mandate)) → SaysFirstRows db found → Says mandates db listed
     → SaysAll db (record found { history = record found.history { mandates = listed } })
 all_said db found listed said listed_said = record {
@@ -252,7 +252,7 @@ pub with_mandates_found : (db : Trees) (found : Findings) (listed : List (Lived 
     → Finds db (record found { history = record found.history { mandates = listed } })
 with_mandates_found db found listed finds are = record { said = all_said db found listed finds.said are.said; keyed = finds.keyed; mandates = are.keyed }
 
--- in the first version they say that there are none
+-- in schema version 1 there are no mandates
 none_said : (db : Trees) (found : Findings) → SaysFirstRows db found → SaysAll (without_mandates db) found
 none_said db found said = record {
   editions = said.editions;
@@ -288,7 +288,7 @@ no_rows = record { whole = refl; apart = none_apart }
 pub first_found : (db : Trees) (found : Findings) → FindsFirst db found → Finds (without_mandates db) found
 first_found db found finds = record { said = none_said db found finds.said; keyed = none_keyed db finds.keyed; mandates = no_rows }
 
--- mandates that cannot be read are none
+-- mandates that do not decode have no value
 pub no_mandates_said : (db : Database) → ((listed : List (Lived Mandate)) → ¬ Says mandates db.trees listed) → ¬ HasMandates db
 no_mandates_said db none it = none it.listed it.said
 
@@ -302,7 +302,7 @@ pub refused_after : {X : Type 0} (db : Database) (r : Result X AdoptFault) (faul
 refused_after db (Ok x) fault is made cannot = tt
 refused_after db (Err f) fault is made cannot = subst (λ (g : AdoptFault). IsRefused the_second g db) (sym is) (unread_refused db fault made cannot)
 
--- ---- what is judged
+-- ---- validation
 
 module _ (stand : LawfulVersionsStand) (one : VersionsStandForOne) (order : OrderDoesNotMatter) (latest_is : LastMomentIsTheLastStamp) (lawful_too : SoundTimelinesAreLawful) (intervals_too : OrderKeepsIntervals)
     (shapes : Shapes) (db : Database) (of : AreOf shapes db) (found : Findings) (finds : Finds (shapes.rows db.trees) found) where
@@ -316,7 +316,7 @@ module _ (stand : LawfulVersionsStand) (one : VersionsStandForOne) (order : Orde
   intervals : has_intervals found.moments found.history ≡ true → AreIntervals shapes db
   intervals proper = record { made = of; intervals = told_intervals ∙ proper }
 
-  -- what misses a test is refused for it
+  -- contents that fail a test are refused for it
   pub misses : (why : AdoptFault) → Misses why found → IsRefused shapes why db
   misses NotOurs missed = absurd missed
   misses Version missed = absurd missed
@@ -329,7 +329,7 @@ module _ (stand : LawfulVersionsStand) (one : VersionsStandForOne) (order : Orde
   misses NoMemory missed = tt
   misses Store missed = tt
 
-  -- what passes all tests is a register
+  -- contents that pass all tests are a register
   pub passes : (latest : Moment) → IsPassed found latest → IsRegisterTo shapes db latest
   passes latest passed =
       let p = passed.passes in
@@ -345,7 +345,7 @@ module _ (stand : LawfulVersionsStand) (one : VersionsStandForOne) (order : Orde
         next = rw is (let e = last_is in cc);
       }
 
-  -- what is judged is a register, or refused
+  -- validated contents are a register, or are refused
   pub to_register : (r : Result Moment AdoptFault) → IsJudged found r → IfOk r (IsRegisterTo shapes db)
   to_register (Ok latest) passed = passes latest passed
   to_register (Err why) missed = tt
@@ -354,7 +354,7 @@ module _ (stand : LawfulVersionsStand) (one : VersionsStandForOne) (order : Orde
   to_refusal (Ok latest) passed = tt
   to_refusal (Err why) missed = misses why missed
 
--- a store that is refused holds no register
+-- a refused store does not hold a register
 pub refused_holds_none : (shapes : Shapes) (why : AdoptFault) (db : Database) → IsRefused shapes why db → HoldsNone shapes why db
 refused_holds_none shapes NotOurs db refused other open_still it = refused it.intervals.made.ours
 refused_holds_none shapes Version db refused other open_still it = refused.1 it.intervals.made

@@ -1,4 +1,4 @@
--- Lawful versions stand for a timeline, the one that they lead to.
+-- The versions of a valid history represent a timeline: the one that they yield.
 use Rattle.std.proofs.Common.{◌≡◌, ℕ, Bool, true, false, cond, ◌&&◌, List, [], ◌∷◌, flat_map, map as map_list, Option, Some, None, refl, sym, ap, ◌∙◌, subst, arith, IsPermutation}
 use Rattle.std.specs.Prelude.{ℤ, ◌<ℤ◌, ◌≤ℤ◌, int_le, nat_lt, length}
 use Rattle.std.proofs.lemmas.Bool.{false≢true, and_parts}
@@ -44,12 +44,12 @@ use Rattle.land_tables_history.specs.declared.moment.Moment.{Moment}
 use Rattle.land_tables_history.specs.declared.naming.Naming.{Naming}
 use Rattle.land_tables_history.specs.declared.version.Version.{Version}
 
--- ---- what stands at a stamp
+-- ---- the versions at a stamp
 
 part_stands : {V : Type 0} (moments : List Moment) (t : ℤ) (vs : List (Version (ℕ × V))) → Proper is_same_number moments vs → IsPartAt t vs (part_at t vs)
 part_stands moments t vs p = made_part (standing t vs) (distinct_standing is_same_number t vs p.apart)
 
--- at a moment at which a history is lawful its versions stand for the register that they make
+-- at a moment at which a history is valid, its versions represent the register that they form
 stands_there : (moments : List Moment) (h : History) (m : Moment) → AllProper moments h → IsLawfulAt h m → StandsAt m.stamp h (history.register_at m.stamp h m.next)
 stands_there moments h m p lawful = record {
   parties = part_stands moments m.stamp h.parties p.parties;
@@ -65,9 +65,9 @@ stands_there moments h m p lawful = record {
   mandates = made_mandates (standing m.stamp h.mandates) (distinct_standing is_same_mandate m.stamp h.mandates p.mandates.apart);
 }
 
--- ---- and up to the next one
+-- ---- and until the next stamp
 
--- what stands at two moments, where no stamp lies between them
+-- the versions at two moments without a stamp between them
 stands_still : (moments : List Moment) (h : History) (s t : ℤ) (r : Register) → AllProper moments h → s ≤ℤ t → t ≤ℤ last_moment
     → ((u : ℤ) → is_stamp moments u ≡ true → int_le u t ≡ int_le u s) → StandsAt s h r → StandsAt t h r
 stands_still moments h s t r p least most same there = record {
@@ -86,7 +86,7 @@ stands_still moments h s t r p least most same there = record {
     on : {X : Type 0} (alike : X → X → Bool) (vs : List (Version X)) {records : List X} → Proper alike moments vs → IsPermutation (standing s vs) records → IsPermutation (standing t vs) records
     on alike vs {records} its there = subst (λ l. IsPermutation l records) (sym (same_standing moments s t vs least most same its.intervals)) there
 
--- before the first stamp nothing stands
+-- before the first stamp there are no versions
 pub nothing_stands : (moments : List Moment) (h : History) (t : ℤ) → AllProper moments h → ((u : ℤ) → is_stamp moments u ≡ true → int_le u t ≡ false) → StandsAt t h nothing
 unfolding grants_in mandates_in
 nothing_stands moments h t p none = record {
@@ -112,7 +112,7 @@ nothing_stands moments h t p none = record {
 late : (s t : ℤ) → int_le s t ≡ false → t <ℤ s
 late s t h = grind (arith, ints)
 
--- at each moment the versions stand for the register of the latest stamp up to then
+-- at each moment the versions represent the register of the latest stamp up to it
 stands_at : (moments : List Moment) (h : History) (ms : List Moment) (t : ℤ) → AllProper moments h → Orderly h ms → AllByRecursion (IsLawfulAt h) ms → t ≤ℤ last_moment
     → ((u : ℤ) → is_stamp moments u ≡ true → is_stamp ms u ≡ true) → StandsAt t h (registered (found_at t None (map_list (version_of h) ms)))
 stands_at moments h [] t p rises lawful most all = nothing_stands moments h t p (λ u is. absurd (false≢true (all u is)))
@@ -142,13 +142,13 @@ stands_at moments h (m ∷ ms) t p rises lawful most all = go (int_le m.stamp t)
         later : (ns : List Moment) → Rises (version_of h m) (map_list (version_of h) ns) → found_at t None (map_list (version_of h) ns) ≡ None
         later ns climbs = later_from m ns (late m.stamp t on) climbs
 
--- ---- all of it
+-- ---- the whole timeline
 
 same_moments : (h : History) (ms : List Moment) → map_list moment_of (map_list (version_of h) ms) ≡ ms
 same_moments h [] = refl
 same_moments h (m ∷ ms) = ap (λ l. m ∷ l) (same_moments h ms)
 
--- what is said of each moment is said of the versions that begin there
+-- a property of each moment is one of the versions that begin at it
 of_versions : (h : History) (P : Moment → Type 0) (Q : Begun → Type 0) → ((m : Moment) → P m → Q (version_of h m)) → (ms : List Moment) → AllByRecursion P ms → AllByRecursion Q (map_list (version_of h) ms)
 of_versions h P Q to [] all = tt
 of_versions h P Q to (m ∷ ms) all = (to m all.0, of_versions h P Q to ms all.1)
@@ -169,7 +169,7 @@ ended moments h ms p rises all = ten (on is_same_number h.parties p.parties) (on
     on : {X : Type 0} (alike : X → X → Bool) (vs : List (Version X)) → Proper alike moments vs → list_all (has_ended (last_stamp (map_list (version_of h) ms))) vs ≡ true
     on alike vs its = all_ended moments (last_stamp (map_list (version_of h) ms)) vs (λ u is. past ms rises u (all u is)) its.intervals
 
--- moments in order, of which there are some
+-- sorted moments, of which there is at least one
 timeline_rises : (h : History) (ms : List Moment) → Orderly h ms → nat_lt 0 (length ms) ≡ true → AllByRecursion (λ m. IsMoment m.stamp) ms → AllByRecursion (IsLawfulAt h) ms → IsSoundTimeline (map_list (version_of h) ms)
 timeline_rises h [] rises some moments lawful = absurd (false≢true some)
 timeline_rises h (m ∷ ms) rises some moments lawful = record {

@@ -1,4 +1,4 @@
--- What a crash leaves of a store in which a register is begun.
+-- The states that a crash leaves while a register is created.
 use Rattle.std.proofs.Common.{◌≡◌, ◌≢◌, ◌⊎◌, inl, inr, ap, ◌∙◌, arith, IsTrue}
 use Rattle.land_keep.specs.Timeline.{new_timeline}
 use Rattle.land_keep.specs.declared.store_fault.StoreFault.{StoreFault}
@@ -16,7 +16,7 @@ use Rattle.sqlite_trees.specs.Tree.{Trees}
 was_clean : {P : Trees → Type 0} (a b : State) → Survives a b P → HasCleanDisk b → HasCleanDisk a
 was_clean a b s clean = omega (arith, s.clean)
 
--- what was not made, and was then asked whether it is open
+-- a failed creation, and the check whether the store is still open
 module _ (a b c : State) (next : Survives b c (λ _. ⊥)) where
   pub undone : (HasCleanDisk c → IsTrue c.is_open → IsLeft b c) → (HasCleanDisk b → IsTrue b.is_open → (b.now ≡ a.committed) × (b.committed ≡ a.committed))
       → HasCleanDisk c → IsTrue c.is_open → (c.now ≡ a.committed) × (c.committed ≡ a.committed)
@@ -32,11 +32,11 @@ module _ (a b c : State) (next : Survives b c (λ _. ⊥)) where
       let before = neither (was_clean b c next clean) shows.was_open in
       record { is_open = shows.is_open; now = shows.now_is ∙ before.0; committed = shows.committed_is ∙ before.1 }
 
--- while a store is open, a crash leaves what was committed last
+-- while a store is open, a crash leaves the last commit
 abbrev IsSettled : State → Type 0
 IsSettled s = (db : Trees) → IsTrue s.is_open → s.may_leave db → db ≡ s.committed.trees
 
--- a store to which nothing was done
+-- a store that was not changed
 pub same_either : (s : State) → IsSettled s → LeavesOrBegins s s
 same_either s settled clean was_open db may = inl (settled db was_open may)
 
@@ -52,7 +52,7 @@ err_untouched old new fault settled untouched clean other =
     let it = untouched clean other in
     record { untouched = it; crash = λ db may. settled db it.is_open may ∙ ap (λ (d : Database). d.trees) it.committed }
 
--- a new register that was made
+-- a new register that was created
 pub begun_rests : {S : Type 0} (g : Ghosts S) (o : Office S) → Settles g o.conn → (IsHonest g o → IsNewOffice (state g o.conn)) → Rests g o
 begun_rests g o settles made open_still clean db may =
     let it = (made clean).office.register in

@@ -21,7 +21,7 @@ use Rattle.land_tables_history.specs.declared.version.Version.{Version}
 
 -- ---- the latest stamp up to a moment
 
--- one of some moments is the latest up to t: no stamp lies between
+-- if a moment is the latest up to t, no stamp is between them
 pub record Reached (P : Moment → Type 0) (versions : History) (moments : List Moment) (t : ℤ) (found : Option Begun) : Type 0 where
   pub moment : Moment
   pub is : found ≡ Some (version_of versions moment)
@@ -39,7 +39,7 @@ either_of : (a b : Bool) → (a || b) ≡ true → (a ≡ false → b ≡ true)
 either_of true b h none = absurd (false≢true (sym none))
 either_of false b h none = h
 
--- each stamp is after what is before the first
+-- each stamp is after every time before the first one
 pub all_later : (versions : History) (t : ℤ) (m : Moment) (ms : List Moment) → t <ℤ m.stamp → Rises (version_of versions m) (map (version_of versions) ms)
     → (u : ℤ) → is_stamp (m ∷ ms) u ≡ true → int_le u t ≡ false
 all_later versions t m [] less rises u is = at_stamp m.stamp t u (one (int_eq m.stamp u) is) less
@@ -103,7 +103,7 @@ reached P versions t m (n ∷ ns) rises all least = go (int_le n.stamp t) refl (
         at u true here is = at_first m.stamp t u here least ∙ sym (at_first m.stamp m.stamp u here (le_itself m.stamp))
         at u false here is = all_later versions t n ns (late n.stamp t on) rises.2 u is ∙ sym (all_later versions m.stamp n ns rises.0 rises.2 u is)
 
--- no stamp is after the last
+-- no stamp is after the last one
 pub none_after : (versions : History) (m : Moment) (ms : List Moment) → Rises (version_of versions m) (map (version_of versions) ms)
     → (u : ℤ) → is_stamp (m ∷ ms) u ≡ true → int_le u (last_from (version_of versions m) (map (version_of versions) ms)).stamp ≡ true
 none_after versions m [] rises u is = go (int_eq m.stamp u) refl is
@@ -119,7 +119,7 @@ none_after versions m (n ∷ ns) rises u is =
     go l true here is past rest = at_first m.stamp l u here (reaches m.stamp n.stamp l past rises.0)
     go l false here is past rest = rest is
 
--- ---- what stands
+-- ---- current versions
 
 -- the parts of a lifespan
 record Spans {X : Type 0} (moments : List Moment) (v : Version X) : Type 0 where
@@ -161,7 +161,7 @@ same_standing {X} moments s t (v ∷ vs) least most same intervals =
     go true rest = ap (λ l. v.what ∷ l) rest
     go false rest = rest
 
--- before each stamp nothing stands
+-- before every stamp no version is current
 pub none_standing : {X : Type 0} (moments : List Moment) (t : ℤ) (vs : List (Version X)) → ((u : ℤ) → is_stamp moments u ≡ true → int_le u t ≡ false) → list_all (is_interval moments) vs ≡ true → standing t vs ≡ []
 none_standing moments t [] none intervals = refl
 none_standing {X} moments t (v ∷ vs) none intervals =
@@ -169,7 +169,7 @@ none_standing {X} moments t (v ∷ vs) none intervals =
     ap (λ b. map (λ (v : Version X). v.what) (cond (b && int_lt t v.until) (v ∷ filter (stands t) vs) (filter (stands t) vs))) (none v.since (spans moments v parts.0).begins)
     ∙ none_standing moments t vs none parts.1
 
--- each end is open or no later than the last stamp
+-- each end is open, or at most the last stamp
 pub all_ended : {X : Type 0} (moments : List Moment) (last : ℤ) (vs : List (Version X)) → ((u : ℤ) → is_stamp moments u ≡ true → int_le u last ≡ true) → list_all (is_interval moments) vs ≡ true → list_all (has_ended last) vs ≡ true
 all_ended moments last [] past intervals = refl
 all_ended moments last (v ∷ vs) past intervals =

@@ -1,4 +1,4 @@
--- Tables in which an edition stands alone are told by one that is of its version, and the other way round.
+-- Tables with exactly one edition decode to one edition of that version, and conversely.
 use Rattle.std.proofs.Common.{◌≡◌, ◌==◌, ℕ, true, List, [], ◌∷◌, refl, ap, ap₂, subst, IsPermutation}
 use Rattle.std.proofs.lemmas.Bool.{false≢true, eqb-true}
 use Rattle.std.proofs.lemmas.List.Sorted.{IsPermutation-sym}
@@ -18,7 +18,7 @@ use Rattle.sqlite.specs.Effect.{Database}
 use Rattle.sqlite.specs.State.{State}
 use Rattle.sqlite_trees.specs.Tree.{Trees}
 
--- the one edition, of a version
+-- the only edition, of a version
 abbrev pub edition_of : ℕ → Edition
 edition_of n = record { id = 1; version = n }
 
@@ -41,9 +41,9 @@ keeps_edition shapes db of =
 told_edition : (n : ℕ) (db : Trees) → KeepsEditions db (edition_of n ∷ []) → told_by editions db ≡ edition_of n ∷ []
 told_edition n db kept = alone (edition_of n) (told_by editions db) (told_is editions db (edition_of n ∷ []) kept)
 
--- ---- what tables hold between calls
+-- ---- the content of the tables between calls
 
--- the tables of the first version say a history without its mandates
+-- the tables of schema version 1 decode to a history without its mandates
 said_before : (db : Trees) (h : History) → SaysHistory db h → SaysFirst db (record h { mandates = [] })
 said_before db h said = record {
   parties = said.parties;
@@ -72,7 +72,7 @@ held_may_be s it =
 held_mandates : (s : State) → HoldsRegister s → HasMandates s.now
 held_mandates s it = record { land = it.land; listed = it.holds.history.mandates; said = it.holds.holds.the_mandates.said }
 
--- what tables hold between calls is what is taken for a register's
+-- the content of the tables between calls is a valid register
 pub register_held : (s : State) → HoldsRegister s → IsRegister the_second s.now
 register_held s it = record {
   intervals = record {

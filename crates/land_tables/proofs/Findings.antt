@@ -1,4 +1,4 @@
--- What is found in tables by looks, one after another.
+-- Decoding the tables by several reads.
 use Rattle.std.proofs.Common.{Ok, Err, List, Result, IfErr, refl, subst}
 use Rattle.land_core.specs.declared.mandates.Mandate.{Mandate}
 use Rattle.land_tables.specs.Findings.{AreMandates, FindsFirst, SaysFirstRows}
@@ -14,7 +14,7 @@ use Rattle.land_tables_schema.specs.Tables.{mandate}
 use Rattle.sqlite.specs.State.{HasCleanDisk, State}
 use Rattle.sqlite_trees.specs.Tree.{Trees}
 
--- all that rows say has a history in it
+-- a value of all rows contains a history
 pub history_said : (db : Trees) (found : Findings) → SaysFirstRows db found → (it : History) × SaysFirst db it
 history_said db found said = (found.history, said.history)
 
@@ -28,7 +28,7 @@ module _ {E : Type 0} (a b c : State) (first : IsLook {X = Unit {0}} {E = E} (Ok
   unsaid_then (Ok found) next clean none = tt
   unsaid_then (Err fault) next clean none = subst (λ db. CannotSay (SaysFirstRows db.trees) fault) (first.same (was_clean b c next.survives clean)).0.now_is none
 
--- so are the mandates
+-- and so are the mandates
 module _ {E : Type 0} (a b c : State) (first : IsLook {X = Unit {0}} {E = E} (Ok tt) (λ _. AreKeyed mandate a.now.trees) a b) where
   pub mandates_then : (r : Result (List (Version Mandate)) ReadFault) → IsLook r (Says mandates b.now.trees) b c → IsLook r (AreMandates a.now.trees) a c
   mandates_then (Ok listed) next = look_then a b c first next (λ _ same keyed said. record { said = subst (λ db. Says mandates db.trees listed) same said; keyed = keyed })

@@ -1,4 +1,4 @@
--- Where the latest moment is no later than the last one that there is, all moments are before the end of what stands.
+-- If the latest moment is at most the last representable one, all moments are before the open end.
 use Rattle.std.proofs.Common.{◌≡◌, Bool, true, false, cond, ◌&&◌, List, [], ◌∷◌, Some, refl, ap, ap₂, subst, arith}
 use Rattle.std.specs.Prelude.{ℤ, pos, ◌≤ℤ◌, int_le, int_lt}
 use Rattle.std.proofs.lemmas.Int.{ints}
@@ -30,7 +30,7 @@ same_stamp k latest e = subst (λ (m : Moment). int_le k.stamp m.stamp ≡ true)
 three : {a b c : Bool} → a ≡ true → b ≡ true → c ≡ true → (a && (b && c)) ≡ true
 three p q r = ap₂ (λ s t. s && t) p (ap₂ (λ s t. s && t) q r)
 
--- the latest of one that was found and of others is no earlier than any of them
+-- the latest of one moment and others is at least each of them
 none_later : (k latest : Moment) (ms : List Moment) → latest_from (λ m. true) (Some k) ms ≡ Some latest → (int_le k.stamp latest.stamp && are_upto latest.stamp ms) ≡ true
 none_later k latest [] is = ap (λ b. b && true) (same_stamp k latest is)
 none_later k latest (n ∷ ns) is = go (follows (Some k) n) refl is (λ j. none_later j latest ns)

@@ -1,4 +1,4 @@
--- Lifespans are intervals that do not overlap in whatever order they lie.
+-- Whether lifespans are disjoint intervals does not depend on their order.
 use Rattle.std.proofs.Common.{◌≡◌, Bool, ◌||◌, ◌&&◌, List, [], ◌∷◌, refl, ap₂, ◌∙◌, IsPermutation}
 use Rattle.std.specs.Prelude.{pos, int_lt}
 use Rattle.std.specs.List.{list_all}
@@ -12,7 +12,7 @@ use Rattle.land_tables_history.specs.Intervals.{are_intervals, is_interval, is_s
 use Rattle.land_tables_history.specs.declared.moment.Moment.{Moment}
 use Rattle.land_tables_history.specs.declared.version.Version.{Version}
 
--- the same test in other words
+-- the same test, stated differently
 pub all_alike : {X : Type 0} (p q : X → Bool) → ((x : X) → p x ≡ q x) → (xs : List X) → list_all p xs ≡ list_all q xs
 all_alike p q same [] = refl
 all_alike p q same (x ∷ xs) = ap₂ (λ a b. a && b) (same x) (all_alike p q same xs)

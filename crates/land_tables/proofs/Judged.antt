@@ -1,4 +1,5 @@
--- What is found passes its tests, or misses the first that it misses: the lifespans, and the register at each moment.
+-- Decoded tables pass the tests, or fail the first that they fail: valid intervals, and a sound register at
+-- each moment.
 use Rattle.std.proofs.Common.{◌≡◌, Bool, true, false, cond, List, [], ◌∷◌, Some, None, Ok, Err}
 use Rattle.land_tables.specs.Findings.{IsJudged, IsLatest}
 use Rattle.land_tables.specs.declared.fault.AdoptFault.{AdoptFault}
@@ -10,7 +11,7 @@ use Rattle.land_tables_history.specs.Moments.{follows, last, latest_from}
 use Rattle.land_tables_history.specs.declared.history.History.{History}
 use Rattle.land_tables_history.specs.declared.moment.Moment.{Moment}
 
--- of some moments one is the latest
+-- among some moments one is the latest
 some_last : (m : Moment) (ms : List Moment) → latest_from (λ m. true) (Some m) ms ≡ None → ⊥
 some_last m [] none = (let e = none in cc)
 some_last m (n ∷ ns) none = go (follows (Some m) n) none (λ k. some_last k ns)
@@ -23,7 +24,7 @@ no_last : (ms : List Moment) (h : History) → last ms ≡ None → ¬ IsLawful 
 no_last [] h none lawful = (let e = lawful.moments in cc)
 no_last (m ∷ ms) h none lawful = some_last m ms none
 
--- lifespans that are as they may be, and no latest moment that is one
+-- valid intervals without a representable latest moment
 pub missed : (found : Findings) (fault : AdoptFault) → has_intervals found.moments found.history ≡ true → IsLatest found.moments (Err fault) → IsJudged found (Err fault)
 missed found Unsound intervals is = (intervals, no_last found.moments found.history is)
 missed found Store intervals is = is
@@ -32,6 +33,6 @@ missed found Version intervals is = absurd is
 missed found Interval intervals is = absurd is
 missed found NoMemory intervals is = absurd is
 
--- what passes all tests
+-- contents that pass all tests
 pub passed : (found : Findings) (latest : Moment) → has_intervals found.moments found.history ≡ true → IsLawful found.moments found.history → last found.moments ≡ Some latest → IsJudged found (Ok latest)
 passed found latest intervals lawful is = record { passes = record { intervals = intervals; lawful = lawful }; last = is }

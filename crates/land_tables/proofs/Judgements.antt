@@ -1,4 +1,4 @@
--- A store that was looked at, and is open, is as it was.
+-- A store that was only read, and is open, is unchanged.
 use Rattle.std.proofs.Common.{◌≡◌, ◌≢◌, ◌⊎◌, inl, inr, Ok, Err, Result, IsTrue, sym, ap, ◌∙◌, subst}
 use Rattle.land_tables.proofs.Editions.{keeps_edition}
 use Rattle.land_tables.specs.Adopting.{IsJudgement, IsRefused, IsRegisterTo}
@@ -14,7 +14,7 @@ use Rattle.sqlite.proofs.StateLemmas.{survives_then}
 use Rattle.sqlite.specs.State.{HasCleanDisk, IsUnchanged, State, Survives}
 
 module _ (shapes : Shapes) (a b : State) (settled : IsTrue a.is_open → a.now ≡ a.committed) where
-  -- what a look left that succeeded
+  -- the state after a successful read
   pub judged_ok : (latest : Moment) → IsLook {E = AdoptFault} (Ok latest) (IsRegisterTo shapes a.now) a b → IsJudgement shapes (Ok latest) a b
   judged_ok latest look = record {
     register = look.given;
@@ -29,7 +29,7 @@ module _ (shapes : Shapes) (a b : State) (settled : IsTrue a.is_open → a.now �
           let u = (look.same clean).0 in
           record { is_open = u.is_open; now = u.now_is; committed = u.committed_is ∙ sym (settled u.was_open) ∙ sym u.now_is }
 
-  -- and one that failed, after which the fault was told
+  -- and after a failed read whose fault was returned
   pub judged_err : (c : State) (why told : AdoptFault) → IsLook {X = Moment} (Err why) (IsRegisterTo shapes a.now) a b → (HasCleanDisk b → IsRefused shapes why a.now) → (told ≡ why) ⊎ (told ≡ Store)
       → (HasCleanDisk c → told ≢ Store → IsUnchanged b c) → (HasCleanDisk c → IsTrue c.is_open → IsLeft b c) → Survives b c (λ _. ⊥) → IsJudgement shapes (Err told) a c
   judged_err c why told look refused is same left survives = record {
@@ -55,7 +55,7 @@ module _ (shapes : Shapes) (a b : State) (settled : IsTrue a.is_open → a.now �
           let now : c.now ≡ a.now = elim after.now [ inl it ↦ it ∙ shown | inr it ↦ it ∙ kept ] in
           record { is_open = is_open; now = now; committed = after.committed ∙ kept ∙ sym now }
 
--- an open store that has the register that it had is an office
+-- an open store with an unchanged register is consistent
 pub same_office : (old new : State) (latest : Moment) → IsSame old new → IsRegisterTo the_second old.now latest → IsOffice new latest.stamp latest.next
 same_office old new latest same to =
     let it : IsRegisterTo the_second new.now latest = subst (λ db. IsRegisterTo the_second db latest) (sym same.now) to in

@@ -1,4 +1,4 @@
--- Lifespans of versions with a change are as they may be.
+-- Intervals of versions stay valid with a change.
 use Rattle.std.proofs.Common.{[], ◌∷◌, map as map_list, subst, arith}
 use Rattle.std.specs.Prelude.{ℤ, ◌<ℤ◌, ◌≤ℤ◌}
 use Rattle.std.proofs.lemmas.Int.{ints}

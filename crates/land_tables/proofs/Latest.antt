@@ -1,4 +1,4 @@
--- The latest moment of those of a timeline, in whatever order they lie.
+-- The latest moment of a timeline, from moments in any order.
 use Rattle.std.proofs.Common.{◌≡◌, ◌≤◌, ℕ, Bool, true, false, cond, ◌&&◌, List, [], ◌∷◌, map, Option, Some, None, refl, sym, ap, ◌∙◌, arith, IsPermutation}
 use Rattle.std.specs.Prelude.{ℤ, ◌<ℤ◌, int_le, fold, unwrap_or, if◌then◌else◌}
 use Rattle.std.specs.Option.{option_map, option_map_or}
@@ -13,7 +13,7 @@ use Rattle.land_tables_history.proofs.MomentOrder.{lt_through}
 use Rattle.land_tables_history.specs.Moments.{follows, last, latest, latest_from, next_at}
 use Rattle.land_tables_history.specs.declared.moment.Moment.{Moment}
 
--- ---- the latest is the same in the order of the stamps
+-- ---- the latest moment is the same after sorting by stamp
 
 -- one moment more
 abbrev one_more : (Moment → Bool) → Option Moment → Moment → Option Moment
@@ -25,7 +25,7 @@ no_earlier n m h = grind (arith, ints)
 over_both : (a n m : ℤ) → int_le a n ≡ true → int_le m n ≡ false → int_le a m ≡ true
 over_both a n m h g = grind (arith, ints)
 
--- of two moments the later one is found, whichever comes first
+-- of two moments the later one is returned, in either order
 either_first : (passes : Moment → Bool) (found : Option Moment) (m n : Moment) → int_le m.stamp n.stamp ≡ false
     → one_more passes (one_more passes found n) m ≡ one_more passes (one_more passes found m) n
 either_first passes found m n late = go (passes m) (passes n) refl refl
@@ -76,7 +76,7 @@ order_latest passes found (m ∷ ms) = put_latest passes found m (in_order ms) �
 
 -- ---- the latest moment of a timeline is that of its latest version
 
--- the versions after one that was found
+-- the versions after a version that passes the test
 After : Option Version → Timeline → Type 0
 After None [] = Unit {0}
 After None (v ∷ vs) = Rises v vs
@@ -89,7 +89,7 @@ rises_on v w (u ∷ us) h = (lt_through v.stamp w.stamp u.stamp h.0 h.2.0, more 
     more : (a b c : ℕ) → a ≤ b → b ≤ c → a ≤ c
     more a b c x y = omega arith
 
--- the last of the versions whose moments pass a test
+-- the last version whose moment passes a test
 abbrev last_passing : (Moment → Bool) → Option Version → Timeline → Option Version
 last_passing passes found vs = fold (λ found v. if passes (moment_of v) then Some v else found) found vs
 
@@ -128,9 +128,9 @@ latest_version passes [] moments rises p = absurd rises
 latest_version passes (v ∷ vs) moments rises p =
     sym (order_latest passes None moments) ∙ ap (latest passes) (timeline_order (v ∷ vs) moments rises p) ∙ along passes None (v ∷ vs) rises
 
--- ---- what is read of it
+-- ---- its value
 
--- the next number of the latest moment up to one is that of the register there
+-- the next number of the latest moment up to a time is that of the register at that time
 pub next_is : (tl : Timeline) (moments : List Moment) (t : ℤ) → IsRising tl → IsPermutation (map moment_of tl) moments → next_at moments t ≡ (register_at tl t).next
 next_is tl moments t rises p = ap (λ o. option_map_or (λ (m : Moment). m.next) o 2) (latest_version (λ m. int_le m.stamp t) tl moments rises p) ∙ same (version_at tl t)
   where
@@ -138,7 +138,7 @@ next_is tl moments t rises p = ap (λ o. option_map_or (λ (m : Moment). m.next)
     same None = refl
     same (Some v) = refl
 
--- the latest moment is the timeline's last stamp, with the next number of its last register
+-- the latest moment has the timeline's last stamp and the next number of its last register
 pub last_is_last : (tl : Timeline) (moments : List Moment) → IsRising tl → IsPermutation (map moment_of tl) moments
     → last moments ≡ Some (record { stamp = last_stamp tl; next = (last_register tl).next })
 last_is_last [] moments rises p = absurd rises

@@ -1,4 +1,4 @@
--- Versions that stand for a sound timeline are a lawful history.
+-- Versions that represent a sound timeline are a valid history.
 use Rattle.std.proofs.Common.{◌≡◌, ℕ, suc, ◌≤◌, Bool, true, false, not, ◌||◌, ◌&&◌, List, [], ◌∷◌, length, map as map_list, refl, sym, ap, ap₂, ◌∙◌, subst, arith, IsPermutation}
 use Rattle.std.specs.Prelude.{ℤ, ◌<ℤ◌, int_lt, nat_eq, nat_lt}
 use Rattle.std.proofs.lemmas.Bool.Decides.{nat_tests}
@@ -64,7 +64,7 @@ keeps_after s t m n less more = grind (arith, ints, nat_tests)
 keeps_before : (s t : ℤ) (m n : ℕ) → s <ℤ t → not (int_lt t s && nat_lt m n) ≡ true
 keeps_before s t m n less = grind (arith, ints, nat_tests)
 
--- a version against those that rise after it
+-- a version, compared with the later ones
 module _ (u : Version) where
   all_after : (v : Version) (vs : Timeline) → u.stamp <ℤ v.stamp → u.register.next ≤ v.register.next → Rises v vs → list_all (keeps (moment_of u)) (map_list moment_of (v ∷ vs)) ≡ true
   all_after v [] before no_fewer rises = and_from (keeps (moment_of u) (moment_of v)) true (keeps_after u.stamp v.stamp u.register.next v.register.next before no_fewer) refl
@@ -101,7 +101,7 @@ moments_of (v ∷ vs) ms rises p =
     some : (n : ℕ) → nat_lt 0 (suc n) ≡ true
     some n = grind (arith, nat_tests)
 
--- ---- the namings
+-- ---- links of mutations to units
 
 naming_itself : (n : Naming) → is_same_naming n n ≡ true
 naming_itself n = and_from (nat_eq n.mutation n.mutation) (nat_eq n.unit n.unit) (nat_eq_equiv.refl n.mutation) (nat_eq_equiv.refl n.unit)
@@ -127,7 +127,7 @@ same_if_permuted xs ys p = and_from (list_all (is_among ys) xs) (list_all (is_am
 
 -- ---- at each moment
 
--- what is said of each version is said of the moments at which they begin
+-- a property of each version is one of the moments at which versions begin
 at_moments : (h : History) (P : Moment → Type 0) (Q : Version → Type 0) → ((m : Moment) → Q (version_of h m) → P m) → (ms : List Moment) → AllByRecursion Q (map_list (version_of h) ms) → AllByRecursion P ms
 at_moments h P Q to [] all = tt
 at_moments h P Q to (m ∷ ms) all = (to m all.0, at_moments h P Q to ms all.1)

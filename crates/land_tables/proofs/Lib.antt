@@ -1,4 +1,4 @@
--- Lemmas of the register's timeline in tables.
+-- Lemmas about the register's timeline in tables.
 pub mod Adopted
 pub mod AdoptedTimelines
 pub mod Begun

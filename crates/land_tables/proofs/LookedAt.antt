@@ -1,4 +1,4 @@
--- What stands in tables at the moment at which is looked is the timeline's register at the asked one.
+-- The versions at the moment that is read form the timeline's register at the requested time.
 use Rattle.std.proofs.Common.{◌≡◌, ◌∙◌, ap, refl, sym, subst, Bool, true, false, cond, ◌||◌, [], ◌∷◌, map, arith}
 use Rattle.std.specs.Prelude.{ℤ, pos, ◌<ℤ◌, ◌≤ℤ◌, int_le, int_lt}
 use Rattle.std.specs.Int.{int_min}
@@ -25,7 +25,7 @@ use Rattle.sqlite.specs.State.{State}
 is_after : (s t u : ℤ) → pos 0 ≤ℤ s → t <ℤ pos 0 → int_eq s u ≡ true → int_le u t ≡ false
 is_after s t u le less is = grind (arith, ints)
 
--- each stamp is after what is before the first moment
+-- each stamp is after every time before the first moment
 all_after : (tl : Timeline) (t u : ℤ) → AllByRecursion (λ v. IsMoment v.stamp) tl → t <ℤ pos 0 → is_stamp (map moment_of tl) u ≡ true → int_le u t ≡ false
 all_after [] t u all less is = absurd (false≢true is)
 all_after (v ∷ vs) t u all less is = go (int_eq v.stamp u) refl is (all_after vs t u all.1 less)
@@ -34,7 +34,7 @@ all_after (v ∷ vs) t u all less is = go (int_eq v.stamp u) refl is (all_after 
     go true here is rest = is_after v.stamp t u all.0.0 less here
     go false here is rest = rest is
 
--- before the first moment nothing stands in the tables of a register
+-- before the first moment the tables of a register have no versions
 stands_before : (s : State) (register : HoldsRegister s) (t : ℤ) → t <ℤ pos 0 → StandsAt t register.holds.history nothing
 stands_before s register t less =
     let tl = timeline_in s.now.trees in
@@ -48,11 +48,11 @@ before t h = grind (arith, ints)
 not_past : (t : ℤ) → int_lt t (pos 0) ≡ true → int_lt last_moment t ≡ false
 not_past t h = grind (arith, ints)
 
--- who asks for the moment t and looks at u finds the register there
+-- a request for time t that reads at u returns the register at t
 abbrev pub IsLookedAt : (t u : ℤ) → Type 1
 IsLookedAt t u = (s : State) (register : HoldsRegister s) → StandsAt u register.holds.history (register_at (timeline_in s.now.trees) t)
 
--- so it is where one looks at the last moment for those after it, and for each other at itself
+-- times after the last moment read at the last moment, all others at themselves
 pub look_moment : (t u : ℤ) → u ≡ int_min t last_moment → IsLookedAt t u
 look_moment t u is = go (int_lt t (pos 0)) refl
   where

@@ -1,4 +1,4 @@
--- In a sound register no group is without members.
+-- In a sound register every group has members.
 use Rattle.std.proofs.Common.{◌≡◌, ◌≤◌, ℕ, true, false, not, [], length, map as map_list, Option, Some, None, refl, sym, ap, ◌∙◌, arith}
 use Rattle.std.proofs.lemmas.Bool.{false≢true, not-true}
 use Rattle.std.specs.FinMap as map

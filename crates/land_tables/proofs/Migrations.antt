@@ -1,4 +1,4 @@
--- What became of a store of the first version that was judged and then raised.
+-- A store of schema version 1 that was validated and then migrated.
 use Rattle.std.proofs.Common.{◌≡◌, ◌≢◌, ◌⊎◌, inl, inr, Ok, Err, Result, IfErr, IfOk, OnErr, OnOk, IsTrue, sym, ap, ◌∙◌, subst, arith}
 use Rattle.land_tables.proofs.Raised.{are_raised, none_at_first, office_raised, tells_raised}
 use Rattle.land_tables.specs.Adopting.{IsJudgement, IsRefused, IsRegisterTo}
@@ -27,11 +27,11 @@ clean_before a b s clean = omega (arith, s.clean)
 ok_is_none : (latest : Moment) → ◌≢◌ {A = Result Moment AdoptFault} (Ok latest) (Err Store)
 ok_is_none latest e = absurd (let k = e in cc)
 
--- what was judged is settled
+-- a validated store is committed
 pub judged_settled : (s a : State) (latest : Moment) → IsJudgement the_first (Ok latest) s a → HasCleanDisk a → a.now ≡ a.committed
 judged_settled s a latest judged clean = sym (judged.same clean (ok_is_none latest)).committed
 
--- a store that was judged, and was raised or not
+-- a validated store, migrated or not
 module _ (s a b : State) (latest : Moment) (judged : IsJudgement the_first (Ok latest) s a) (crash : Survives a b (MayRaise a.now)) (law : RaisedRegistersAreHeld) where
   was_same : HasCleanDisk b → IsSame s a
   was_same clean = judged.same (clean_before a b crash clean) (ok_is_none latest)
@@ -87,7 +87,7 @@ module _ (s a b : State) (latest : Moment) (judged : IsJudgement the_first (Ok l
           let before = was_same clean in
           record { is_open = is_open; now = u.0 ∙ before.committed ∙ before.now; committed = u.1 ∙ sym u.0 }
 
-  -- whatever came of it
+  -- for any result
   pub migrated_then : VersionsStandForOne → OrderDoesNotMatter → (r : Result Moment AdoptFault) → IfOk r (λ it. it ≡ latest) → OnOk r (IsRaisable a.now.schema)
       → (HasCleanDisk b → OnOk r (Raises a.now b.now)) → (HasCleanDisk b → OnOk r (b.committed ≡ b.now)) → (HasCleanDisk b → OnOk r (IsTrue b.is_open))
       → IfErr r (λ fault. (fault ≡ NoMemory) ⊎ (fault ≡ Store)) → (HasCleanDisk b → IfErr r (λ fault. fault ≢ Store → IsTrue b.is_open))
@@ -96,7 +96,7 @@ module _ (s a b : State) (latest : Moment) (judged : IsJudgement the_first (Ok l
       subst (λ (m : Moment). IsMigration (Ok m) s b) (sym same) (migrated_ok one order raisable done committed is_open)
   migrated_then one order (Err fault) same raisable done committed is_open is open_still undone = migrated_err fault is open_still undone
 
--- a store that was refused
+-- a refused store
 pub migrated_not : (s a : State) (fault : AdoptFault) → IsJudgement the_first (Err fault) s a → IsMigration (Err fault) s a
 migrated_not s a fault judged = record {
   migrated = λ _. tt;
@@ -109,13 +109,13 @@ migrated_not s a fault judged = record {
     told : ◌≡◌ {A = Result Moment AdoptFault} (Err fault) (Err Store) → fault ≡ Store
     told e = cc
 
--- ---- what a crash leaves
+-- ---- the states that a crash leaves
 
--- while a store is open, a crash leaves what was committed last
+-- while a store is open, a crash leaves the last commit
 abbrev IsSettled : State → Type 0
 IsSettled s = (db : Trees) → IsTrue s.is_open → s.may_leave db → db ≡ s.committed.trees
 
--- a store to which nothing was done
+-- a store that was not changed
 pub same_leaves : (s : State) → IsSettled s → LeavesOrRaises s s
 same_leaves s settled clean was_open db may = inl (settled db was_open may)
 
@@ -126,7 +126,7 @@ err_leaves s b settled survives clean was_open db may = go (survives.crash clean
     go (inl before) = inl (settled db was_open before)
     go (inr raised) = inr raised
 
--- a store that is as it was
+-- an unchanged store
 pub stays_same : (s b : State) → IsSettled b → IsSame s b → StaysSame s b
 stays_same s b settled same = record {
   same = same;

@@ -1,4 +1,4 @@
--- The rows of a new register stand for its timeline.
+-- The rows of a new register represent its timeline.
 use Rattle.std.proofs.Common.{◌≡◌, ℕ, true, IsTrue, List, [], flat_map, map as map_list, pos, refl, sym, ap, ◌∙◌, arith}
 use Rattle.std.specs.FinMap as map
 use Rattle.std.specs.Ordering.{nat_cmp}
@@ -60,7 +60,7 @@ new_holds law held db rows = record { listed = new_moments; history = new_histor
 new_intervals : LawfulVersionsStand → NewRegistersAreHeld → (db : Trees) → HoldsRows db new_rows → has_intervals (told_by moments db) (history_in db) ≡ true
 new_intervals law held db rows = told_intervals db new_timeline (record { listed = new_moments; history = new_history; holds = (held db rows).history; stands = (stands law).0 })
 
--- tables that were just made hold the new timeline
+-- tables that were just created hold the new timeline
 module _ (law : LawfulVersionsStand) (held : NewRegistersAreHeld) (one : VersionsStandForOne) (order : OrderDoesNotMatter) (s : State) (new : IsNew s.now) where
   tells_new : timeline_in s.now.trees ≡ new_timeline
   tells_new = tells one order s.now.trees new_timeline (new_holds law held s.now.trees new.rows) (new_is_sound_too law)

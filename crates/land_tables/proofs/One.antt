@@ -1,4 +1,4 @@
--- Versions stand for one timeline, and what is read of them is its registers.
+-- Versions represent one timeline only, and its registers are read from them.
 use Rattle.std.proofs.Common.{◌≡◌, Bool, true, false, cond, List, [], ◌∷◌, map, Option, Some, None, refl, sym, ap, ◌∙◌, ℕ}
 use Rattle.std.specs.Prelude.{ℤ, ◌≤ℤ◌, int_le, fold, unwrap_or, if◌then◌else◌}
 use Rattle.std.specs.List.{AllByRecursion}
@@ -23,15 +23,15 @@ use Rattle.land_tables_history.specs.Moments.{next_at}
 use Rattle.land_tables_history.specs.declared.history.History.{History}
 use Rattle.land_tables_history.specs.declared.moment.Moment.{Moment}
 
--- the register of a version that was found, or that of none
+-- the register of a version, or the empty register
 abbrev pub registered : Option Version → Register
 registered found = unwrap_or (option_map (λ (v : Version). v.register) found) nothing
 
--- the last version of some whose stamp is at most t, or one that was found before
+-- the last version whose stamp is at most t, or a default
 abbrev pub found_at : ℤ → Option Version → Timeline → Option Version
 found_at t found vs = fold (λ found v. if int_le v.stamp t then Some v else found) found vs
 
--- ---- each register of a timeline is sound, or there is none
+-- ---- each register of a timeline is sound, or empty
 
 members_found : SoundnessByLookUps → (t : ℤ) (vs : Timeline) (found : Option Version) → HaveMembers (registered found).members → AllByRecursion (λ v. IsSound v.register) vs
     → HaveMembers (registered (found_at t found vs)).members
@@ -45,20 +45,20 @@ members_found look_ups t (v ∷ vs) found have sound = members_found look_ups t 
 pub have_members : SoundnessByLookUps → (tl : Timeline) (t : ℤ) → IsSoundTimeline tl → HaveMembers (register_at tl t).members
 have_members look_ups tl t sound = members_found look_ups t tl None no_members sound.sound
 
--- ---- at a stamp there is the register that it has
+-- ---- at a stamp the timeline has the register of that stamp
 
--- no version of a later stamp is found
+-- no version with a later stamp is selected
 pub none_later : (t : ℤ) (found : Option Version) (v : Version) (vs : Timeline) → t ≤ℤ v.stamp → Rises v vs → found_at t found vs ≡ found
 none_later t found v [] least rises = refl
 none_later t found v (w ∷ ws) least rises =
     let before = le_then_lt t v.stamp w.stamp least rises.0 in
     ap (λ b. found_at t (cond b (Some w) found) ws) (is_late w.stamp t before) ∙ none_later t found w ws (lt_is_le t w.stamp before) rises.2
 
--- each version is found at its stamp
+-- each version is selected at its stamp
 abbrev Found : Timeline → Version → Type 0
 Found vs w = (found : Option Version) → found_at w.stamp found vs ≡ Some w
 
--- a version more before those among which some are found
+-- one version more before versions of which one is selected
 found_after : (v : Version) (vs ws : Timeline) → AllByRecursion (Found vs) ws → AllByRecursion (Found (v ∷ vs)) ws
 found_after v vs [] h = tt
 found_after v vs (w ∷ ws) h = (λ found. h.0 (cond (int_le v.stamp w.stamp) (Some v) found), found_after v vs ws h.1)
@@ -74,7 +74,7 @@ stamps_found : (tl : Timeline) → IsRising tl → AllByRecursion (Found tl) tl
 stamps_found [] rises = absurd rises
 stamps_found (v ∷ vs) rises = each_found v vs rises
 
--- ---- what is read
+-- ---- reading
 
 same_next : (r : Register) (n : ℕ) → n ≡ r.next → record r { next = n } ≡ r
 same_next r n e = ap (λ (k : ℕ). let it : Register = record r { next = k } in it) e

@@ -1,4 +1,4 @@
--- Which mutations an accepted change puts: a new one, or one that stands in another state. It ends none.
+-- Which mutations an accepted change inserts: a new one, or an existing one in another state. It ends none.
 use Rattle.std.proofs.Common.{◌≡◌, ℕ, ◌<◌, Option, Some, None, [], refl, subst, arith, inl, inr}
 use Rattle.std.specs.Prelude.{ℤ}
 use Rattle.std.specs.FinMap as map
@@ -43,7 +43,7 @@ module _ (r : Register) (sound : IsSound r) where
   content_ends source (content.Mortgage it) = refl
   content_ends source (content.Discharge it) = refl
 
-  -- a decision puts the mutation that stands under its number, in its new state
+  -- a decision replaces the current mutation with that number, in its new state
   by_decision : (number : ℕ) (state : MutationState) (change : MutationRecord → Change) → ((m : MutationRecord) → (change m).ended.mutations ≡ []) → (o : Option MutationRecord) → map.get r.mutations number ≡ o
       → PutsMutations r (option_map_or (λ m. with_state state number m (change m)) o (no_change r.next))
   by_decision number state change ends None e = record { used = below; put = tt; ended = refl }

@@ -1,4 +1,4 @@
--- Tables of the first version that are raised hold, in the second, the timeline that they held.
+-- Tables of schema version 1 hold the same timeline after migration to version 2.
 use Rattle.std.proofs.Common.{◌≡◌, ℤ, Bool, true, false, cond, List, [], ◌∷◌, map, Option, Some, None, Ok, Result, IsTrue, refl, sym, ap, ◌∙◌, IsPermutation}
 use Rattle.std.specs.Prelude.{int_le}
 use Rattle.std.specs.FinMap as finite
@@ -35,11 +35,11 @@ use Rattle.sqlite_trees.specs.Tree.{Trees}
 
 -- ---- the same rows
 
--- what is said of a table of mandates with no row is that there are none
+-- a table of mandates without rows decodes to no mandates
 none_said : (listed : List (Lived Mandate)) → IsPermutation {X = Result (Lived Mandate) WireFault} [] (map (λ v. Ok v) listed) → listed ≡ []
 none_said listed said = no_more listed (length_permutation [] listed (same_values [] listed said))
 
--- tables that hold a history without mandates hold it by the first version
+-- tables that hold a history without mandates hold it in schema version 1
 first_held : (db : Trees) (listed : List Moment) (h : History) → HoldsHistory (without_mandates db) listed h → HoldsFirst db listed h
 first_held db listed h held = record {
   the_moments = held.the_moments;
@@ -66,7 +66,7 @@ module _ (law : RaisedRegistersAreHeld) (old new : Database) (first : IsRegister
   timeline_raised : HoldsTimeline new.trees (first_timeline_in old.trees)
   timeline_raised = record { listed = first.holds.listed; history = first.holds.history; holds = read.history; stands = first.holds.stands }
 
-  -- what a crash may find in place of the first version
+  -- the states that a crash may leave instead of schema version 1
   pub are_raised : AreRaised old new.trees
   are_raised = record { edition = read.editions; holds = timeline_raised }
 
@@ -80,7 +80,7 @@ module _ (law : RaisedRegistersAreHeld) (old new : Database) (first : IsRegister
       ∙ sym (told_intervals (without_mandates old.trees) (first_timeline_in old.trees) first.holds)
       ∙ first.intervals.intervals
 
--- a store that was raised is an office
+-- a migrated store is consistent
 pub office_raised : RaisedRegistersAreHeld → VersionsStandForOne → OrderDoesNotMatter → (old new : State) (latest : Moment) → IsRegisterTo the_first old.now latest → Raises old.now new.now → IsTrue new.is_open → new.committed ≡ new.now
     → IsOffice new latest.stamp latest.next
 office_raised law one order old new latest to raised is_open committed =
@@ -101,9 +101,10 @@ office_raised law one order old new latest to raised is_open committed =
       next = rw is to.next;
     }
 
--- ---- nobody gives a mandate
+-- ---- there are no mandates
 
--- in no register that is found, where there is none in one that was found before, and the versions are of a history without mandates
+-- no selected register has mandates, if the default has none and the versions are of a history without
+-- mandates
 none_found : (h : History) → h.mandates ≡ [] → (t : ℤ) (ms : List Moment) (found : Option Version) → (registered found).mandates ≡ finite.empty
     → (registered (found_at t found (map (version_of h) ms))).mandates ≡ finite.empty
 none_found h none t [] found so = so
@@ -113,6 +114,6 @@ none_found h none t (m ∷ ms) found so = none_found h none t ms (cond (int_le m
     here true = ap (mandates_at m.stamp) none
     here false = so
 
--- tables of the first version stand for a timeline without mandates
+-- tables of schema version 1 represent a timeline without mandates
 pub none_at_first : (db : Trees) → HasNoMandates (first_timeline_in db)
 none_at_first db t = none_found (history_in (without_mandates db)) refl t (in_order (told_by moments (without_mandates db))) None refl

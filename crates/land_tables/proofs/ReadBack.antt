@@ -1,4 +1,4 @@
--- What is read of tables at any moment is the timeline's register there.
+-- The register that is read from tables at any moment is the timeline's.
 use Rattle.std.proofs.Common.{◌≡◌, ◌∙◌, ap, refl, sym, subst, inl, Bool, true, false, cond, [], ◌∷◌, Option, Some, None, Result, Ok, Err, IfOk, arith}
 use Rattle.std.specs.Prelude.{ℤ, pos, ◌<ℤ◌, ◌≤ℤ◌, int_le, int_lt, fold, unwrap_or, if◌then◌else◌}
 use Rattle.std.specs.Int.{int_min}
@@ -31,20 +31,20 @@ none_found t less [] all = refl
 none_found t less (v ∷ vs) all =
     ap (λ b. fold (λ found v. if int_le v.stamp t then Some v else found) (cond b (Some v) None) vs) (is_before t v.stamp all.0.0 less) ∙ none_found t less vs all.1
 
--- before the first moment there is nothing
+-- before the first moment the register is empty
 pub before_all : (tl : Timeline) (t : ℤ) → IsSoundTimeline tl → t <ℤ pos 0 → register_at tl t ≡ nothing
 before_all tl t sound less = ap (λ (o : Option Version). unwrap_or (option_map (λ (v : Version). v.register) o) nothing) (none_found t less tl sound.moments)
 
 pub not_before : (t : ℤ) → int_lt t (pos 0) ≡ false → pos 0 ≤ℤ t
 not_before t h = grind (arith, ints)
 
--- after the last moment there is what there was at it
+-- after the last moment the register is that of the last moment
 pub past_all : (tl : Timeline) (t : ℤ) → IsSoundTimeline tl → last_moment ≤ℤ t → register_at tl t ≡ register_at tl last_moment
 past_all tl t sound le =
     let is_moment = last_is_moment tl sound in
     stays_last tl t sound.rising (le_through (last_stamp tl) last_moment t is_moment le) ∙ sym (stays_last tl last_moment sound.rising is_moment)
 
--- what was read at a moment is the register there
+-- the register that was read at a moment is the timeline's
 pub read_is : VersionsStandForOne → OrderDoesNotMatter → ReadingIsTheRegister → (s : State) → HoldsRegister s → (t : ℤ) → IsMoment t → (register : Register) → ReadsAt s.now.trees t register
     → register ≡ register_at (timeline_in s.now.trees) t
 read_is one order reading s office t is_moment register read =
@@ -60,7 +60,7 @@ within_last t h = grind (arith, ints)
 abbrev pub IsReadAt : (t u : ℤ) → Type 0
 IsReadAt t u = IsMoment u × ((tl : Timeline) → IsSoundTimeline tl → register_at tl t ≡ register_at tl u)
 
--- the moment at which is read for a moment from the first on
+-- a time at or after the first moment is read at the clamped moment
 pub read_moment : (t u : ℤ) → pos 0 ≤ℤ t → u ≡ int_min t last_moment → IsReadAt t u
 read_moment t u le is = go (int_lt last_moment t) refl is
   where
@@ -68,7 +68,7 @@ read_moment t u le is = go (int_lt last_moment t) refl is
     go true h e = subst (λ u. IsMoment u × ((tl : Timeline) → IsSoundTimeline tl → register_at tl t ≡ register_at tl u)) (sym e) ((omega (arith, ints), omega (arith, ints)), λ tl sound. past_all tl t sound (past_last t h))
     go false h e = subst (λ u. IsMoment u × ((tl : Timeline) → IsSoundTimeline tl → register_at tl t ≡ register_at tl u)) (sym e) ((le, within_last t h), λ tl sound. refl)
 
--- nothing is read for a moment before the first
+-- nothing is read for a time before the first moment
 pub read_nothing : (s : State) (t : ℤ) → (HasCleanDisk s → HoldsRegister s) → t <ℤ pos 0 → (r : Register) → r ≡ nothing → IsSafeRead {X = Register} (Ok r) (λ it. it ≡ register_at (timeline_in s.now.trees) t) s s
 read_nothing s t office less r is = record {
   given = λ clean. is ∙ sym (before_all (timeline_in s.now.trees) t (office clean).sound less);
@@ -76,7 +76,7 @@ read_nothing s t office less r is = record {
   survives = record { clean = omega arith; shield = λ x. x; counts = omega arith; limit = refl; closes = λ _ t. inl t; crash = λ _ _ x. inl x };
 }
 
--- what is read of the tables is the timeline's register
+-- the register that is read from the tables is the timeline's
 pub read_register : VersionsStandForOne → OrderDoesNotMatter → ReadingIsTheRegister → (a b : State) (t u : ℤ) → (HasCleanDisk a → HoldsRegister a) → IsReadAt t u → (r : Result Register StoreFault)
     → IsSafeRead r (ReadsAt a.now.trees u) a b → IsSafeRead r (λ it. it ≡ register_at (timeline_in a.now.trees) t) a b
 read_register one order reading a b t u office place r safe = record {
@@ -94,7 +94,7 @@ read_register one order reading a b t u office place r safe = record {
 least : (a b : ℤ) → a ≡ b → b ≤ℤ a
 least a b is = omega (arith, ints)
 
--- what is read at the last stamp is the last register
+-- the register that is read at the last stamp is the last register
 pub read_last : (tl : Timeline) (t : ℤ) (was after : Bool) (r : Result Register StoreFault) → Closes was after r → (was ≡ false → (t ≡ last_stamp tl) × IsSoundTimeline tl)
     → IfOk r (λ it. it ≡ register_at tl t) → IfOk r (λ it. it ≡ last_register tl)
 read_last tl t false after (Ok it) closes known is = is ∙ stays_last tl t (known refl).1.rising (least t (last_stamp tl) (known refl).0)

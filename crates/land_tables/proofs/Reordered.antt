@@ -1,4 +1,4 @@
--- Versions stand for the same in whatever order they lie.
+-- Versions represent the same timeline in any order.
 use Rattle.std.proofs.Common.{◌≡◌, Bool, ◌&&◌, List, map, filter, ◌∙◌, IsPermutation}
 use Rattle.std.specs.Prelude.{ℤ}
 use Rattle.std.proofs.lemmas.List.Sorted.{IsPermutation-map, IsPermutation-sym, IsPermutation-trans}
@@ -13,7 +13,7 @@ use Rattle.land_tables_history.specs.Standing.{standing, stands}
 use Rattle.land_tables_history.specs.declared.history.History.{History}
 use Rattle.land_tables_history.specs.declared.version.Version.{Version}
 
--- what stands of versions in another order, where that of the first is some list in another order
+-- the versions at a moment, if the ones in the first order are a permutation of a list
 stand_too : {X : Type 0} (t : ℤ) (one other : List (Version X)) (records : List X) → IsPermutation one other → IsPermutation (standing t one) records → IsPermutation (standing t other) records
 stand_too t one other records p h =
     IsPermutation-trans (standing t other) (standing t one) records

@@ -1,4 +1,4 @@
--- Moments in the order of their stamps are those of a timeline that rises.
+-- Moments, sorted by stamp, are those of a timeline whose stamps increase.
 use Rattle.std.proofs.Common.{◌≡◌, ◌≤◌, ℕ, Bool, true, false, cond, not, ◌&&◌, List, [], ◌∷◌, map, refl, sym, ap, ◌∙◌, arith, IsPermutation}
 use Rattle.std.specs.Prelude.{ℤ, ◌<ℤ◌, int_le, int_lt, nat_lt}
 use Rattle.std.proofs.lemmas.Bool.Decides.{nat_tests}
@@ -32,7 +32,7 @@ in_order_permuted (m ∷ ms) =
 
 -- ---- two moments of one history
 
--- stamps differ, and the next number does not fall from the earlier to the later
+-- stamps are distinct, and the next number never decreases
 abbrev fits : Moment → Moment → Bool
 fits a b = not (is_same_stamp a b) && not (falls a b) && not (falls b a)
 
@@ -68,7 +68,7 @@ fit_pairs (m ∷ ms) distinct never =
     let rest = all_both (λ a. not (falls a m)) (λ a. list_all (λ b. not (falls a b)) ms) ms rows.1 in
     ap (λ b. b && pairs_fit ms) (fit_all m ms (not-true (list_any (is_same_stamp m) ms) apart.0) row.1 rest.0) ∙ fit_pairs ms apart.1 rest.1
 
--- ---- they rise
+-- ---- they increase
 
 is_before : (s t : ℤ) (a b : ℕ) → (not (int_eq s t) && not (int_lt s t && nat_lt b a) && not (int_lt t s && nat_lt a b)) ≡ true → int_le s t ≡ true → s <ℤ t
 is_before s t a b fit first = grind (arith, ints)
@@ -83,7 +83,7 @@ no_more : (s t : ℤ) (a b : ℕ) → (not (int_eq s t) && not (int_lt s t && na
 no_more s t a b fit first = grind (arith, ints, nat_tests)
 
 module _ (versions : History) where
-  -- moments rise: the versions that begin at them do
+  -- the stamps increase, and so do those of the versions that begin at them
   pub Orderly : List Moment → Type 0
   Orderly [] = Unit {0}
   Orderly (m ∷ ms) = Rises (version_of versions m) (map (version_of versions) ms)

@@ -1,4 +1,4 @@
--- Moments put in the order of their stamps.
+-- Moments sorted by their stamps.
 use Rattle.std.proofs.Common.{◌≡◌, Bool, true, false, not, cond, ◌||◌, ◌&&◌, List, [], ◌∷◌, map, refl, sym, ap, ◌∙◌, arith, IsPermutation}
 use Rattle.std.specs.Prelude.{ℤ, ◌<ℤ◌, ◌≤ℤ◌, int_le}
 use Rattle.std.specs.List.{list_any}
@@ -30,7 +30,7 @@ between x y n a b = grind (arith, ints)
 later_differs : (s t : ℤ) → s <ℤ t → int_eq s t ≡ false
 later_differs s t less = grind (arith, ints)
 
--- ---- an insertion does not ask which came first
+-- ---- insertion does not depend on the order
 
 true_is_false : true ≡ false → ⊥
 true_is_false e = false≢true (sym e)
@@ -71,7 +71,7 @@ turned x y (n ∷ ns) apart =
         ap (λ k. cond k (x ∷ n ∷ put_in y ns) (n ∷ put_in x (put_in y ns))) ia ∙ ap (λ l. n ∷ l) rest
         ∙ sym (ap (λ k. cond k (y ∷ n ∷ put_in x ns) (n ∷ put_in y (put_in x ns))) ib)
 
--- ---- moments of stamps that differ have one order
+-- ---- moments with distinct stamps have one sorted order
 
 record Alike (xs ys : List Moment) : Type 0 where
   stamps : (m : Moment) → list_any (is_same_stamp m) xs ≡ list_any (is_same_stamp m) ys
@@ -119,7 +119,7 @@ one_order xs ys p distinct = ((along_permutation Alike itself under over chained
       sorted = λ d. let one = g.sorted d in let two = h.sorted one.0 in (two.0, one.1 ∙ two.1);
     }
 
--- ---- the moments of a timeline that rises
+-- ---- the moments of a timeline with increasing stamps
 
 none_before : (s : ℤ) (v : Version) (vs : Timeline) → s ≤ℤ v.stamp → Rises v vs → list_any (λ (m : Moment). int_eq s m.stamp) (map moment_of vs) ≡ false
 none_before s v [] least rises = refl
@@ -153,6 +153,6 @@ sorted_already (v ∷ vs) rises = from v vs rises
         ap (put_in (moment_of v)) (from w ws rises.2)
         ∙ ap (λ b. cond b (moment_of v ∷ moment_of w ∷ map moment_of ws) (moment_of w ∷ put_in (moment_of v) (map moment_of ws))) (first v.stamp w.stamp rises.0)
 
--- moments that are those of a timeline that rises, in whatever order, are put in its order
+-- a permutation of the moments of a timeline sorts to the timeline's order
 pub timeline_order : (tl : Timeline) (moments : List Moment) → IsRising tl → IsPermutation (map moment_of tl) moments → in_order moments ≡ map moment_of tl
 timeline_order tl moments rises p = sym (one_order (map moment_of tl) moments p (distinct tl rises)) ∙ sorted_already tl rises

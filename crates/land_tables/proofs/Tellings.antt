@@ -1,4 +1,4 @@
--- What tables say is one history, in whatever order, and they stand for one timeline.
+-- The decoded value of tables is one history, up to order, and represents one timeline.
 use Rattle.std.proofs.Common.{◌≡◌, List}
 use Rattle.land_keep.specs.Timeline.{IsSoundTimeline, Timeline}
 use Rattle.land_tables.specs.Standing.{HoldsTimeline, timeline_in}
@@ -12,7 +12,7 @@ use Rattle.land_tables_rows.specs.Listing.Told.{history_in, told_by}
 use Rattle.land_tables_rows.specs.Writing.History.{HoldsHistory}
 use Rattle.sqlite_trees.specs.Tree.{Trees}
 
--- histories that the tables say are one, in whatever order
+-- histories that the tables decode to are permutations of one another
 pub says_reordered : (db : Trees) (one other : History) → SaysHistory db one → SaysHistory db other → IsReordered one other
 says_reordered db one other a b = record {
   parties = says_same parties db one.parties other.parties a.parties b.parties;
@@ -41,7 +41,7 @@ told_reordered db h a = record {
   mandates = told_is mandates db h.mandates a.mandates;
 }
 
--- tables that hold a history say it
+-- tables that hold a history decode to it
 pub held_is_said : (db : Trees) (listed : List Moment) (h : History) → HoldsHistory db listed h → SaysHistory db h
 held_is_said db listed h held = record {
   parties = held.the_parties.said;
@@ -57,13 +57,13 @@ held_is_said db listed h held = record {
 }
 
 module _ (one : VersionsStandForOne) (order : OrderDoesNotMatter) (db : Trees) (tl : Timeline) (holds : HoldsTimeline db tl) where
-  -- tables that stand for a sound timeline tell it
+  -- tables that represent a sound timeline decode to it
   pub tells : IsSoundTimeline tl → timeline_in db ≡ tl
   tells sound = one (told_by moments db) (history_in db) tl
       (order holds.listed (told_by moments db) holds.history (history_in db) tl holds.stands (told_is moments db holds.listed holds.holds.the_moments)
       (told_reordered db holds.history (held_is_said db holds.listed holds.history holds.holds))) sound
 
-  -- whatever is read of tables that stand for a timeline stands for it
+  -- any history read from tables that represent a timeline represents it
   pub read_stands : (listed : List Moment) (h : History) → Says moments db listed → SaysHistory db h → StandsFor listed h tl
   read_stands listed h the_moments the_history = order holds.listed listed holds.history h tl holds.stands (says_same moments db holds.listed listed holds.holds.the_moments the_moments)
       (says_reordered db holds.history h (held_is_said db holds.listed holds.history holds.holds) the_history)

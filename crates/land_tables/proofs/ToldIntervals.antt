@@ -1,4 +1,4 @@
--- Lifespans that tables tell are as they may be exactly where those of the versions are that they hold.
+-- The decoded intervals of tables are valid if and only if those of the versions that they hold are.
 use Rattle.std.proofs.Common.{◌≡◌}
 use Rattle.land_keep.specs.Timeline.{Timeline}
 use Rattle.land_tables.proofs.IntervalOrders.{intervals_anyhow}

@@ -1,4 +1,4 @@
--- Tables in which a change was written stand for the timeline with it.
+-- Tables to which a change was written represent the timeline with the change.
 use Rattle.std.proofs.Common.{◌≡◌, ◌≢◌, ◌⊎◌, inl, inr, [], ◌∷◌, Bool, true, false, Result, Ok, Err, ℕ, refl, sym, ap, subst, ◌∙◌, IsTrue, arith}
 use Rattle.std.specs.Prelude.{ℤ, ◌≤ℤ◌}
 use Rattle.std.proofs.lemmas.Int.{ints}
@@ -90,7 +90,7 @@ module _ (one : VersionsStandForOne) (order : OrderDoesNotMatter) (writes : Writ
 clean_before : {P : Trees → Type 0} (a b : State) → Survives a b P → HasCleanDisk b → HasCleanDisk a
 clean_before a b s clean = omega (arith, s.clean)
 
--- a write that failed, and what its fault is told as
+-- a failed write, and the fault that is returned for it
 pub not_recorded : {X : Type 0} {Done : Database → Database → Type 0} {Commits : Trees → Type 0} (a b c : State) (fault : StoreFault) → (HasCleanDisk a → HoldsRegister a)
     → (HasCleanDisk b → IsTrue b.is_open → (b.now ≡ a.committed) × (b.committed ≡ a.committed)) → Survives a b Commits
     → (HasCleanDisk c → fault ≢ Store → IsUnchanged b c) → Survives b c (λ _. ⊥) → IsSafeWrite {X = X} (Err fault) Done Commits a c
@@ -106,7 +106,7 @@ not_recorded {Commits = Commits} a b c fault register neither first told next = 
   survives = survives_then a b c Commits (λ _. ⊥) Commits (λ _ _ x. x) (λ _ _ n. absurd n) first next;
 }
 
--- a store that is as it was is the office that it was
+-- an unchanged store is as consistent as before
 pub same_office : (a b : State) (last : ℤ) (next : ℕ) → IsOffice a last next → IsSame a b → IsOffice b last next
 same_office a b last next office same = record {
   register = record {
@@ -122,7 +122,7 @@ same_office a b last next office same = record {
   next = rw same.now office.next;
 }
 
--- while the store is open, a crash leaves what was committed last
+-- while the store is open, a crash leaves the last commit
 abbrev pub Settles : {S : Type 0} → Ghosts S → Held S → Type 0
 Settles g conn = (db : Trees) → IsTrue (state g conn).is_open → (state g conn).may_leave db → db ≡ (state g conn).committed.trees
 
@@ -132,7 +132,7 @@ rests g o settles whole open_still clean db may =
     let left : db ≡ (state g o.conn).now.trees = settles db it.is_open may ∙ ap (λ (d : Database). d.trees) it.committed in
     rw left it.holds
 
--- what a call leaves is what it found, or what it committed
+-- a call leaves the state that it found, or the one that it committed
 pub leaves_either : {S : Type 0} (g : Ghosts S) (old new : Office S) (after : Timeline) → Settles g old.conn → IsWhole g old
     → (old.is_closed ≡ false → Survives (state g old.conn) (state g new.conn) (λ db. HoldsTimeline db after)) → LeavesEither g old new (held g old) after
 leaves_either g old new after settles whole survives open_still clean db may = go ((survives open_still).crash clean db may)
@@ -185,7 +185,7 @@ module _ {S : Type 0} (g : Ghosts S) (one : VersionsStandForOne) (order : OrderD
     office = λ still. same_office a b now.last now.next (whole.office (clean_before a b safe.survives still.0, open_still)) (safe.same still.0 (other still.1));
   }
 
--- tables after a read that failed
+-- tables after a failed read
 pub whole_read : {S X : Type 0} (g : Ghosts S) (now : Office S) → IsWhole g now → now.is_closed ≡ false → (conn : Held S) (closed : Bool) → conn.in_transaction ≡ false
     → (fault : StoreFault) (Given : X → Type 0) → (closed ≡ false → fault ≢ Store) → IsSafeRead (Err fault) Given (state g now.conn) (state g conn)
     → IsWhole g (record { conn = conn; last = now.last; next = now.next; is_closed = closed })

@@ -20,7 +20,7 @@ pub first_before_last : (v : Version) (vs : Timeline) (t : ℤ) → Rises v vs �
 first_before_last v [] t rises le = le
 first_before_last v (w ∷ ws) t rises le = earlier v.stamp w.stamp t rises.0 (first_before_last w ws t rises.2 le)
 
--- at and after the last stamp the last version is found
+-- at and after the last stamp the last version is selected
 found_last : (v : Version) (vs : Timeline) (t : ℤ) → Rises v vs → (last_from v vs).stamp ≤ℤ t
     → fold (λ found v. if int_le v.stamp t then Some v else found) (Some v) vs ≡ Some (last_from v vs)
 found_last v [] t rises le = refl

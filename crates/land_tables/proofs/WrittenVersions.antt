@@ -1,4 +1,4 @@
--- Versions with a change stand for the timeline with the change written.
+-- Versions with a change represent the timeline with the change written.
 use Rattle.std.proofs.Common.{◌≡◌, true, List, [], ◌∷◌, ◌++◌, map as map_list, refl, sym, ap, subst, arith, IsPermutation}
 use Rattle.std.specs.Prelude.{ℤ, ◌<ℤ◌, ◌≤ℤ◌}
 use Rattle.std.proofs.lemmas.Int.{by_lt_z, ints}
@@ -28,7 +28,7 @@ moments_more : (tl : Timeline) (w : Version) → map_list moment_of (tl ++ w ∷
 moments_more [] w = refl
 moments_more (v ∷ vs) w = ap (λ l. moment_of v ∷ l) (moments_more vs w)
 
--- a moment comes before the end of what stands
+-- a moment comes before the open end
 before_never : (t : ℤ) → t ≤ℤ last_moment → t <ℤ never
 before_never t le = omega (arith, ints)
 

@@ -1,10 +1,11 @@
--- Which stores are taken for a register's, and why others are not.
+-- Which stores are opened as registers, and why others are refused.
 use Rattle.std.specs.Prelude.{◌≡◌, ◌≢◌, ℕ, true, false, IfErr, IfOk, IsTrue, Result, Err, ⊤}
 use Rattle.land_keep.specs.Timeline.{IsSoundTimeline, Timeline, last_register, last_stamp}
 use Rattle.land_tables.specs.Calls.{IsSame}
 use Rattle.land_tables.specs.Findings.{Finds, FindsFirst, is_one_edition, is_version}
 use Rattle.land_tables.specs.Office.{IsHonest, IsOffice, Office}
-use Rattle.land_tables.specs.Registers.{AreIntervals, AreOf, AreOurs, IsRegister, MayBeOurs, Shapes, the_second}
+use Rattle.land_tables.specs.Registers.{AreIntervals, AreOf, AreOurs, IsRegister, MayBeOurs, Shapes}
+use Rattle.land_tables.specs.Registers.{the_second}
 use Rattle.land_tables.specs.Standing.{HoldsTimeline, timeline_in}
 use Rattle.land_tables.specs.declared.fault.AdoptFault.{AdoptFault}
 use Rattle.land_tables.specs.declared.fault.AdoptFault.TheVariants as fault
@@ -20,29 +21,38 @@ use Rattle.sqlite.specs.Store.{Ghosts}
 
 -- ---- faults
 
--- why a store is not taken for a register's, by these shapes: it passes the tests before this one, and does not pass this one
+-- why a store is refused as a register of a schema version: it passes the tests before this one, and fails
+-- this one
 abbrev pub IsRefused : Shapes → AdoptFault → Database → Type 0
 IsRefused shapes fault.NotOurs db = ¬ AreOurs shapes db
 IsRefused shapes fault.Version db = AreOurs shapes db × (¬ AreOf shapes db)
 IsRefused shapes fault.Interval db = AreOf shapes db × (¬ AreIntervals shapes db)
-IsRefused shapes fault.Unsound db = AreIntervals shapes db × ((tl : Timeline) → HoldsTimeline (shapes.rows db.trees) tl → ¬ IsSoundTimeline tl)
+IsRefused shapes fault.Unsound db =
+    AreIntervals shapes db
+    × ((tl : Timeline) → HoldsTimeline (shapes.rows db.trees) tl → ¬ IsSoundTimeline tl)
 IsRefused shapes fault.NoMemory db = ⊤
 IsRefused shapes fault.Store db = ⊤
 
--- a store that is refused for another cause than want of memory or a failed call holds no register
+-- a read fails only with a fault for which the store is refused as a register of this schema version
+abbrev pub IsRefusedBy : {S X : Type 0} → Ghosts S → Result X AdoptFault → Shapes → (old new : Held S)
+    → Type 0
+IsRefusedBy g r shapes old new =
+    HasCleanDisk (state g new) → IfErr r (λ fault. IsRefused shapes fault (state g old).now)
+
+-- a store that is refused, except if out of memory or for a store error, does not hold a register
 abbrev pub HoldsNone : Shapes → AdoptFault → Database → Type 0
 HoldsNone shapes why db = why ≢ fault.NoMemory → why ≢ fault.Store → ¬ IsRegister shapes db
 
--- ---- what is found first
+-- ---- the tables of schema version 1
 
--- what the tables of the first version say, in a store that this version made
+-- the decoded tables of schema version 1, in a store whose edition is of this version
 pub record IsFound (version : ℕ) (db : Database) (found : Findings) : Type 0 where
   pub land : MayBeLand db.schema
   pub finds : FindsFirst db.trees found
   pub one : is_one_edition found.editions ≡ true
   pub made : is_version version found.editions ≡ true
 
--- or why it is not found
+-- or why they cannot be read
 abbrev pub IsMissing : ℕ → AdoptFault → Database → Type 0
 IsMissing version fault.NotOurs db = ¬ MayBeOurs db
 IsMissing version fault.Version db = MayBeOurs db × (is_version version (told_by editions db.trees) ≡ false)
@@ -51,21 +61,21 @@ IsMissing version fault.Unsound db = ⊥
 IsMissing version fault.NoMemory db = ⊤
 IsMissing version fault.Store db = ⊤
 
--- what the tables say of a store that these shapes made
+-- the decoded tables of a store of this schema version
 pub record IsFoundBy (shapes : Shapes) (db : Database) (found : Findings) : Type 0 where
   pub made : AreOf shapes db
   pub finds : Finds (shapes.rows db.trees) found
 
--- ---- what adopting leaves
+-- ---- the effect of opening
 
--- a store with a register, whose last change was made at this moment
+-- a store with a register whose last change was made at this moment
 pub record IsRegisterTo (shapes : Shapes) (db : Database) (latest : Moment) : Type 0 where
   pub register : IsRegister shapes db
   pub last : latest.stamp ≡ last_stamp (timeline_in (shapes.rows db.trees))
   pub next : latest.next ≡ (last_register (timeline_in (shapes.rows db.trees))).next
 
--- A store is judged: it has a register, or is refused. A store that is open is as it was, and but for a fault 502 it is open. In any case
--- nothing is committed, and a crash leaves what it left before.
+-- A store is validated: it has a register, or is refused. A store that is open is unchanged, and it is open
+-- unless the fault is 502. In either case nothing is committed, and a crash leaves the same states as before.
 pub record IsJudgement (shapes : Shapes) (r : Result Moment AdoptFault) (old new : State) : Type 0 where
   pub register : HasCleanDisk new → IfOk r (IsRegisterTo shapes old.now)
   pub refused : HasCleanDisk new → IfErr r (λ why. IsRefused shapes why old.now)
@@ -73,7 +83,7 @@ pub record IsJudgement (shapes : Shapes) (r : Result Moment AdoptFault) (old new
   pub kept : HasCleanDisk new → IsTrue new.is_open → IsSame old new
   pub survives : Survives old new (λ _. ⊥)
 
--- a store was taken for a register's: it holds one, is open and as it was
+-- a store was opened as a register: it holds one, is open and unchanged
 pub record IsAdopted {S : Type 0} (g : Ghosts S) (old : Held S) (o : Office S) : Type 0 where
   pub is_open : o.is_closed ≡ false
   pub register : IsHonest g o → IsRegister the_second (state g old).now

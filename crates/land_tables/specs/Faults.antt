@@ -1,7 +1,8 @@
--- The numbers of the faults of stores that are taken for a register's, and which fault a failed read is.
+-- The numbers of `AdoptFault`, and the fault of a failed read.
 use Rattle.std.specs.Prelude.{ℕ}
 use Rattle.land_tables.specs.declared.fault.AdoptFault.{AdoptFault}
-use Rattle.land_tables.specs.declared.fault.AdoptFault.TheVariants.{NotOurs, Interval, Unsound, Version, NoMemory, Store}
+use Rattle.land_tables.specs.declared.fault.AdoptFault.TheVariants.{NotOurs, Interval, Unsound, Version}
+use Rattle.land_tables.specs.declared.fault.AdoptFault.TheVariants.{NoMemory, Store}
 use Rattle.land_tables_rows.specs.declared.listing.fault.ReadFault.{ReadFault}
 use Rattle.land_tables_rows.specs.declared.listing.fault.ReadFault.TheVariants as read
 
@@ -13,7 +14,7 @@ number_of Version = 523
 number_of NoMemory = 501
 number_of Store = 502
 
--- why rows were not read
+-- the fault of a failed read
 abbrev pub of_read : ReadFault → AdoptFault
 of_read read.Unreadable = NotOurs
 of_read read.NoMemory = NoMemory

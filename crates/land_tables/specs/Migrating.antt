@@ -1,4 +1,4 @@
--- What migrating makes of a store that the first version made, and what it leaves of it.
+-- Migrating a store from schema version 1 to 2.
 use Rattle.std.specs.Prelude.{◌≡◌, ◌⊎◌, ◌≢◌, ℤ, false, [], ◌∷◌, IfErr, IfOk, IsTrue, Result}
 use Rattle.std.specs.FinMap as map
 use Rattle.land_keep.specs.Timeline.{Timeline, register_at}
@@ -19,17 +19,17 @@ use Rattle.sqlite.specs.State.{HasCleanDisk, State, Survives}
 use Rattle.sqlite.specs.Store.{Ghosts}
 use Rattle.sqlite_trees.specs.Tree.{Trees}
 
--- at no moment does anybody hold a mandate
+-- no party holds a mandate at any time
 abbrev pub HasNoMandates : Timeline → Type 0
 HasNoMandates tl = (t : ℤ) → (register_at tl t).mandates ≡ map.empty
 
--- tables say that the second version made them, and hold the timeline that those of a store of the first version held
+-- the tables have edition 2, and hold the timeline of the old tables of schema version 1
 pub record AreRaised (old : Database) (db : Trees) : Type 0 where
   pub edition : KeepsEditions db (current_edition ∷ [])
   pub holds : HoldsTimeline db (first_timeline_in old.trees)
 
--- a store of the first version became one of the second: it held a register, whose last change was made at this moment; and its tables hold
--- the same timeline, in which nobody gives a mandate, all of it committed
+-- a store was migrated: it held a register of schema version 1, whose last change was made at this moment;
+-- its tables now hold the same timeline, which has no mandates, all of it committed
 pub record AreMigrated (latest : Moment) (old new : State) : Type 0 where
   pub register : IsRegisterTo the_first old.now latest
   pub raisable : IsRaisable old.now.schema
@@ -38,9 +38,9 @@ pub record AreMigrated (latest : Moment) (old new : State) : Type 0 where
   pub timeline : timeline_in new.now.trees ≡ first_timeline_in old.now.trees
   pub mandates : HasNoMandates (timeline_in new.now.trees)
 
--- A store is migrated; or is refused, as by adopting, or for a call that failed, or since its next table would not get the tree of the
--- mandates. A store that is open after a fault is as it was, and but for a fault 502 it is open. A crash leaves what it left before, or all
--- of the second version.
+-- A store is migrated; or it is refused: as by adopting, for a store error, or because its next table would
+-- not get the tree of the mandates. A store that is open after a fault is unchanged, and it is open unless
+-- the fault is 502. A crash leaves the same states as before, or schema version 2.
 pub record IsMigration (r : Result Moment AdoptFault) (old new : State) : Type 0 where
   pub migrated : HasCleanDisk new → IfOk r (λ latest. AreMigrated latest old new)
   pub refused : HasCleanDisk new → IfErr r (λ why. IsRefused the_first why old.now)
@@ -48,8 +48,8 @@ pub record IsMigration (r : Result Moment AdoptFault) (old new : State) : Type 0
   pub kept : HasCleanDisk new → IfErr r (λ _. IsTrue new.is_open → IsSame old new)
   pub survives : Survives old new (AreRaised old.now)
 
--- tables were migrated: their store held a register of the first version, they are open, and hold the same timeline, in which nobody gives a
--- mandate
+-- tables were migrated: their store held a register of schema version 1, they are open, and hold the same
+-- timeline, which has no mandates
 pub record IsMigrated {S : Type 0} (g : Ghosts S) (old : Held S) (o : Office S) : Type 0 where
   pub is_open : o.is_closed ≡ false
   pub register : IsHonest g o → IsRegister the_first (state g old).now
@@ -59,11 +59,13 @@ pub record IsMigrated {S : Type 0} (g : Ghosts S) (old : Held S) (o : Office S) 
   pub timeline : IsHonest g o → held g o ≡ first_timeline_in (state g old).now.trees
   pub mandates : IsHonest g o → HasNoMandates (held g o)
 
--- an open store shows what it showed, and a crash leaves that and nothing else
+-- an open store has the same content as before, and a crash leaves exactly that
 pub record StaysSame (old new : State) : Type 0 where
   pub same : IsSame old new
   pub crash : (db : Trees) → new.may_leave db → db ≡ old.now.trees
 
--- of a store that was open a crash leaves what was committed before, or all of the second version
+-- a crash of a store that was open leaves the last commit, or schema version 2
 abbrev pub LeavesOrRaises : (old new : State) → Type 0
-LeavesOrRaises old new = HasCleanDisk new → IsTrue old.is_open → (db : Trees) → new.may_leave db → (db ≡ old.committed.trees) ⊎ AreRaised old.now db
+LeavesOrRaises old new =
+    HasCleanDisk new → IsTrue old.is_open → (db : Trees) → new.may_leave db → (db ≡ old.committed.trees)
+    ⊎ AreRaised old.now db

@@ -1,4 +1,4 @@
--- Tables with a register's timeline, and what calls leave of them.
+-- The state of `Tables`, which hold a register's timeline, and the effect of calls on it.
 use Rattle.std.specs.Prelude.{◌≡◌, ◌⊎◌, ◌≤ℤ◌, ℕ, ℤ, pos, Bool, true, false, [], ◌∷◌, IsTrue, refl}
 use Rattle.std.specs.Coded.{Coded, code_by, coded×, coded_ℕ, coded_ℤ, coded_bool}
 use Rattle.land_keep.specs.Keeping.{IsLive}
@@ -15,7 +15,7 @@ use Rattle.sqlite.specs.State.{HasCleanDisk, State}
 use Rattle.sqlite.specs.Store.{Ghosts}
 use Rattle.sqlite_trees.specs.Tree.{Trees}
 
--- a connection over tables, the last stamp, the next number after it, and whether a call of the store has failed
+-- the connection, the last stamp, the next number, and whether the store has failed
 pub record Office (S : Type 0) : Type 0 where
   pub conn : Held S
   pub last : ℤ
@@ -24,11 +24,13 @@ pub record Office (S : Type 0) : Type 0 where
 
 abbrev pub office_code : {S : Type 0} → Coded S → Coded (Office S)
 office_code {S} store =
-    code_by (Held S × (ℤ × (ℕ × Bool))) (coded× (held_code store) (coded× coded_ℤ (coded× coded_ℕ coded_bool)))
-    (λ o. (o.conn, (o.last, (o.next, o.is_closed)))) (λ p. record { conn = p.0; last = p.1.0; next = p.1.1.0; is_closed = p.1.1.1 }) (λ _. refl)
+    code_by (Held S × (ℤ × (ℕ × Bool)))
+    (coded× (held_code store) (coded× coded_ℤ (coded× coded_ℕ coded_bool)))
+    (λ o. (o.conn, (o.last, (o.next, o.is_closed))))
+    (λ p. record { conn = p.0; last = p.1.0; next = p.1.1.0; is_closed = p.1.1.1 }) (λ _. refl)
 
--- an open store has the tables of a register, made by the second version of their shapes, in which lifespans are as they may be, and holds a
--- sound timeline, all of it committed
+-- an open store has the tables of schema version 2, with valid intervals, and they hold a sound timeline, all
+-- of it committed
 pub record HoldsRegister (s : State) : Type 0 where
   pub is_open : IsTrue s.is_open
   pub committed : s.committed ≡ s.now
@@ -38,63 +40,71 @@ pub record HoldsRegister (s : State) : Type 0 where
   pub holds : HoldsTimeline s.now.trees (timeline_in s.now.trees)
   pub sound : IsSoundTimeline (timeline_in s.now.trees)
 
--- these are its last stamp and the next number after it
+-- the last stamp and the next number are those of the register
 pub record IsOffice (s : State) (stamp : ℤ) (number : ℕ) : Type 0 where
   pub register : HoldsRegister s
   pub last : stamp ≡ last_stamp (timeline_in s.now.trees)
   pub next : number ≡ (last_register (timeline_in s.now.trees)).next
 
--- the timeline that tables hold
+-- the timeline in the tables
 abbrev pub held : {S : Type 0} → Ghosts S → Office S → Timeline
 held g o = timeline_in (state g o.conn).now.trees
 
--- the store has given back what was written to it, so far
+-- until now the store has returned the data that was written to it
 abbrev pub IsHonest : {S : Type 0} → Ghosts S → Office S → Type 0
 IsHonest g o = HasCleanDisk (state g o.conn)
 
--- what is true of tables between calls: no transaction is begun, and while nothing has failed and the store is honest they hold a timeline
+-- no call has failed, and the store is honest
+abbrev pub IsWorking : {S : Type 0} → Ghosts S → Office S → Type 0
+IsWorking g o = IsLive (IsHonest g o) o.is_closed
+
+-- the invariant of tables: no transaction is active; and if no call has failed and the store is honest, they
+-- hold a timeline
 pub record IsWhole {S : Type 0} (g : Ghosts S) (o : Office S) : Type 0 where
   pub alone : o.conn.in_transaction ≡ false
   pub moment : o.last ≤ℤ last_moment
-  pub office : IsLive (IsHonest g o) o.is_closed → IsOffice (state g o.conn) o.last o.next
+  pub office : IsWorking g o → IsOffice (state g o.conn) o.last o.next
 
--- whatever a crash leaves of the store, this is so of it, as long as the store has given back what was written to it
+-- while the store is honest, every state that a crash leaves has this property
 abbrev pub Leaves : {S : Type 0} → Ghosts S → Office S → (Trees → Type 0) → Type 0
 Leaves g o IsSo = IsHonest g o → (db : Trees) → (state g o.conn).may_leave db → IsSo db
 
--- while no call has failed, a crash leaves the timeline that the tables hold, and nothing else
+-- while no call has failed, a crash leaves exactly the timeline in the tables
 abbrev pub Rests : {S : Type 0} → Ghosts S → Office S → Type 0
 Rests g o = o.is_closed ≡ false → Leaves g o (λ db. HoldsTimeline db (held g o))
 
--- while no call had failed before, a crash leaves one of these two
+-- if no call had failed before, a crash leaves one of these two timelines
 abbrev pub LeavesEither : {S : Type 0} → Ghosts S → (old new : Office S) → (before after : Timeline) → Type 0
-LeavesEither g old new before after = old.is_closed ≡ false → Leaves g new (λ db. HoldsTimeline db before ⊎ HoldsTimeline db after)
+LeavesEither g old new before after =
+    old.is_closed ≡ false → Leaves g new (λ db. HoldsTimeline db before ⊎ HoldsTimeline db after)
 
--- a new register was made: the tables hold the new timeline
+-- a new register was created: the tables hold the new timeline
 pub record IsNewOffice (s : State) : Type 0 where
   pub office : IsOffice s (pos 0) 2
   pub timeline : timeline_in s.now.trees ≡ new_timeline
 
--- tables that were just made are open and hold the new timeline
+-- tables that were just created are open and hold the new timeline
 pub record IsCreated {S : Type 0} (g : Ghosts S) (o : Office S) : Type 0 where
   pub timeline : IsHonest g o → held g o ≡ new_timeline
   pub is_open : o.is_closed ≡ false
 
--- a store in which nothing was made is open, and shows what was committed before
+-- a store in which nothing was created is open, and has the last committed content
 pub record AreUntouched (old new : State) : Type 0 where
   pub is_open : IsTrue new.is_open
   pub now : new.now ≡ old.committed
   pub committed : new.committed ≡ old.committed
 
--- and a crash leaves that, and nothing else
+-- and a crash leaves exactly that
 pub record StaysUntouched (old new : State) : Type 0 where
   pub untouched : AreUntouched old new
   pub crash : (db : Trees) → new.may_leave db → db ≡ old.committed.trees
 
--- of a store that was open a crash leaves what was committed before, or the new register
+-- a crash of a store that was open leaves the last commit, or the new register
 abbrev pub LeavesOrBegins : (old new : State) → Type 0
-LeavesOrBegins old new = HasCleanDisk new → IsTrue old.is_open → (db : Trees) → new.may_leave db → (db ≡ old.committed.trees) ⊎ HoldsTimeline db new_timeline
+LeavesOrBegins old new =
+    HasCleanDisk new → IsTrue old.is_open → (db : Trees) → new.may_leave db → (db ≡ old.committed.trees)
+    ⊎ HoldsTimeline db new_timeline
 
--- a store that is open after a fault has what it had, or what was committed last
+-- a store that is open after a fault has its old content, or the last committed content
 abbrev pub IsKept : (old new : State) → Type 0
 IsKept old new = HasCleanDisk new → IsTrue new.is_open → (new.now ≡ old.now) ⊎ (new.now ≡ old.committed)

@@ -1,4 +1,4 @@
--- The timeline that tables stand for.
+-- The timeline that tables represent.
 use Rattle.std.specs.Prelude.{◌≡◌, ℤ, List, []}
 use Rattle.land_core.specs.declared.register.Register.{Register}
 use Rattle.land_keep.specs.Timeline.{Timeline}
@@ -13,25 +13,28 @@ use Rattle.land_tables_rows.specs.Writing.History.{HoldsHistory}
 use Rattle.land_tables_schema.specs.Tables.{mandate}
 use Rattle.sqlite_trees.specs.Tree.{Trees, with_tree}
 
--- the timeline that tables stand for, if they stand for one
+-- the timeline that tables represent, if they represent one
 abbrev pub timeline_in : Trees → Timeline
 timeline_in db = timeline_of (told_by moments db) (history_in db)
 
--- tables as if there were one of mandates with no row, as there is none in the first version of their shapes
+-- the tables as if that of mandates had no rows, since schema version 1 does not have it
 abbrev pub without_mandates : Trees → Trees
 without_mandates db = with_tree db mandate.tree []
 
--- the timeline that tables of the first version stand for, if they stand for one
+-- the timeline that tables of schema version 1 represent, if they represent one
 abbrev pub first_timeline_in : Trees → Timeline
 first_timeline_in db = timeline_in (without_mandates db)
 
--- tables stand for a timeline: they hold moments and versions that do
+-- tables represent a timeline: they hold moments and versions that do
 pub record HoldsTimeline (db : Trees) (tl : Timeline) : Type 0 where
   pub listed : List Moment
   pub history : History
   pub holds : HoldsHistory db listed history
   pub stands : StandsFor listed history tl
 
--- what was read of tables at a moment: the register that stands there, with the next number of the latest moment up to then
+-- the register read from tables at a moment: its current versions, with the next number of the latest moment
+-- up to it
 abbrev pub ReadsAt : Trees → ℤ → Register → Type 0
-ReadsAt db t register = (listed : List Moment) × (history : History) × Says moments db listed × SaysHistory db history × (register ≡ register_at t history (next_at listed t))
+ReadsAt db t register =
+    (listed : List Moment) × (history : History) × Says moments db listed × SaysHistory db history
+    × (register ≡ register_at t history (next_at listed t))

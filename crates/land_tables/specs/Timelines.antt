@@ -1,4 +1,4 @@
--- The timeline that versions stand for.
+-- The timeline that versions represent.
 pub mod Judging
 pub mod Laws
 pub mod Writing
@@ -13,30 +13,32 @@ use Rattle.land_tables_history.specs.Open.{have_ended}
 use Rattle.land_tables_history.specs.declared.history.History.{History}
 use Rattle.land_tables_history.specs.declared.moment.Moment.{Moment}
 
--- the moment of a version of the timeline: its stamp, and the number that the next new object takes from then on
+-- the moment of a version of the timeline: its stamp, and the number that the next new object takes after it
 abbrev pub moment_of : Version → Moment
 moment_of v = record { stamp = v.stamp; next = v.register.next }
 
--- a moment among some in the order of their stamps, before those that are not earlier
+-- inserts a moment into a list sorted by stamp, before moments that are not earlier
 abbrev pub put_in : Moment → List Moment → List Moment
 put_in m [] = m ∷ []
 put_in m (n ∷ ns) = if int_le m.stamp n.stamp then m ∷ n ∷ ns else n ∷ put_in m ns
 
--- moments in the order of their stamps
+-- moments sorted by stamp
 abbrev pub in_order : List Moment → List Moment
 in_order [] = []
 in_order (m ∷ ms) = put_in m (in_order ms)
 
--- the version of the timeline that begins at a moment: the register whose records stand then
+-- the version of the timeline that begins at a moment: the register of the versions at that moment
 abbrev pub version_of : History → Moment → Version
 version_of versions m = record { stamp = m.stamp; register = history.register_at m.stamp versions m.next }
 
--- the timeline that versions stand for, if they stand for one: at each moment, in the order of their stamps, the register whose records stand
+-- the timeline that versions represent, if they represent one: for each moment, sorted by stamp, the register
+-- of the versions at that moment
 abbrev pub timeline_of : List Moment → History → Timeline
 timeline_of moments versions = map (version_of versions) (in_order moments)
 
--- versions stand for a timeline: the moments are its stamps with its next numbers, in whatever order; at each moment the versions that stand
--- are its register, each record once; and every end is open or no later than the last stamp
+-- versions represent a timeline: the moments are its stamps with its next numbers, in any order; at each
+-- moment the current versions are its register, each record once; and every end is open or at most the last
+-- stamp
 pub record StandsFor (listed : List Moment) (history : History) (tl : Timeline) : Type 0 where
   pub moments : IsPermutation (map moment_of tl) listed
   pub stands : (t : ℤ) → IsMoment t → StandsAt t history (register_at tl t)

@@ -1,12 +1,13 @@
-//! A store is taken for a register's.
-ghost use Rattle.std.specs.Prelude.{◌≡◌, ◌≢◌, ◌⊎◌, ◌≤ℤ◌, false, IfErr, IfOk, IsTrue};
+//! Opens a store as a register file.
+ghost use Rattle.std.specs.Prelude.{◌≡◌, ◌≢◌, ◌⊎◌, ◌≤ℤ◌, IfOk};
 ghost use Rattle.land_keep.specs.Moments.{last_moment};
-ghost use Rattle.land_tables.specs.Adopting.{IsJudgement, IsRefused, IsRegisterTo};
+ghost use Rattle.land_tables.specs.Adopting.{IsJudgement, IsRefusedBy, IsRegisterTo};
+ghost use Rattle.land_tables.specs.Calls.{CommitsNothing, IsCommittedIfOpen, IsLeftIfOpen, ReadsStore};
 ghost use Rattle.land_tables.specs.Registers.{the_first, the_second};
 ghost use Rattle.land_tables.specs.declared.fault.AdoptFault.TheVariants as why;
-ghost use Rattle.land_tables_schema.specs.Rows.Looks.{IsLeft, IsLook};
+ghost use Rattle.land_tables_schema.specs.Connections.{LeavesAutocommit};
 ghost use Rattle.sqlite.specs.Held.{state};
-ghost use Rattle.sqlite.specs.State.{HasCleanDisk, IsUnchanged, Survives};
+ghost use Rattle.sqlite.specs.State.{HasCleanDisk, IsUnchanged};
 
 use crate::fault::AdoptFault;
 use crate::judging::judge;
@@ -21,12 +22,12 @@ use land_tables_schema::rows::openness::is_open;
 use sqlite::{Alter, Connection};
 use std::alloc::Global;
 
-/// What a store of the second version holds, judged.
+/// Reads a store of schema version 2 and validates it.
 fn judge_second<S: Alter>(alloc: Global, conn: &mut Connection<S>) -> Result<Moment, AdoptFault>
-    ensures look { IsLook result (IsRegisterTo the_second (state S.Store conn.old).now) (state S.Store conn.old) (state S.Store conn.new) }
-    ensures refused { HasCleanDisk (state S.Store conn.new) → IfErr result (λ fault. IsRefused the_second fault (state S.Store conn.old).now) }
+    ensures look { ReadsStore S.Store result (IsRegisterTo the_second) conn.old conn.new }
+    ensures refused { IsRefusedBy S.Store result the_second conn.old conn.new }
     ensures moment { IfOk result (λ latest. latest.stamp ≤ℤ last_moment) }
-    ensures mode { conn.old.in_transaction ≡ false → conn.new.in_transaction ≡ false }
+    ensures mode { LeavesAutocommit conn.old conn.new }
 {
     lawful_versions_stand();
     versions_stand_for_one();
@@ -38,12 +39,12 @@ fn judge_second<S: Alter>(alloc: Global, conn: &mut Connection<S>) -> Result<Mom
     judge(alloc, &found)
 }
 
-/// What a store of the first version holds, judged.
+/// Reads a store of schema version 1 and validates it.
 fn judge_first<S: Alter>(alloc: Global, conn: &mut Connection<S>) -> Result<Moment, AdoptFault>
-    ensures look { IsLook result (IsRegisterTo the_first (state S.Store conn.old).now) (state S.Store conn.old) (state S.Store conn.new) }
-    ensures refused { HasCleanDisk (state S.Store conn.new) → IfErr result (λ fault. IsRefused the_first fault (state S.Store conn.old).now) }
+    ensures look { ReadsStore S.Store result (IsRegisterTo the_first) conn.old conn.new }
+    ensures refused { IsRefusedBy S.Store result the_first conn.old conn.new }
     ensures moment { IfOk result (λ latest. latest.stamp ≤ℤ last_moment) }
-    ensures mode { conn.old.in_transaction ≡ false → conn.new.in_transaction ≡ false }
+    ensures mode { LeavesAutocommit conn.old conn.new }
 {
     lawful_versions_stand();
     versions_stand_for_one();
@@ -55,13 +56,14 @@ fn judge_first<S: Alter>(alloc: Global, conn: &mut Connection<S>) -> Result<Mome
     judge(alloc, &found)
 }
 
-/// The fault of a look that failed: its own where the store is still open, else 502.
+/// Returns the fault of a failed read: its own if the store is still open, else `Store` (502).
 fn failed<S: Alter>(conn: &mut Connection<S>, fault: AdoptFault) -> AdoptFault
     ensures fault { (result ≡ fault) ⊎ (result ≡ why.Store) }
-    ensures same { HasCleanDisk (state S.Store conn.new) → result ≢ why.Store → IsUnchanged (state S.Store conn.old) (state S.Store conn.new) }
-    ensures left { HasCleanDisk (state S.Store conn.new) → IsTrue (state S.Store conn.new).is_open → IsLeft (state S.Store conn.old) (state S.Store conn.new) }
-    ensures survives { Survives (state S.Store conn.old) (state S.Store conn.new) (λ _. ⊥) }
-    ensures mode { conn.old.in_transaction ≡ false → conn.new.in_transaction ≡ false }
+    ensures same { HasCleanDisk (state S.Store conn.new) → result ≢ why.Store
+        → IsUnchanged (state S.Store conn.old) (state S.Store conn.new) }
+    ensures left { IsLeftIfOpen S.Store conn.old conn.new }
+    ensures survives { CommitsNothing S.Store conn.old conn.new }
+    ensures mode { LeavesAutocommit conn.old conn.new }
 {
     if is_open(conn) {
         fault
@@ -70,16 +72,16 @@ fn failed<S: Alter>(conn: &mut Connection<S>, fault: AdoptFault) -> AdoptFault
     }
 }
 
-/// The moment of the last change to the register that a store of the second version holds. A store that is open is as it was, and but for a
-/// fault 502 it is open.
+/// Returns the moment of the last change to the register in a store of schema version 2. A store that is open
+/// is unchanged, and it is open unless the fault is 502.
 pub(crate) fn adopt_store<S: Alter>(
     alloc: Global,
     conn: &mut Connection<S>,
 ) -> Result<Moment, AdoptFault>
-    requires settled { IsTrue (state S.Store conn.old).is_open → (state S.Store conn.old).now ≡ (state S.Store conn.old).committed }
+    requires settled { IsCommittedIfOpen S.Store conn.old }
     ensures judgement { IsJudgement the_second result (state S.Store conn.old) (state S.Store conn.new) }
     ensures moment { IfOk result (λ latest. latest.stamp ≤ℤ last_moment) }
-    ensures mode { conn.old.in_transaction ≡ false → conn.new.in_transaction ≡ false }
+    ensures mode { LeavesAutocommit conn.old conn.new }
 {
     match judge_second(alloc, conn) {
         Ok(latest) => Ok(latest),
@@ -87,16 +89,16 @@ pub(crate) fn adopt_store<S: Alter>(
     }
 }
 
-/// The moment of the last change to the register that a store of the first version holds. A store that is open is as it was, and but for a
-/// fault 502 it is open.
+/// Returns the moment of the last change to the register in a store of schema version 1. A store that is open
+/// is unchanged, and it is open unless the fault is 502.
 pub(crate) fn first_store<S: Alter>(
     alloc: Global,
     conn: &mut Connection<S>,
 ) -> Result<Moment, AdoptFault>
-    requires settled { IsTrue (state S.Store conn.old).is_open → (state S.Store conn.old).now ≡ (state S.Store conn.old).committed }
+    requires settled { IsCommittedIfOpen S.Store conn.old }
     ensures judgement { IsJudgement the_first result (state S.Store conn.old) (state S.Store conn.new) }
     ensures moment { IfOk result (λ latest. latest.stamp ≤ℤ last_moment) }
-    ensures mode { conn.old.in_transaction ≡ false → conn.new.in_transaction ≡ false }
+    ensures mode { LeavesAutocommit conn.old conn.new }
 {
     match judge_first(alloc, conn) {
         Ok(latest) => Ok(latest),

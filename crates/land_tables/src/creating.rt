@@ -1,4 +1,4 @@
-//! A new register is made.
+//! Creates a new register.
 ghost use Rattle.std.specs.Prelude.{◌≡◌, ◌≢◌, false, IsTrue, Err, IfErr, OnErr, OnOk};
 ghost use Rattle.land_keep.specs.Timeline.{new_timeline};
 ghost use Rattle.land_keep.specs.declared.store_fault.StoreFault.TheVariants as store;
@@ -18,17 +18,21 @@ use land_tables_rows::writing::laws::new_registers_are_held;
 use land_tables_schema::rows::creation::make_register;
 use sqlite::{Alter, Connection};
 
-/// Makes the tables with a new register, in one transaction. A store that is open after a failure is as it was.
+/// Creates the tables with a new register, in one transaction. Errors: `NoMemory` (501), `Store` (502). A
+/// store that is open after an error is unchanged.
 pub(crate) fn begin_register<S: Alter>(conn: &mut Connection<S>) -> Result<(), StoreFault>
     requires alone { conn.old.in_transaction ≡ false }
     requires empty { HasCleanDisk (state S.Store conn.old) → (state S.Store conn.old).now.schema ≡ no_schema }
-    ensures made { HasCleanDisk (state S.Store conn.new) → OnOk result (IsNewOffice (state S.Store conn.new)) }
+    ensures made { HasCleanDisk (state S.Store conn.new)
+        → OnOk result (IsNewOffice (state S.Store conn.new)) }
     ensures neither { HasCleanDisk (state S.Store conn.new) → IsTrue (state S.Store conn.new).is_open
         → OnErr result ((state S.Store conn.new).now ≡ (state S.Store conn.old).committed) }
     ensures untouched { HasCleanDisk (state S.Store conn.new)
-        → IfErr result (λ fault. fault ≢ store.Store → AreUntouched (state S.Store conn.old) (state S.Store conn.new)) }
+        → IfErr result
+        (λ fault. fault ≢ store.Store → AreUntouched (state S.Store conn.old) (state S.Store conn.new)) }
     ensures open { result ≢ Err store.Closed }
-    ensures crash { Survives (state S.Store conn.old) (state S.Store conn.new) (λ db. HoldsTimeline db new_timeline) }
+    ensures crash { Survives (state S.Store conn.old) (state S.Store conn.new)
+        (λ db. HoldsTimeline db new_timeline) }
     ensures ended { conn.new.in_transaction ≡ false }
 {
     versions_stand_for_one();

@@ -1,31 +1,32 @@
-//! Faults of stores that are taken for a register's.
+//! Errors of opening a store as a register file.
 ghost use Rattle.std.specs.Prelude.{◌≡◌};
 
 use land_tables_rows::listing::fault::ReadFault;
 use std::alloc::AllocError;
 
-/// Why a store is not taken for a register's. It is as it was.
+/// Why a store was refused. The store is then unchanged.
 #[derive(Clone, Copy, Debug, PartialEq, Eq)]
 pub enum AdoptFault {
-    /// 520: a table or a column is missing or another than the register's, there is a table, a view or a unique index more, or a value
-    /// cannot be read as its field.
+    /// 520: a table or a column is missing or differs from the register's, there is an additional table, view
+    /// or unique index, or a value is not a valid value of its field.
     NotOurs,
-    /// 521: two lifespans of one key overlap, an end is not after its beginning, or a beginning or an end is no stamp.
+    /// 521: two lifespans of one key overlap, an end is not after its beginning, or a beginning or an end is
+    /// not a stamp.
     Interval,
-    /// 522: the register at some stamp is not sound, there is no stamp, or the next number falls.
+    /// 522: the register at some stamp is not sound, there is no stamp, or the next number decreases.
     Unsound,
-    /// 523: the tables were made by another version of their shapes than the one that is asked for.
+    /// 523: the tables have another schema version than the required one.
     Version,
-    /// 501: there was no memory.
+    /// 501: out of memory.
     NoMemory,
-    /// 502: a call of the store failed for another cause.
+    /// 502: another error of the store.
     Store,
 }
 
 impl AdoptFault {
     ghost use Rattle.land_tables.specs.Faults.{number_of};
 
-    /// The number that the caller is told.
+    /// Returns the number of the error.
     pub fn number(self) -> u16
         ensures { result ≡ number_of self }
     {
@@ -50,7 +51,7 @@ impl From<AllocError> for AdoptFault {
     }
 }
 
-/// Why rows were not read, as the caller is told it.
+/// Converts the fault of a failed read.
 impl From<ReadFault> for AdoptFault {
     ghost use Rattle.land_tables.specs.Faults.{of_read};
 

@@ -1,15 +1,13 @@
-//! What is found in the tables of a store.
-ghost use Rattle.std.specs.Prelude.{◌≡◌, ◌≢◌, false, IfErr};
+//! Reads and decodes the tables of a store.
+ghost use Rattle.std.specs.Prelude.{◌≡◌, ◌≢◌, IfErr};
 ghost use Rattle.land_tables.specs.Findings.{AreMandates, FindsFirst, SaysFirstRows};
+ghost use Rattle.land_tables_rows.specs.Effects.{ReadsTables};
 ghost use Rattle.land_tables_rows.specs.Listing.Reading as listing;
-ghost use Rattle.land_tables_rows.specs.Listing.Reading.{CannotSay, Says};
+ghost use Rattle.land_tables_rows.specs.Listing.Reading.{FailsOnlyIfNone, Says};
 ghost use Rattle.land_tables_rows.specs.Rowids.{AreFirstKeyed, AreKeyed};
 ghost use Rattle.land_tables_rows.specs.declared.listing.fault.ReadFault.TheVariants.{Unreadable};
-ghost use Rattle.land_tables_schema.specs.Land.{HasFirstTables, IsLand};
-ghost use Rattle.land_tables_schema.specs.Rows.Looks.{IsLook};
+ghost use Rattle.land_tables_schema.specs.Connections.{HasRegisterTables, HasV1Tables, LeavesAutocommit};
 ghost use Rattle.land_tables_schema.specs.Tables as table;
-ghost use Rattle.sqlite.specs.Held.{state};
-ghost use Rattle.sqlite.specs.State.{HasCleanDisk};
 
 use land_core::mandates::Mandate;
 use land_core::sequence::Sequence;
@@ -23,23 +21,23 @@ use land_tables_rows::rowids::rowids;
 use sqlite::{Alter, Connection};
 use std::alloc::Global;
 
-/// All that the rows of the tables say.
+/// The decoded rows of all tables.
 #[derive(Debug, Drop)]
 pub(crate) struct Findings {
-    /// By which version of their shapes the tables were made.
+    /// The schema version of the tables.
     pub(crate) editions: Sequence<Edition>,
-    /// When the register was changed.
+    /// The moments at which the register changed.
     pub(crate) moments: Sequence<Moment>,
     /// All versions of its records.
     pub(crate) history: History,
 }
 
-/// What all rows of the tables of the first version say, which has no mandates.
+/// Reads all rows of the tables of schema version 1, which has no mandates.
 fn first_rows<S: Alter>(alloc: Global, conn: &mut Connection<S>) -> Result<Findings, ReadFault>
-    requires { HasCleanDisk (state S.Store conn.old) → HasFirstTables (state S.Store conn.old).now.schema }
-    ensures look { IsLook result (SaysFirstRows (state S.Store conn.old).now.trees) (state S.Store conn.old) (state S.Store conn.new) }
-    ensures unreadable { HasCleanDisk (state S.Store conn.new) → IfErr result (CannotSay (SaysFirstRows (state S.Store conn.old).now.trees)) }
-    ensures mode { conn.old.in_transaction ≡ false → conn.new.in_transaction ≡ false }
+    requires { HasV1Tables S.Store conn.old }
+    ensures look { ReadsTables S.Store result SaysFirstRows conn.old conn.new }
+    ensures unreadable { FailsOnlyIfNone S.Store result SaysFirstRows conn.old conn.new }
+    ensures mode { LeavesAutocommit conn.old conn.new }
 {
     let editions = reading::editions(alloc, conn)?;
     let moments = reading::moments(alloc, conn)?;
@@ -51,57 +49,59 @@ fn first_rows<S: Alter>(alloc: Global, conn: &mut Connection<S>) -> Result<Findi
     })
 }
 
-/// Whether each row of a version lies under a rowid of its own, as all do in a store that is not damaged.
+/// Checks that the rows of versions have unique rowids, as they do unless the file is corrupted.
 fn first_rowids<S: Alter>(alloc: Global, conn: &mut Connection<S>) -> Result<(), ReadFault>
-    requires { HasCleanDisk (state S.Store conn.old) → HasFirstTables (state S.Store conn.old).now.schema }
-    ensures look { IsLook result (λ _. AreFirstKeyed (state S.Store conn.old).now.trees) (state S.Store conn.old) (state S.Store conn.new) }
+    requires { HasV1Tables S.Store conn.old }
+    ensures look { ReadsTables S.Store result (λ db _. AreFirstKeyed db) conn.old conn.new }
     ensures read { IfErr result (λ fault. fault ≢ Unreadable) }
-    ensures mode { conn.old.in_transaction ≡ false → conn.new.in_transaction ≡ false }
+    ensures mode { LeavesAutocommit conn.old conn.new }
 {
     rowids::are_first_keyed(alloc, conn)?;
     Ok(())
 }
 
-/// What is found in the tables of the first version. A value that cannot be read as its field is told, and what the store lacks.
+/// Reads the tables of schema version 1. Errors: `Unreadable` if a value is not a valid value of its field;
+/// `NoMemory`; `Store`.
 pub(crate) fn find_first<S: Alter>(
     alloc: Global,
     conn: &mut Connection<S>,
 ) -> Result<Findings, ReadFault>
-    requires { HasCleanDisk (state S.Store conn.old) → HasFirstTables (state S.Store conn.old).now.schema }
-    ensures look { IsLook result (FindsFirst (state S.Store conn.old).now.trees) (state S.Store conn.old) (state S.Store conn.new) }
-    ensures unreadable { HasCleanDisk (state S.Store conn.new) → IfErr result (CannotSay (SaysFirstRows (state S.Store conn.old).now.trees)) }
-    ensures mode { conn.old.in_transaction ≡ false → conn.new.in_transaction ≡ false }
+    requires { HasV1Tables S.Store conn.old }
+    ensures look { ReadsTables S.Store result FindsFirst conn.old conn.new }
+    ensures unreadable { FailsOnlyIfNone S.Store result SaysFirstRows conn.old conn.new }
+    ensures mode { LeavesAutocommit conn.old conn.new }
 {
     first_rowids(alloc, conn)?;
     first_rows(alloc, conn)
 }
 
-/// Whether each row of the mandates lies under a rowid of its own.
+/// Checks that the rows of mandates have unique rowids.
 fn mandate_rowids<S: Alter>(alloc: Global, conn: &mut Connection<S>) -> Result<(), ReadFault>
-    requires { HasCleanDisk (state S.Store conn.old) → IsLand (state S.Store conn.old).now.schema }
-    ensures look { IsLook result (λ _. AreKeyed table.mandate (state S.Store conn.old).now.trees) (state S.Store conn.old) (state S.Store conn.new) }
+    requires { HasRegisterTables S.Store conn.old }
+    ensures look { ReadsTables S.Store result (λ db _. AreKeyed table.mandate db) conn.old conn.new }
     ensures read { IfErr result (λ fault. fault ≢ Unreadable) }
-    ensures mode { conn.old.in_transaction ≡ false → conn.new.in_transaction ≡ false }
+    ensures mode { LeavesAutocommit conn.old conn.new }
 {
     rowids::are_mandates_keyed(alloc, conn)?;
     Ok(())
 }
 
-/// The mandates that are found in their table. A value that cannot be read as its field is told, and what the store lacks.
+/// Reads the table of mandates. Errors: `Unreadable` if a value is not a valid value of its field;
+/// `NoMemory`; `Store`.
 pub(crate) fn find_mandates<S: Alter>(
     alloc: Global,
     conn: &mut Connection<S>,
 ) -> Result<Sequence<Version<Mandate>>, ReadFault>
-    requires { HasCleanDisk (state S.Store conn.old) → IsLand (state S.Store conn.old).now.schema }
-    ensures look { IsLook result (AreMandates (state S.Store conn.old).now.trees) (state S.Store conn.old) (state S.Store conn.new) }
-    ensures unreadable { HasCleanDisk (state S.Store conn.new) → IfErr result (CannotSay (Says listing.mandates (state S.Store conn.old).now.trees)) }
-    ensures mode { conn.old.in_transaction ≡ false → conn.new.in_transaction ≡ false }
+    requires { HasRegisterTables S.Store conn.old }
+    ensures look { ReadsTables S.Store result AreMandates conn.old conn.new }
+    ensures unreadable { FailsOnlyIfNone S.Store result (Says listing.mandates) conn.old conn.new }
+    ensures mode { LeavesAutocommit conn.old conn.new }
 {
     mandate_rowids(alloc, conn)?;
     reading::read_table(alloc, conn)
 }
 
-/// What was found in the tables of the first version, with mandates.
+/// Adds mandates to the contents of the tables of schema version 1.
 pub(crate) fn with_mandates(found: Findings, listed: Sequence<Version<Mandate>>) -> Findings
     ensures { result ≡ record found { history = record found.history { mandates = listed } } }
 {

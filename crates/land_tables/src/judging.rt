@@ -1,4 +1,4 @@
-//! Whether what is found in tables is a register's.
+//! Validates the decoded tables.
 ghost use Rattle.std.specs.Prelude.{◌≡◌, ◌≤ℤ◌, true, Some, IfOk};
 ghost use Rattle.land_keep.specs.Moments.{last_moment};
 ghost use Rattle.land_tables.specs.Findings.{IsEditionOf, IsJudged, IsLatest, is_one_edition, is_version};
@@ -15,7 +15,8 @@ use land_tables_lawful::lawful::is_lawful;
 use land_tables_rows::edition::reading::Edition;
 use std::alloc::Global;
 
-/// Whether one edition was found, and it is of this version. 520: there is not one. 523: it is another.
+/// Checks that there is exactly one edition, of this version. Errors: `NotOurs` (520) if there is not exactly
+/// one; `Version` (523) if it is of another version.
 pub(crate) fn judge_edition(editions: &[Edition], version: u64) -> Result<(), AdoptFault>
     ensures { IsEditionOf version editions.now result }
 {
@@ -28,8 +29,8 @@ pub(crate) fn judge_edition(editions: &[Edition], version: u64) -> Result<(), Ad
     Ok(())
 }
 
-/// Judges what was found by its other tests, in their order, and answers the latest moment. 521: lifespans are not as they may be. 522: the
-/// history is not lawful. 501: there was no memory.
+/// Applies the other tests in order, and returns the latest moment. Errors: `Interval` (521) if intervals are
+/// not valid; `Unsound` (522) if the history is not; `NoMemory` (501).
 pub(crate) fn judge(alloc: Global, found: &Findings) -> Result<Moment, AdoptFault>
     ensures judged { IsJudged found.now result }
     ensures moment { IfOk result (λ latest. latest.stamp ≤ℤ last_moment) }
@@ -43,8 +44,8 @@ pub(crate) fn judge(alloc: Global, found: &Findings) -> Result<Moment, AdoptFaul
     }
 }
 
-/// Judges a history whose lifespans are as they may be, by the last test, and answers its latest moment. 522: it is not lawful. 501: there
-/// was no memory.
+/// Applies the last test to a history with valid intervals, and returns its latest moment. Errors: `Unsound`
+/// (522) if the history is not valid; `NoMemory` (501).
 fn judge_history(alloc: Global, found: &Findings, latest: Moment) -> Result<Moment, AdoptFault>
     requires intervals { has_intervals found.now.moments found.now.history ≡ true }
     requires last { last found.now.moments ≡ Some latest }
@@ -59,8 +60,8 @@ fn judge_history(alloc: Global, found: &Findings, latest: Moment) -> Result<Mome
     }
 }
 
-/// The latest moment. A lawful history has one: else 522. Where it is past the last one, the store has given back what was not written to it:
-/// 502.
+/// Returns the latest moment. Errors: `Unsound` (522) if there is none, since a valid history has one;
+/// `Store` (502) if it is after the last moment, since the store then returned data that was not written.
 fn latest(moments: &[Moment]) -> Result<Moment, AdoptFault>
     ensures latest { IsLatest moments.now result }
     ensures moment { IfOk result (λ latest. latest.stamp ≤ℤ last_moment) }

@@ -1,10 +1,11 @@
-//! A register of the first version becomes one of the second.
+//! Migrates a register from schema version 1 to 2.
 ghost use Rattle.std.specs.Prelude.{◌≡◌, ◌≢◌, ◌⊎◌, ◌≤ℤ◌, false, IfErr, IfOk, IsTrue, OnErr, OnOk};
 ghost use Rattle.land_keep.specs.Moments.{last_moment};
+ghost use Rattle.land_tables.specs.Calls.{CommitsNothing, IsCommittedIfOpen, IsLeftIfOpen};
 ghost use Rattle.land_tables.specs.Migrating.{IsMigration};
 ghost use Rattle.land_tables.specs.declared.fault.AdoptFault.TheVariants as why;
+ghost use Rattle.land_tables_schema.specs.Connections.{LeavesAutocommit};
 ghost use Rattle.land_tables_schema.specs.Land.{IsRaisable};
-ghost use Rattle.land_tables_schema.specs.Rows.Looks.{IsLeft};
 ghost use Rattle.land_tables_schema.specs.Rows.Raising.{MayRaise, Raises};
 ghost use Rattle.sqlite.specs.Held.{state};
 ghost use Rattle.sqlite.specs.State.{HasCleanDisk, IsUnchanged, Survives};
@@ -22,13 +23,15 @@ use land_tables_schema::rows::raising::raise_register;
 use sqlite::{Alter, Connection, Error};
 use std::alloc::Global;
 
-/// The fault of a store that did not become one of the second version: 501 where memory was wanting and it is still open, else 502.
+/// Returns the fault of a failed migration: `NoMemory` (501) if out of memory and the store is still open,
+/// else `Store` (502).
 fn not_raised<S: Alter>(conn: &mut Connection<S>, error: Error) -> AdoptFault
     ensures fault { (result ≡ why.NoMemory) ⊎ (result ≡ why.Store) }
-    ensures same { HasCleanDisk (state S.Store conn.new) → result ≢ why.Store → IsUnchanged (state S.Store conn.old) (state S.Store conn.new) }
-    ensures left { HasCleanDisk (state S.Store conn.new) → IsTrue (state S.Store conn.new).is_open → IsLeft (state S.Store conn.old) (state S.Store conn.new) }
-    ensures survives { Survives (state S.Store conn.old) (state S.Store conn.new) (λ _. ⊥) }
-    ensures mode { conn.old.in_transaction ≡ false → conn.new.in_transaction ≡ false }
+    ensures same { HasCleanDisk (state S.Store conn.new) → result ≢ why.Store
+        → IsUnchanged (state S.Store conn.old) (state S.Store conn.new) }
+    ensures left { IsLeftIfOpen S.Store conn.old conn.new }
+    ensures survives { CommitsNothing S.Store conn.old conn.new }
+    ensures mode { LeavesAutocommit conn.old conn.new }
 {
     match failed(conn, ReadFault::from(error)) {
         StoreFault::NoMemory => AdoptFault::NoMemory,
@@ -36,22 +39,31 @@ fn not_raised<S: Alter>(conn: &mut Connection<S>, error: Error) -> AdoptFault
     }
 }
 
-/// Makes of a store that has the tables of the first version one of the second, with no mandates, in one transaction whose last call of the
-/// store is the commit, and answers the moment of its last change. 502: its next table would not get the tree of the mandates, and then
-/// nothing is done; or a call failed. 501: there was no memory. A store that is open after a fault is as it was.
+/// Migrates a store with the tables of schema version 1 to version 2, with no mandates, in one transaction
+/// whose last store operation is the commit. Returns the given moment of its last change. Errors: `NoMemory`
+/// (501); `Store` (502) on a store error, or if its next table would not get the tree of the mandates, in
+/// which case nothing is done. A store that is open after an error is unchanged.
 fn raise_store<S: Alter>(conn: &mut Connection<S>, latest: Moment) -> Result<Moment, AdoptFault>
     requires alone { conn.old.in_transaction ≡ false }
-    requires settled { HasCleanDisk (state S.Store conn.old) → (state S.Store conn.old).now ≡ (state S.Store conn.old).committed }
+    requires settled { HasCleanDisk (state S.Store conn.old)
+        → (state S.Store conn.old).now ≡ (state S.Store conn.old).committed }
     ensures latest { IfOk result (λ it. it ≡ latest) }
     ensures raisable { OnOk result (IsRaisable (state S.Store conn.old).now.schema) }
-    ensures done { HasCleanDisk (state S.Store conn.new) → OnOk result (Raises (state S.Store conn.old).now (state S.Store conn.new).now) }
-    ensures committed { HasCleanDisk (state S.Store conn.new) → OnOk result ((state S.Store conn.new).committed ≡ (state S.Store conn.new).now) }
-    ensures open { HasCleanDisk (state S.Store conn.new) → OnOk result (IsTrue (state S.Store conn.new).is_open) }
+    ensures done { HasCleanDisk (state S.Store conn.new)
+        → OnOk result (Raises (state S.Store conn.old).now (state S.Store conn.new).now) }
+    ensures committed { HasCleanDisk (state S.Store conn.new)
+        → OnOk result ((state S.Store conn.new).committed ≡ (state S.Store conn.new).now) }
+    ensures open { HasCleanDisk (state S.Store conn.new)
+        → OnOk result (IsTrue (state S.Store conn.new).is_open) }
     ensures fault { IfErr result (λ fault. (fault ≡ why.NoMemory) ⊎ (fault ≡ why.Store)) }
-    ensures same { HasCleanDisk (state S.Store conn.new) → IfErr result (λ fault. fault ≢ why.Store → IsTrue (state S.Store conn.new).is_open) }
+    ensures same { HasCleanDisk (state S.Store conn.new)
+        → IfErr result (λ fault. fault ≢ why.Store → IsTrue (state S.Store conn.new).is_open) }
     ensures undone { HasCleanDisk (state S.Store conn.new) → IsTrue (state S.Store conn.new).is_open
-        → OnErr result (((state S.Store conn.new).now ≡ (state S.Store conn.old).committed) × ((state S.Store conn.new).committed ≡ (state S.Store conn.old).committed)) }
-    ensures crash { Survives (state S.Store conn.old) (state S.Store conn.new) (MayRaise (state S.Store conn.old).now) }
+        → OnErr result
+        (((state S.Store conn.new).now ≡ (state S.Store conn.old).committed)
+        × ((state S.Store conn.new).committed ≡ (state S.Store conn.old).committed)) }
+    ensures crash { Survives (state S.Store conn.old) (state S.Store conn.new)
+        (MayRaise (state S.Store conn.old).now) }
     ensures ended { conn.new.in_transaction ≡ false }
 {
     if !can_raise(conn.schema()) {
@@ -63,15 +75,15 @@ fn raise_store<S: Alter>(conn: &mut Connection<S>, latest: Moment) -> Result<Mom
     }
 }
 
-/// Makes of a store with a register of the first version one of the second, with no mandates, and answers the moment of its last change. The
-/// faults are those of a store that is taken, by the first version, and then those of raising it. A store that is open after a fault is as
-/// it was.
+/// Migrates a store with a register of schema version 1 to version 2, with no mandates, and returns the
+/// moment of its last change. Errors are those of opening a store of schema version 1, then those of the
+/// migration. A store that is open after an error is unchanged.
 pub(crate) fn migrate_store<S: Alter>(
     alloc: Global,
     conn: &mut Connection<S>,
 ) -> Result<Moment, AdoptFault>
     requires alone { conn.old.in_transaction ≡ false }
-    requires settled { IsTrue (state S.Store conn.old).is_open → (state S.Store conn.old).now ≡ (state S.Store conn.old).committed }
+    requires settled { IsCommittedIfOpen S.Store conn.old }
     ensures migration { IsMigration result (state S.Store conn.old) (state S.Store conn.new) }
     ensures moment { IfOk result (λ latest. latest.stamp ≤ℤ last_moment) }
     ensures ended { conn.new.in_transaction ≡ false }

@@ -1,12 +1,12 @@
-//! The register at a moment, read from whole tables.
-ghost use Rattle.std.specs.Prelude.{◌≡◌, ◌≢◌, false, Err};
+//! Reads the register at a moment from whole tables.
+ghost use Rattle.std.specs.Prelude.{◌≡◌, ◌≢◌, Err};
 ghost use Rattle.land_keep.specs.Timeline.{register_at};
 ghost use Rattle.land_keep.specs.declared.store_fault.StoreFault.TheVariants as store;
 ghost use Rattle.land_tables.specs.Calls.{IsSafeRead};
 ghost use Rattle.land_tables.specs.Office.{HoldsRegister};
 ghost use Rattle.land_tables.specs.Standing.{ReadsAt, timeline_in};
-ghost use Rattle.land_tables_schema.specs.Land.{IsLand};
-ghost use Rattle.land_tables_schema.specs.Rows.Looks.{IsLook};
+ghost use Rattle.land_tables_rows.specs.Effects.{ReadsTables};
+ghost use Rattle.land_tables_schema.specs.Connections.{HasRegisterTables, LeavesAutocommit};
 ghost use Rattle.sqlite.specs.Held.{state};
 ghost use Rattle.sqlite.specs.State.{HasCleanDisk};
 
@@ -25,15 +25,15 @@ use land_tables_rows::listing::reading::moments;
 use sqlite::{Alter, Connection};
 use std::alloc::Global;
 
-/// The register that stands at a moment, with the next number then.
+/// Reads the register at a moment, with the next number at that moment.
 fn read_tables<S: Alter>(
     alloc: Global,
     conn: &mut Connection<S>,
     at: i64,
 ) -> Result<Register, ReadFault>
-    requires { HasCleanDisk (state S.Store conn.old) → IsLand (state S.Store conn.old).now.schema }
-    ensures look { IsLook result (ReadsAt (state S.Store conn.old).now.trees at) (state S.Store conn.old) (state S.Store conn.new) }
-    ensures mode { conn.old.in_transaction ≡ false → conn.new.in_transaction ≡ false }
+    requires { HasRegisterTables S.Store conn.old }
+    ensures look { ReadsTables S.Store result (λ db. ReadsAt db at) conn.old conn.new }
+    ensures mode { LeavesAutocommit conn.old conn.new }
 {
     let moments = moments(alloc, conn)?;
     let history = history(alloc, conn)?;
@@ -41,17 +41,20 @@ fn read_tables<S: Alter>(
     Ok(register::register_at(alloc, &history, at, next)?)
 }
 
-/// The rows of all tables that stand at a moment, as a register. A store that it leaves without a fault 502 is open, and as it was.
+/// Reads the rows of all tables that are current at a moment, as a register. The store is open and unchanged
+/// unless the fault is 502.
 fn read_at<S: Alter>(
     alloc: Global,
     conn: &mut Connection<S>,
     at: i64,
 ) -> Result<Register, StoreFault>
-    requires land { HasCleanDisk (state S.Store conn.old) → IsLand (state S.Store conn.old).now.schema }
-    requires committed { HasCleanDisk (state S.Store conn.old) → (state S.Store conn.old).committed ≡ (state S.Store conn.old).now }
+    requires land { HasRegisterTables S.Store conn.old }
+    requires committed { HasCleanDisk (state S.Store conn.old)
+        → (state S.Store conn.old).committed ≡ (state S.Store conn.old).now }
     ensures open { result ≢ Err store.Closed }
-    ensures safe { IsSafeRead result (ReadsAt (state S.Store conn.old).now.trees at) (state S.Store conn.old) (state S.Store conn.new) }
-    ensures mode { conn.old.in_transaction ≡ false → conn.new.in_transaction ≡ false }
+    ensures safe { IsSafeRead result (ReadsAt (state S.Store conn.old).now.trees at) (state S.Store conn.old)
+        (state S.Store conn.new) }
+    ensures mode { LeavesAutocommit conn.old conn.new }
 {
     match read_tables(alloc, conn, at) {
         Ok(register) => Ok(register),
@@ -59,8 +62,8 @@ fn read_at<S: Alter>(
     }
 }
 
-/// The timeline's register at a moment: nothing before the first, and after the last what stands at it. A store that it leaves without a
-/// fault 502 is open, and as it was.
+/// Returns the timeline's register at a time: empty before the first moment, and the last one after the last
+/// moment. The store is open and unchanged unless the fault is 502.
 pub(crate) fn register_in<S: Alter>(
     alloc: Global,
     conn: &mut Connection<S>,
@@ -68,8 +71,10 @@ pub(crate) fn register_in<S: Alter>(
 ) -> Result<Register, StoreFault>
     requires { HasCleanDisk (state S.Store conn.old) → HoldsRegister (state S.Store conn.old) }
     ensures open { result ≢ Err store.Closed }
-    ensures safe { IsSafeRead result (λ it. it ≡ register_at (timeline_in (state S.Store conn.old).now.trees) at) (state S.Store conn.old) (state S.Store conn.new) }
-    ensures mode { conn.old.in_transaction ≡ false → conn.new.in_transaction ≡ false }
+    ensures safe { IsSafeRead result
+        (λ it. it ≡ register_at (timeline_in (state S.Store conn.old).now.trees) at) (state S.Store conn.old)
+        (state S.Store conn.new) }
+    ensures mode { LeavesAutocommit conn.old conn.new }
 {
     versions_stand_for_one();
     order_does_not_matter();

@@ -1,8 +1,9 @@
-//! What the tables of a store hold, where a version of their shapes made them.
-ghost use Rattle.std.specs.Prelude.{◌≡◌, false, IfErr};
-ghost use Rattle.land_tables.specs.Adopting.{IsFound, IsFoundBy, IsMissing, IsRefused};
+//! Reads the tables of a store of a given schema version.
+ghost use Rattle.std.specs.Prelude.{IfErr};
+ghost use Rattle.land_tables.specs.Adopting.{IsFound, IsFoundBy, IsMissing, IsRefusedBy};
+ghost use Rattle.land_tables.specs.Calls.{ReadsStore};
 ghost use Rattle.land_tables.specs.Registers.{the_first, the_second};
-ghost use Rattle.land_tables_schema.specs.Rows.Looks.{IsLook};
+ghost use Rattle.land_tables_schema.specs.Connections.{LeavesAutocommit};
 ghost use Rattle.sqlite.specs.Held.{state};
 ghost use Rattle.sqlite.specs.State.{HasCleanDisk};
 
@@ -14,16 +15,18 @@ use land_tables_schema::schema::is_land;
 use sqlite::{Alter, Connection};
 use std::alloc::Global;
 
-/// What the tables of the first version hold, in a store that this version made. 520: one of them is missing, a value cannot be read as its
-/// field, or there is not one edition. 523: another version made it.
+/// Reads the tables of schema version 1, in a store whose edition is of the given version. Errors: `NotOurs`
+/// (520) if a table is missing, a value is not a valid value of its field, or there is not exactly one
+/// edition; `Version` (523) if the edition is of another version.
 fn found_of<S: Alter>(
     alloc: Global,
     conn: &mut Connection<S>,
     version: u64,
 ) -> Result<Findings, AdoptFault>
-    ensures look { IsLook result (IsFound version (state S.Store conn.old).now) (state S.Store conn.old) (state S.Store conn.new) }
-    ensures missing { HasCleanDisk (state S.Store conn.new) → IfErr result (λ fault. IsMissing version fault (state S.Store conn.old).now) }
-    ensures mode { conn.old.in_transaction ≡ false → conn.new.in_transaction ≡ false }
+    ensures look { ReadsStore S.Store result (IsFound version) conn.old conn.new }
+    ensures missing { HasCleanDisk (state S.Store conn.new)
+        → IfErr result (λ fault. IsMissing version fault (state S.Store conn.old).now) }
+    ensures mode { LeavesAutocommit conn.old conn.new }
 {
     if !may_be_land(conn.schema()) {
         return Err(AdoptFault::NotOurs);
@@ -33,14 +36,15 @@ fn found_of<S: Alter>(
     Ok(found)
 }
 
-/// What a store holds that the second version made: besides, it has the mandates. 520: it lacks them, or one of them cannot be read.
+/// Reads a store of schema version 2, which has mandates. Errors: those of reading the tables of version 1,
+/// and `NotOurs` (520) if the table of mandates is missing or does not decode.
 pub(crate) fn found_second<S: Alter>(
     alloc: Global,
     conn: &mut Connection<S>,
 ) -> Result<Findings, AdoptFault>
-    ensures look { IsLook result (IsFoundBy the_second (state S.Store conn.old).now) (state S.Store conn.old) (state S.Store conn.new) }
-    ensures refused { HasCleanDisk (state S.Store conn.new) → IfErr result (λ fault. IsRefused the_second fault (state S.Store conn.old).now) }
-    ensures mode { conn.old.in_transaction ≡ false → conn.new.in_transaction ≡ false }
+    ensures look { ReadsStore S.Store result (IsFoundBy the_second) conn.old conn.new }
+    ensures refused { IsRefusedBy S.Store result the_second conn.old conn.new }
+    ensures mode { LeavesAutocommit conn.old conn.new }
 {
     let first = found_of(alloc, conn, 2)?;
     if !is_land(conn.schema()) {
@@ -50,14 +54,15 @@ pub(crate) fn found_second<S: Alter>(
     Ok(with_mandates(first, mandates))
 }
 
-/// What a store holds that the first version made: it has no other tables. 520: it has one.
+/// Reads a store of schema version 1, which has no other tables. Errors: those of reading its tables, and
+/// `NotOurs` (520) if there is another table.
 pub(crate) fn found_first<S: Alter>(
     alloc: Global,
     conn: &mut Connection<S>,
 ) -> Result<Findings, AdoptFault>
-    ensures look { IsLook result (IsFoundBy the_first (state S.Store conn.old).now) (state S.Store conn.old) (state S.Store conn.new) }
-    ensures refused { HasCleanDisk (state S.Store conn.new) → IfErr result (λ fault. IsRefused the_first fault (state S.Store conn.old).now) }
-    ensures mode { conn.old.in_transaction ≡ false → conn.new.in_transaction ≡ false }
+    ensures look { ReadsStore S.Store result (IsFoundBy the_first) conn.old conn.new }
+    ensures refused { IsRefusedBy S.Store result the_first conn.old conn.new }
+    ensures mode { LeavesAutocommit conn.old conn.new }
 {
     let found = found_of(alloc, conn, 1)?;
     if !is_first(conn.schema()) {

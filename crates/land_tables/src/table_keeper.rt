@@ -1,4 +1,4 @@
-//! The keeper over whole tables: each call reads the register at its moment.
+//! The keeper that reads whole tables: each call reads the register at its moment.
 ghost use Rattle.std.specs.Prelude.{◌≡◌, ◌≤ℤ◌};
 ghost use Rattle.land_keep.specs.Moments.{last_moment};
 
@@ -21,7 +21,7 @@ use land_rules::verdict::Verdict;
 use sqlite::Alter;
 use std::alloc::Global;
 
-/// A keeper over tables, whatever their store.
+/// A keeper that reads whole tables, of any store.
 pub struct TableKeeper<S: Alter> {
     /// The tables.
     pub tables: Tables<S>,
@@ -34,14 +34,14 @@ impl<S: Alter + Drop> Drop for TableKeeper<S> {
 }
 
 impl<S: Alter> TableKeeper<S> {
-    /// A keeper over tables, closed if a call of their store has failed.
+    /// Returns a keeper that uses the tables. It is closed if their store has failed.
     pub fn new(tables: Tables<S>) -> TableKeeper<S>
         ensures { result.tables ≡ tables }
     {
         TableKeeper { tables }
     }
 
-    /// Hands the tables back, as they are.
+    /// Returns the tables, unchanged.
     pub fn into_tables(self) -> Tables<S>
         ensures { result ≡ self.tables }
     {

@@ -1,9 +1,10 @@
 //! Tables that hold the register's timeline.
 ghost use Rattle.std.specs.Prelude.{◌≡◌, ◌≢◌, ◌≤ℤ◌, true, false, Err, IfErr, IfOk, IsTrue, OnErr, OnOk};
-ghost use Rattle.land_keep.specs.Keeping.{CanWrite, Closes, IsLive};
+ghost use Rattle.land_keep.specs.Keeping.{CanWrite, Closes};
 ghost use Rattle.land_keep.specs.Machine.{written};
 ghost use Rattle.land_keep.specs.Moments.{last_moment};
-ghost use Rattle.land_keep.specs.Timeline.{IsSoundTimeline, last_register, last_stamp, new_timeline, register_at};
+ghost use Rattle.land_keep.specs.Timeline.{IsSoundTimeline, last_register, last_stamp, new_timeline};
+ghost use Rattle.land_keep.specs.Timeline.{register_at};
 ghost use Rattle.land_keep.specs.declared.store_fault.StoreFault.TheVariants as store;
 ghost use Rattle.land_tables.specs.Adopting.{HoldsNone, IsAdopted, IsRefused};
 ghost use Rattle.land_tables.specs.Calls.{IsSame};
@@ -32,14 +33,14 @@ use sqlite::{Alter, Connection};
 use std::alloc::Global;
 use std::marker::Model;
 
-/// A connection over tables that hold the register's timeline, whatever its store. Contracts see what it shows, the last stamp, the next
-/// number after it, and whether a call of the store has failed.
+/// A connection to tables that hold the register's timeline, on any store. Contracts see its content, the
+/// last stamp, the next number, and whether the store has failed.
 pub struct Tables<S: Alter> {
     /// The connection.
     pub conn: Connection<S>,
     last: i64,
     next: u64,
-    /// Whether a call of the store has failed.
+    /// Whether the store has failed.
     pub is_closed: bool,
 }
 
@@ -67,20 +68,28 @@ impl<S: Alter + Drop> Drop for Tables<S> {
 }
 
 impl<S: Alter> Tables<S> {
-    ghost use Rattle.land_tables.specs.Office.{IsCreated, IsHonest, IsKept, LeavesEither, LeavesOrBegins, Rests, StaysUntouched, held};
+    ghost use Rattle.land_tables.specs.Office.{IsCreated, IsHonest, IsWorking, IsKept, LeavesEither};
+    ghost use Rattle.land_tables.specs.Office.{LeavesOrBegins};
+    ghost use Rattle.land_tables.specs.Office.{Rests, StaysUntouched, held};
 
-    /// Makes the tables of a new register in a store that has none, in one transaction. 502: the store has tables, or a transaction is
-    /// begun, and then nothing is done; or a call failed. 501: there was no memory. A store that is open after a fault is as it was.
+    /// Creates the tables of a new register in an empty store, in one transaction. Errors: `Store` (502) if
+    /// the store has tables or a transaction is active, in which case nothing is done, or on a store error;
+    /// `NoMemory` (501). A store that is open after an error is unchanged.
     pub fn create(conn: Connection<S>) -> Result<Tables<S>, (Connection<S>, StoreFault)>
         ensures begun { conn.in_transaction ≡ true → result ≡ Err (conn, store.Store) }
         ensures taken { (state S.Store conn).now.schema ≢ no_schema → result ≡ Err (conn, store.Store) }
         ensures created { IfOk result (IsCreated S.Store) }
         ensures kept { IfErr result (λ e. IsKept (state S.Store conn) (state S.Store e.0)) }
-        ensures crash_after { IfOk result (λ t. Survives (state S.Store conn) (state S.Store t.conn) (λ db. HoldsTimeline db new_timeline)) }
-        ensures crash { IfErr result (λ e. Survives (state S.Store conn) (state S.Store e.0) (λ db. HoldsTimeline db new_timeline)) }
+        ensures crash_after { IfOk result
+            (λ t. Survives (state S.Store conn) (state S.Store t.conn)
+            (λ db. HoldsTimeline db new_timeline)) }
+        ensures crash { IfErr result
+            (λ e. Survives (state S.Store conn) (state S.Store e.0) (λ db. HoldsTimeline db new_timeline)) }
         ensures rests { IfOk result (Rests S.Store) }
         ensures either { IfErr result (λ e. LeavesOrBegins (state S.Store conn) (state S.Store e.0)) }
-        ensures untouched { IfErr result (λ e. HasCleanDisk (state S.Store e.0) → e.1 ≢ store.Store → StaysUntouched (state S.Store conn) (state S.Store e.0)) }
+        ensures untouched { IfErr result
+            (λ e. HasCleanDisk (state S.Store e.0) → e.1 ≢ store.Store
+            → StaysUntouched (state S.Store conn) (state S.Store e.0)) }
     {
         let mut conn = conn;
         if !conn.is_autocommit() || !is_empty(conn.schema()) {
@@ -97,22 +106,29 @@ impl<S: Alter> Tables<S> {
         }
     }
 
-    /// Takes a store for a register's, which it holds, and leaves it as it was. The first of these that holds is answered. 502: a transaction
-    /// is begun, or a call failed. 520: a table or a column is missing, a value cannot be read as its field, or there is not one edition; of
-    /// the mandates this is asked where the second version made the tables. 523: another version of their shapes made them. 521: two
-    /// lifespans of one key overlap, an end is not after its beginning, or a beginning or an end is no stamp. 522: the register at some stamp
-    /// is not sound, there is no stamp, or the next number falls. 501: there was no memory, in whichever of these. But for a fault 502 the
-    /// store is open.
+    /// Opens a store as a register file, which it must hold, and leaves it unchanged. Errors, of which the
+    /// first that applies is returned: `Store` (502) if a transaction is active; `NotOurs` (520) if a table
+    /// or a column is missing, a value is not a valid value of its field, or there is not exactly one edition
+    /// (in schema version 2 this includes mandates); `Version` (523) if the tables have another schema
+    /// version; `Interval` (521) if two lifespans of one key overlap, an end is not after its beginning, or a
+    /// beginning or an end is not a stamp; `Unsound` (522) if the register at some stamp is not sound, there
+    /// is no stamp, or the next number decreases. At any of these `NoMemory` (501) and `Store` (502) may be
+    /// returned. The store is open unless the fault is 502.
     pub fn adopt(
         alloc: Global,
         conn: Connection<S>,
     ) -> Result<Tables<S>, (Connection<S>, AdoptFault)>
         ensures begun { conn.in_transaction ≡ true → result ≡ Err (conn, why.Store) }
         ensures adopted { IfOk result (IsAdopted S.Store conn) }
-        ensures refused { IfErr result (λ e. HasCleanDisk (state S.Store e.0) → IsRefused the_second e.1 (state S.Store conn).now) }
-        ensures none { IfErr result (λ e. HasCleanDisk (state S.Store e.0) → HoldsNone the_second e.1 (state S.Store conn).now) }
-        ensures same { IfErr result (λ e. HasCleanDisk (state S.Store e.0) → e.1 ≢ why.Store → IsSame (state S.Store conn) (state S.Store e.0)) }
-        ensures crash_after { IfOk result (λ t. Survives (state S.Store conn) (state S.Store t.conn) (λ _. ⊥)) }
+        ensures refused { IfErr result
+            (λ e. HasCleanDisk (state S.Store e.0) → IsRefused the_second e.1 (state S.Store conn).now) }
+        ensures none { IfErr result
+            (λ e. HasCleanDisk (state S.Store e.0) → HoldsNone the_second e.1 (state S.Store conn).now) }
+        ensures same { IfErr result
+            (λ e. HasCleanDisk (state S.Store e.0) → e.1 ≢ why.Store
+            → IsSame (state S.Store conn) (state S.Store e.0)) }
+        ensures crash_after { IfOk result
+            (λ t. Survives (state S.Store conn) (state S.Store t.conn) (λ _. ⊥)) }
         ensures crash { IfErr result (λ e. Survives (state S.Store conn) (state S.Store e.0) (λ _. ⊥)) }
     {
         let mut conn = conn;
@@ -130,23 +146,32 @@ impl<S: Alter> Tables<S> {
         }
     }
 
-    /// Makes of a register of the first version, in which nobody gives mandates, one of the second, in one transaction, and takes it. The
-    /// faults are those of `adopt`, of a store that the first version made: it has the tables of that version and no others, else 520, and
-    /// another version is 523. 502 too, where its next table would not get the tree of the mandates, as where it has indexes of its own. A
-    /// store that is open after a fault is as it was, and but for a fault 502 it is open.
+    /// Migrates a register from schema version 1, which has no mandates, to version 2, in one transaction,
+    /// and opens it. Errors are those of `adopt` for a store of version 1, which has exactly the tables of
+    /// that version, else 520; another version is 523. Also returns 502 if the next table would not get the
+    /// tree of the mandates, as if the store has indexes of its own. A store that is open after an error is
+    /// unchanged, and it is open unless the fault is 502.
     pub fn migrate(
         alloc: Global,
         conn: Connection<S>,
     ) -> Result<Tables<S>, (Connection<S>, AdoptFault)>
         ensures begun { conn.in_transaction ≡ true → result ≡ Err (conn, why.Store) }
         ensures migrated { IfOk result (IsMigrated S.Store conn) }
-        ensures refused { IfErr result (λ e. HasCleanDisk (state S.Store e.0) → IsRefused the_first e.1 (state S.Store conn).now) }
-        ensures none { IfErr result (λ e. HasCleanDisk (state S.Store e.0) → HoldsNone the_first e.1 (state S.Store conn).now) }
-        ensures same { IfErr result (λ e. HasCleanDisk (state S.Store e.0) → e.1 ≢ why.Store → StaysSame (state S.Store conn) (state S.Store e.0)) }
+        ensures refused { IfErr result
+            (λ e. HasCleanDisk (state S.Store e.0) → IsRefused the_first e.1 (state S.Store conn).now) }
+        ensures none { IfErr result
+            (λ e. HasCleanDisk (state S.Store e.0) → HoldsNone the_first e.1 (state S.Store conn).now) }
+        ensures same { IfErr result
+            (λ e. HasCleanDisk (state S.Store e.0) → e.1 ≢ why.Store
+            → StaysSame (state S.Store conn) (state S.Store e.0)) }
         ensures kept { conn.in_transaction ≡ false
-            → IfErr result (λ e. HasCleanDisk (state S.Store e.0) → IsTrue (state S.Store e.0).is_open → StaysSame (state S.Store conn) (state S.Store e.0)) }
-        ensures crash_after { IfOk result (λ t. Survives (state S.Store conn) (state S.Store t.conn) (AreRaised (state S.Store conn).now)) }
-        ensures crash { IfErr result (λ e. Survives (state S.Store conn) (state S.Store e.0) (AreRaised (state S.Store conn).now)) }
+            → IfErr result
+            (λ e. HasCleanDisk (state S.Store e.0) → IsTrue (state S.Store e.0).is_open
+            → StaysSame (state S.Store conn) (state S.Store e.0)) }
+        ensures crash_after { IfOk result
+            (λ t. Survives (state S.Store conn) (state S.Store t.conn) (AreRaised (state S.Store conn).now)) }
+        ensures crash { IfErr result
+            (λ e. Survives (state S.Store conn) (state S.Store e.0) (AreRaised (state S.Store conn).now)) }
         ensures rests { IfOk result (Rests S.Store) }
         ensures either { IfErr result (λ e. LeavesOrRaises (state S.Store conn) (state S.Store e.0)) }
     {
@@ -166,51 +191,54 @@ impl<S: Alter> Tables<S> {
         }
     }
 
-    /// The stamp of the last accepted change, in milliseconds since 1970 UTC; 0 in a new register.
+    /// Returns the stamp of the last accepted change, Unix time in milliseconds; 0 in a new register.
     pub fn last(&self) -> i64
         ensures value { result ≡ self.now.last }
-        ensures last { IsLive (IsHonest S.Store self.now) self.now.is_closed → result ≡ last_stamp (held S.Store self.now) }
+        ensures last { IsWorking S.Store self.now → result ≡ last_stamp (held S.Store self.now) }
         ensures moment { result ≤ℤ last_moment }
-        ensures sound { IsLive (IsHonest S.Store self.now) self.now.is_closed → IsSoundTimeline (held S.Store self.now) }
+        ensures sound { IsWorking S.Store self.now → IsSoundTimeline (held S.Store self.now) }
     {
         self.last
     }
 
-    /// The number that the next new object takes.
+    /// Returns the number that the next new object takes.
     pub fn next(&self) -> u64
         ensures value { result ≡ self.now.next }
-        ensures next { IsLive (IsHonest S.Store self.now) self.now.is_closed → result ≡ (last_register (held S.Store self.now)).next }
+        ensures next { IsWorking S.Store self.now → result ≡ (last_register (held S.Store self.now)).next }
     {
         self.next
     }
 
-    /// Whether a call of the store has failed.
+    /// Whether the store has failed.
     pub fn is_closed(&self) -> bool
         ensures { result ≡ self.now.is_closed }
     {
         self.is_closed
     }
 
-    /// What a crash leaves between calls, while none has failed: the timeline that the tables hold, and nothing else. It does nothing.
+    /// Proves that between calls, while none has failed, a crash leaves exactly the timeline in the tables.
+    /// Does nothing at run time.
     pub fn rests(&self)
         ensures { Rests S.Store self.now }
     {
         let _conn = &self.conn;
     }
 
-    /// What the tables hold between calls, while none has failed: a register that `adopt` takes, whose tables were made by the second version
-    /// of their shapes, and whose lifespans are as they may be. It does nothing.
+    /// Proves that between calls, while none has failed, the tables hold a register that `adopt` accepts, of
+    /// schema version 2 and with valid intervals. Does nothing at run time.
     pub fn holds_register(&self)
-        ensures { IsLive (IsHonest S.Store self.now) self.now.is_closed → IsRegister the_second (state S.Store self.now.conn).now }
+        ensures { IsWorking S.Store self.now → IsRegister the_second (state S.Store self.now.conn).now }
     {
         let _conn = &self.conn;
     }
 
-    /// The register at a moment, in milliseconds since 1970 UTC: before the first stamp nothing, after the last what stands now. 501:
-    /// there was no memory. 502: a call of the store failed, and from then on 503. Nothing changes.
+    /// Reads the register at a time, Unix time in milliseconds: before the first stamp it is empty, after the
+    /// last it is the current one. Errors: `NoMemory` (501); `Store` (502) on a store error, after which
+    /// every call returns `Closed` (503). The tables are unchanged.
     pub fn read_at(&mut self, alloc: Global, at: i64) -> Result<Register, StoreFault>
-        ensures value { IsHonest S.Store self.new → IfOk result (λ it. it ≡ register_at (held S.Store self.old) at) }
-        ensures same { IsLive (IsHonest S.Store self.new) self.new.is_closed → held S.Store self.new ≡ held S.Store self.old }
+        ensures value { IsHonest S.Store self.new
+            → IfOk result (λ it. it ≡ register_at (held S.Store self.old) at) }
+        ensures same { IsWorking S.Store self.new → held S.Store self.new ≡ held S.Store self.old }
         ensures was { IsHonest S.Store self.new → IsHonest S.Store self.old }
         ensures last { self.new.last ≡ self.old.last }
         ensures next { self.new.next ≡ self.old.next }
@@ -229,11 +257,12 @@ impl<S: Alter> Tables<S> {
         }
     }
 
-    /// The register now. 501, 502, 503 as for `read_at`. Nothing changes.
+    /// Reads the current register. Errors are those of `read_at`. The tables are unchanged.
     pub fn last_register(&mut self, alloc: Global) -> Result<Register, StoreFault>
-        ensures value { IsHonest S.Store self.new → IfOk result (λ it. it ≡ last_register (held S.Store self.old)) }
+        ensures value { IsHonest S.Store self.new
+            → IfOk result (λ it. it ≡ last_register (held S.Store self.old)) }
         ensures last { self.new.last ≡ self.old.last }
-        ensures same { IsLive (IsHonest S.Store self.new) self.new.is_closed → held S.Store self.new ≡ held S.Store self.old }
+        ensures same { IsWorking S.Store self.new → held S.Store self.new ≡ held S.Store self.old }
         ensures was { IsHonest S.Store self.new → IsHonest S.Store self.old }
         ensures closes { Closes self.old.is_closed self.new.is_closed result }
     {
@@ -241,18 +270,23 @@ impl<S: Alter> Tables<S> {
         self.read_at(alloc, last)
     }
 
-    /// Writes a change that an act makes of the last register, with its stamp, in one transaction whose last call of the store is the
-    /// commit. 502: a call of the store failed, or the change cannot be written as it is: a text that is longer than its field, a number
-    /// that is none; from then on 503. 501: there was no memory. After a fault nothing has changed in a store that is open.
+    /// Writes a change of the current register that an act makes, with its stamp, in one transaction whose
+    /// last store operation is the commit. Errors: `NoMemory` (501); `Store` (502) on a store error, or if
+    /// the change cannot be written (a string longer than its field, an invalid number), after which every
+    /// call returns `Closed` (503). After an error an open store is unchanged.
     pub fn write(&mut self, alloc: Global, change: &Change, stamp: i64) -> Result<(), StoreFault>
-        requires { IsLive (IsHonest S.Store self.old) self.old.is_closed → CanWrite (held S.Store self.old) change.now stamp }
-        ensures ok { IsLive (IsHonest S.Store self.new) self.new.is_closed → OnOk result (held S.Store self.new ≡ written (held S.Store self.old) change.now stamp) }
-        ensures err { IsLive (IsHonest S.Store self.new) self.new.is_closed → OnErr result (held S.Store self.new ≡ held S.Store self.old) }
+        requires { IsWorking S.Store self.old → CanWrite (held S.Store self.old) change.now stamp }
+        ensures ok { IsWorking S.Store self.new
+            → OnOk result (held S.Store self.new ≡ written (held S.Store self.old) change.now stamp) }
+        ensures err { IsWorking S.Store self.new
+            → OnErr result (held S.Store self.new ≡ held S.Store self.old) }
         ensures was { IsHonest S.Store self.new → IsHonest S.Store self.old }
         ensures closes { Closes self.old.is_closed self.new.is_closed result }
-        ensures survives { self.old.is_closed ≡ false → Survives (state S.Store self.old.conn) (state S.Store self.new.conn)
+        ensures survives { self.old.is_closed ≡ false
+            → Survives (state S.Store self.old.conn) (state S.Store self.new.conn)
             (λ db. HoldsTimeline db (written (held S.Store self.old) change.now stamp)) }
-        ensures crash { LeavesEither S.Store self.old self.new (held S.Store self.old) (written (held S.Store self.old) change.now stamp) }
+        ensures crash { LeavesEither S.Store self.old self.new (held S.Store self.old)
+            (written (held S.Store self.old) change.now stamp) }
         ensures rests { Rests S.Store self.new }
     {
         if self.is_closed {
@@ -275,7 +309,7 @@ impl<S: Alter> Tables<S> {
         }
     }
 
-    /// Hands the connection back, as it is.
+    /// Returns the connection, unchanged.
     pub fn into_connection(self) -> Connection<S>
         ensures { result ≡ self.conn }
     {

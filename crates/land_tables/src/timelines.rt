@@ -1,4 +1,4 @@
-//! Which timeline the versions of a history stand for.
+//! The timeline that the versions of a history represent.
 
 pub mod judging_laws;
 pub mod laws;

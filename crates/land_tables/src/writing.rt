@@ -1,4 +1,4 @@
-//! A change of the register is written.
+//! Writes a change of the register and commits it.
 ghost use Rattle.std.specs.Prelude.{◌≡◌, ◌≢◌, ◌&&◌, ◌≤ℤ◌, pos, false, int_le, IsTrue, Err, OnErr, OnOk};
 ghost use Rattle.land_keep.specs.Moments.{last_moment};
 ghost use Rattle.land_keep.specs.declared.store_fault.StoreFault.TheVariants as store;
@@ -6,7 +6,7 @@ ghost use Rattle.land_tables.specs.Calls.{IsSafeWrite, MayRecord};
 ghost use Rattle.land_tables.specs.Office.{HoldsRegister};
 ghost use Rattle.land_tables_rows.specs.Recording.Whole.{Records, fits_change};
 ghost use Rattle.land_tables_rows.specs.Writing.Holding.{IsMoment};
-ghost use Rattle.land_tables_schema.specs.Land.{IsLand};
+ghost use Rattle.land_tables_schema.specs.Connections.{HasRegisterTables};
 ghost use Rattle.sqlite.specs.Held.{state};
 ghost use Rattle.sqlite.specs.State.{HasCleanDisk, Survives};
 
@@ -26,7 +26,7 @@ fn can_record(change: &Change, stamp: i64) -> bool
     0 <= stamp && stamp <= LAST_MOMENT && fits(change)
 }
 
-/// Writes a change in one transaction, whose last call of the store is the commit.
+/// Writes a change in one transaction, whose last store operation is the commit.
 fn record_at_once<S: Alter>(
     alloc: Global,
     conn: &mut Connection<S>,
@@ -37,13 +37,20 @@ fn record_at_once<S: Alter>(
     requires alone { conn.old.in_transaction ≡ false }
     requires fits { IsTrue (fits_change change.now) }
     requires moment { IsMoment stamp }
-    requires land { HasCleanDisk (state S.Store conn.old) → IsLand (state S.Store conn.old).now.schema }
-    ensures done { HasCleanDisk (state S.Store conn.new) → OnOk result (Records change.now next stamp (state S.Store conn.old).now (state S.Store conn.new).now) }
-    ensures committed { HasCleanDisk (state S.Store conn.new) → OnOk result ((state S.Store conn.new).committed ≡ (state S.Store conn.new).now) }
-    ensures open { HasCleanDisk (state S.Store conn.new) → OnOk result (IsTrue (state S.Store conn.new).is_open) }
+    requires land { HasRegisterTables S.Store conn.old }
+    ensures done { HasCleanDisk (state S.Store conn.new)
+        → OnOk result
+        (Records change.now next stamp (state S.Store conn.old).now (state S.Store conn.new).now) }
+    ensures committed { HasCleanDisk (state S.Store conn.new)
+        → OnOk result ((state S.Store conn.new).committed ≡ (state S.Store conn.new).now) }
+    ensures open { HasCleanDisk (state S.Store conn.new)
+        → OnOk result (IsTrue (state S.Store conn.new).is_open) }
     ensures neither { HasCleanDisk (state S.Store conn.new) → IsTrue (state S.Store conn.new).is_open
-        → OnErr result (((state S.Store conn.new).now ≡ (state S.Store conn.old).committed) × ((state S.Store conn.new).committed ≡ (state S.Store conn.old).committed)) }
-    ensures crash { Survives (state S.Store conn.old) (state S.Store conn.new) (MayRecord change.now next stamp (state S.Store conn.old).now) }
+        → OnErr result
+        (((state S.Store conn.new).now ≡ (state S.Store conn.old).committed)
+        × ((state S.Store conn.new).committed ≡ (state S.Store conn.old).committed)) }
+    ensures crash { Survives (state S.Store conn.old) (state S.Store conn.new)
+        (MayRecord change.now next stamp (state S.Store conn.old).now) }
     ensures ended { conn.new.in_transaction ≡ false }
 {
     let mut tx = conn.transaction();
@@ -51,8 +58,8 @@ fn record_at_once<S: Alter>(
     tx.commit()
 }
 
-/// Writes a change with its stamp. A store that it leaves without a fault 502 is open, with all committed: what it had, or that with the
-/// change.
+/// Writes a change with its stamp. Unless the fault is 502, the store is open and fully committed: with its
+/// old content, or with the change.
 pub(crate) fn record<S: Alter>(
     alloc: Global,
     conn: &mut Connection<S>,
@@ -64,7 +71,9 @@ pub(crate) fn record<S: Alter>(
     requires register { HasCleanDisk (state S.Store conn.old) → HoldsRegister (state S.Store conn.old) }
     ensures open { result ≢ Err store.Closed }
     ensures moment { OnOk result (stamp ≤ℤ last_moment) }
-    ensures safe { IsSafeWrite result (Records change.now next stamp) (MayRecord change.now next stamp (state S.Store conn.old).now) (state S.Store conn.old) (state S.Store conn.new) }
+    ensures safe { IsSafeWrite result (Records change.now next stamp)
+        (MayRecord change.now next stamp (state S.Store conn.old).now) (state S.Store conn.old)
+        (state S.Store conn.new) }
     ensures ended { conn.new.in_transaction ≡ false }
 {
     if !can_record(change, stamp) {

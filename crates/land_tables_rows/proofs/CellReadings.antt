@@ -1,4 +1,4 @@
--- Which cells are read as what, and what was read of which cells.
+-- Which value each cell decodes to, and which cell each decoded value came from.
 use Rattle.std.proofs.Common.{◌≡◌, ◌&&◌, ℕ, ℤ, pos, negsuc, Bool, true, false, int_le, ◌≤ℤ◌, List, Result, Ok, Err, if◌then◌else◌, refl, ap, ◌∙◌, arith}
 use Rattle.std.specs.Bool.{⊤}
 use Rattle.std.proofs.lemmas.Int.{ints}
@@ -23,7 +23,7 @@ use Rattle.land_wire_json.specs.declared.bodies.wire_fault.WireFault.TheVariants
 use Rattle.sqlite_value.specs.declared.value.Value.{Value}
 use Rattle.sqlite_value.specs.declared.value.Value.TheVariants.{Null, Int, Real, Text, Blob}
 
--- ---- from what is written to what is read
+-- ---- from the written cell to the decoded value
 
 pub natural_is_read : (n : ℕ) → natural_in (whole n) ≡ Ok n
 unfolding natural_in
@@ -37,7 +37,7 @@ pub amount_is_read : (n : ℕ) → is_amount n ≡ true → amount_in (whole n) 
 unfolding amount_in natural_in
 amount_is_read n e = rw e refl
 
--- the last moment, and the end of what stands
+-- the last moment, and the open end
 before_the_end : (z : ℤ) → z ≤ℤ pos 4102444799999 → z ≤ℤ pos 4102444800000
 before_the_end z h = omega (arith, ints)
 
@@ -52,7 +52,7 @@ end_is_read : (z : ℤ) → int_le (pos 0) z ≡ true → int_le z (pos 41024448
 unfolding end_in
 end_is_read z from to = rw (from, to) refl
 
--- a moment may be an end
+-- a moment is a valid end of a lifespan
 pub ends : (z : ℤ) → IsMoment z → end_in (Int z) ≡ Ok z
 ends z h = end_is_read z (le_true (pos 0) z h.first) (le_true z (pos 4102444800000) (before_the_end z h.last))
 
@@ -70,7 +70,7 @@ pub share_is_read : SameFractionLaw → (f : Ratio) → IsFraction f → share_i
 unfolding share_in natural_in
 share_is_read same f h = ap share_answer (same f h)
 
--- ---- from what is read to what was written
+-- ---- from the decoded value to the written cell
 
 pub integer_is : (c : Value) (z : ℤ) → integer_in c ≡ Ok z → c ≡ Int z
 integer_is Null z e = let none : ⊥ = cc in absurd none
@@ -146,7 +146,7 @@ pub end_is : (c : Value) (z : ℤ) → end_in c ≡ Ok z → c ≡ Int z
 unfolding end_in
 end_is c z e = until_is (pos 4102444800000) c z e
 
--- ---- what is read of a number or an end is that
+-- ---- a decoded number or end is the integer in its cell
 
 same_whole : (m n : ℕ) → whole m ≡ whole n → m ≡ n
 same_whole m n e = cc
@@ -162,7 +162,7 @@ same_end y z e = same_int y z (end_is (Int y) z e)
 
 -- ---- shares
 
--- two cells that make a share
+-- two cells that decode to a share
 pub record AreShares (c d : Value) : Type 0 where
   pub numerator : ℕ
   pub denominator : ℕ

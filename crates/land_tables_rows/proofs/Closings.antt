@@ -1,4 +1,4 @@
--- Closing a version does to what is read what it does to the row.
+-- Closing a version changes the decoded value as it changes the row.
 use Rattle.std.proofs.Common.{◌≡◌, ◌&&◌, ℤ, Bool, true, false, Result, Ok, if◌then◌else◌, sym, ap₂}
 use Rattle.std.specs.Ordering.{int_eq}
 use Rattle.land_tables_history.specs.declared.version.Version.{Version}
@@ -10,8 +10,8 @@ use Rattle.land_wire_json.specs.declared.bodies.wire_fault.WireFault.{WireFault}
 use Rattle.sqlite_value.specs.Order.{Row}
 use Rattle.sqlite_value.specs.declared.value.Value.TheVariants.{Int}
 
--- What is read of the cells of something: it is meant where that is, it ends when that does, and with another end in the row it is read
--- with that end.
+-- The decoded value of a record's cells: it matches the key if the record does, ends when the record does,
+-- and takes the new end if the row does.
 pub record IsReadAs {A C : Type 0} (read : Row → Result (Version A) WireFault) (cells : laid.Version C → Row) (meant_row : C → Bool) (meant : A → Bool) (p : laid.Version C) (v : Version A) : Type 0 where
   pub same : meant_row p.what ≡ meant v.what
   pub until : p.until ≡ v.until

@@ -1,4 +1,4 @@
--- What a mutation asks for is written in UTF-8.
+-- The content of a mutation is written in UTF-8.
 use Rattle.std.proofs.Common.{◌≡◌, ◌≤◌, ◌^◌, ◌&&◌, ℕ, List, [], ◌∷◌, ◌++◌, map, Bool, true, false, codes, decimal, Option, Some, None, IsUtf8, refl, ltb-true, arith}
 use Rattle.std.proofs.lemmas.Fmt.{IsAscii-decimal}
 use Rattle.std.proofs.lemmas.Str.{IsUtf8-append, IsUtf8-from_ascii, IsUtf8-from_is_utf8, is_utf8-from_IsUtf8}
@@ -26,7 +26,7 @@ use Rattle.serde_json.specs.Data.{Num, unsigned, negative, float, Data, null, bo
 use Rattle.serde_json.specs.View.{items_of}
 use Rattle.serde_json.specs.Written.{comma_if, compact_text, items_text, members_text, number_text}
 
--- ---- JSON whose texts are in UTF-8 is written in UTF-8
+-- ---- JSON whose strings are in UTF-8 is written in UTF-8
 
 abbrev mutual
   IsReadable : Data → Type 0

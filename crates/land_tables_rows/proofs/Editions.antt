@@ -1,4 +1,4 @@
--- Editions are read as they are written.
+-- The decoded edition is the one that was written.
 use Rattle.std.proofs.Common.{◌≡◌, [], ◌∷◌, Ok, refl, sym}
 use Rattle.land_tables_rows.proofs.Bounds.{bound}
 use Rattle.land_tables_rows.proofs.WrittenCells.{cons, natural_cell}
@@ -21,7 +21,7 @@ cells_are a b e h =
 pub found : (r : Row) (e : version.Edition) → edition_in (numbered_cells r) ≡ Ok e → (p : Edition) × (edition_row p ≡ numbered_cells r)
 found r e h = cells_are (column r 0) (column r 2) e h
 
--- the present edition is read as it is written
+-- edition 2 decodes to itself
 pub reads : edition_in (edition_row current_edition) ≡ Ok edition.current_edition
 unfolding edition_in natural_in
 reads = refl

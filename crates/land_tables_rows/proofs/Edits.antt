@@ -1,4 +1,4 @@
--- What is made of one table, and then of others, edits the history that all of them hold.
+-- Statements on one table, and then on others, rewrite the history that all tables hold.
 use Rattle.std.proofs.Common.{◌≡◌, ◌≢◌, ◌∙◌, ℕ, ℤ, Bool, false, List, [], ◌∷◌, ◌++◌, IsPermutation, Ok, Result, map, refl, sym, ap, arith, subst}
 use Rattle.std.specs.List.{list_any}
 use Rattle.land_core.specs.Members.{Members}
@@ -47,12 +47,12 @@ use Rattle.sqlite.specs.State.{State}
 use Rattle.sqlite_schema.specs.declared.schema.Table.{Table}
 use Rattle.sqlite_trees.specs.Tree.{Trees}
 
--- where another table is written, the versions of the shapes are those that they were
+-- a write to another table leaves the editions unchanged
 pub editions_kept : (one : Table) (old new : Trees) → one.tree ≢ 0 → KeepsOthers one old new → (editions : List Edition) → KeepsEditions old editions → KeepsEditions new editions
 editions_kept one old new other kept editions tells =
     subst (λ rows. IsPermutation (map (λ r. edition_in (numbered_cells r)) rows) (map (λ x. Ok x) editions)) (sym ((are_kept one old new kept).edition other)) tells
 
--- one edit after another
+-- one rewrite after another
 pub edits_then : (f g : History → History) (a b c : Database) → Edits f a b → Edits g b c → Edits (λ h. g (f h)) a c
 edits_then f g a b c first next = record {
   schema = next.schema ∙ first.schema;
@@ -60,12 +60,12 @@ edits_then f g a b c first next = record {
   editions = λ es keeps. next.editions es (first.editions es keeps);
 }
 
--- each of a list, as it is
+-- each element of a list, unchanged
 all_same : {X : Type 0} (xs : List X) → map (λ x. x) xs ≡ xs
 all_same [] = refl
 all_same (x ∷ xs) = ap (λ l. x ∷ l) (all_same xs)
 
--- where nothing is meant, nothing ends
+-- if no version matches, none ends
 none_closed : {X : Type 0} (stamp : ℤ) (vs : List (Version X)) → map (closed (λ x. false) stamp) vs ≡ vs
 none_closed stamp [] = refl
 none_closed stamp (v ∷ vs) = ap (λ ws. v ∷ ws) (none_closed stamp vs)
@@ -107,21 +107,21 @@ module _ (laws : ChangesAreHeld) (stamp : ℤ) (a b : Database) where
   pub mutations_edit : (put : List (ℕ × MutationRecord)) (ended : List ℕ) → Changes mutations put (λ e. is_changed put ended e.0) stamp a b → Edits (λ h. record h { mutations = changed_part put ended stamp h.mutations }) a b
   mutations_edit put ended done = kind_edits mutations (λ vs h. record h { mutations = vs }) (λ h. h.mutations) laws.mutations (λ db moments h holds. holds.the_mutations) (λ e. absurd (omega arith)) put (λ e. is_changed put ended e.0) stamp a b done
 
-  -- ---- roles: each is its own key
+  -- ---- roles: each grant is its own key
 
   pub roles_edit : (put ended : List Grant) → Changes roles put (λ grant. list_any (is_same_grant grant) (map (λ g. g) put ++ ended)) stamp a b → Edits (λ h. record h { roles = changed_roles put ended stamp h.roles }) a b
   roles_edit put ended done =
       subst (λ (keys : List Grant). Edits (λ h. record h { roles = changed_versions put (λ grant. list_any (is_same_grant grant) (keys ++ ended)) stamp h.roles }) a b) (all_same put)
       (kind_edits roles (λ vs h. record h { roles = vs }) (λ h. h.roles) laws.roles (λ db moments h holds. holds.the_roles) (λ e. absurd (omega arith)) put (λ grant. list_any (is_same_grant grant) (map (λ g. g) put ++ ended)) stamp a b done)
 
-  -- ---- so is each mandate
+  -- ---- mandates: each mandate is its own key
 
   pub mandates_edit : (put ended : List Mandate) → Changes mandates put (λ mandate. list_any (is_same_mandate mandate) (map (λ m. m) put ++ ended)) stamp a b → Edits (λ h. record h { mandates = changed_mandates put ended stamp h.mandates }) a b
   mandates_edit put ended done =
       subst (λ (keys : List Mandate). Edits (λ h. record h { mandates = changed_versions put (λ mandate. list_any (is_same_mandate mandate) (keys ++ ended)) stamp h.mandates }) a b) (all_same put)
       (kind_edits mandates (λ vs h. record h { mandates = vs }) (λ h. h.mandates) laws.mandates (λ db moments h holds. holds.the_mandates) (λ e. absurd (omega arith)) put (λ mandate. list_any (is_same_mandate mandate) (map (λ m. m) put ++ ended)) stamp a b done)
 
-  -- ---- namings: none ends
+  -- ---- links of mutations to units: none ends
 
   pub namings_edit : (next : ℕ) (put : List (ℕ × MutationRecord)) → BeginsAll namings (named_by (new_mutations next put)) stamp a b → Edits (λ h. record h { namings = changed_namings next put stamp h.namings }) a b
   namings_edit next put done =
@@ -130,7 +130,7 @@ module _ (laws : ChangesAreHeld) (stamp : ℤ) (a b : Database) where
 
 -- ---- several steps
 
--- three steps one after another, each of which edits the history
+-- three steps in sequence, each of which rewrites the history
 pub three_steps : {X Y Z E : Type 0} {x : X} {y : Y} {First Next Last : Database → Database → Type 0} (f g k : History → History) (a b c d : State) (r : Result Z E)
     → IsStep {X = X} {E = E} (Ok x) First a b → IsStep {X = Y} {E = E} (Ok y) Next b c → IsStep r Last c d
     → (First a.now b.now → Edits f a.now b.now) → (Next b.now c.now → Edits g b.now c.now) → (Last c.now d.now → Edits k c.now d.now) → IsStep r (Edits (λ h. k (g (f h)))) a d
@@ -138,13 +138,13 @@ three_steps {E = E} f g k a b c d r first next last one two three =
     let so_far : IsStep {X = Unit {0}} {E = E} (Ok tt) (Edits (λ h. g (f h))) a c = step_then a b c first next (λ clean p q. edits_then f g a.now b.now c.now (one p) (two q)) in
     step_after a c d r so_far last (λ clean p q. edits_then (λ h. g (f h)) k a.now c.now d.now p (three q))
 
--- two of them
+-- two steps in sequence
 pub two_steps : {X Y E : Type 0} {x : X} {y : Y} {First Next : Database → Database → Type 0} (f g : History → History) (a b c : State)
     → IsStep {X = X} {E = E} (Ok x) First a b → IsStep {X = Y} {E = E} (Ok y) Next b c
     → (First a.now b.now → Edits f a.now b.now) → (Next b.now c.now → Edits g b.now c.now) → IsStep {X = Unit {0}} {E = E} (Ok tt) (Edits (λ h. g (f h))) a c
 two_steps f g a b c first next one two = step_then a b c first next (λ clean p q. edits_then f g a.now b.now c.now (one p) (two q))
 
--- four of them
+-- four steps in sequence
 pub four_steps : {W X Y Z E : Type 0} {w : W} {x : X} {y : Y} {First Next Third Last : Database → Database → Type 0} (f g k l : History → History) (a b c d e : State) (r : Result Z E)
     → IsStep {X = W} {E = E} (Ok w) First a b → IsStep {X = X} {E = E} (Ok x) Next b c → IsStep {X = Y} {E = E} (Ok y) Third c d → IsStep r Last d e
     → (First a.now b.now → Edits f a.now b.now) → (Next b.now c.now → Edits g b.now c.now) → (Third c.now d.now → Edits k c.now d.now) → (Last d.now e.now → Edits l d.now e.now)

@@ -1,4 +1,4 @@
--- What can be written, part by part.
+-- Which parts of a change can be written.
 use Rattle.std.proofs.Common.{◌≡◌, ◌∙◌, ℕ, Bool, true, false, cond, ◌&&◌, List, [], ◌∷◌, refl}
 use Rattle.std.proofs.lemmas.List.Folds.{list_all-append, list_all-map}
 use Rattle.std.specs.FinMap as map
@@ -31,19 +31,19 @@ use Rattle.land_tables_rows.specs.Unit.Writing.{fits_unit}
 
 -- ---- lists
 
--- where one test follows from another, it does so for all
+-- if one test follows from another, it follows for every element
 pub all_so : {X : Type 0} (p q : X → Bool) → ((x : X) → p x ≡ true → q x ≡ true) → (xs : List X) → list_all p xs ≡ true → list_all q xs ≡ true
 all_so p q so [] h = refl
 all_so p q so (x ∷ xs) h = and_from (q x) (list_all q xs) (so x (and_parts (p x) (list_all p xs) h).0) (all_so p q so xs (and_parts (p x) (list_all p xs) h).1)
 
--- so it does for all that they list
+-- and for all elements that they list
 all_listed : {X Y : Type 0} (p : X → Bool) (q : Y → Bool) (f : X → List Y) → ((x : X) → p x ≡ true → list_all q (f x) ≡ true) → (xs : List X) → list_all p xs ≡ true → list_all q (flat_map f xs) ≡ true
 all_listed p q f so [] h = refl
 all_listed p q f so (x ∷ xs) h =
     list_all-append q (f x) (flat_map f xs)
     ∙ and_from (list_all q (f x)) (list_all q (flat_map f xs)) (so x (and_parts (p x) (list_all p xs) h).0) (all_listed p q f so xs (and_parts (p x) (list_all p xs) h).1)
 
--- what some of them pass
+-- elements that pass a test
 all_of : {X : Type 0} (p t : X → Bool) (xs : List X) → list_all p xs ≡ true → list_all p (filter t xs) ≡ true
 all_of p t [] h = refl
 all_of p t (x ∷ xs) h = go (t x) (and_parts (p x) (list_all p xs) h).0 (all_of p t xs (and_parts (p x) (list_all p xs) h).1)
@@ -61,11 +61,11 @@ group_fits g h =
     ∙ list_all-map (λ m. is_number g.0 && is_number m.party) (λ e. member_of e.0 e.1) (map.entries g.1)
     ∙ all_so (λ e. is_number e.0) (λ e. is_number g.0 && is_number e.0) (λ m h. and_from (is_number g.0) (is_number m.0) e.0 h) (map.entries g.1) e.1
 
--- the members of groups that can be written can be written
+-- if groups can be written, so can their members
 pub members_fit : (groups : List (ℕ × Members)) → list_all fits_group groups ≡ true → list_all fits_member (listed_members groups) ≡ true
 members_fit groups h = all_listed fits_group fits_member (λ g. group_members g.0 g.1) group_fits groups h
 
--- so can the numbers of the groups
+-- and so can the numbers of the groups
 pub groups_known : (groups : List (ℕ × Members)) → list_all fits_group groups ≡ true → list_all (λ g. is_number g.0) groups ≡ true
 groups_known groups h = all_so fits_group (λ g. is_number g.0) (λ g h. (and_parts (is_number g.0) (list_all (λ e. is_number e.0) (map.entries g.1)) h).0) groups h
 
@@ -100,12 +100,12 @@ names_fit m h =
     list_all-map fits_naming (λ unit. record { mutation = m.0; unit = unit }) (named_units m.1.content)
     ∙ all_so is_number (λ unit. is_number m.0 && is_number unit) (λ unit h. and_from (is_number m.0) (is_number unit) first.0 h) (named_units m.1.content) (units_fit m.1.content content.1)
 
--- the units that mutations name can be written where the mutations can
+-- if mutations can be written, so can the units that they refer to
 pub all_names_fit : (next : ℕ) (put : List (ℕ × MutationRecord)) → list_all fits_mutation put ≡ true → list_all fits_naming (named_by (new_mutations next put)) ≡ true
 all_names_fit next put h =
     all_listed fits_mutation fits_naming (λ m. mutation_names m.0 m.1.content) names_fit (new_mutations next put) (all_of fits_mutation (λ m. nat_le next m.0) put h)
 
--- ---- of a change: what is put under numbers is known by numbers of objects
+-- ---- of a change: the keys of inserted records are object numbers
 
 numbers_known : {V : Type 0} (rest : ℕ × V → Bool) (put : List (ℕ × V)) (ended : List ℕ) → fits_kind (λ e. is_number e.0 && rest e) is_number put ended ≡ true → list_all (λ e. is_number e.0) put ≡ true
 numbers_known rest put ended h =

@@ -1,4 +1,4 @@
--- What all tables hold, where one of them holds something else.
+-- The history that all tables hold after one of them is rewritten.
 use Rattle.std.proofs.Common.{◌≡◌, ◌≢◌, ℕ, List, arith}
 use Rattle.land_tables_history.specs.declared.history.History.{History}
 use Rattle.land_tables_history.specs.declared.moment.Moment.{Moment}
@@ -23,7 +23,7 @@ use Rattle.land_tables_schema.specs.Tables as table
 use Rattle.sqlite_schema.specs.declared.schema.Table.{Table}
 use Rattle.sqlite_trees.specs.Tree.{Trees}
 
--- the parts of what the tables hold
+-- the parts of the history in the tables
 data Part : Type 0 where
   Moments : Part
   Parties : Part
@@ -37,7 +37,7 @@ data Part : Type 0 where
   Namings : Part
   Mandates : Part
 
--- the tree of its table
+-- the tree of a table
 abbrev tree_of : Part → ℕ
 tree_of Moments = 1
 tree_of Parties = 2
@@ -51,7 +51,7 @@ tree_of Mutations = 16
 tree_of Namings = 18
 tree_of Mandates = 20
 
--- what is held of it
+-- the versions of a table
 abbrev Holds : Part → Trees → List Moment → History → Type 0
 Holds Moments db moments h = KeepsMoments db moments
 Holds Parties db moments h = Keeps party.parties db h.parties
@@ -93,7 +93,7 @@ all_held each = record {
   the_mandates = each Mandates;
 }
 
--- a table whose rows are as they were holds what it held
+-- a table whose rows are unchanged holds the same versions
 pub still_keeps : {X : Type 0} (reading : Reading X) (old new : Trees) (versions : List (Version X)) → new reading.table.tree ≡ old reading.table.tree → Keeps reading old versions → Keeps reading new versions
 still_keeps reading old new versions same keeps = record { said = rw same keeps.said; numbered = rw same keeps.numbered }
 
@@ -123,7 +123,7 @@ others_kept one old new kept Mutations = (are_kept one old new kept).mutation
 others_kept one old new kept Namings = (are_kept one old new kept).names
 others_kept one old new kept Mandates = (are_kept one old new kept).mandate
 
--- what is held of a part whose table was left
+-- the versions of a table that a statement left unchanged
 left : (one : Table) (old new : Trees) (moments : List Moment) (h : History) → HoldsHistory old moments h → KeepsOthers one old new → (part : Part) → one.tree ≢ tree_of part → Holds part new moments h
 left one old new moments h held kept part other = still_holds old new moments h part (others_kept one old new kept part other) (each_held held part)
 

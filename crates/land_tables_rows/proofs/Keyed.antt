@@ -1,4 +1,4 @@
--- Rows of a table have rowids of their own where those that are listed do.
+-- The rows of a table have unique rowids if the listed rowids are unique.
 use Rattle.std.proofs.Common.{◌≡◌, List, map, Ok, Err, Result, IfOk, OnOk, subst}
 use Rattle.std.proofs.lemmas.List.Sorted.{IsPermutation-sym}
 use Rattle.land_tables_rows.specs.Rowids.{AreKeyed, AreRowids}
@@ -17,7 +17,7 @@ keyed_by table db rows are n =
     let listed = map (columns_from 0 1) (db table.tree) in
     numbered_same listed (db table.tree) (map-map rowid (columns_from 0 1) (db table.tree)) (numbered_anyhow rows listed (IsPermutation-sym listed rows are) n)
 
--- rowids that a look gave, tested
+-- rowids that a read returned, after the check
 pub keyed_look : {E F R : Type 0} (table : Table) (a b : State) (items : R → List Row) (got : R) → IsLook {X = R} {E = E} (Ok got) (λ x. AreRowids table a.now.trees (items x)) a b
     → (lent : List Row) → lent ≡ items got → (r : Result (Unit {0}) F) → OnOk r (AreNumbered lent) → IsLook r (λ _. AreKeyed table a.now.trees) a b
 keyed_look {F = F} table a b items got look lent same r tested = look_told a b r look (λ clean are. go r tested are)

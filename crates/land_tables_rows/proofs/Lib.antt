@@ -1,4 +1,4 @@
--- Lemmas of what the rows of the register's tables say, and of what is written in them.
+-- Lemmas about decoding the rows of the register's tables, and about writing them.
 pub mod Bounds
 pub mod CellReadings
 pub mod Closings

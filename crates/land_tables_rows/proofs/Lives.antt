@@ -1,4 +1,4 @@
--- Where what is read has its lifespan last: what is read of what begins, and of what is closed.
+-- Rows whose last two columns are the lifespan: how versions decode when they begin and when they are closed.
 use Rattle.std.proofs.Common.{◌≡◌, ◌&&◌, ℕ, suc, ℤ, [], ◌∷◌, ◌++◌, Bool, true, false, if◌then◌else◌, Ok, Result, refl, sym, ap, ap₂, ◌∙◌}
 use Rattle.std.specs.Ordering.{int_eq}
 use Rattle.land_tables_history.specs.Changed.{begun, closed}
@@ -18,12 +18,12 @@ use Rattle.sqlite_schema.specs.declared.schema.Table.{Table}
 use Rattle.sqlite_value.specs.Order.{Row}
 use Rattle.sqlite_value.specs.declared.value.Value.TheVariants.{Int}
 
--- something with its lifespan, as it is read
+-- a record with its lifespan, decoded
 abbrev pub lived : {X : Type 0} → X → (since until : ℤ) → Result (Version X) WireFault
 lived it since until = moment_in (Int since) >>= λ s. end_in (Int until) >>= λ u. Ok (record { what = it; since = s; until = u })
 
--- How rows are read of things that are laid in cells: `what` is what the cells say without the lifespan. Where a row can be read, its cells are those
--- of a thing.
+-- How a record is laid out in cells: `what` is the value of the cells without the lifespan. Every row that
+-- decodes was laid out from a record.
 pub record IsReading {C X : Type 0} (table : Table) (count : ℕ) (cells : C → Row) (said : Row → Result (Version X) WireFault) (what : C → Result X WireFault) : Type 0 where
   pub reads : (c : C) (since until : ℤ) → said (cells c ++ Int since ∷ Int until ∷ []) ≡ (what c >>= λ it. lived it since until)
   pub found : (r : Row) (v : Version X) → said (columns_from 1 (suc (suc count)) r) ≡ Ok v → (p : rows.Version C) × (cells p.what ++ Int p.since ∷ Int p.until ∷ [] ≡ columns_from 1 (suc (suc count)) r)
@@ -38,7 +38,7 @@ module _ {C X : Type 0} (table : Table) (count : ℕ) (cells : C → Row) (said 
   pub begun_said : (c : C) (x : X) (since : ℤ) → what c ≡ Ok x → IsMoment since → said (form.cells (rows.begun c since)) ≡ Ok (begun x since)
   begun_said c x since is_x moment = is.reads c since never ∙ rw (is_x, moment_reads since moment, end_reads) refl
 
-  -- a thing begins
+  -- a version begins
   pub begins : (c : C) (x : X) (since : ℤ) → what c ≡ Ok x → IsMoment since → (old new : Database) → Adds form (rows.begun c since) old new → Begins reading x since old new
   begins c x since is_x moment = write.begins table count cells said is.found c x since (begun_said c x since is_x moment)
 
@@ -65,6 +65,6 @@ module _ {C X : Type 0} (table : Table) (count : ℕ) (cells : C → Row) (said 
         let is : record { what = one.0; since = p.since; until = p.until } ≡ v = ap₂ (λ s u. record { what = one.0; since = s; until = u }) since until ∙ same_ok three.2 in
         closed_so p one.0 one.1 (is_v ∙ ap (λ w. Ok w) (sym is)) (two.1 ∙ ap (λ s. Ok s) (sym since)) ∙ ap (λ w. Ok (closed meant_so stamp w)) is
 
-    -- what is meant ends
+    -- the matching versions end
     pub closes : (old new : Database) → Turns form (rows.closed meant stamp) old new → Closes reading meant_so stamp old new
     closes = write.closes table count cells said is.found meant meant_so stamp closed_said

@@ -1,4 +1,4 @@
--- What statements on one table do one after another.
+-- Statements on one table, in sequence.
 use Rattle.std.proofs.Common.{◌≡◌, ◌≢◌, ◌<ℤ◌, ◌≤ℤ◌, ℤ, Bool, List, [], ◌∷◌, ◌++◌, map, Ok, Err, Result, refl, sym, ap, subst, ◌∙◌, arith, IsPermutation}
 use Rattle.std.specs.Prelude.{fold}
 use Rattle.std.specs.List.{AllByRecursion, list_any}
@@ -39,18 +39,18 @@ kept_still table db = same_still table db land_tables
 pub kept_then : (table : Table) (a b c : Trees) → KeepsOthers table a b → KeepsOthers table b c → KeepsOthers table a c
 kept_then table a b c first next = same_then table a b c land_tables first next
 
--- ---- moments, and the tables of the register
+-- ---- moments, and the register's schema
 
--- a moment is before the end of what stands
+-- a moment is before the open end
 pub before_never : (stamp : ℤ) → IsMoment stamp → stamp <ℤ never
 before_never stamp moment = let most : stamp ≤ℤ _ = moment.1 in omega (arith, ints)
 
--- calls that leave the schema as it was leave a schema that holds the register
+-- steps that leave the schema unchanged leave the register's schema
 pub land_stays : {X E : Type 0} {x : X} {Done : Database → Database → Type 0} (a b : State) → IsStep {X = X} {E = E} (Ok x) Done a b → (Done a.now b.now → b.now.schema ≡ a.now.schema)
     → (HasCleanDisk a → IsLand a.now.schema) → HasCleanDisk b → IsLand b.now.schema
 land_stays a b step same land clean = subst IsLand (sym (same (step.done clean))) (land (was_clean a b step.survives clean))
 
--- a call after others, whatever it answers
+-- a step after others, with any result
 pub step_after : {X Z E : Type 0} {x : X} {First Next All : Database → Database → Type 0} (a b c : State) (r : Result Z E) → IsStep {X = X} {E = E} (Ok x) First a b → IsStep r Next b c
     → (HasCleanDisk c → First a.now b.now → Next b.now c.now → All a.now c.now) → IsStep r All a c
 step_after a b c (Ok z) first next all = step_then a b c first next all
@@ -59,7 +59,7 @@ step_after a b c (Err e) first next all = step_fails a b c (Err e) refl first ne
 -- ---- the versions of one table
 
 module _ {X : Type 0} (reading : Reading X) where
-  -- versions are held in whatever order
+  -- a table holds its versions in any order
   pub keeps_moved : (db : Trees) (vs ws : List (Version X)) → IsPermutation vs ws → Keeps reading db vs → Keeps reading db ws
   keeps_moved db vs ws moved keeps = record {
     said = IsPermutation-trans _ (map (λ v. Ok v) vs) (map (λ v. Ok v) ws) keeps.said (IsPermutation-map (λ v. Ok v) vs ws moved);
@@ -89,7 +89,7 @@ module _ {X : Type 0} (reading : Reading X) where
       kept = kept_then reading.table a.trees b.trees c.trees first.kept next.kept;
     }
 
-  -- what is put begins after what is meant has ended
+  -- new versions begin after the matching ones have ended
   pub changes : (put : List X) (meant : X → Bool) (stamp : ℤ) (a b c : Database) → Closes reading meant stamp a b → BeginsAll reading put stamp b c → Changes reading put meant stamp a c
   changes put meant stamp a b c first next = record {
     schema = next.schema ∙ first.schema;

@@ -1,4 +1,4 @@
--- Mandates are read as they are written.
+-- A decoded mandate is the one that was written.
 use Rattle.std.proofs.Common.{◌≡◌, ◌&&◌, ◌==◌, ◌∙◌, ℤ, [], ◌∷◌, ◌++◌, true, Ok, Result, refl, sym, ap, ap₂}
 use Rattle.std.specs.Ordering.{nat_cmp}
 use Rattle.std.proofs.lemmas.Bool.{and_parts}
@@ -23,7 +23,7 @@ use Rattle.sqlite_value.specs.Order.{column}
 use Rattle.sqlite_value.specs.declared.value.Value.{Value}
 use Rattle.sqlite_value.specs.declared.value.Value.TheVariants.{Int}
 
--- what the cells of a mandate say
+-- the values of a mandate's cells
 abbrev pub what : MandateRow → Result Mandate WireFault
 what n = number_in (whole n.principal) >>= λ principal. number_in (whole n.agent) >>= λ agent. Ok (record { principal = principal; agent = agent })
 
@@ -45,19 +45,19 @@ cells_are a b c d v h =
 pub is_reading : IsReading table.mandate 2 mandate_cells mandate_in what
 is_reading = record { reads = reads; found = λ r v h. cells_are (column r 1) (column r 2) (column r 3) (column r 4) v h }
 
--- how a mandate is laid in cells
+-- how a mandate is laid out in cells
 abbrev pub row_of : Mandate → MandateRow
 row_of n = record { principal = n.principal; agent = n.agent }
 
--- a mandate that fits is read as it was written
+-- a mandate within its limits decodes to itself
 pub what_is : (n : Mandate) → fits_mandate n ≡ true → what (row_of n) ≡ Ok n
 what_is n fits =
     let parts = and_parts (is_number n.principal) (is_number n.agent) fits in
     rw (number_reads n.principal parts.0, number_reads n.agent parts.1) refl
 
--- ---- a mandate is told by its cells
+-- ---- the cells of a mandate determine it
 
--- a mandate is read as it is
+-- a mandate decodes to itself
 pub agree : (mandate : Mandate) (c : MandateRow) (x : Mandate) → what c ≡ Ok x → is_same_mandate x mandate ≡ is_mandate mandate.principal mandate.agent c
 agree mandate c x h =
     let one = bound (number_in (whole c.principal)) _ x h in

@@ -1,4 +1,4 @@
--- Members are read as they are written.
+-- A decoded member is the one that was written.
 use Rattle.std.proofs.Common.{◌≡◌, ℕ, ℤ, [], ◌∷◌, ◌++◌, true, nat_eq, Ok, Result, refl, sym, ap, ◌∙◌}
 use Rattle.std.proofs.lemmas.Bool.{and_parts}
 use Rattle.land_core.specs.Numbers.{is_number}
@@ -21,7 +21,7 @@ use Rattle.sqlite_value.specs.Order.{column}
 use Rattle.sqlite_value.specs.declared.value.Value.{Value}
 use Rattle.sqlite_value.specs.declared.value.Value.TheVariants.{Int}
 
--- what the cells of a member say
+-- the values of a member's cells
 abbrev pub what : MemberRow → Result GroupMember WireFault
 what m =
     number_in (whole m.grp) >>= λ group. number_in (whole m.party) >>= λ party. share_in (whole m.num) (whole m.den)
@@ -48,17 +48,17 @@ cells_are a b c d e f v h =
 pub is_reading : IsReading table.member 4 member_cells member_in what
 is_reading = record { reads = reads; found = λ r v h. cells_are (column r 1) (column r 2) (column r 3) (column r 4) (column r 5) (column r 6) v h }
 
--- how a member is laid in cells
+-- how a member is laid out in cells
 abbrev pub row_of : GroupMember → MemberRow
 row_of e = record { grp = e.group; party = e.member.party; num = e.member.share.numerator; den = e.member.share.denominator }
 
--- a member that fits is read as it was written
+-- a member within its limits decodes to itself
 pub what_is : (e : GroupMember) → fits_member e ≡ true → IsFraction e.member.share → what (row_of e) ≡ Ok e
 what_is e fits share =
     let parts = and_parts (is_number e.group) (is_number e.member.party) fits in
     rw (number_reads e.group parts.0, number_reads e.member.party parts.1, share_reads e.member.share share) refl
 
--- the number of a group is read as it is
+-- the number of a group decodes to itself
 pub agree : (n : ℕ) (c : MemberRow) (x : GroupMember) → what c ≡ Ok x → nat_eq x.group n ≡ is_member_of n c
 agree n c x h =
     let one = bound (number_in (whole c.grp)) _ x h in

@@ -1,4 +1,4 @@
--- Moments are read as they are written.
+-- A decoded moment is the one that was written.
 use Rattle.std.proofs.Common.{◌≡◌, [], ◌∷◌, true, Ok, refl, sym}
 use Rattle.land_tables_history.specs.declared.moment.Moment as history
 use Rattle.land_tables_rows.proofs.Bounds.{bound, moment_reads}
@@ -21,7 +21,7 @@ cells_are a b m h =
 pub found : (r : Row) (m : history.Moment) → change_in (numbered_cells r) ≡ Ok m → (p : Moment) × (moment_row p ≡ numbered_cells r)
 found r m h = cells_are (column r 0) (column r 2) m h
 
--- a moment is read as it was written
+-- a moment decodes to itself
 pub reads : (p : Moment) → IsMoment p.stamp → is_next p.next ≡ true → change_in (moment_row p) ≡ Ok (record { stamp = p.stamp; next = p.next })
 unfolding change_in
 reads p moment next = rw (moment_reads p.stamp moment, next_reads p.next next) refl

@@ -1,4 +1,4 @@
--- Mutations are read from their cells, and from no others.
+-- Mutations decode from their own cells only.
 use Rattle.std.proofs.Common.{◌≡◌, ◌&&◌, ◌==◌, ℕ, ℤ, pos, int_le, List, [], ◌∷◌, Ok, refl, ap, ◌∙◌}
 use Rattle.std.proofs.lemmas.Bool.{and_parts}
 use Rattle.land_core.specs.Contents.{is_well_formed_content}
@@ -29,7 +29,7 @@ use Rattle.sqlite_value.specs.Order.{Row, column}
 use Rattle.sqlite_value.specs.declared.value.Value.{Value}
 use Rattle.sqlite_value.specs.declared.value.Value.TheVariants.{Int, Text}
 
--- what each cell of a row says
+-- the value of each cell of a row
 record Told (number lodger reference source lodged act content state since until : Value) (v : Version (ℕ × MutationRecord)) : Type 0 where
   the_number : number_in number ≡ Ok v.what.0
   the_lodger : number_in lodger ≡ Ok v.what.1.lodger
@@ -85,7 +85,7 @@ module _ (number lodger reference source lodged act content state since until : 
         the_until = u.is ∙ ap (λ (w : Version (ℕ × MutationRecord)). Ok w.until) all;
       }
 
--- ---- what is written is read
+-- ---- what was written decodes
 
 pub mutations_read_back : ContentsAreRead → MutationsReadBack
 mutations_read_back contents e since fits exact moment =
@@ -115,7 +115,7 @@ mutations_read_back contents e since fits exact moment =
       the_until = never_is_read;
     })
 
--- ---- what is read was written
+-- ---- what decodes was written
 
 ten : {a b c d e f g h i j a' b' c' d' e' f' g' h' i' j' : Value} → a ≡ a' → b ≡ b' → c ≡ c' → d ≡ d' → e ≡ e' → f ≡ f' → g ≡ g' → h ≡ h' → i ≡ i' → j ≡ j'
     → ◌≡◌ {A = List Value} (a' ∷ b' ∷ c' ∷ d' ∷ e' ∷ f' ∷ g' ∷ h' ∷ i' ∷ j' ∷ []) (a ∷ b ∷ c ∷ d ∷ e ∷ f ∷ g ∷ h ∷ i ∷ j ∷ [])
@@ -145,7 +145,7 @@ written a b c d e f g h i j v t =
           (text_is h s.given s.is) (moment_is i v.since t.the_since) (end_is j v.until t.the_until),
     )
 
--- a row with its own cells, and an end
+-- a row with its own cells and another end
 module _ (p : laid.Version MutationRow) where
   abbrev ItsTold : Value → Version (ℕ × MutationRecord) → Type 0
   ItsTold until v =

@@ -1,4 +1,4 @@
--- Namings are read as they are written.
+-- A decoded link of a mutation to a unit is the one that was written.
 use Rattle.std.proofs.Common.{◌≡◌, ℤ, [], ◌∷◌, ◌++◌, true, Ok, Result, refl, sym}
 use Rattle.std.proofs.lemmas.Bool.{and_parts}
 use Rattle.land_core.specs.Numbers.{is_number}
@@ -20,7 +20,7 @@ use Rattle.sqlite_value.specs.Order.{column}
 use Rattle.sqlite_value.specs.declared.value.Value.{Value}
 use Rattle.sqlite_value.specs.declared.value.Value.TheVariants.{Int}
 
--- what the cells of a naming say
+-- the values of a link's cells
 abbrev pub what : NamesRow → Result Naming WireFault
 what n = number_in (whole n.mutation) >>= λ mutation. number_in (whole n.unit) >>= λ unit. Ok (record { mutation = mutation; unit = unit })
 
@@ -42,11 +42,11 @@ cells_are a b c d v h =
 pub is_reading : IsReading table.names 2 names_cells naming_in what
 is_reading = record { reads = reads; found = λ r v h. cells_are (column r 1) (column r 2) (column r 3) (column r 4) v h }
 
--- how a naming is laid in cells
+-- how a link is laid out in cells
 abbrev pub row_of : Naming → NamesRow
 row_of n = record { mutation = n.mutation; unit = n.unit }
 
--- a naming that fits is read as it was written
+-- a link within its limits decodes to itself
 pub what_is : (n : Naming) → fits_naming n ≡ true → what (row_of n) ≡ Ok n
 what_is n fits =
     let parts = and_parts (is_number n.mutation) (is_number n.unit) fits in

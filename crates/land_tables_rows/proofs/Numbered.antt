@@ -1,4 +1,4 @@
--- Things that lie in three cells, their number first, are read as they are written.
+-- Records of three cells, the first of them their number, decode to the written value.
 use Rattle.std.proofs.Common.{◌≡◌, ◌==◌, ℕ, ℤ, [], ◌∷◌, ◌++◌, nat_eq, Ok, Result, refl, sym, ap, ◌∙◌}
 use Rattle.land_tables_history.specs.declared.version.Version.{Version}
 use Rattle.land_tables_rows.proofs.Bounds.{bound, same_ok, three}
@@ -14,7 +14,7 @@ use Rattle.sqlite_value.specs.Order.{Row, column}
 use Rattle.sqlite_value.specs.declared.value.Value.{Value}
 use Rattle.sqlite_value.specs.declared.value.Value.TheVariants.{Int}
 
--- how things are laid in cells, what is read of the second cell and of the third, and what is made of the two
+-- how such a record is laid out, how its second and third cells decode, and how the two values combine
 module _ {C A B R : Type 0} (number : C → ℕ) (second third : C → Value) (second_in : Value → Result A WireFault) (third_in : Value → Result B WireFault) (made : A → B → R) where
   abbrev cells : C → Row
   cells c = whole (number c) ∷ second c ∷ third c ∷ []
@@ -27,7 +27,7 @@ module _ {C A B R : Type 0} (number : C → ℕ) (second third : C → Value) (s
       number_in (column row 0) >>= λ n. second_in (column row 1) >>= λ a. third_in (column row 2)
       >>= λ b. moment_in (column row 3) >>= λ s. end_in (column row 4) >>= λ u. Ok (record { what = (n, made a b); since = s; until = u })
 
-  -- cells that can be read are those of a thing
+  -- cells that decode were laid out from a record
   abbrev pub AreFound : Type 0
   AreFound = (n : ℕ) (x y : Value) (a : A) (b : B) → second_in x ≡ Ok a → third_in y ≡ Ok b
       → (c : C) × (number c ≡ n) × (second c ≡ x) × (third c ≡ y)
@@ -53,7 +53,7 @@ module _ {C A B R : Type 0} (number : C → ℕ) (second third : C → Value) (s
   numbered_reading table found =
       record { reads = reads; found = λ r v h. cells_are found (column r 1) (column r 2) (column r 3) (column r 4) (column r 5) v h }
 
-  -- the number is read as it is
+  -- the number decodes to itself
   pub numbers_agree : (n : ℕ) (c : C) (x : ℕ × R) → what c ≡ Ok x → nat_eq x.0 n ≡ (number c == n)
   numbers_agree n c x h =
       let one = bound (number_in (whole (number c))) _ x h in

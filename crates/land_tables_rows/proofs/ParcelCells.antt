@@ -1,4 +1,4 @@
--- Parcels are read from their cells, and from no others.
+-- Parcels decode from their own cells only.
 use Rattle.std.proofs.Common.{◌≡◌, ◌&&◌, ◌==◌, ℕ, ℤ, List, [], ◌∷◌, Ok, refl, ap, ◌∙◌}
 use Rattle.std.proofs.lemmas.Bool.{and_parts}
 use Rattle.land_core.specs.Numbers.{is_number}
@@ -27,7 +27,7 @@ use Rattle.sqlite_value.specs.Order.{Row, column}
 use Rattle.sqlite_value.specs.declared.value.Value.{Value}
 use Rattle.sqlite_value.specs.declared.value.Value.TheVariants.{Int, Text}
 
--- what each cell of a row says
+-- the value of each cell of a row
 record Told (number unit label outline source since until : Value) (v : Version (ℕ × ParcelRecord)) : Type 0 where
   the_number : number_in number ≡ Ok v.what.0
   the_unit : number_in unit ≡ Ok v.what.1.unit
@@ -71,7 +71,7 @@ module _ (number unit label outline source since until : Value) (v : Version (�
         the_until = u.is ∙ ap (λ (w : Version (ℕ × ParcelRecord)). Ok w.until) all;
       }
 
--- ---- what is written is read
+-- ---- what was written decodes
 
 pub parcels_read_back : PrintedLaw → OneAnswerLaw → OutlinesHaveTheirAnswers → SameFractionLaw → ParcelsReadBack
 parcels_read_back printing one answers shares e since fits exact moment =
@@ -92,7 +92,7 @@ parcels_read_back printing one answers shares e since fits exact moment =
       the_until = never_is_read;
     })
 
--- ---- what is read was written
+-- ---- what decodes was written
 
 seven : {a b c d e f g a' b' c' d' e' f' g' : Value} → a ≡ a' → b ≡ b' → c ≡ c' → d ≡ d' → e ≡ e' → f ≡ f' → g ≡ g'
     → ◌≡◌ {A = List Value} (a' ∷ b' ∷ c' ∷ d' ∷ e' ∷ f' ∷ g' ∷ []) (a ∷ b ∷ c ∷ d ∷ e ∷ f ∷ g ∷ [])
@@ -113,7 +113,7 @@ module _ (p : laid.Version ParcelRow) (v : Version (ℕ × ParcelRecord)) (h : p
   the_cells : Told (whole p.what.number) (whole p.what.unit) (Text p.what.label) (Text p.what.outline) (whole p.what.source) (Int p.since) (Int p.until) v
   the_cells = to_cells (whole p.what.number) (whole p.what.unit) (Text p.what.label) (Text p.what.outline) (whole p.what.source) (Int p.since) (Int p.until) v h
 
-  -- the same with another end
+  -- the same row with another end
   ending : (stamp : ℤ) → end_in (Int stamp) ≡ Ok stamp
       → Told (whole p.what.number) (whole p.what.unit) (Text p.what.label) (Text p.what.outline) (whole p.what.source) (Int p.since) (Int stamp) (record v { until = stamp })
   ending stamp is_end = record {

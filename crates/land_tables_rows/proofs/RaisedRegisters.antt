@@ -1,4 +1,4 @@
--- A register of the first version that becomes one of the second holds what it held.
+-- A register that is migrated from schema version 1 to 2 holds the same history.
 use Rattle.std.proofs.Common.{◌≡◌, ◌≢◌, ◌∙◌, ℕ, List, [], ◌∷◌, map, Ok, Result, IsPermutation, refl, sym, ap, ap₂, subst, arith}
 use Rattle.std.proofs.lemmas.List.Sorted.{IsPermutation-refl}
 use Rattle.land_tables_history.specs.declared.history.History.{History}
@@ -34,7 +34,7 @@ use Rattle.land_tables_schema.specs.Tables as table
 use Rattle.sqlite.specs.Effect.{Database}
 use Rattle.sqlite_trees.specs.Tree.{Trees}
 
--- a table with no rows holds no mandates
+-- a table without rows holds no mandates
 none_kept : (db : Trees) (history : History) → db 20 ≡ [] → history.mandates ≡ [] → Keeps mandate.mandates db history.mandates
 none_kept db history empty none = subst (Keeps mandate.mandates db) (sym none) (keeps_from table.mandate 2 mandate_cells mandate_in db [] [] refl (none_held mandates db empty))
 
@@ -58,7 +58,7 @@ raised_history old new moments history raises held =
 abbrev edition_of : (id version : ℕ) → rows.Edition
 edition_of id version = record { id = id; version = version }
 
--- the cells of the first edition are read as no other
+-- the cells of edition 1 decode to edition 1 only
 first_is : (p : rows.Edition) → edition_in (rows.edition_row p) ≡ Ok first_edition → p ≡ rows.first_edition
 unfolding edition_in natural_in
 first_is p h =

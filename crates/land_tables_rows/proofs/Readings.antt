@@ -1,4 +1,4 @@
--- What the rows of a table say, read one after another.
+-- The rows of a table, decoded in order.
 use Rattle.std.proofs.Common.{◌≡◌, ◌≢◌, Bool, true, false, cond, List, [], ◌∷◌, map, Ok, Err, IfErr, IfOk, Result, refl, sym, ap, ap₂, subst, ◌∙◌, IsPermutation}
 use Rattle.std.proofs.lemmas.List.Sorted.{IsPermutation-map, IsPermutation-sym, IsPermutation-trans}
 use Rattle.std.specs.List.{AllByRecursion}
@@ -75,7 +75,7 @@ module _ {X : Type 0} (listing : Listing X) (db : Trees) (rows : List Row) (show
   unreadable (Ok xs) h = tt
   unreadable (Err fault) h = λ is. none_says (h (λ e. absurd (let a = is in let b = e in cc))).1
 
--- a call that failed says nothing of rows
+-- a failed read says nothing about the rows
 pub never_unreadable : {X : Type 0} (listing : Listing X) (db : Trees) (error : Error) (fault : ReadFault) → fault ≡ of_error error → IsUnreadable listing db fault
 never_unreadable listing db error fault is unreadable = absurd (go (lacked_memory error) (sym is ∙ unreadable))
   where
@@ -83,7 +83,7 @@ never_unreadable listing db error fault is unreadable = absurd (go (lacked_memor
     go true h = (let e = h in cc)
     go false h = (let e = h in cc)
 
--- rows that a look gave, read
+-- rows that a read returned, decoded
 module _ {X R E : Type 0} (listing : Listing X) (a b : State) (items : R → List Row) (got : R)
     (look : IsLook {X = R} {E = E} (Ok got) (λ x. IsPermutation (map listing.shown (a.now.trees listing.table.tree)) (items x)) a b) (lent : List Row) (same : lent ≡ items got)
     (r : Result (List X) ReadFault) (is_read : IsRead listing.said lent r) where

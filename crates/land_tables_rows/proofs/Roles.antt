@@ -1,4 +1,4 @@
--- Roles are read as they are written.
+-- A decoded role is the one that was written.
 use Rattle.std.proofs.Common.{◌≡◌, ◌&&◌, ℕ, ℤ, List, [], ◌∷◌, ◌++◌, Bool, true, codes, Ok, Result, refl, sym, ap, ◌∙◌}
 use Rattle.std.specs.Str.{IsUtf8}
 use Rattle.std.proofs.Common.{Err, arith, false, bytes_eq, if◌then◌else◌, ◌==◌, ap₂}
@@ -33,7 +33,7 @@ use Rattle.sqlite_value.specs.Order.{column}
 use Rattle.sqlite_value.specs.declared.value.Value.{Value}
 use Rattle.sqlite_value.specs.declared.value.Value.TheVariants.{Int, Text}
 
--- what the cells of a role say
+-- the values of a role's cells
 abbrev pub what : RoleRow → Result Grant WireFault
 what r = number_in (whole r.party) >>= λ party. role_in (Text r.role) >>= λ role. Ok (record { party = party; role = role })
 
@@ -56,7 +56,7 @@ cells_are a b c d v h =
 pub is_reading : IsReading table.role 2 role_cells grant_in what
 is_reading = record { reads = reads; found = λ r v h. cells_are (column r 1) (column r 2) (column r 3) (column r 4) v h }
 
--- the word of a role is read as that role
+-- the word of a role decodes to that role
 role_reads : (role : Role) → IsUtf8 (role_word role) → role_in (Text (role_word role)) ≡ Ok role
 unfolding role_in
 role_reads Citizen utf8 = rw (text_reads (codes "citizen") utf8) refl
@@ -66,15 +66,15 @@ role_reads Bank utf8 = rw (text_reads (codes "bank") utf8) refl
 role_reads CertifiedSurveyor utf8 = rw (text_reads (codes "certifiedSurveyor") utf8) refl
 role_reads StateAdministrator utf8 = rw (text_reads (codes "stateAdministrator") utf8) refl
 
--- how a grant is laid in cells
+-- how a grant is laid out in cells
 abbrev pub row_of : Grant → RoleRow
 row_of grant = record { party = grant.party; role = role_word grant.role }
 
--- a grant that fits is read as it was written
+-- a grant within its limits decodes to itself
 pub what_is : (grant : Grant) → fits_grant grant ≡ true → IsUtf8 (role_word grant.role) → what (row_of grant) ≡ Ok grant
 what_is grant fits word = rw (number_reads grant.party fits, role_reads grant.role word) refl
 
--- ---- a grant is told by its cells
+-- ---- the cells of a grant determine it
 
 same_word : (word text : List ℕ) → bytes_eq word text ≡ true → word ≡ text
 same_word word text h = (bytes_eq-Decides word text).0 h
@@ -91,7 +91,7 @@ told_by word role false false false false true f p q r s t u h = same_word word 
 told_by word role false false false false false true p q r s t u h = same_word word (codes "stateAdministrator") u ∙ ap role_word (same_ok h)
 told_by word role false false false false false false p q r s t u h = absurd (let k = h in cc)
 
--- a word that is read as a role is the word of that role
+-- a word that decodes to a role is the word of that role
 told : (word : List ℕ) (role : Role) → role_of word ≡ Ok role → word ≡ role_word role
 told word role h = told_by word role _ _ _ _ _ _ refl refl refl refl refl refl h
 
@@ -99,7 +99,7 @@ word_is : (word : List ℕ) (role : Role) → role_in (Text word) ≡ Ok role �
 unfolding role_in
 word_is word role h = let one = bound (text_in (Text word)) role_of role h in same_text word one.0 one.1 ∙ told one.0 role one.2
 
--- roles are the same where their words are
+-- equal words have equal roles
 same_roles : (r s : Role) → is_eq (role_cmp r s) ≡ bytes_eq (role_word r) (role_word s)
 same_roles Citizen Citizen = refl
 same_roles Conveyancer Conveyancer = refl
@@ -117,7 +117,7 @@ both_same Greater b = refl
 pub same_parties : (m n : ℕ) → is_eq (nat_cmp m n) ≡ (m == n)
 same_parties m n = grind (arith, nat_tests)
 
--- a grant is read as it is
+-- a grant decodes to itself
 pub agree : (grant : Grant) (c : RoleRow) (x : Grant) → what c ≡ Ok x → is_same_grant x grant ≡ is_grant grant.party (role_word grant.role) c
 agree grant c x h =
     let one = bound (number_in (whole c.party)) _ x h in

@@ -1,4 +1,4 @@
--- Entries are read from their cells, and from no others.
+-- Entries decode from their own cells only.
 use Rattle.std.proofs.Common.{◌≡◌, ◌&&◌, ◌==◌, ◌^◌, ℕ, ℤ, List, [], ◌∷◌, true, nat_lt, Option, Some, None, Result, Ok, refl, sym, ap, ◌∙◌}
 use Rattle.std.specs.Bool.{⊤}
 use Rattle.std.proofs.lemmas.Bool.{and_parts}
@@ -33,7 +33,7 @@ use Rattle.sqlite_value.specs.Order.{Row, column}
 use Rattle.sqlite_value.specs.declared.value.Value.{Value}
 use Rattle.sqlite_value.specs.declared.value.Value.TheVariants.{Null, Int, Text}
 
--- ---- what the columns of a class say
+-- ---- the columns of a class
 
 abbrev no_right : (num den : Value) → Result ⊤ WireFault
 no_right num den = null_in num >>= λ _. null_in den
@@ -59,7 +59,7 @@ class_by_is word.Restriction row = refl
 class_by_is word.Responsibility row = refl
 class_by_is word.Mortgage row = refl
 
--- the columns of a class are numbers and texts, or NULL
+-- the columns of a class hold numbers and strings, or NULL
 record AreWritten (num den amount currency place words : Value) : Type 0 where
   its_num : Option ℕ
   its_den : Option ℕ
@@ -158,7 +158,7 @@ module _ (num den amount currency place words : Value) where
 
 -- ---- a row
 
--- what each cell of a row says
+-- the value of each cell of a row
 record Told (number unit party class num den amount currency place words source since until : Value) (v : Version (ℕ × RrrRecord)) : Type 0 where
   which : ClassWord
   the_number : number_in number ≡ Ok v.what.0
@@ -202,13 +202,13 @@ module _ (number unit party class num den amount currency place words source sin
         the_until = u.is ∙ ap (λ (w : Version (ℕ × RrrRecord)). Ok w.until) all;
       }
 
--- ---- what is written is read
+-- ---- what was written decodes
 
 -- an entry of a class
 abbrev entry_of : ℕ → (unit party source : ℕ) → Class → ℕ × RrrRecord
 entry_of number unit party source said = (number, record { unit = unit; party = party; class = said; source = source })
 
--- numbers that objects have
+-- object numbers
 record AreNumbers (number unit party source : ℕ) : Type 0 where
   the_number : is_number number ≡ true
   the_unit : is_number unit ≡ true
@@ -256,7 +256,7 @@ rrrs_read_back shares e since fits exact moment =
     let s = and_parts (fits_class e.1.class) (is_number e.1.source) r.1 in
     by_class shares e.0 e.1.unit e.1.party e.1.source since (record { the_number = p.0; the_unit = q.0; the_party = r.0; the_source = s.1 }) moment e.1.class s.0 exact
 
--- ---- what is read was written
+-- ---- what decodes was written
 
 thirteen : {a b c d e f g h i j k l m a' b' c' d' e' f' g' h' i' j' k' l' m' : Value} → a ≡ a' → b ≡ b' → c ≡ c' → d ≡ d' → e ≡ e' → f ≡ f' → g ≡ g' → h ≡ h' → i ≡ i' → j ≡ j' → k ≡ k' → l ≡ l' → m ≡ m'
     → ◌≡◌ {A = List Value} (a' ∷ b' ∷ c' ∷ d' ∷ e' ∷ f' ∷ g' ∷ h' ∷ i' ∷ j' ∷ k' ∷ l' ∷ m' ∷ []) (a ∷ b ∷ c ∷ d ∷ e ∷ f ∷ g ∷ h ∷ i ∷ j ∷ k ∷ l ∷ m ∷ [])
@@ -290,7 +290,7 @@ written a b c d e f g h i j k l m v t =
           (number_is k v.what.1.source t.the_source) (moment_is l v.since t.the_since) (end_is m v.until t.the_until),
     )
 
--- a row with its own cells, and an end
+-- a row with its own cells and another end
 module _ (p : laid.Version RrrRow) where
   abbrev ItsTold : Value → Version (ℕ × RrrRecord) → Type 0
   ItsTold until v =

@@ -1,4 +1,4 @@
--- Sources are read as they are written.
+-- A decoded source is the one that was written.
 use Rattle.std.proofs.Common.{◌≡◌, ℕ, List, true, nat_eq, codes, Ok, Result, refl}
 use Rattle.std.specs.Str.{IsUtf8}
 use Rattle.std.proofs.lemmas.Bool.{and_parts}
@@ -23,13 +23,13 @@ use Rattle.land_wire_json.specs.declared.bodies.wire_fault.WireFault.{WireFault}
 use Rattle.sqlite_value.specs.declared.value.Value.{Value}
 use Rattle.sqlite_value.specs.declared.value.Value.TheVariants.{Text}
 
--- what the cells of a source say
+-- the values of a source's cells
 abbrev pub what : SourceRow → Result (ℕ × SourceRecord) WireFault
 what s =
     number_in (whole s.number) >>= λ number. source_kind_in (Text s.kind) >>= λ kind. title_in (Text s.title)
     >>= λ title. Ok (number, record { kind = kind; title = title })
 
--- cells that can be read are those of a source
+-- cells that decode were laid out from a source
 found : (number : ℕ) (x y : Value) (a : SourceKind) (b : List ℕ) → source_kind_in x ≡ Ok a → title_in y ≡ Ok b
     → (s : SourceRow) × (s.number ≡ number) × (Text s.kind ≡ x) × (Text s.title ≡ y)
 unfolding source_kind_in
@@ -44,23 +44,23 @@ is_reading =
     numbered_reading {C = SourceRow} {R = SourceRecord} (λ s. s.number) (λ s. Text s.kind) (λ s. Text s.title)
     source_kind_in title_in (λ kind title. record { kind = kind; title = title }) table.source found
 
--- the word of a kind is read as that kind
+-- the word of a kind decodes to that kind
 kind_reads : (kind : SourceKind) → IsUtf8 (source_word kind) → source_kind_in (Text (source_word kind)) ≡ Ok kind
 unfolding source_kind_in
 kind_reads Administrative utf8 = rw (text_reads (codes "administrative") utf8) refl
 kind_reads Spatial utf8 = rw (text_reads (codes "spatial") utf8) refl
 
--- how a source is laid in cells
+-- how a source is laid out in cells
 abbrev pub row_of : ℕ → SourceRecord → SourceRow
 row_of number s = record { number = number; kind = source_word s.kind; title = s.title }
 
--- a source that fits is read as it was written
+-- a source within its limits decodes to itself
 pub what_is : (number : ℕ) (s : SourceRecord) → fits_source number s ≡ true → IsUtf8 (source_word s.kind) → IsUtf8 s.title → what (row_of number s) ≡ Ok (number, s)
 what_is number s fits kind title =
     let parts = and_parts (is_number number) (is_title s.title) fits in
     rw (number_reads number parts.0, kind_reads s.kind kind, limited_reads is_title s.title title parts.1) refl
 
--- the number of a source is read as it is
+-- the number of a source decodes to itself
 pub agree : (n : ℕ) (c : SourceRow) (x : ℕ × SourceRecord) → what c ≡ Ok x → nat_eq x.0 n ≡ is_source n c
 agree =
     numbers_agree {C = SourceRow} {R = SourceRecord} (λ s. s.number) (λ s. Text s.kind) (λ s. Text s.title)

@@ -1,9 +1,9 @@
--- A reading in steps, put together and taken apart.
+-- Decoding in steps: composing steps and taking them apart.
 use Rattle.std.proofs.Common.{◌≡◌, Result, Ok, Err, refl}
 use Rattle.land_wire_json.specs.Bodies.WireFaults.{◌>>=◌}
 use Rattle.land_wire_json.specs.declared.bodies.wire_fault.WireFault.{WireFault}
 
--- a step that gave something, and what follows gave an answer
+-- a step that succeeds, and the result of the steps after it
 pub record Stepped {A B : Type 0} (first : Result A WireFault) (next : A → Result B WireFault) (answer : B) : Type 0 where
   pub given : A
   pub is : first ≡ Ok given

@@ -1,4 +1,4 @@
--- From what a statement adds to the cells of a table whose rows lie under a number, to what its rows tell then.
+-- From a row inserted into a table that is keyed by a number, to the values that its rows decode to.
 use Rattle.std.proofs.Common.{◌≡◌, List, [], ◌∷◌, map, Ok, Result, refl, sym, ap, ap₂, subst, ◌∙◌, IsPermutation}
 use Rattle.std.specs.List.{AllByRecursion}
 use Rattle.std.proofs.lemmas.List.Sorted.{IsPermutation-refl, IsPermutation-sym, IsPermutation-trans, IsPermutation-cons, IsPermutation-map}
@@ -14,7 +14,7 @@ use Rattle.sqlite_trees.proofs.ListLemmas.{all-permutation}
 use Rattle.sqlite_trees.specs.Tree.{Trees}
 use Rattle.sqlite_value.specs.Order.{Row}
 
--- what is listed by the cells of rows is told by them
+-- the listed values of the cells are those that the table decodes to
 pub tells_from : {P X : Type 0} (table : Table) (row : P → Row) (said : Row → Result X WireFault) (db : Trees) (ps : List P) (xs : List X) → map said (map row ps) ≡ map (λ x. Ok x) xs → Lists table row db ps → Tells table said db xs
 tells_from table row said db ps xs are listed =
     subst (λ l. IsPermutation l (map (λ x. Ok x) xs)) (map-map said numbered_cells (db table.tree))
@@ -31,7 +31,7 @@ module _ {P X : Type 0} (table : Table) (row : P → Row) (said : Row → Result
   all_fine [] = tt
   all_fine (x ∷ xs) = ((x, refl), all_fine xs)
 
-  -- the things that the rows of a table have
+  -- the records of a table's rows
   things : (rs : List Row) → AllByRecursion (λ s. (x : X) × (s ≡ Ok x)) (map saying rs) → (ps : List P) × (map row ps ≡ map numbered_cells rs)
   things [] all = ([], refl)
   things (r ∷ rs) all =
@@ -56,7 +56,7 @@ module _ {P X : Type 0} (table : Table) (row : P → Row) (said : Row → Result
     pub tells_more : TellsMore table said x old new
     tells_more = record { schema = appends.schema; told = told; kept = appends.kept }
 
-  -- where one thing is told, and these are the only cells that say it, it is listed
+  -- a record whose cells only it has is in the list
   module _ (p : P) (x : X) (only : (q : P) → said (row q) ≡ Ok x → q ≡ p) where
     first_said : {s : Result X WireFault} {rest : List (Result X WireFault)} → s ∷ rest ≡ Ok x ∷ [] → s ≡ Ok x
     first_said e = cc

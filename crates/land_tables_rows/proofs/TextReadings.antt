@@ -1,4 +1,4 @@
--- What is printed is in UTF-8.
+-- Printed values are in UTF-8.
 use Rattle.std.proofs.Common.{◌≡◌, ◌<◌, ◌^◌, ℕ, ℤ, pos, negsuc, List, [], ◌∷◌, ◌++◌, take, true, codes, IsUtf8, refl, arith}
 use Rattle.std.proofs.lemmas.Fmt.{IsAscii-signed}
 use Rattle.std.proofs.lemmas.Int.{ints}

@@ -1,4 +1,4 @@
--- The texts that list rowids.
+-- The SQL statements that list rowids.
 use Rattle.std.proofs.Common.{List, [], ◌∷◌, refl, codes}
 use Rattle.land_tables_rows.specs.declared.rowids.listing.TheConstants.{PARTY, ROLE, MEMBER, UNIT, PARCEL, RRR, SOURCE, MUTATION, NAMES, MANDATE}
 use Rattle.land_tables_schema.proofs.Asks.{Asks, IsListing, in_first, in_land}

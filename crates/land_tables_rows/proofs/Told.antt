@@ -1,4 +1,4 @@
--- Things that are told by their cells: what begins, and what is closed.
+-- Records that their cells determine: a version begins, a version is closed.
 use Rattle.std.proofs.Common.{◌≡◌, ◌&&◌, ◌++◌, ◌∷◌, [], ℕ, suc, ℤ, Bool, nat_eq, if◌then◌else◌, Ok, Result, refl, sym, ap, ◌∙◌}
 use Rattle.std.specs.Ordering.{int_eq}
 use Rattle.land_tables_history.specs.Changed.{begun}

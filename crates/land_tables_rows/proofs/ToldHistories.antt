@@ -1,4 +1,4 @@
--- What cannot be said by a part cannot be said by the whole.
+-- If a part cannot be decoded, neither can the whole.
 use Rattle.std.proofs.Common.{◌≡◌, List, [], Err, IfErr, IsErrAnd, Ok, Result, refl, sym, subst, ◌∙◌}
 use Rattle.land_core.specs.declared.mandates.Mandate.{Mandate}
 use Rattle.land_tables_history.specs.declared.history.History.{History}
@@ -13,7 +13,7 @@ use Rattle.land_tables_schema.specs.Rows.Looks.{IsLook}
 use Rattle.sqlite.specs.State.{HasCleanDisk, State}
 use Rattle.sqlite_trees.specs.Tree.{Trees}
 
--- a fault of a part is one of the whole
+-- a fault of a part is a fault of the whole
 pub cannot : {X Y : Type 0} {P : X → Type 0} {Q : Y → Type 0} (r : Result Y ReadFault) (fault : ReadFault) → IsErrAnd r (λ f. f ≡ fault) → ((y : Y) → Q y → (x : X) × P x) → CannotSay P fault → IfErr r (CannotSay Q)
 cannot (Ok y) fault h part none = absurd h
 cannot (Err f) fault h part none = λ is y said.
@@ -41,7 +41,7 @@ pub papers_said : (db : Trees) (h : History) → SaysFirst db h → (it : Papers
 unfolding papers_of
 papers_said db h said = (papers_of h, record { sources = said.sources; mutations = said.mutations; namings = said.namings })
 
--- what the first tables say, where all say a history
+-- the tables of schema version 1, if all tables decode to a history
 first_of : History → History
 first_of h = record h { mandates = [] }
 
@@ -63,11 +63,11 @@ first_said db h said = (
   },
 )
 
--- and what the mandates' table says
+-- and the table of mandates
 pub mandates_said : (db : Trees) (h : History) → SaysHistory db h → (it : List (Version Mandate)) × Says mandates db it
 mandates_said db h said = (h.mandates, said.mandates)
 
--- what is said of a part after looks at others, which leave all as it was
+-- one part decodes after reads of other parts, which change nothing
 pub cannot_then : {X Y Z E : Type 0} {z : Z} {R : Z → Type 0} {Q : Y → Type 0} (P : Trees → X → Type 0) (a b : State) (r : Result Y ReadFault) (fault : ReadFault) → IsErrAnd r (λ f. f ≡ fault)
     → ((y : Y) → Q y → (x : X) × P a.now.trees x) → IsLook {X = Z} {E = E} (Ok z) R a b → HasCleanDisk b → CannotSay (P b.now.trees) fault → IfErr r (CannotSay Q)
 cannot_then P a b r fault h part look clean none = cannot r fault h part (subst (λ db. CannotSay (P db.trees) fault) (look.same clean).0.now_is none)

@@ -1,4 +1,4 @@
--- What the rows of a table say is one list, in whatever order.
+-- The rows of a table decode to one list, in any order.
 use Rattle.std.proofs.Common.{◌≡◌, List, [], ◌∷◌, map, Ok, Err, Result, refl, sym, ap, subst, IsPermutation}
 use Rattle.std.proofs.lemmas.List.Sorted.{IsPermutation-map, IsPermutation-refl, IsPermutation-sym, IsPermutation-trans, length_permutation}
 use Rattle.land_tables_history.proofs.Orders.{no_more}
@@ -17,7 +17,7 @@ unfolding value_or
 values x [] = refl
 values x (y ∷ ys) = ap (λ l. y ∷ l) (values x ys)
 
--- lists whose values are in some order the same
+-- lists that are permutations of the same values
 pub same_values : {X : Type 0} (xs ys : List X) → IsPermutation {X = Result X WireFault} (map (λ x. Ok x) xs) (map (λ y. Ok y) ys) → IsPermutation xs ys
 same_values {X = X} [] ys h = subst (IsPermutation []) (sym (nothing ys (no_more (map (λ y. Ok y) ys) (length_permutation [] (map (λ y. Ok y) ys) h)))) (IsPermutation-refl [])
   where
@@ -27,13 +27,13 @@ same_values {X = X} [] ys h = subst (IsPermutation []) (sym (nothing ys (no_more
 same_values (x ∷ xs) ys h =
     subst (λ l. IsPermutation l ys) (values x (x ∷ xs)) (subst (IsPermutation (map (value_or x) (map (λ z. Ok z) (x ∷ xs)))) (values x ys) (IsPermutation-map (value_or x) (map (λ z. Ok z) (x ∷ xs)) (map (λ y. Ok y) ys) h))
 
--- two lists that a table says are one, in whatever order
+-- two lists that a table decodes to are permutations of one another
 pub says_same : {X : Type 0} (listing : Listing X) (db : Trees) (xs ys : List X) → Says listing db xs → Says listing db ys → IsPermutation xs ys
 says_same listing db xs ys one other =
     let rows = map (λ r. listing.said (listing.shown r)) (db listing.table.tree) in
     same_values xs ys (IsPermutation-trans (map (λ x. Ok x) xs) rows (map (λ y. Ok y) ys) (IsPermutation-sym rows (map (λ x. Ok x) xs) one) other)
 
--- what a table says, if it says anything, is what it tells
+-- if a table decodes to a list, that list is its decoded value
 pub told_is : {X : Type 0} (listing : Listing X) (db : Trees) (xs : List X) → Says listing db xs → IsPermutation xs (told_by listing db)
 told_is listing db xs says =
     let rows = map listing.shown (db listing.table.tree) in

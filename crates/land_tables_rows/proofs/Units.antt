@@ -1,4 +1,4 @@
--- Units are read as they are written.
+-- A decoded unit is the one that was written.
 use Rattle.std.proofs.Common.{◌≡◌, ℕ, Bool, List, true, nat_eq, Ok, Result, refl}
 use Rattle.std.specs.Str.{IsUtf8}
 use Rattle.std.proofs.lemmas.Bool.{and_parts}
@@ -19,13 +19,13 @@ use Rattle.land_wire_json.specs.declared.bodies.wire_fault.WireFault.{WireFault}
 use Rattle.sqlite_value.specs.declared.value.Value.{Value}
 use Rattle.sqlite_value.specs.declared.value.Value.TheVariants.{Text}
 
--- what the cells of a unit say
+-- the values of a unit's cells
 abbrev pub what : UnitRow → Result (ℕ × UnitRecord) WireFault
 what u =
     number_in (whole u.number) >>= λ number. name_in (Text u.name) >>= λ name. flag_in (flag u.checked)
     >>= λ checked. Ok (number, record { name = name; checked = checked })
 
--- cells that can be read are those of a unit
+-- cells that decode were laid out from a unit
 found : (number : ℕ) (x y : Value) (a : List ℕ) (b : Bool) → name_in x ≡ Ok a → flag_in y ≡ Ok b
     → (u : UnitRow) × (u.number ≡ number) × (Text u.name ≡ x) × (flag u.checked ≡ y)
 found number x y a b h k =
@@ -38,17 +38,17 @@ is_reading =
     numbered_reading {C = UnitRow} {R = UnitRecord} (λ u. u.number) (λ u. Text u.name) (λ u. flag u.checked)
     name_in flag_in (λ name checked. record { name = name; checked = checked }) table.unit found
 
--- how a unit is laid in cells
+-- how a unit is laid out in cells
 abbrev pub row_of : ℕ → UnitRecord → UnitRow
 row_of number u = record { number = number; name = u.name; checked = u.checked }
 
--- a unit that fits is read as it was written
+-- a unit within its limits decodes to itself
 pub what_is : (number : ℕ) (u : UnitRecord) → fits_unit number u ≡ true → IsUtf8 u.name → what (row_of number u) ≡ Ok (number, u)
 what_is number u fits name =
     let parts = and_parts (is_number number) (is_name u.name) fits in
     rw (number_reads number parts.0, limited_reads is_name u.name name parts.1, flag_reads u.checked) refl
 
--- the number of a unit is read as it is
+-- the number of a unit decodes to itself
 pub agree : (n : ℕ) (c : UnitRow) (x : ℕ × UnitRecord) → what c ≡ Ok x → nat_eq x.0 n ≡ is_unit n c
 agree =
     numbers_agree {C = UnitRow} {R = UnitRecord} (λ u. u.number) (λ u. Text u.name) (λ u. flag u.checked)

@@ -1,4 +1,4 @@
--- Words are read as what they stand for.
+-- Each word decodes to its value.
 use Rattle.std.proofs.Common.{◌≡◌, ℕ, List, true, codes, Result, Ok, refl, ap, ◌∙◌}
 use Rattle.std.specs.Str.{is_utf8}
 use Rattle.json.proofs.Printed.Utf8.{are_ascii}

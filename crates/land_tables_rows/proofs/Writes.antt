@@ -1,4 +1,5 @@
--- From what a statement does to the cells of a table, to what it does to the versions that its rows say.
+-- From the effect of a statement on the cells of a table to its effect on the versions that the rows decode
+-- to.
 use Rattle.std.proofs.Common.{◌≡◌, ℕ, suc, ℤ, List, [], ◌∷◌, ◌++◌, map, Bool, Ok, Err, Result, refl, sym, ap, ap₂, subst, ◌∙◌, IsPermutation}
 use Rattle.std.specs.List.{AllByRecursion}
 use Rattle.std.proofs.lemmas.List.Sorted.{IsPermutation-refl, IsPermutation-sym, IsPermutation-trans, IsPermutation-cons, IsPermutation-map}
@@ -18,7 +19,7 @@ use Rattle.sqlite_trees.specs.Tree.{Trees}
 use Rattle.sqlite_value.specs.Order.{Row}
 use Rattle.sqlite_value.specs.declared.value.Value.TheVariants.{Int}
 
--- what is held by the cells of rows is held by what they say
+-- the versions of a table's cells are those that it decodes to
 pub keeps_from : {C X : Type 0} (table : Table) (count : ℕ) (cells : C → Row) (said : Row → Result (Version X) WireFault) (db : Trees) (ps : List (rows.Version C)) (vs : List (Version X))
     → map said (map (rows.versions_in table count cells).cells ps) ≡ map (λ v. Ok v) vs → Holds (rows.versions_in table count cells) db ps
     → Keeps (record { table = table; width = suc (suc count); said = said }) db vs
@@ -62,7 +63,7 @@ module _ {C X : Type 0} (table : Table) (count : ℕ) (cells : C → Row) (said 
   of_rows [] all = tt
   of_rows (r ∷ rs) all = (all.0, of_rows rs all.1)
 
-  -- the things that the rows of a table have
+  -- the records of a table's rows
   things : (rs : List Row) → AllByRecursion IsSaid rs → (ps : List (rows.Version C)) × (map form.cells ps ≡ map cells_in rs) × AllByRecursion IsThing ps
   things [] all = ([], refl, tt)
   things (r ∷ rs) all =
@@ -81,7 +82,7 @@ module _ {C X : Type 0} (table : Table) (count : ℕ) (cells : C → Row) (said 
     holds : Holds form old.trees laid.0
     holds = record { rows = subst (IsPermutation (map cells_in olds)) (sym laid.1) (IsPermutation-refl (map cells_in olds)); numbered = keeps.numbered }
 
-  -- ---- what begins
+  -- ---- versions that begin
 
   module _ (c : C) (x : X) (since : ℤ) (begun_said : said (cells c ++ Int since ∷ Int never ∷ []) ≡ Ok (begun x since)) (old new : Database) (adds : Adds form (rows.begun c since) old new) where
     begun_held : (vs : List (Version X)) → Keeps reading old.trees vs → Keeps reading new.trees (begun x since ∷ vs)
@@ -104,11 +105,11 @@ module _ {C X : Type 0} (table : Table) (count : ℕ) (cells : C → Row) (said 
     pub begins : Begins reading x since old new
     begins = record { schema = adds.schema; held = begun_held; kept = adds.kept }
 
-  -- ---- what ends
+  -- ---- versions that end
 
   module _ (meant : C → Bool) (meant_so : X → Bool) (stamp : ℤ)
       (closed_so : (p : rows.Version C) (v : Version X) → said (cells p.what ++ Int p.since ∷ Int p.until ∷ []) ≡ Ok v → said (form.cells (rows.closed meant stamp p)) ≡ Ok (closed meant_so stamp v)) where
-    -- what is read of a thing that is closed
+    -- the decoded value of a closed version
     abbrev then_closed : Result (Version X) WireFault → Result (Version X) WireFault
     then_closed (Ok v) = Ok (closed meant_so stamp v)
     then_closed (Err e) = Err e

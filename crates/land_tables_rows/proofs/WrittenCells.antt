@@ -1,4 +1,4 @@
--- Which cells can be read, and what is read of a cell that is written.
+-- Which cells decode, and the values of written cells.
 use Rattle.std.proofs.Common.{◌≡◌, ◌<◌, ◌^◌, nat_eq, ◌==◌, ℕ, ℤ, pos, negsuc, Bool, true, false, List, ◌∷◌, if◌then◌else◌, Ok, Err, Result, refl, sym, ap, ap₂, ◌∙◌, arith}
 use Rattle.std.proofs.lemmas.Bool.Decides.{Decides-eqb, nat_tests}
 use Rattle.std.proofs.lemmas.Str.{is_utf8-from_IsUtf8}
@@ -22,7 +22,7 @@ use Rattle.sqlite_value.specs.declared.value.Value.TheVariants.{Null, Int, Real,
 pub cons : {a b : Value} {r s : Row} → a ≡ b → r ≡ s → a ∷ r ≡ b ∷ s
 cons first others = ap₂ (λ a r. a ∷ r) first others
 
--- ---- which cells can be read
+-- ---- which cells decode
 
 pub integer_cell : (cell : Value) (z : ℤ) → integer_in cell ≡ Ok z → cell ≡ Int z
 integer_cell Null z h = absurd (let k = h in cc)
@@ -89,7 +89,7 @@ text_cell (Real x) t h = absurd (let k = h in cc)
 text_cell (Text s) t h = ap (λ u. Text u) (text_is s t (is_utf8 s) h)
 text_cell (Blob b) t h = absurd (let k = h in cc)
 
--- a text of which something is read
+-- a string that decodes
 pub word_cell : {B : Type 0} (cell : Value) (next : List ℕ → Result B WireFault) (b : B) → (text_in cell >>= next) ≡ Ok b → (t : List ℕ) × (Text t ≡ cell)
 word_cell cell next b h = let one = bound (text_in cell) next b h in (one.0, sym (text_cell cell one.0 one.1))
 
@@ -106,22 +106,22 @@ flag_is n b true one z o h = ap flag (sym (same_ok h)) ∙ sym (ap whole ((Decid
 flag_is n b false true z o h = ap flag (sym (same_ok h)) ∙ sym (ap whole ((Decides-eqb n 1).0 o))
 flag_is n b false false z o h = absurd (let k = h in cc)
 
--- whether something is so
+-- a flag
 pub flag_cell : (cell : Value) (b : Bool) → flag_in cell ≡ Ok b → flag b ≡ cell
 unfolding flag_in
 flag_cell cell b h =
     let one = bound (natural_in cell) flag_of b h in
     flag_is one.0 b (one.0 == 0) (one.0 == 1) refl refl one.2 ∙ sym (natural_cell cell one.0 one.1)
 
--- ---- what is read of a cell that is written
+-- ---- the values of written cells
 
--- whether something is so
+-- a flag
 pub flag_reads : (b : Bool) → flag_in (flag b) ≡ Ok b
 unfolding flag_in natural_in
 flag_reads true = refl
 flag_reads false = refl
 
--- a fraction is read as it is
+-- a fraction decodes to itself
 pub share_reads : (share : Ratio) → IsFraction share → share_in (whole share.numerator) (whole share.denominator) ≡ Ok share
 unfolding share_in natural_in
 share_reads share is = ap share_answer (sym (the_answer share (Ok share) (is.proper, is, refl)))
@@ -131,20 +131,20 @@ pub number_reads : (n : ℕ) → is_number n ≡ true → number_in (whole n) �
 unfolding number_in natural_in
 number_reads n is = test_passes (is_number n) n fault.Number is
 
--- a text
+-- a string
 pub text_reads : (t : List ℕ) → IsUtf8 t → text_in (Text t) ≡ Ok t
 text_reads t utf8 = test_passes (is_utf8 t) t fault.Text (is_utf8-from_IsUtf8 t utf8)
 
--- a text within its limits
+-- a string within its limits
 pub limited_reads : (is_allowed : List ℕ → Bool) (t : List ℕ) → IsUtf8 t → is_allowed t ≡ true → (text_in (Text t) >>= limited is_allowed) ≡ Ok t
 limited_reads is_allowed t utf8 is = rw (text_reads t utf8) (test_passes (is_allowed t) t fault.Text is)
 
--- ---- numbers of objects fit in a column
+-- ---- object numbers fit in a column
 
 pub number_fits : (n : ℕ) → is_number n ≡ true → n < 2 ^ 63
 number_fits n is = grind (arith, nat_tests)
 
--- ---- numbers that are read are those that were written
+-- ---- decoded numbers are those that were written
 
 same_whole : (m n : ℕ) → whole m ≡ whole n → m ≡ n
 same_whole m n h = let k = h in cc
@@ -152,10 +152,10 @@ same_whole m n h = let k = h in cc
 pub same_number : (m n : ℕ) → number_in (whole m) ≡ Ok n → m ≡ n
 same_number m n h = same_whole m n (number_cell (whole m) n h)
 
--- and tests of them are the same
+-- and tests of them have the same result
 pub same_test : (m k n : ℕ) → m ≡ k → nat_eq k n ≡ (m == n)
 same_test m k n is = sym (ap (λ l. nat_eq l n) is) ∙ grind (arith, nat_tests)
 
--- a text that is read is the one that was written
+-- a decoded string is the one that was written
 pub same_text : (t s : List ℕ) → text_in (Text t) ≡ Ok s → t ≡ s
 same_text t s h = text_is t s (is_utf8 t) h

@@ -1,6 +1,7 @@
--- Definitions of what the rows of the register's tables say, and of what is written in them.
+-- Definitions of the rows of the register's tables: how they decode, and how they are written.
 pub mod Cells
 pub mod Edition
+pub mod Effects
 pub mod Listing
 pub mod Mandate
 pub mod Member

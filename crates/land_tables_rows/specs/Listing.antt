@@ -1,4 +1,4 @@
--- Definitions of what all rows of the tables say.
+-- Definitions of the rows of all tables, decoded.
 pub mod Faults
 pub mod Groups
 pub mod Reading

@@ -1,3 +1,3 @@
--- The mandates that parties have given.
+-- Mandates that parties have given.
 pub mod Reading
 pub mod Writing

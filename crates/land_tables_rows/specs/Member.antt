@@ -1,3 +1,3 @@
--- The members of groups, with their shares (LA_PartyMember).
+-- Members of groups, with their shares (LA_PartyMember).
 pub mod Reading
 pub mod Writing

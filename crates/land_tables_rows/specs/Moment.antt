@@ -1,3 +1,3 @@
--- The moments at which the register changed.
+-- Moments at which the register changed.
 pub mod Reading
 pub mod Writing

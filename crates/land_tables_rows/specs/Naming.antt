@@ -1,3 +1,3 @@
--- Which units a mutation names.
+-- Links of mutations to units.
 pub mod Reading
 pub mod Writing

@@ -1,4 +1,4 @@
--- Definitions of what the rows of the tables say.
+-- Definitions of how the rows of the tables decode.
 pub mod Cells
 pub mod Readings
 pub mod Words

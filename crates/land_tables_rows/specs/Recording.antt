@@ -1,4 +1,4 @@
--- What several statements on one table make of the versions that it holds.
+-- The effect of several statements on the versions of one table.
 pub mod Whole
 use Rattle.std.specs.Prelude.{◌≡◌, ℤ, Bool, List, ◌++◌, map}
 use Rattle.land_tables_history.specs.Changed.{begun, changed_versions}
@@ -7,14 +7,18 @@ use Rattle.land_tables_rows.specs.Writing.Holding.{Keeps, Reading}
 use Rattle.land_tables_schema.specs.Rows.Forms.{KeepsOthers}
 use Rattle.sqlite.specs.Effect.{Database}
 
--- versions of some things more are held, which begin at a moment and stand
-pub record BeginsAll {X : Type 0} (reading : Reading X) (xs : List X) (since : ℤ) (old new : Database) : Type 0 where
+-- more versions are held, which begin at a moment and are current
+pub record BeginsAll {X : Type 0} (reading : Reading X) (xs : List X) (since : ℤ) (old new : Database)
+    : Type 0 where
   pub schema : new.schema ≡ old.schema
-  pub held : (versions : List (Version X)) → Keeps reading old.trees versions → Keeps reading new.trees (map (λ x. begun x since) xs ++ versions)
+  pub held : (versions : List (Version X)) → Keeps reading old.trees versions
+      → Keeps reading new.trees (map (λ x. begun x since) xs ++ versions)
   pub kept : KeepsOthers reading.table old.trees new.trees
 
--- what is put begins at a moment, and what is meant of all that stood ends there
-pub record Changes {X : Type 0} (reading : Reading X) (put : List X) (meant : X → Bool) (stamp : ℤ) (old new : Database) : Type 0 where
+-- the inserted versions begin at a moment, and the matching current versions end at it
+pub record Changes {X : Type 0} (reading : Reading X) (put : List X) (meant : X → Bool) (stamp : ℤ)
+    (old new : Database) : Type 0 where
   pub schema : new.schema ≡ old.schema
-  pub held : (versions : List (Version X)) → Keeps reading old.trees versions → Keeps reading new.trees (changed_versions put meant stamp versions)
+  pub held : (versions : List (Version X)) → Keeps reading old.trees versions
+      → Keeps reading new.trees (changed_versions put meant stamp versions)
   pub kept : KeepsOthers reading.table old.trees new.trees

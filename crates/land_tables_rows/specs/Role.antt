@@ -1,3 +1,3 @@
--- The roles of parties.
+-- Roles of parties.
 pub mod Reading
 pub mod Writing

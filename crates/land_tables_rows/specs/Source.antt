@@ -1,3 +1,3 @@
--- Sources: the documents that changes rest on (LA_Source).
+-- Sources: the documents on which changes are based (LA_Source).
 pub mod Reading
 pub mod Writing

@@ -1,4 +1,4 @@
--- Definitions of what the tables hold, by what their rows say.
+-- Definitions of the tables' content, by the decoded rows.
 pub mod History
 pub mod Holding
 pub mod Laws

@@ -1,4 +1,4 @@
-//! The cells in which records are written to the register's tables, and what is read from them again.
+//! The cells in which records are written to the register's tables, and how they decode.
 
 pub mod laws;
 pub mod texts;

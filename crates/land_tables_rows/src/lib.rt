@@ -1,6 +1,7 @@
-//! The rows of the register's tables, a folder for each kind: what a row says (`reading`), the cells of what is to be written (`cells`), a
-//! version that begins or is closed (`writing`), and what a change makes of the kind (`recording`). What all kinds share stands in the
-//! folders of these names; all tables together are read in `listing`, and whether each row has a rowid of its own in `rowids`.
+//! The rows of the register's tables, a folder for each kind: decoding a row (`reading`), the cells of a
+//! record (`cells`), beginning and closing a version (`writing`), and applying a change (`recording`). Code
+//! that all kinds share is in the folders with these names. `listing` reads all tables, and `rowids` checks
+//! that rows have unique rowids.
 #![tactic(auto)]
 
 pub mod cells;

@@ -1,4 +1,4 @@
-//! All rows of all tables, read as the moments and versions that they say.
+//! Reads all rows of all tables as moments and versions.
 
 pub mod fault;
 pub mod history;

@@ -1,4 +1,4 @@
-//! The mandates that parties have given.
+//! Mandates that parties have given.
 
 pub mod reading;
 pub mod recording;

@@ -1,4 +1,4 @@
-//! The members of groups, with their shares (LA_PartyMember).
+//! Members of groups, with their shares (LA_PartyMember).
 
 pub mod reading;
 pub mod recording;

@@ -1,4 +1,4 @@
-//! The moments at which the register changed.
+//! Moments at which the register changed.
 
 pub mod reading;
 pub mod writing;

@@ -1,4 +1,4 @@
-//! Mutations: what is asked for, and how far it has come.
+//! Mutations: their content and their state.
 
 pub mod cells;
 pub mod reading;

@@ -1,4 +1,4 @@
-//! Which units a mutation names.
+//! Links of mutations to units.
 
 pub mod reading;
 pub mod recording;

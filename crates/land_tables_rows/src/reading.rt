@@ -1,5 +1,6 @@
-//! What the rows of the register's tables say: records with their lifespans, or the fault of the first value that cannot be read as its
-//! field. The faults are those that the same field has in a request (`WireFault`); what is NULL, or of another kind, is 131.
+//! Decodes the rows of the register's tables: records with their lifespans, or the fault of the first value
+//! that is not valid for its field. The faults are those of the same field in a request (`WireFault`); NULL
+//! and values of another type are fault 131.
 
 pub mod cells;
 pub mod from_row;

@@ -1,4 +1,4 @@
-//! A change of the register is written in its tables, statement by statement.
+//! Writes a change to the register's tables, statement by statement.
 
 pub mod all;
 pub mod change;

@@ -1,4 +1,4 @@
-//! The roles of parties.
+//! Roles of parties.
 
 pub mod reading;
 pub mod recording;

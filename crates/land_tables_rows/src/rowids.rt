@@ -1,4 +1,5 @@
-//! Whether the rows of the tables of versions each lie under a rowid of their own. The kit's sqlite keeps them so, and its contracts do not say it.
+//! Checks that the rows of the tables of versions have unique rowids. SQLite ensures this, but the contracts
+//! of the `sqlite` crate do not state it.
 
 mod apart;
 mod keyed;

@@ -1,4 +1,4 @@
-//! Sources: the documents that changes rest on (LA_Source).
+//! Sources: the documents on which changes are based (LA_Source).
 
 pub mod reading;
 pub mod recording;

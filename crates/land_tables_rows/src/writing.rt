@@ -1,3 +1,4 @@
-//! What is written in the tables of versions, by what their rows say: a version of a record begins, and what stands is closed.
+//! Effects of writing on the tables of versions, by the decoded rows: a version begins, or the current one is
+//! closed.
 
 pub mod laws;

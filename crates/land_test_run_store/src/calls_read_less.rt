@@ -1,5 +1,5 @@
-//! Verdicts, objects, title sheets and what acts need, over whole tables and by look-ups, and objects and sheets once they were judged:
-//! `.ci/alloc-counts` counts how often each asks for memory.
+//! Verdicts, objects, title sheets and slices, read from whole tables and with queries, and objects and
+//! sheets after their verdict: `.ci/alloc-counts` counts the allocations of each.
 use crate::conclusion::conclude;
 use land_test_keepers::growths::{calls_read_less, once};
 use std::test::Fail;

@@ -1,4 +1,4 @@
-//! Commands over files.
+//! Commands on files.
 use crate::conclusion::conclude;
 use land_test_store::commands;
 use std::test::Fail;

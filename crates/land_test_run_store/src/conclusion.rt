@@ -3,7 +3,8 @@ use land_test_scenario::stop::Stop;
 use std::process::Abort;
 use std::test::Fail;
 
-/// Ends a test: by an assertion where something is not as the test has it, and by an `Err` where there was no memory, and only there.
+/// Ends a test: with a failed assertion if a result is not the expected one, and with an `Err` only if out of
+/// memory.
 pub fn conclude(rt: &impl Abort, outcome: Result<(), Stop>) -> Result<(), Fail> {
     match outcome {
         Ok(()) => Ok(()),

@@ -1,4 +1,4 @@
-//! Stores that are taken for a register's, and damaged ones that are not.
+//! Stores that are opened as registers, and corrupted ones that are refused.
 use crate::conclusion::conclude;
 use land_test_tables::damage;
 use std::test::Fail;

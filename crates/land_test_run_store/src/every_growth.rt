@@ -1,4 +1,4 @@
-//! Requests of which each growth is refused in turn, by `.ci/oom-requests`.
+//! Requests of which each allocation fails in turn, by `.ci/oom-requests`.
 use crate::conclusion::conclude;
 use land_test_keepers::every_growth::requests;
 use std::test::Fail;

@@ -1,4 +1,4 @@
-//! Changes and migrations over files whose disks stop, after each of their calls.
+//! Changes and migrations on files whose disks stop, after each of their calls.
 use crate::conclusion::conclude;
 use land_test_stops::every_stop::{changes, migrations};
 use std::test::Fail;

@@ -1,4 +1,4 @@
-//! Hostile use, over each keeper.
+//! Malformed and extreme input, for each keeper.
 use crate::conclusion::conclude;
 use land_test_keepers::hostile;
 use std::test::Fail;

@@ -1,4 +1,4 @@
-//! What callers see of a small register, by joins.
+//! The view of a small register by each role, with queries.
 use crate::conclusion::conclude;
 use land_test_store::joins::sights;
 use std::test::Fail;

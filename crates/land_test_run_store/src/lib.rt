@@ -1,9 +1,11 @@
-//! The tests of what stands on a store: its tables, the keepers over them, extracts, commands and their words. Each of them is a call of
-//! a trial in `land_test_store`, `land_test_tables`, `land_test_keepers` or `land_test_stops`; the words are tried here. There is
-//! nothing else here: a crate that has tests is proved twice, and its program is compiled with all that it stands on.
+//! The tests of everything above the store: its tables, the keepers that use them, extracts, commands and
+//! their arguments. Each of them calls a test case in `land_test_store`, `land_test_tables`,
+//! `land_test_keepers` or `land_test_stops`; only the arguments are tested here. There is nothing else here,
+//! since a crate with tests is proved twice, and its program is compiled with everything below it.
 //!
-//! Want of memory ends a test with an `Err`, so that it fails unless an allocation was refused; all else that is wrong fails an assertion.
-//! `.ci/oom-tests` runs these tests with each allocation refused in turn: a test may then end for want of memory, and no assertion may fail.
+//! If a test runs out of memory, it ends with an `Err`, so that it fails unless an allocation failed on
+//! purpose; any other error fails an assertion. `.ci/oom-tests` runs these tests with each allocation failing
+//! in turn: a test may then end because it is out of memory, and no assertion may fail.
 #![tactic(auto)]
 
 #[cfg(test)]

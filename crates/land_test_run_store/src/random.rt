@@ -1,4 +1,4 @@
-//! Registers made by chance, over each keeper.
+//! Randomly generated registers, for each keeper.
 use crate::conclusion::conclude;
 use land_test_keepers::random::registers;
 use std::test::Fail;

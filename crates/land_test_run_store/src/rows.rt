@@ -1,4 +1,4 @@
-//! Tables in sqlite, row by row.
+//! Tables in SQLite, row by row.
 use crate::conclusion::conclude;
 use land_test_store::rows::{openness, register, versions};
 use std::test::Fail;

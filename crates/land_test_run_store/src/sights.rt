@@ -1,4 +1,4 @@
-//! What is asked of the store for a list, or for the view of a party.
+//! The queries for a list, or for the view of a party.
 use crate::conclusion::conclude;
 use land_test_keepers::sights::{parties_are_seen, texts_are_run};
 use std::test::Fail;

@@ -1,4 +1,4 @@
-//! Sizes that no other test reaches. `.ci/oom-tests` leaves them out, since they allocate too often.
+//! Sizes that no other test reaches. `.ci/oom-tests` omits them, since they allocate too often.
 use crate::conclusion::conclude;
 use land_test_keepers::sizes;
 use std::test::Fail;

@@ -1,4 +1,4 @@
-//! Lists over whole tables and by joins: `.ci/alloc-counts` counts how often each asks for memory.
+//! Lists from whole tables and with queries: `.ci/alloc-counts` counts the allocations of each.
 use crate::conclusion::conclude;
 use land_test_keepers::growths::texts_read_less;
 use std::test::Fail;

@@ -1,4 +1,4 @@
-//! The command that serves.
+//! The command `serve`.
 use crate::conclusion::conclude;
 use land_test_store::town;
 use std::test::Fail;

@@ -1,4 +1,4 @@
-//! The worked rows as bytes, over each keeper.
+//! The worked rows as bytes, for each keeper.
 use crate::conclusion::conclude;
 use land_test_keepers::keepers::two_keepers;
 use std::test::Fail;

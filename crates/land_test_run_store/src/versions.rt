@@ -1,4 +1,4 @@
-//! What the rows of the tables say, and which histories are lawful.
+//! Decoded rows of the tables, and which histories are valid.
 use crate::conclusion::conclude;
 use land_test_store::versions::{contents, damages, lawful, lifespans, spellings, words};
 use std::test::Fail;

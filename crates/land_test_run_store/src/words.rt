@@ -1,17 +1,17 @@
-//! The words of the command line.
+//! The arguments of the command line.
 use land_commands::words::command::Command;
 use land_commands::words::read_words;
 use land_commands::words::words_fault::WordsFault;
 use std::alloc::{AllocError, Global};
 use std::test::Fail;
 
-/// Words, and the command that they name.
+/// Arguments, and their command.
 struct Words {
     words: &'static [&'static str],
     command: Command<'static>,
 }
 
-/// A number of an option is decimal digits, after a sign or none; leading zeros are let through.
+/// The number of an option is decimal digits, with a sign or without; leading zeros are allowed.
 const WORDS: &[Words] = &[
     Words {
         words: &["land", "talk", "--clock", "1000"],
@@ -104,7 +104,7 @@ const WORDS: &[Words] = &[
     },
 ];
 
-/// Words that are refused, and what the text of `clap` begins with.
+/// Arguments that are refused, and the beginning of the message of `clap`.
 struct Refused {
     words: &'static [&'static str],
     text: &'static str,
@@ -297,7 +297,7 @@ const REFUSED: &[Refused] = &[
     },
 ];
 
-/// Words that ask for help, and a part of the help.
+/// Arguments that request help, and a part of the help.
 const HELP: &[Refused] = &[
     Refused {
         words: &["land", "--help"],
@@ -361,7 +361,7 @@ const HELP: &[Refused] = &[
     },
 ];
 
-/// The words, as the system hands them over.
+/// Returns the arguments as the system passes them.
 fn strings(alloc: Global, row: &[&str]) -> Result<Vec<String>, AllocError> {
     let mut words = Vec::new(alloc);
     for word in row {
@@ -370,7 +370,7 @@ fn strings(alloc: Global, row: &[&str]) -> Result<Vec<String>, AllocError> {
     Ok(words)
 }
 
-/// Whether words are read as this command.
+/// Whether arguments are read as this command.
 fn name(alloc: Global, words: &[String], command: Command<'_>) -> Result<bool, AllocError> {
     match read_words(alloc, words) {
         Ok(found) => Ok(found == command),
@@ -379,7 +379,7 @@ fn name(alloc: Global, words: &[String], command: Command<'_>) -> Result<bool, A
     }
 }
 
-/// Whether words are read as the command of their row.
+/// Whether arguments are read as the command of their row.
 fn is_named(alloc: Global, row: &Words) -> Result<bool, AllocError> {
     let words = strings(alloc, row.words)?;
     name(alloc, &words, row.command)
@@ -393,7 +393,7 @@ fn words_name_their_command(rt: HostRuntime) -> Result<(), Fail> {
     Ok(())
 }
 
-/// The text by which words are refused; none where they name a command.
+/// Returns the message by which arguments are refused; none if they are a command.
 fn refusal(alloc: Global, words: &[String]) -> Result<Option<String>, AllocError> {
     match read_words(alloc, words) {
         Ok(_) => Ok(None),
@@ -402,13 +402,13 @@ fn refusal(alloc: Global, words: &[String]) -> Result<Option<String>, AllocError
     }
 }
 
-/// The same of the words of a row.
+/// Returns the message for the arguments of a row.
 fn refusal_of(alloc: Global, row: &Refused) -> Result<Option<String>, AllocError> {
     let words = strings(alloc, row.words)?;
     refusal(alloc, &words)
 }
 
-/// Whether the text by which words are refused begins with that of their row.
+/// Whether the message by which arguments are refused begins with that of their row.
 fn is_refused(alloc: Global, row: &Refused) -> Result<bool, AllocError> {
     match refusal_of(alloc, row)? {
         Some(text) => Ok(text.as_str().starts_with(row.text)),
@@ -424,7 +424,7 @@ fn other_words_are_refused(rt: HostRuntime) -> Result<(), Fail> {
     Ok(())
 }
 
-/// Whether that text has the part of their row.
+/// Whether that message contains the part of their row.
 fn is_helped(alloc: Global, row: &Refused) -> Result<bool, AllocError> {
     match refusal_of(alloc, row)? {
         Some(text) => Ok(text.as_str().contains(row.text)),

@@ -1,4 +1,4 @@
-//! Stores that are taken for a register's, and damaged ones that are not.
+//! Stores that are opened as registers, and corrupted ones that are refused.
 use crate::cases::playing::played;
 use crate::cases::stores::{expect_fault, run_on, store};
 use land_tables::tables::Tables;
@@ -7,11 +7,12 @@ use land_test_scenario::stop::Stop;
 use sqlite::{Connection, MemStore};
 use std::alloc::Global;
 
-/// Statements on the tables after the scenario, others that undo them, and the fault that `adopt` has between, 0 where it takes the tables.
+/// SQL statements on the tables after the scenario, others that undo them, and the fault that `adopt` returns
+/// in between, 0 if it accepts the tables.
 struct Damage(&'static str, &'static str, u16);
 
-/// What makes the table of the mandates again where it is gone, in its place after the other tables and before all indexes that are no keys',
-/// and the second version.
+/// SQL statements that create the table of mandates again, after the other tables and before all indexes that
+/// do not belong to keys, and set schema version 2.
 const MANDATES_AGAIN: &str =
     "DROP TABLE IF EXISTS other; UPDATE edition SET version = 2; DROP INDEX rrr_party; DROP INDEX rrr_unit; DROP INDEX parcel_unit; \
     DROP INDEX member_party; DROP INDEX names_unit; DROP INDEX mutation_lodger; DROP INDEX role_role; \
@@ -21,7 +22,8 @@ const MANDATES_AGAIN: &str =
     CREATE INDEX names_unit ON names (unit); CREATE INDEX mutation_lodger ON mutation (lodger, reference); \
     CREATE INDEX role_role ON role (role); CREATE INDEX mandate_agent ON mandate (agent)";
 
-/// What cannot be read: a value of each table, an edition that is not the one row of id 1, another schema.
+/// Tables that do not decode: an invalid value of each table, an edition that is not the only row of id 1,
+/// another schema.
 const UNREADABLE: &[Damage] = &[
     Damage(
         "UPDATE edition SET version = -1",
@@ -113,7 +115,7 @@ const UNREADABLE: &[Damage] = &[
     Damage("CREATE VIEW other AS SELECT 1", "DROP VIEW other", 520),
 ];
 
-/// Another version, and what else is then told before and after it.
+/// Other schema versions, and faults that are found before and after this one.
 const VERSIONS: &[Damage] = &[
     Damage(
         "UPDATE edition SET version = 7",
@@ -130,7 +132,7 @@ const VERSIONS: &[Damage] = &[
         "UPDATE edition SET version = 2; UPDATE unit SET since = 1009 WHERE number = 9",
         523,
     ),
-    // the mandates are looked at in the second version alone
+    // mandates are read in schema version 2 only
     Damage(
         "UPDATE edition SET version = 1",
         "UPDATE edition SET version = 2",
@@ -158,7 +160,7 @@ const VERSIONS: &[Damage] = &[
     ),
 ];
 
-/// Lifespans that overlap, or begin or end at no stamp.
+/// Lifespans that overlap, or that begin or end at a time that is not a stamp.
 const LIFESPANS: &[Damage] = &[
     Damage(
         "UPDATE rrr SET until = 1014 WHERE number = 12 AND since = 1009",
@@ -200,7 +202,7 @@ const LIFESPANS: &[Damage] = &[
         "DELETE FROM mandate",
         521,
     ),
-    // before an unsound register
+    // a bad interval comes before an unsound register
     Damage(
         "UPDATE unit SET since = 1 WHERE number = 9; UPDATE rrr SET unit = 999 WHERE number = 13",
         "UPDATE unit SET since = 1009 WHERE number = 9; UPDATE rrr SET unit = 9 WHERE number = 13",
@@ -208,7 +210,8 @@ const LIFESPANS: &[Damage] = &[
     ),
 ];
 
-/// Registers that are not sound, next numbers that fall, and names that are not those of the mutations.
+/// Registers that are not sound, next numbers that decrease, and links to units that are not those of the
+/// mutations.
 const UNSOUND: &[Damage] = &[
     Damage(
         "UPDATE rrr SET unit = 999 WHERE number = 13",
@@ -252,7 +255,7 @@ const UNSOUND: &[Damage] = &[
     ),
 ];
 
-/// Mandates of what is no single party, or of one to itself.
+/// Mandates of a group or of an object that is not a party, and of a party to itself.
 const MANDATES: &[Damage] = &[
     Damage(
         "INSERT INTO mandate VALUES (2, 7, 1008, 4102444800000)",
@@ -281,7 +284,7 @@ const MANDATES: &[Damage] = &[
     ),
 ];
 
-/// What is read as it was meant, and other indexes.
+/// Values in other representations, and additional indexes.
 const HARMLESS: &[Damage] = &[
     Damage("", "", 0),
     Damage(
@@ -307,17 +310,17 @@ const HARMLESS: &[Damage] = &[
     ),
 ];
 
-/// A begun transaction.
+/// An active transaction.
 const BEGUN: &[Damage] = &[Damage("BEGIN", "ROLLBACK", 502)];
 
-/// Texts that are run on an empty store, which then has no register.
+/// SQL statements that are run on an empty store, which then holds no register.
 const OTHERS: &[&str] = &[
     "",
     "CREATE TABLE other (x INTEGER)",
     "CREATE TABLE party (number INTEGER NOT NULL, name TEXT NOT NULL)",
 ];
 
-/// The number of the fault with which a store is given back, 0 where it is taken for that of the scenario.
+/// Opens a store. Returns the number of the fault, 0 if it holds the register of the scenario, and the store.
 fn adopted(alloc: Global, conn: Connection<MemStore>) -> (u16, Connection<MemStore>) {
     match Tables::adopt(alloc, conn) {
         Ok(tables) => {
@@ -328,7 +331,7 @@ fn adopted(alloc: Global, conn: Connection<MemStore>) -> (u16, Connection<MemSto
     }
 }
 
-/// Takes the tables of the store that is left, and leaves it again.
+/// Opens the store in the option, and puts it back.
 fn adopt_back(alloc: Global, left: &mut Option<Connection<MemStore>>) -> Result<u16, Stop> {
     match left.take() {
         Some(conn) => {
@@ -340,7 +343,7 @@ fn adopt_back(alloc: Global, left: &mut Option<Connection<MemStore>>) -> Result<
     }
 }
 
-/// Damages the tables, takes them, and undoes the damage: the fault that they had.
+/// Corrupts the tables, opens them, and undoes the corruption. Returns the fault of opening.
 fn undone(
     alloc: Global,
     left: &mut Option<Connection<MemStore>>,
@@ -352,7 +355,7 @@ fn undone(
     Ok(fault)
 }
 
-/// Each of some damages has its fault.
+/// Fails if some of the given corruptions does not have its fault.
 fn have_faults(
     alloc: Global,
     left: &mut Option<Connection<MemStore>>,
@@ -375,7 +378,7 @@ const DAMAGES: &[(&str, &[Damage])] = &[
     ("begun", BEGUN),
 ];
 
-/// Each damage has its fault.
+/// Fails if some corruption does not have its fault.
 fn all_have_faults(alloc: Global, left: &mut Option<Connection<MemStore>>) -> Result<(), Stop> {
     for (name, damages) in DAMAGES {
         have_faults(alloc, left, name, damages)?;
@@ -383,7 +386,7 @@ fn all_have_faults(alloc: Global, left: &mut Option<Connection<MemStore>>) -> Re
     Ok(())
 }
 
-/// What is undone leaves the rows of the scenario.
+/// Fails if the undone corruptions do not leave the rows of the scenario.
 fn look_on(alloc: Global, left: &mut Option<Connection<MemStore>>) -> Result<(), Stop> {
     match left.as_mut() {
         Some(conn) => look_at_steps(alloc, conn),
@@ -391,7 +394,7 @@ fn look_on(alloc: Global, left: &mut Option<Connection<MemStore>>) -> Result<(),
     }
 }
 
-/// The store of the tables after the scenario.
+/// Returns the store of the tables after the scenario.
 fn played_store(alloc: Global) -> Result<Option<Connection<MemStore>>, Stop> {
     Ok(Some(played(alloc)?.into_connection()))
 }
@@ -401,18 +404,18 @@ fn are_damaged(alloc: Global, left: &mut Option<Connection<MemStore>>) -> Result
     look_on(alloc, left)
 }
 
-/// Each damage has its fault, and what is undone leaves the rows of the scenario.
+/// Each corruption has its fault, and undoing it leaves the rows of the scenario.
 pub fn damaged_tables_have_their_faults(alloc: Global) -> Result<(), Stop> {
     let mut left = played_store(alloc)?;
     are_damaged(alloc, &mut left)
 }
 
-/// The fault of a store after a text.
+/// Returns the fault of opening a store after SQL statements.
 fn fault_after(alloc: Global, text: &str) -> Result<u16, Stop> {
     Ok(adopted(alloc, store(alloc, text)?).0)
 }
 
-/// Stores of others are not taken.
+/// Stores that hold no register are refused.
 pub fn stores_of_others_are_520(alloc: Global) -> Result<(), Stop> {
     for (place, text) in OTHERS.iter().enumerate() {
         expect_fault(fault_after(alloc, text)?, 520, "other", place)?;

@@ -1,6 +1,6 @@
-//! Trials of `land_tables`, and of the crates that it stands on where nothing below tries them: that the calls succeed over the kit's
-//! sqlite in memory, and that the rows are those that the program `sqlite3` would show (docs/TABLES.md). Damaged tables are in `adopting`,
-//! disks that stop in `stops`.
+//! Test cases of `land_tables`, and of the crates below it that no lower crate tests: calls succeed with
+//! SQLite in memory, and the rows are those that the program `sqlite3` would print (docs/TABLES.md).
+//! Corrupted tables are in `damage`, disks that stop in `land_test_stops`.
 
 pub mod again;
 pub mod creating;

@@ -1,5 +1,5 @@
--- The laws of judging versions that were found: that it does not matter in which order they were found, and that none are refused which
--- stand for a sound timeline.
+-- Laws of validating versions: the result does not depend on their order, and versions that represent a sound
+-- timeline are not refused.
 use Rattle.std.specs.Prelude.{◌≡◌, List}
 use Rattle.std.specs.List.Sorted.{IsPermutation}
 use Rattle.land_keep.specs.Timeline.{IsSoundTimeline, Timeline}
@@ -10,11 +10,14 @@ use Rattle.land_tables_history.specs.Lawful.{IsLawful}
 use Rattle.land_tables_history.specs.declared.history.History.{History}
 use Rattle.land_tables_history.specs.declared.moment.Moment.{Moment}
 
--- versions that stand for a sound timeline are a lawful history
+-- versions that represent a sound timeline are a valid history
 abbrev pub SoundTimelinesAreLawful : Type 0
-SoundTimelinesAreLawful = (moments : List Moment) (versions : History) (tl : Timeline) → StandsFor moments versions tl → IsSoundTimeline tl → IsLawful moments versions
+SoundTimelinesAreLawful =
+    (moments : List Moment) (versions : History) (tl : Timeline) → StandsFor moments versions tl
+    → IsSoundTimeline tl → IsLawful moments versions
 
--- lifespans are as they may be in whatever order they lie, or in none
+-- whether intervals are valid does not depend on their order
 abbrev pub OrderKeepsIntervals : Type 0
 OrderKeepsIntervals =
-    (moments others : List Moment) (one other : History) → IsPermutation moments others → IsReordered one other → has_intervals others other ≡ has_intervals moments one
+    (moments others : List Moment) (one other : History) → IsPermutation moments others
+    → IsReordered one other → has_intervals others other ≡ has_intervals moments one

@@ -1,4 +1,4 @@
--- Laws of versions and the timelines that they stand for.
+-- Laws of versions and the timelines that they represent.
 use Rattle.std.specs.Prelude.{◌≡◌, true, ℤ, List, Some}
 use Rattle.std.specs.List.{All}
 use Rattle.std.specs.List.Sorted.{IsPermutation}
@@ -12,10 +12,11 @@ use Rattle.land_tables_history.specs.Moments.{last, next_at}
 use Rattle.land_tables_history.specs.declared.history.History.{History}
 use Rattle.land_tables_history.specs.declared.moment.Moment.{Moment}
 
--- versions that stand for a sound timeline stand for no other: it is the one that they lead to
+-- versions that represent a sound timeline represent no other: it is the one that they yield
 abbrev pub VersionsStandForOne : Type 0
 VersionsStandForOne =
-    (moments : List Moment) (versions : History) (tl : Timeline) → StandsFor moments versions tl → IsSoundTimeline tl → timeline_of moments versions ≡ tl
+    (moments : List Moment) (versions : History) (tl : Timeline) → StandsFor moments versions tl
+    → IsSoundTimeline tl → timeline_of moments versions ≡ tl
 
 -- versions in another order
 pub record IsReordered (one other : History) : Type 0 where
@@ -30,25 +31,31 @@ pub record IsReordered (one other : History) : Type 0 where
   pub namings : IsPermutation one.namings other.namings
   pub mandates : IsPermutation one.mandates other.mandates
 
--- versions stand for the same timeline in whatever order they lie
+-- versions represent the same timeline in any order
 abbrev pub OrderDoesNotMatter : Type 0
 OrderDoesNotMatter =
-    (moments others : List Moment) (one other : History) (tl : Timeline) → StandsFor moments one tl → IsPermutation moments others → IsReordered one other → StandsFor others other tl
+    (moments others : List Moment) (one other : History) (tl : Timeline) → StandsFor moments one tl
+    → IsPermutation moments others → IsReordered one other → StandsFor others other tl
 
--- what stands at a moment, with the next number of the latest moment up to then, is the timeline's register there
+-- the current versions at a moment, with the next number of the latest moment up to it, are the timeline's
+-- register at that time
 abbrev pub ReadingIsTheRegister : Type 0
 ReadingIsTheRegister =
     (moments : List Moment) (versions : History) (tl : Timeline) (t : ℤ)
-    → StandsFor moments versions tl → IsSoundTimeline tl → IsMoment t → history.register_at t versions (next_at moments t) ≡ register_at tl t
+    → StandsFor moments versions tl → IsSoundTimeline tl → IsMoment t
+    → history.register_at t versions (next_at moments t) ≡ register_at tl t
 
--- the latest moment is the timeline's last stamp, with the next number of its last register
+-- the latest moment has the timeline's last stamp and the next number of its last register
 abbrev pub LastMomentIsTheLastStamp : Type 0
 LastMomentIsTheLastStamp =
     (moments : List Moment) (versions : History) (tl : Timeline)
-    → StandsFor moments versions tl → IsSoundTimeline tl → last moments ≡ Some (record { stamp = last_stamp tl; next = (last_register tl).next })
+    → StandsFor moments versions tl → IsSoundTimeline tl
+    → last moments ≡ Some (record { stamp = last_stamp tl; next = (last_register tl).next })
 
--- versions of a lawful history, whose lifespans are as they may be, stand for a sound timeline: the one that they lead to
+-- the versions of a valid history with valid intervals represent a sound timeline: the one that they yield
 abbrev pub LawfulVersionsStand : Type 0
 LawfulVersionsStand =
-    (moments : List Moment) (versions : History) → All (λ m. IsMoment m.stamp) moments → has_intervals moments versions ≡ true → IsLawful moments versions
-    → StandsFor moments versions (timeline_of moments versions) × IsSoundTimeline (timeline_of moments versions)
+    (moments : List Moment) (versions : History) → All (λ m. IsMoment m.stamp) moments
+    → has_intervals moments versions ≡ true → IsLawful moments versions
+    → StandsFor moments versions (timeline_of moments versions)
+    × IsSoundTimeline (timeline_of moments versions)

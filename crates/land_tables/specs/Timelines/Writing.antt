@@ -1,4 +1,4 @@
--- The laws of writing: a change of versions is the change of their timeline, and their lifespans stay as they may be.
+-- Laws of writing: changing the versions changes their timeline, and intervals stay valid.
 use Rattle.std.specs.Prelude.{◌≡◌, true, ℤ, List, ◌∷◌}
 use Rattle.land_core.specs.declared.change.Change.{Change}
 use Rattle.land_keep.specs.Keeping.{CanWrite}
@@ -10,16 +10,20 @@ use Rattle.land_tables_history.specs.Intervals.{has_intervals}
 use Rattle.land_tables_history.specs.declared.history.History.{History}
 use Rattle.land_tables_history.specs.declared.moment.Moment.{Moment}
 
--- versions that stood for a timeline stand, with a change that may be written and its moment, for the timeline with the change
+-- if versions represent a timeline, the versions with a permitted change and its moment represent the
+-- timeline with the change
 abbrev pub WritesStand : Type 0
 WritesStand =
     (moments : List Moment) (versions : History) (tl : Timeline) (change : Change) (stamp : ℤ)
     → IsSoundTimeline tl → StandsFor moments versions tl → CanWrite tl change stamp
-    → StandsFor (record { stamp = stamp; next = change.next } ∷ moments) (changed (last_register tl).next change stamp versions) (written tl change stamp)
+    → StandsFor (record { stamp = stamp; next = change.next } ∷ moments)
+    (changed (last_register tl).next change stamp versions) (written tl change stamp)
 
--- where their lifespans were as they may be, they are so with the change and its moment
+-- if the intervals were valid, they are valid with the change and its moment
 abbrev pub WritesKeepIntervals : Type 0
 WritesKeepIntervals =
     (moments : List Moment) (versions : History) (tl : Timeline) (change : Change) (stamp : ℤ)
-    → IsSoundTimeline tl → StandsFor moments versions tl → CanWrite tl change stamp → IsSoundTimeline (written tl change stamp) → has_intervals moments versions ≡ true
-    → has_intervals (record { stamp = stamp; next = change.next } ∷ moments) (changed (last_register tl).next change stamp versions) ≡ true
+    → IsSoundTimeline tl → StandsFor moments versions tl → CanWrite tl change stamp
+    → IsSoundTimeline (written tl change stamp) → has_intervals moments versions ≡ true
+    → has_intervals (record { stamp = stamp; next = change.next } ∷ moments)
+    (changed (last_register tl).next change stamp versions) ≡ true

@@ -1,12 +1,13 @@
-//! What writing a change makes of the versions that stand for a timeline.
+//! Laws of writing a change to versions that represent a timeline.
 ghost use Rattle.land_tables.specs.Timelines.Writing.{WritesKeepIntervals, WritesStand};
 
-/// Versions that stood for a timeline stand, with a change, for the timeline with the change written.
+/// States that versions that represent a timeline represent, with a change, the timeline with the change
+/// written.
 pub fn writes_stand()
     ensures { WritesStand }
 {}
 
-/// Where their lifespans were as they may be, they are so with the change.
+/// States that valid intervals stay valid with the change.
 pub fn writes_keep_intervals()
     ensures { WritesKeepIntervals }
 {}

@@ -1,4 +1,4 @@
--- What becomes of what a row says, when the version that stands is closed.
+-- The decoded value of a row after its current version is closed.
 use Rattle.std.specs.Prelude.{◌≡◌, ◌≤ℤ◌, ℕ, ℤ, pos, ◌&&◌, ◌==◌, Bool, Result, Ok, if◌then◌else◌}
 use Rattle.std.specs.Ordering.{int_eq}
 use Rattle.land_tables_history.specs.declared.version.Version.{Version}
@@ -9,22 +9,25 @@ use Rattle.land_tables_schema.specs.Rows.Versions.{closed, never}
 use Rattle.land_wire_json.specs.declared.bodies.wire_fault.WireFault.{WireFault}
 use Rattle.sqlite_value.specs.Order.{Row}
 
--- a moment, in milliseconds since 1970 UTC
+-- a moment: Unix time in milliseconds, from 1970 to the end of 2099
 pub record IsMoment (stamp : ℤ) : Type 0 where
   pub first : pos 0 ≤ℤ stamp
   pub last : stamp ≤ℤ pos 4102444799999
 
--- what stands ends at a moment, if it is meant; all else is left as it was
+-- closes a current version at a moment if it matches; every other version is unchanged
 abbrev pub ended : {A : Type 0} → (A → Bool) → ℤ → Version A → Version A
 ended meant stamp v = if meant v.what && int_eq v.until never then record v { until = stamp } else v
 
--- whether it is the one with that number
+-- the record has that number
 abbrev pub is_numbered : {A : Type 0} → ℕ → ℕ × A → Bool
 is_numbered number e = e.0 == number
 
--- What is read from some columns of a row was laid there as the cells of something. And where the cells of something are read, they are
--- read after it was closed too: as what was read, closed where it stands and is meant.
-pub record AreTold {K A C : Type 0} (read : Row → Result (Version A) WireFault) (columns : ℕ) (form : Form (laid.Version C)) (meant_row : K → C → Bool) (meant : K → A → Bool) : Type 0 where
-  pub found : (r : Row) (v : Version A) → read (columns_from 1 columns r) ≡ Ok v → (p : laid.Version C) × (form.cells p ≡ columns_from 1 columns r)
-  pub closes : (key : K) (stamp : ℤ) (p : laid.Version C) (v : Version A) → IsMoment stamp → read (form.cells p) ≡ Ok v
+-- Columns that decode were laid out from a record. If the cells of a record decode, they decode after it is
+-- closed too: to the same value, closed if it was current and matched.
+pub record AreTold {K A C : Type 0} (read : Row → Result (Version A) WireFault) (columns : ℕ)
+    (form : Form (laid.Version C)) (meant_row : K → C → Bool) (meant : K → A → Bool) : Type 0 where
+  pub found : (r : Row) (v : Version A) → read (columns_from 1 columns r) ≡ Ok v → (p : laid.Version C)
+      × (form.cells p ≡ columns_from 1 columns r)
+  pub closes : (key : K) (stamp : ℤ) (p : laid.Version C) (v : Version A) → IsMoment stamp
+      → read (form.cells p) ≡ Ok v
       → read (form.cells (closed (meant_row key) stamp p)) ≡ Ok (ended (meant key) stamp v)

@@ -1,4 +1,4 @@
--- Laws of what is written, each over the definitions alone.
+-- Laws of written cells, each over the definitions only.
 use Rattle.std.specs.Prelude.{◌≡◌, ℕ, ℤ, true, Ok}
 use Rattle.land_core.specs.Words.{act_word, party_word, role_word, source_word, state_word}
 use Rattle.land_core.specs.declared.content.Content.{Content}
@@ -15,7 +15,8 @@ use Rattle.land_tables_rows.specs.Mutation.Reading.{mutation_in}
 use Rattle.land_tables_rows.specs.Parcel.Cells.{IsExactParcel, fits_parcel, parcel_row_of}
 use Rattle.land_tables_rows.specs.Parcel.Reading.{parcel_in}
 use Rattle.land_tables_rows.specs.Reading.Cells.{text_in}
-use Rattle.land_tables_rows.specs.Reading.Words.{class_word_in, party_kind_in, role_in, source_kind_in, state_in}
+use Rattle.land_tables_rows.specs.Reading.Words.{class_word_in, party_kind_in, role_in, source_kind_in}
+use Rattle.land_tables_rows.specs.Reading.Words.{state_in}
 use Rattle.land_tables_rows.specs.Rrr.Cells.{IsExactRrr, class_word, fits_rrr, rrr_row_of}
 use Rattle.land_tables_rows.specs.Rrr.Reading.{rrr_in}
 use Rattle.land_tables_rows.specs.declared.reading.words.ClassWord.{ClassWord}
@@ -25,7 +26,7 @@ use Rattle.land_tables_schema.specs.Rows.Rrr.{is_rrr, rrrs}
 use Rattle.land_tables_schema.specs.Rows.Versions.{begun, never}
 use Rattle.sqlite_value.specs.declared.value.Value.TheVariants.{Text}
 
--- the words of kinds, roles, classes and states are read as what they stand for, and those of acts as they stand
+-- the words of kinds, roles, classes and states decode to their values, and those of acts to themselves
 pub record WordsAreRead : Type 0 where
   pub kinds : (kind : PartyKind) → party_kind_in (Text (party_word kind)) ≡ Ok kind
   pub roles : (role : Role) → role_in (Text (role_word role)) ≡ Ok role
@@ -34,22 +35,27 @@ pub record WordsAreRead : Type 0 where
   pub classes : (which : ClassWord) → class_word_in (Text (class_word which)) ≡ Ok which
   pub acts : (it : Content) → text_in (Text (act_word it)) ≡ Ok (act_word it)
 
--- a parcel that fits is read from its cells, as it stands from a moment on
+-- a parcel within its limits decodes from its cells, as a version that begins at a moment
 abbrev pub ParcelsReadBack : Type 0
-ParcelsReadBack = (e : ℕ × ParcelRecord) (since : ℤ) → fits_parcel e ≡ true → IsExactParcel e.1 → IsMoment since
-    → parcel_in (parcels.cells (begun (parcel_row_of e) since)) ≡ Ok (record { what = e; since = since; until = never })
+ParcelsReadBack =
+    (e : ℕ × ParcelRecord) (since : ℤ) → fits_parcel e ≡ true → IsExactParcel e.1 → IsMoment since
+    → parcel_in (parcels.cells (begun (parcel_row_of e) since))
+    ≡ Ok (record { what = e; since = since; until = never })
 
--- an entry likewise
+-- an entry within its limits likewise
 abbrev pub RrrsReadBack : Type 0
 RrrsReadBack = (e : ℕ × RrrRecord) (since : ℤ) → fits_rrr e ≡ true → IsExactRrr e.1 → IsMoment since
-    → rrr_in (rrrs.cells (begun (rrr_row_of e) since)) ≡ Ok (record { what = e; since = since; until = never })
+    → rrr_in (rrrs.cells (begun (rrr_row_of e) since))
+    ≡ Ok (record { what = e; since = since; until = never })
 
--- and a mutation
+-- a mutation within its limits likewise
 abbrev pub MutationsReadBack : Type 0
-MutationsReadBack = (e : ℕ × MutationRecord) (since : ℤ) → fits_mutation e ≡ true → IsExactMutation e.1 → IsMoment since
-    → mutation_in (mutations.cells (begun (mutation_row_of e) since)) ≡ Ok (record { what = e; since = since; until = never })
+MutationsReadBack =
+    (e : ℕ × MutationRecord) (since : ℤ) → fits_mutation e ≡ true → IsExactMutation e.1 → IsMoment since
+    → mutation_in (mutations.cells (begun (mutation_row_of e) since))
+    ≡ Ok (record { what = e; since = since; until = never })
 
--- what is read of parcels, of entries and of mutations
+-- the cells of parcels, of entries and of mutations determine them
 abbrev pub ParcelsAreTold : Type 0
 ParcelsAreTold = AreTold parcel_in 7 parcels is_parcel is_numbered
 

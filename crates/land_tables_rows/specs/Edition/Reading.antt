@@ -1,4 +1,4 @@
--- What a row of `edition` says: its id, and by which version of their shapes the tables were made.
+-- Decodes a row of `edition`: its id, and the schema version of the tables.
 use Rattle.std.specs.Prelude.{Result, Ok}
 use Rattle.land_tables_rows.specs.Reading.Cells.{natural_in}
 use Rattle.land_tables_rows.specs.declared.edition.reading.Edition.{Edition}

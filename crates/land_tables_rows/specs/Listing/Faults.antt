@@ -1,4 +1,4 @@
--- Which fault a failed call is, and a value that cannot be read.
+-- The fault of a failed read, and of a value that cannot be decoded.
 use Rattle.std.specs.Prelude.{Bool, true, false, if◌then◌else◌}
 use Rattle.land_tables_rows.specs.declared.listing.fault.ReadFault.{ReadFault}
 use Rattle.land_tables_rows.specs.declared.listing.fault.ReadFault.TheVariants.{Unreadable, NoMemory, Store}
@@ -8,7 +8,7 @@ use Rattle.sqlite.specs.declared.error.Error.{Error}
 use Rattle.sqlite.specs.declared.error.Error.TheVariants.{SqliteFailure}
 use Rattle.sqlite.specs.declared.error.ErrorCode.TheVariants as code
 
--- a failed call of the store: want of memory, or another cause
+-- the error is out of memory
 abbrev pub lacked_memory : Error → Bool
 lacked_memory (SqliteFailure code.OutOfMemory) = true
 lacked_memory _ = false
@@ -16,7 +16,7 @@ lacked_memory _ = false
 abbrev pub of_error : Error → ReadFault
 of_error error = if lacked_memory error then NoMemory else Store
 
--- a value that cannot be read: want of memory, or a value that is none of its field
+-- the fault of a value that cannot be decoded: out of memory, or not a valid value of its field
 abbrev pub of_wire : WireFault → ReadFault
 of_wire wire.NoMemory = NoMemory
 of_wire _ = Unreadable

@@ -1,5 +1,5 @@
--- How versions are read from the rows of a table.
-use Rattle.std.specs.Prelude.{◌≡◌, ◌≢◌, ℕ, List, [], ◌∷◌, map, IsPermutation, Result, Ok, Err}
+-- How versions are decoded from the rows of a table.
+use Rattle.std.specs.Prelude.{◌≡◌, ◌≢◌, ℕ, List, [], ◌∷◌, map, IsPermutation, Result, Ok, Err, IfErr}
 use Rattle.land_core.specs.declared.mandates.Mandate.{Mandate}
 use Rattle.land_core.specs.declared.mutation.MutationRecord.{MutationRecord}
 use Rattle.land_core.specs.declared.parcel.ParcelRecord.{ParcelRecord}
@@ -35,20 +35,24 @@ use Rattle.land_wire_json.specs.declared.bodies.wire_fault.WireFault.{WireFault}
 use Rattle.sqlite_schema.specs.declared.schema.Table.{Table}
 use Rattle.sqlite_trees.specs.Tree.{Trees}
 use Rattle.sqlite_value.specs.Order.{Row, column}
+use Rattle.sqlite.specs.Held.{Held, state}
+use Rattle.sqlite.specs.State.{HasCleanDisk}
+use Rattle.sqlite.specs.Store.{Ghosts}
 
--- how something is read from the rows of a table: the table, which of its columns are listed, and what they say
+-- how records are decoded from the rows of a table: the table, the columns that are read, and the decoder
 pub record Listing (X : Type 0) : Type 0 where
   pub table : Table
   pub shown : Row → Row
   pub said : Row → Result X WireFault
 
--- the rows of a table, each as the columns that are listed, in whatever order
+-- a list has the columns of all rows of the table, in any order
 abbrev pub AreListed : {X : Type 0} → Listing X → Trees → List Row → Type 0
 AreListed listing db rows = IsPermutation (map listing.shown (db listing.table.tree)) rows
 
--- the rows of a table say these, in whatever order
+-- the rows of the table decode to these records, in any order
 abbrev pub Says : {X : Type 0} → Listing X → Trees → List X → Type 0
-Says listing db xs = IsPermutation (map (λ r. listing.said (listing.shown r)) (db listing.table.tree)) (map (λ x. Ok x) xs)
+Says listing db xs =
+    IsPermutation (map (λ r. listing.said (listing.shown r)) (db listing.table.tree)) (map (λ x. Ok x) xs)
 
 abbrev pub parties : Listing (Version (ℕ × PartyRecord))
 parties = record { table = table.party; shown = columns_from 1 5; said = party_in }
@@ -86,7 +90,7 @@ moments = record { table = table.moments; shown = λ r. column r 0 ∷ column r 
 abbrev pub editions : Listing Edition
 editions = record { table = table.edition; shown = λ r. column r 0 ∷ column r 2 ∷ []; said = edition_in }
 
--- the tables of versions that the first version has say this history, in which there are no mandates
+-- the tables of schema version 1 decode to this history, which has no mandates
 pub record SaysFirst (db : Trees) (history : History) : Type 0 where
   pub parties : Says parties db history.parties
   pub roles : Says roles db history.roles
@@ -99,7 +103,7 @@ pub record SaysFirst (db : Trees) (history : History) : Type 0 where
   pub namings : Says namings db history.namings
   pub none : history.mandates ≡ []
 
--- all tables of versions say this history
+-- all tables decode to this history
 pub record SaysHistory (db : Trees) (history : History) : Type 0 where
   pub parties : Says parties db history.parties
   pub roles : Says roles db history.roles
@@ -112,14 +116,23 @@ pub record SaysHistory (db : Trees) (history : History) : Type 0 where
   pub namings : Says namings db history.namings
   pub mandates : Says mandates db history.mandates
 
--- what is read of the rows that a call of the store gave: what they say, or that they cannot be read; or why the call failed
-abbrev pub IsRead : {X : Type 0} → (Row → Result X WireFault) → (List Row) → Result (List X) ReadFault → Type 0
+-- the result of decoding rows: their values, or a fault; except out of memory, a fault means that they do not
+-- decode
+abbrev pub IsRead : {X : Type 0} → (Row → Result X WireFault) → (List Row) → Result (List X) ReadFault
+    → Type 0
 IsRead said rows (Ok xs) = each_of said rows ≡ Ok xs
-IsRead {X} said rows (Err fault) = fault ≢ NoMemory → (fault ≡ Unreadable) × ((xs : List X) → each_of said rows ≢ Ok xs)
+IsRead {X} said rows (Err fault) =
+    fault ≢ NoMemory → (fault ≡ Unreadable) × ((xs : List X) → each_of said rows ≢ Ok xs)
 
--- a fault that says that rows cannot be read is right: they say nothing
+-- a fault `Unreadable` is returned only if the rows decode to no value
 abbrev pub CannotSay : {X : Type 0} → (X → Type 0) → ReadFault → Type 0
 CannotSay {X} Said fault = fault ≡ Unreadable → (x : X) → ¬ Said x
 
 abbrev pub IsUnreadable : {X : Type 0} → Listing X → Trees → ReadFault → Type 0
 IsUnreadable listing db = CannotSay (Says listing db)
+
+-- a read returns a fault `Unreadable` only if no value has this relation to the tables
+abbrev pub FailsOnlyIfNone : {S X : Type 0} → Ghosts S → Result X ReadFault → (Trees → X → Type 0)
+    → (old new : Held S) → Type 0
+FailsOnlyIfNone g r Said old new =
+    HasCleanDisk (state g new) → IfErr r (CannotSay (Said (state g old).now.trees))

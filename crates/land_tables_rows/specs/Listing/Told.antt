@@ -1,12 +1,13 @@
--- What tables tell, where each row can be read.
+-- The decoded value of tables whose rows all decode.
 use Rattle.std.specs.Prelude.{List, [], map, Result, Ok, Err}
 use Rattle.land_tables_history.specs.declared.history.History.{History}
-use Rattle.land_tables_rows.specs.Listing.Reading.{Listing, mandates, members, mutations, namings, parcels, parties, roles, rrrs, sources, units}
+use Rattle.land_tables_rows.specs.Listing.Reading.{Listing, mandates, members, mutations, namings, parcels}
+use Rattle.land_tables_rows.specs.Listing.Reading.{parties, roles, rrrs, sources, units}
 use Rattle.land_tables_rows.specs.Reading.Readings.{each_of}
 use Rattle.land_wire_json.specs.declared.bodies.wire_fault.WireFault.{WireFault}
 use Rattle.sqlite_trees.specs.Tree.{Trees}
 
--- what all rows of a table say, where each of them can be read
+-- the values of all rows of the table if each decodes, else none
 abbrev pub or_nothing : {X : Type 0} → Result (List X) WireFault → List X
 or_nothing (Ok xs) = xs
 or_nothing (Err fault) = []
@@ -14,7 +15,7 @@ or_nothing (Err fault) = []
 abbrev pub told_by : {X : Type 0} → Listing X → Trees → List X
 told_by listing db = or_nothing (each_of listing.said (map listing.shown (db listing.table.tree)))
 
--- the history that the tables of the first version hold
+-- the history in tables of schema version 1
 abbrev pub first_history_in : Trees → History
 first_history_in db = record {
   parties = told_by parties db;
@@ -29,6 +30,6 @@ first_history_in db = record {
   mandates = [];
 }
 
--- the history that all tables hold
+-- the history in all tables
 abbrev pub history_in : Trees → History
 history_in db = record (first_history_in db) { mandates = told_by mandates db }

@@ -1,4 +1,4 @@
--- What a row of `mandate` says: principal, agent, since, until.
+-- Decodes a row of `mandate`: principal, agent, since, until.
 use Rattle.std.specs.Prelude.{Result, Ok}
 use Rattle.land_core.specs.declared.mandates.Mandate.{Mandate}
 use Rattle.land_tables_history.specs.declared.version.Version.{Version}

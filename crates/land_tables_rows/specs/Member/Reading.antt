@@ -1,4 +1,4 @@
--- What a row of `member` says (LA_PartyMember): the group, the party, its share in two columns, since, until.
+-- Decodes a row of `member` (LA_PartyMember): the group, the party, its share in two columns, since, until.
 use Rattle.std.specs.Prelude.{Result, Ok}
 use Rattle.land_tables_history.specs.declared.group_member.GroupMember.{GroupMember}
 use Rattle.land_tables_history.specs.declared.version.Version.{Version}
@@ -14,4 +14,8 @@ member_in row = do
   share ← share_in (column row 2) (column row 3)
   since ← moment_in (column row 4)
   until ← end_in (column row 5)
-  Ok (record { what = record { group = group; member = record { party = party; share = share } }; since = since; until = until })
+  Ok (record {
+    what = record { group = group; member = record { party = party; share = share } };
+    since = since;
+    until = until;
+  })

@@ -1,4 +1,5 @@
--- What a row of `moments` says: when the register was changed, and the number that the next new object takes from then on.
+-- Decodes a row of `moments`: when the register changed, and the number that the next new object takes after
+-- that.
 use Rattle.std.specs.Prelude.{Result, Ok}
 use Rattle.land_tables_history.specs.declared.moment.Moment.{Moment}
 use Rattle.land_tables_rows.specs.Reading.Cells.{moment_in, next_in}

@@ -1,4 +1,4 @@
--- Mutations as they are written.
+-- The cells in which mutations are written.
 use Rattle.std.specs.Prelude.{ℕ, ℤ, pos, ◌&&◌, Bool, true, int_le, List, Option, Some, None}
 use Rattle.std.specs.List.{list_all}
 use Rattle.std.specs.Str.{is_utf8}
@@ -15,7 +15,7 @@ use Rattle.land_tables_schema.specs.Rows.Mutation.{MutationRow}
 use Rattle.land_wire_json.specs.Bodies.Stored.{IsExactContent}
 use Rattle.land_wire_json.specs.Texts.Mutations.{content_text}
 
--- the word of its act, and what it asks for as that is written
+-- the word of its act, and its content as JSON
 abbrev pub mutation_row_of : ℕ × MutationRecord → MutationRow
 mutation_row_of e = record {
   number = e.0;
@@ -28,7 +28,7 @@ mutation_row_of e = record {
   state = state_word e.1.state;
 }
 
--- ---- the texts of what it asks for are in UTF-8
+-- ---- the strings of the content are in UTF-8
 
 abbrev pub is_new_name_kept : Option (List ℕ) → Bool
 is_new_name_kept None = true
@@ -46,16 +46,18 @@ is_content_kept (content.Discharge it) = true
 
 -- ---- limits
 
--- a moment in milliseconds since 1970 UTC
+-- a moment: Unix time in milliseconds
 abbrev pub is_moment : ℤ → Bool
 is_moment z = int_le (pos 0) z && int_le z (pos 4102444799999)
 
--- its numbers, its reference and what it asks for are within their limits, and it was lodged at a moment
+-- its numbers, its reference and its content are within their limits, and it was lodged at a moment
 abbrev pub fits_mutation : ℕ × MutationRecord → Bool
 fits_mutation e =
-    is_number e.0 && (is_number e.1.lodger && (is_kept is_reference e.1.reference && (is_number e.1.source && (is_moment e.1.lodged
+    is_number e.0
+    && (is_number e.1.lodger
+    && (is_kept is_reference e.1.reference && (is_number e.1.source && (is_moment e.1.lodged
     && (is_content_kept e.1.content && is_well_formed_content e.1.content)))))
 
--- the share of what it asks for is a fraction, and its outlines are outlines
+-- the share in its content is a fraction, and its outlines are valid rings
 abbrev pub IsExactMutation : MutationRecord → Type 0
 IsExactMutation mutation = IsExactContent mutation.content

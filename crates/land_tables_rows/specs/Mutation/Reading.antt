@@ -1,5 +1,5 @@
--- What a row of `mutation` says: number, lodger, reference, source, lodged, act, content, state, since, until. A content is read as the
--- body of its act.
+-- Decodes a row of `mutation`: number, lodger, reference, source, lodged, act, content, state, since, until.
+-- The content is read as the request body of the act.
 use Rattle.std.specs.Prelude.{ℕ, Result, Ok}
 use Rattle.land_core.specs.declared.mutation.MutationRecord.{MutationRecord}
 use Rattle.land_tables_history.specs.declared.version.Version.{Version}
@@ -24,7 +24,17 @@ mutation_in row = do
   since ← moment_in (column row 8)
   until ← end_in (column row 9)
   Ok (record {
-    what = (number, record { lodger = lodger; reference = reference; source = source; lodged = lodged; state = state; content = content });
+    what = (
+      number,
+      record {
+        lodger = lodger;
+        reference = reference;
+        source = source;
+        lodged = lodged;
+        state = state;
+        content = content;
+      },
+    );
     since = since;
     until = until;
   })

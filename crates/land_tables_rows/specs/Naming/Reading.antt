@@ -1,4 +1,4 @@
--- What a row of `names` says: the mutation, a unit that it names, since, until.
+-- Decodes a row of `names`: the mutation, a unit that it refers to, since, until.
 use Rattle.std.specs.Prelude.{Result, Ok}
 use Rattle.land_tables_history.specs.declared.naming.Naming.{Naming}
 use Rattle.land_tables_history.specs.declared.version.Version.{Version}

@@ -1,4 +1,4 @@
--- What the table `names` holds.
+-- Rows of the table `names`.
 use Rattle.std.specs.Prelude.{Bool, ◌&&◌}
 use Rattle.land_core.specs.Numbers.{is_number}
 use Rattle.land_tables_history.specs.declared.naming.Naming.{Naming}
@@ -6,10 +6,10 @@ use Rattle.land_tables_rows.specs.Naming.Reading.{naming_in}
 use Rattle.land_tables_rows.specs.Writing.Holding.{Reading}
 use Rattle.land_tables_schema.specs.Tables as table
 
--- which mutations name which units
+-- which mutations refer to which units
 abbrev pub namings : Reading Naming
 namings = record { table = table.names; width = 4; said = naming_in }
 
--- a naming can be written: the numbers of the mutation and of the unit are within their limits
+-- a link can be written if the numbers of the mutation and of the unit are within their limits
 abbrev pub fits_naming : Naming → Bool
 fits_naming naming = is_number naming.mutation && is_number naming.unit

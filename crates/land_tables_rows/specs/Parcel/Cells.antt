@@ -1,4 +1,4 @@
--- Parcels as they are written.
+-- The cells in which parcels are written.
 use Rattle.std.specs.Prelude.{ℕ, ◌&&◌, ◌<◌, ◌^◌, Bool, string_bytes}
 use Rattle.land_core.specs.Numbers.{is_number}
 use Rattle.land_core.specs.Texts.{is_label}
@@ -9,13 +9,27 @@ use Rattle.land_tables_rows.specs.Cells.Texts.{is_kept}
 use Rattle.land_tables_rows.specs.declared.parcel.cells.ParcelCells.{ParcelCells}
 use Rattle.land_tables_schema.specs.Rows.Parcel.{ParcelRow}
 
--- its outline as it is printed
+-- its outline in canonical form
 abbrev pub parcel_row_of : ℕ × ParcelRecord → ParcelRow
-parcel_row_of e = record { number = e.0; unit = e.1.unit; label = e.1.label; outline = printed e.1.outline; source = e.1.source }
+parcel_row_of e =
+    record {
+      number = e.0;
+      unit = e.1.unit;
+      label = e.1.label;
+      outline = printed e.1.outline;
+      source = e.1.source;
+    }
 
--- the parcel that the cells of a row say
+-- the parcel that the cells of a row represent
 abbrev pub parcel_of : ParcelCells → ParcelRow
-parcel_of c = record { number = c.number; unit = c.unit; label = c.label.now; outline = string_bytes c.outline; source = c.source }
+parcel_of c =
+    record {
+      number = c.number;
+      unit = c.unit;
+      label = c.label.now;
+      outline = string_bytes c.outline;
+      source = c.source;
+    }
 
 -- a column can hold each of its numbers
 pub record FitsParcel (c : ParcelCells) : Type 0 where
@@ -27,6 +41,6 @@ pub record FitsParcel (c : ParcelCells) : Type 0 where
 abbrev pub fits_parcel : ℕ × ParcelRecord → Bool
 fits_parcel e = is_number e.0 && (is_number e.1.unit && (is_kept is_label e.1.label && is_number e.1.source))
 
--- its outline is an outline
+-- its outline is a valid ring
 abbrev pub IsExactParcel : ParcelRecord → Type 0
 IsExactParcel parcel = IsOutline parcel.outline

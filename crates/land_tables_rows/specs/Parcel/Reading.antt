@@ -1,4 +1,5 @@
--- What a row of `parcel` says (LA_SpatialUnit): number, unit, label, outline, source, since, until. An outline is read in any spelling.
+-- Decodes a row of `parcel` (LA_SpatialUnit): number, unit, label, outline, source, since, until. The outline
+-- may be in any valid form.
 use Rattle.std.specs.Prelude.{ℕ, Result, Ok}
 use Rattle.land_core.specs.declared.parcel.ParcelRecord.{ParcelRecord}
 use Rattle.land_tables_history.specs.declared.version.Version.{Version}
@@ -18,4 +19,8 @@ parcel_in row = do
   source ← number_in (column row 4)
   since ← moment_in (column row 5)
   until ← end_in (column row 6)
-  Ok (record { what = (number, record { unit = unit; label = label; outline = outline; source = source }); since = since; until = until })
+  Ok (record {
+    what = (number, record { unit = unit; label = label; outline = outline; source = source });
+    since = since;
+    until = until;
+  })

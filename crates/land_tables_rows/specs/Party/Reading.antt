@@ -1,4 +1,4 @@
--- What a row of `party` says (LA_Party): number, name, kind, since, until.
+-- Decodes a row of `party` (LA_Party): number, name, kind, since, until.
 use Rattle.std.specs.Prelude.{ℕ, Result, Ok}
 use Rattle.land_core.specs.declared.party.PartyRecord.{PartyRecord}
 use Rattle.land_tables_history.specs.declared.version.Version.{Version}

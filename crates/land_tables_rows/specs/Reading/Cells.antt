@@ -1,6 +1,7 @@
--- What a cell of a row says: a value of its field, or the fault that the same field has in a request. What is NULL, or of another kind, is
--- fault 131.
-use Rattle.std.specs.Prelude.{ℕ, ℤ, pos, negsuc, ◌&&◌, ◌==◌, Bool, true, false, List, nat_le, int_le, Result, Ok, Err, if◌then◌else◌, ⊤}
+-- The value of a cell: a value of its field, or the fault of the same field in a request. NULL and values of
+-- another type are fault 131.
+use Rattle.std.specs.Prelude.{ℕ, ℤ, pos, negsuc, ◌&&◌, ◌==◌, Bool, true, false, List, nat_le, int_le, Result}
+use Rattle.std.specs.Prelude.{Ok, Err, if◌then◌else◌, ⊤}
 use Rattle.std.specs.Str.{is_utf8}
 use Rattle.land_core.specs.Contents.{is_amount, is_currency}
 use Rattle.land_core.specs.Numbers.{is_number}
@@ -15,7 +16,7 @@ use Rattle.land_wire_json.specs.declared.bodies.wire_fault.WireFault.TheVariants
 use Rattle.sqlite_value.specs.declared.value.Value.{Value}
 use Rattle.sqlite_value.specs.declared.value.Value.TheVariants.{Null, Int, Real, Text, Blob}
 
--- nothing
+-- NULL
 abbrev pub null_in : Value → Result ⊤ WireFault
 null_in Null = Ok tt
 null_in (Int z) = Err fault.Field
@@ -31,7 +32,7 @@ integer_in (Real x) = Err fault.Field
 integer_in (Text t) = Err fault.Field
 integer_in (Blob b) = Err fault.Field
 
--- a text, else fault 133 where its bytes are no UTF-8
+-- a string; fault 133 if its bytes are not UTF-8
 abbrev pub text_in : Value → Result (List ℕ) WireFault
 text_in Null = Err fault.Field
 text_in (Int z) = Err fault.Field
@@ -39,7 +40,7 @@ text_in (Real x) = Err fault.Field
 text_in (Text t) = if is_utf8 t then Ok t else Err fault.Text
 text_in (Blob b) = Err fault.Field
 
--- ---- numbers, out of range fault 132
+-- ---- numbers; fault 132 if out of range
 
 abbrev pub natural_of : ℤ → Result ℕ WireFault
 natural_of (pos n) = Ok n
@@ -66,14 +67,14 @@ next_in cell = natural_in cell >>= allowed is_next
 unfoldable pub amount_in : Value → Result ℕ WireFault
 amount_in cell = natural_in cell >>= allowed is_amount
 
--- whether something is so: 0 or 1
+-- a flag: 0 or 1
 abbrev pub flag_of : ℕ → Result Bool WireFault
 flag_of n = if n == 0 then Ok false else (if n == 1 then Ok true else Err fault.Number)
 
 unfoldable pub flag_in : Value → Result Bool WireFault
 flag_in cell = natural_in cell >>= flag_of
 
--- ---- moments, out of range fault 132
+-- ---- moments; fault 132 if out of range
 
 abbrev pub until_most : ℤ → ℤ → Result ℤ WireFault
 until_most most z = if int_le (pos 0) z && int_le z most then Ok z else Err fault.Number
@@ -81,20 +82,20 @@ until_most most z = if int_le (pos 0) z && int_le z most then Ok z else Err faul
 unfoldable pub moment_in : Value → Result ℤ WireFault
 moment_in cell = integer_in cell >>= until_most (pos 4102444799999)
 
--- the end of a lifespan: a moment, or one millisecond more than the last
+-- the end of a lifespan: a moment, or never, one millisecond after the last moment
 unfoldable pub end_in : Value → Result ℤ WireFault
 end_in cell = integer_in cell >>= until_most (pos 4102444800000)
 
 -- ---- shares
 
--- a share is read in lowest terms, however it stands; what makes no fraction is fault 101 to 103
+-- a share is decoded in lowest terms, in any representation; faults 101 to 103 if it is not a fraction
 unfoldable pub share_in : (numerator denominator : Value) → Result Ratio WireFault
 share_in numerator denominator = do
   n ← natural_in numerator
   d ← natural_in denominator
   share_answer (fraction_of (over n d))
 
--- ---- texts, of another length fault 133
+-- ---- strings; fault 133 if the length is out of range
 
 abbrev pub name_in : Value → Result (List ℕ) WireFault
 name_in cell = text_in cell >>= limited is_name

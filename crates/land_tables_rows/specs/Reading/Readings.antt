@@ -1,4 +1,4 @@
--- What all rows of a list say, each in its turn: the first fault, or all that was read.
+-- Decodes the rows of a list in order: the first fault, or all values.
 use Rattle.std.specs.Prelude.{List, [], ◌∷◌, Result, Ok}
 use Rattle.land_wire_json.specs.Bodies.WireFaults.{◌>>=◌}
 use Rattle.land_wire_json.specs.declared.bodies.wire_fault.WireFault.{WireFault}

@@ -1,4 +1,5 @@
--- The words of kinds, roles, classes and states, and the cells that hold them. Letter case counts; another word is fault 133, of a role 134.
+-- The words of kinds, roles, classes and states, and their cells. Words are case-sensitive; another word is
+-- fault 133, or 134 for a role.
 use Rattle.std.specs.Prelude.{ℕ, List, codes, bytes_eq, Result, Ok, Err, if◌then◌else◌}
 use Rattle.land_core.specs.declared.kind.PartyKind.{PartyKind}
 use Rattle.land_core.specs.declared.kind.PartyKind.TheVariants as kind

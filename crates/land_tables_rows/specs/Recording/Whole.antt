@@ -1,4 +1,4 @@
--- A change of the register as a whole: when it can be written, and what that makes of the tables.
+-- Whether a change can be written, and its effect on the tables.
 use Rattle.std.specs.FinMap as map
 use Rattle.std.specs.List.{list_all}
 use Rattle.std.specs.Prelude.{◌≡◌, ◌&&◌, ℕ, ℤ, Bool, List, ◌∷◌, map as map_list}
@@ -6,7 +6,8 @@ use Rattle.land_core.specs.Members.{Members, members_in}
 use Rattle.land_core.specs.Numbers.{is_number}
 use Rattle.land_core.specs.declared.change.Change.{Change}
 use Rattle.land_core.specs.declared.content.Content.{Content}
-use Rattle.land_tables_history.specs.Changed.{changed, changed_mandates, changed_members, changed_namings, changed_part, changed_roles}
+use Rattle.land_tables_history.specs.Changed.{changed, changed_mandates, changed_members, changed_namings}
+use Rattle.land_tables_history.specs.Changed.{changed_part, changed_roles}
 use Rattle.land_tables_history.specs.History.{named_units}
 use Rattle.land_tables_history.specs.declared.group_member.GroupMember.{GroupMember}
 use Rattle.land_tables_history.specs.declared.history.History.{History}
@@ -26,13 +27,13 @@ use Rattle.land_tables_rows.specs.Writing.History.{HoldsHistory}
 use Rattle.land_tables_rows.specs.declared.edition.reading.Edition.{Edition}
 use Rattle.sqlite.specs.Effect.{Database}
 
--- ---- what can be written
+-- ---- which changes can be written
 
--- of one kind: what is put can be written, and so can the keys of what ends
+-- of one kind: the inserted records and the keys of the ended ones can be written
 abbrev pub fits_kind : {X K : Type 0} → (X → Bool) → (K → Bool) → (put : List X) → (ended : List K) → Bool
 fits_kind fits fits_key put ended = list_all fits put && list_all fits_key ended
 
--- a group can be written: its number and those of its members are within their limits
+-- a group can be written if its number and those of its members are within their limits
 abbrev pub fits_group : ℕ × Members → Bool
 fits_group g = is_number g.0 && list_all (λ e. is_number e.0) (map.entries g.1)
 
@@ -51,38 +52,41 @@ fits_estates change =
     && (fits_kind fits_parcel is_number change.put.parcels change.ended.parcels
     && fits_kind fits_rrr is_number change.put.rrrs change.ended.rrrs)
 
--- sources and mutations; a mutation that can be written names units that can
+-- sources and mutations; a mutation that can be written refers only to units that can
 abbrev pub fits_papers : Change → Bool
 fits_papers change =
     fits_kind (λ e. fits_source e.0 e.1) is_number change.put.sources change.ended.sources
     && fits_kind fits_mutation is_number change.put.mutations change.ended.mutations
 
--- a change can be written: all that it puts, the keys of all that it ends, and the next number from then on
+-- a change can be written if its records, its ended keys and its next number can
 abbrev pub fits_change : Change → Bool
-fits_change change = fits_people change && (fits_estates change && (fits_papers change && is_next change.next))
+fits_change change =
+    fits_people change && (fits_estates change && (fits_papers change && is_next change.next))
 
 -- ---- lists
 
--- the members of one group, each with its number
+-- the members of one group, each with the group's number
 abbrev pub group_members : ℕ → Members → List GroupMember
 group_members group members = map_list (λ m. record { group = group; member = m }) (members_in members)
 
--- units that a mutation names, each with the mutation's number
+-- the units that a mutation refers to, each with the mutation's number
 abbrev pub names_of : (mutation : ℕ) → (units : List ℕ) → List Naming
 names_of mutation units = map_list (λ unit. record { mutation = mutation; unit = unit }) units
 
 abbrev pub mutation_names : (mutation : ℕ) → Content → List Naming
 mutation_names mutation content = names_of mutation (named_units content)
 
--- ---- what is made of the tables
+-- ---- the effect on the tables
 
--- the history that the tables hold becomes another; the moments, and the versions of the shapes, are as they were
+-- the tables hold the rewritten history; the moments and the edition are unchanged
 pub record Edits (edit : History → History) (old new : Database) : Type 0 where
   pub schema : new.schema ≡ old.schema
-  pub held : (moments : List Moment) (history : History) → HoldsHistory old.trees moments history → HoldsHistory new.trees moments (edit history)
-  pub editions : (editions : List Edition) → KeepsEditions old.trees editions → KeepsEditions new.trees editions
+  pub held : (moments : List Moment) (history : History) → HoldsHistory old.trees moments history
+      → HoldsHistory new.trees moments (edit history)
+  pub editions : (editions : List Edition) → KeepsEditions old.trees editions
+      → KeepsEditions new.trees editions
 
--- the parties, roles, members and mandates that a change puts and ends
+-- the parties, roles, members and mandates that a change inserts and ends
 abbrev pub changed_people : Change → (stamp : ℤ) → History → History
 changed_people change stamp h = record h {
   parties = changed_part change.put.parties change.ended.parties stamp h.parties;
@@ -91,7 +95,7 @@ changed_people change stamp h = record h {
   mandates = changed_mandates change.put.mandates change.ended.mandates stamp h.mandates;
 }
 
--- the units, parcels and entries that it puts and ends
+-- the units, parcels and entries that it inserts and ends
 abbrev pub changed_estates : Change → (stamp : ℤ) → History → History
 changed_estates change stamp h = record h {
   units = changed_part change.put.units change.ended.units stamp h.units;
@@ -99,7 +103,7 @@ changed_estates change stamp h = record h {
   rrrs = changed_part change.put.rrrs change.ended.rrrs stamp h.rrrs;
 }
 
--- the sources and mutations that it puts and ends, and the units that new mutations name
+-- the sources and mutations that it inserts and ends, and the units that new mutations refer to
 abbrev pub changed_papers : (next : ℕ) → Change → (stamp : ℤ) → History → History
 changed_papers next change stamp h = record h {
   sources = changed_part change.put.sources change.ended.sources stamp h.sources;
@@ -107,10 +111,12 @@ changed_papers next change stamp h = record h {
   namings = changed_namings next change.put.mutations stamp h.namings;
 }
 
--- A change is written, with its moment: the tables hold one moment more, with the next number from then on, and the history that the change
--- makes of the one that they held. The number that the next new object took before tells which mutations are new.
+-- A change is written with its moment: the tables hold one moment more, with the new next number, and the
+-- changed history. A mutation is new if its number is at least the next number from before the change.
 pub record Records (change : Change) (next : ℕ) (stamp : ℤ) (old new : Database) : Type 0 where
   pub schema : new.schema ≡ old.schema
   pub held : (moments : List Moment) (history : History) → HoldsHistory old.trees moments history
-      → HoldsHistory new.trees (record { stamp = stamp; next = change.next } ∷ moments) (changed next change stamp history)
-  pub editions : (editions : List Edition) → KeepsEditions old.trees editions → KeepsEditions new.trees editions
+      → HoldsHistory new.trees (record { stamp = stamp; next = change.next } ∷ moments)
+      (changed next change stamp history)
+  pub editions : (editions : List Edition) → KeepsEditions old.trees editions
+      → KeepsEditions new.trees editions

@@ -1,4 +1,4 @@
--- What a row of `role` says (LA_PartyRoleType): party, role, since, until.
+-- Decodes a row of `role` (LA_PartyRoleType): party, role, since, until.
 use Rattle.std.specs.Prelude.{Result, Ok}
 use Rattle.land_core.specs.declared.roles.Grant.{Grant}
 use Rattle.land_tables_history.specs.declared.version.Version.{Version}

@@ -1,4 +1,4 @@
--- What the table `role` holds.
+-- Rows of the table `role`.
 use Rattle.std.specs.Prelude.{Bool}
 use Rattle.land_core.specs.Numbers.{is_number}
 use Rattle.land_core.specs.declared.roles.Grant.{Grant}
@@ -6,10 +6,10 @@ use Rattle.land_tables_rows.specs.Role.Reading.{grant_in}
 use Rattle.land_tables_rows.specs.Writing.Holding.{Reading}
 use Rattle.land_tables_schema.specs.Tables as table
 
--- which party holds which role
+-- the roles of each party
 abbrev pub roles : Reading Grant
 roles = record { table = table.role; width = 4; said = grant_in }
 
--- a grant can be written: the number of its party is within its limits
+-- a grant can be written if the number of its party is within its limits
 abbrev pub fits_grant : Grant → Bool
 fits_grant grant = is_number grant.party

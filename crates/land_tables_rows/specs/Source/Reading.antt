@@ -1,4 +1,4 @@
--- What a row of `source` says (LA_Source): number, kind, title, since, until.
+-- Decodes a row of `source` (LA_Source): number, kind, title, since, until.
 use Rattle.std.specs.Prelude.{ℕ, Result, Ok}
 use Rattle.land_core.specs.declared.source.SourceRecord.{SourceRecord}
 use Rattle.land_tables_history.specs.declared.version.Version.{Version}

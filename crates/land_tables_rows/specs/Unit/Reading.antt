@@ -1,4 +1,4 @@
--- What a row of `unit` says (LA_BAUnit): number, name, checked, since, until.
+-- Decodes a row of `unit` (LA_BAUnit): number, name, checked, since, until.
 use Rattle.std.specs.Prelude.{ℕ, Result, Ok}
 use Rattle.land_core.specs.declared.unit.UnitRecord.{UnitRecord}
 use Rattle.land_tables_history.specs.declared.version.Version.{Version}

@@ -1,4 +1,4 @@
--- What the table `unit` holds.
+-- Rows of the table `unit`.
 use Rattle.std.specs.Prelude.{ℕ, Bool, ◌&&◌}
 use Rattle.land_core.specs.Numbers.{is_number}
 use Rattle.land_core.specs.Texts.{is_name}
@@ -7,10 +7,10 @@ use Rattle.land_tables_rows.specs.Unit.Reading.{unit_in}
 use Rattle.land_tables_rows.specs.Writing.Holding.{Reading}
 use Rattle.land_tables_schema.specs.Tables as table
 
--- units under their numbers
+-- units by number
 abbrev pub units : Reading (ℕ × UnitRecord)
 units = record { table = table.unit; width = 5; said = unit_in }
 
--- a unit can be written: its number and its name are within their limits
+-- a unit can be written if its number and its name are within their limits
 abbrev pub fits_unit : ℕ → UnitRecord → Bool
 fits_unit number u = is_number number && is_name u.name

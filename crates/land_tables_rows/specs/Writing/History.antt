@@ -1,4 +1,4 @@
--- All that the tables hold, by what their rows say.
+-- The content of all tables, by the decoded rows.
 use Rattle.std.specs.Prelude.{◌≡◌, List, []}
 use Rattle.land_tables_history.specs.declared.history.History.{History}
 use Rattle.land_tables_history.specs.declared.moment.Moment.{Moment}
@@ -16,7 +16,7 @@ use Rattle.land_tables_rows.specs.Unit.Writing.{units}
 use Rattle.land_tables_rows.specs.Writing.Holding.{Keeps}
 use Rattle.sqlite_trees.specs.Tree.{Trees}
 
--- the tables hold these moments and the versions of this history, and nothing else
+-- the tables hold exactly these moments and the versions of this history
 pub record HoldsHistory (db : Trees) (moments : List Moment) (history : History) : Type 0 where
   pub the_moments : KeepsMoments db moments
   pub the_parties : Keeps parties db history.parties
@@ -30,7 +30,8 @@ pub record HoldsHistory (db : Trees) (moments : List Moment) (history : History)
   pub the_namings : Keeps namings db history.namings
   pub the_mandates : Keeps mandates db history.mandates
 
--- the tables of the first version hold these moments and the versions of this history, in which there are no mandates, and nothing else
+-- the tables of schema version 1 hold exactly these moments and the versions of this history, which has no
+-- mandates
 pub record HoldsFirst (db : Trees) (moments : List Moment) (history : History) : Type 0 where
   pub the_moments : KeepsMoments db moments
   pub the_parties : Keeps parties db history.parties

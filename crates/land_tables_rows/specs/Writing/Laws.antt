@@ -1,4 +1,4 @@
--- Laws of what the tables hold, each over the definitions alone.
+-- Laws of the tables' content, each over the definitions only.
 use Rattle.std.specs.Prelude.{List, [], ◌∷◌}
 use Rattle.land_tables_history.specs.declared.history.History.{History}
 use Rattle.land_tables_history.specs.declared.moment.Moment.{Moment}
@@ -25,15 +25,19 @@ use Rattle.land_tables_schema.specs.Tables as table
 use Rattle.sqlite.specs.Effect.{Database}
 use Rattle.sqlite_trees.specs.Tree.{Trees}
 
--- where one table holds other versions, and all others are as they were, the history is the one with these versions
+-- if one table is rewritten and the others are unchanged, the tables hold the history with the new versions
+-- of that table
 abbrev pub HoldsWith : {X : Type 0} → Reading X → (List (Version X) → History → History) → Type 0
-HoldsWith {X} reading with = (old new : Trees) (moments : List Moment) (history : History) (versions : List (Version X))
-    → HoldsHistory old moments history → KeepsOthers reading.table old new → Keeps reading new versions → HoldsHistory new moments (with versions history)
+HoldsWith {X} reading with =
+    (old new : Trees) (moments : List Moment) (history : History) (versions : List (Version X))
+    → HoldsHistory old moments history → KeepsOthers reading.table old new → Keeps reading new versions
+    → HoldsHistory new moments (with versions history)
 
--- so it is of each table; and where other moments are kept, the history is as it was
+-- this holds for each table; if only moments are written, the history is unchanged
 pub record ChangesAreHeld : Type 0 where
   pub moments : (old new : Trees) (moments others : List Moment) (history : History)
-      → HoldsHistory old moments history → KeepsOthers table.moments old new → KeepsMoments new others → HoldsHistory new others history
+      → HoldsHistory old moments history → KeepsOthers table.moments old new → KeepsMoments new others
+      → HoldsHistory new others history
   pub parties : HoldsWith party.parties (λ vs h. record h { parties = vs })
   pub roles : HoldsWith role.roles (λ vs h. record h { roles = vs })
   pub members : HoldsWith member.members (λ vs h. record h { members = vs })
@@ -45,7 +49,7 @@ pub record ChangesAreHeld : Type 0 where
   pub namings : HoldsWith naming.namings (λ vs h. record h { namings = vs })
   pub mandates : HoldsWith mandate.mandates (λ vs h. record h { mandates = vs })
 
--- the rows of a new register are those of its history, and tell the present edition
+-- the rows of a new register decode to its history and to edition 2
 pub record NewRowsAreRead (db : Trees) : Type 0 where
   pub history : HoldsHistory db new_moments new_history
   pub editions : KeepsEditions db (current_edition ∷ [])
@@ -53,12 +57,13 @@ pub record NewRowsAreRead (db : Trees) : Type 0 where
 abbrev pub NewRegistersAreHeld : Type 0
 NewRegistersAreHeld = (db : Trees) → HoldsRows db new_rows → NewRowsAreRead db
 
--- tables of the second version hold what those of the first did, and tell the present edition
+-- the migrated tables hold the same history and edition 2
 pub record RaisedAreRead (db : Trees) (moments : List Moment) (held : History) : Type 0 where
   pub history : HoldsHistory db moments held
   pub editions : KeepsEditions db (current_edition ∷ [])
 
--- so it is where those of the first version become those of the second
+-- migrating tables of schema version 1 preserves their history
 abbrev pub RaisedRegistersAreHeld : Type 0
 RaisedRegistersAreHeld = (old new : Database) (moments : List Moment) (history : History)
-    → Raises old new → HoldsFirst old.trees moments history → KeepsEditions old.trees (first_edition ∷ []) → RaisedAreRead new.trees moments history
+    → Raises old new → HoldsFirst old.trees moments history → KeepsEditions old.trees (first_edition ∷ [])
+    → RaisedAreRead new.trees moments history

@@ -1,4 +1,4 @@
--- What a new register holds.
+-- The content of a new register.
 use Rattle.std.specs.Prelude.{pos, codes, List, [], ◌∷◌}
 use Rattle.land_core.specs.Grants.{grant_of}
 use Rattle.land_core.specs.declared.kind.PartyKind.TheVariants.{NonNaturalPerson}
@@ -7,11 +7,11 @@ use Rattle.land_tables_history.specs.Changed.{begun}
 use Rattle.land_tables_history.specs.declared.history.History.{History}
 use Rattle.land_tables_history.specs.declared.moment.Moment.{Moment}
 
--- it was changed at the first moment, and 2 is the next number
+-- it changed once, at moment 0, and the next number is 2
 abbrev pub new_moments : List Moment
 new_moments = record { stamp = pos 0; next = 2 } ∷ []
 
--- party 1, the land office itself, is state administrator from that moment on
+-- party 1, the Land Office, is state administrator from that moment on
 abbrev pub new_history : History
 new_history = record {
   parties = begun (1, record { kind = NonNaturalPerson; name = codes "Land Office" }) (pos 0) ∷ [];

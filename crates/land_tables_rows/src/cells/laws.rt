@@ -1,12 +1,13 @@
-//! Laws, each stated over the definitions alone.
-ghost use Rattle.land_tables_rows.specs.Cells.Laws.{MutationsAreTold, MutationsReadBack, ParcelsAreTold, ParcelsReadBack, RrrsAreTold, RrrsReadBack, WordsAreRead};
+//! Laws, each over the definitions only.
+ghost use Rattle.land_tables_rows.specs.Cells.Laws.{MutationsAreTold, MutationsReadBack, ParcelsAreTold};
+ghost use Rattle.land_tables_rows.specs.Cells.Laws.{ParcelsReadBack, RrrsAreTold, RrrsReadBack, WordsAreRead};
 
-/// The words of kinds, roles and states are read as what they stand for.
+/// States that the words of kinds, roles and states decode to their values.
 pub fn words_are_read()
     ensures { WordsAreRead }
 {}
 
-/// A parcel that fits is read from its cells.
+/// States that a parcel within its limits decodes from its cells.
 pub fn parcels_read_back()
     ensures { ParcelsReadBack }
 {
@@ -16,31 +17,35 @@ pub fn parcels_read_back()
     land_shape::laws::one_answer();
 }
 
-/// What is read of parcels was written as their cells, and closing does to it what it does to the row.
+/// States that decoded parcels were written as their cells, and that closing changes the value as it changes
+/// the row.
 pub fn parcels_are_told()
     ensures { ParcelsAreTold }
 {}
 
-/// An entry that fits is read from its cells: a right, a restriction, a responsibility or a mortgage.
+/// States that an entry within its limits decodes from its cells: a right, a restriction, a responsibility or
+/// a mortgage.
 pub fn rrrs_read_back()
     ensures { RrrsReadBack }
 {
     land_fraction::laws::fractions_stay();
 }
 
-/// What is read of entries was written as their cells, and closing does to it what it does to the row.
+/// States that decoded entries were written as their cells, and that closing changes the value as it changes
+/// the row.
 pub fn rrrs_are_told()
     ensures { RrrsAreTold }
 {}
 
-/// A mutation that fits is read from its cells.
+/// States that a mutation within its limits decodes from its cells.
 pub fn mutations_read_back()
     ensures { MutationsReadBack }
 {
     land_wire_json::bodies::laws::contents_are_read();
 }
 
-/// What is read of mutations was written as their cells, and closing does to it what it does to the row.
+/// States that decoded mutations were written as their cells, and that closing changes the value as it
+/// changes the row.
 pub fn mutations_are_told()
     ensures { MutationsAreTold }
 {}

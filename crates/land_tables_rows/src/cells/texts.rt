@@ -1,4 +1,4 @@
-//! Texts that a cell can hold. A text is in UTF-8 by its type.
+//! Strings that a cell can hold. A string is in UTF-8 by its type.
 ghost use Rattle.std.specs.Prelude.{◌≡◌, true};
 ghost use Rattle.std.specs.Str.{is_utf8};
 ghost use Rattle.land_core.specs.Contents.{is_currency};
@@ -8,7 +8,7 @@ ghost use Rattle.land_tables_rows.specs.Cells.Texts.{is_kept};
 use land_core::text::Text;
 use land_core::{content, limits};
 
-/// Whether it may be the label of a parcel.
+/// Whether a string is a valid label of a parcel.
 pub fn is_label(text: &Text) -> bool
     ensures { result ≡ is_kept is_label text.now }
 {
@@ -16,7 +16,7 @@ pub fn is_label(text: &Text) -> bool
     limits::is_label(text.as_str())
 }
 
-/// Whether they may be the words of a restriction or a responsibility.
+/// Whether strings are valid words of a restriction or a responsibility.
 pub fn are_words(text: &Text) -> bool
     ensures { result ≡ is_kept are_words text.now }
 {
@@ -24,7 +24,7 @@ pub fn are_words(text: &Text) -> bool
     limits::are_words(text.as_str())
 }
 
-/// Whether a lodger may call a mutation so.
+/// Whether a string is a valid reference of a mutation.
 pub fn is_reference(text: &Text) -> bool
     ensures { result ≡ is_kept is_reference text.now }
 {
@@ -32,7 +32,7 @@ pub fn is_reference(text: &Text) -> bool
     limits::is_reference(text.as_str())
 }
 
-/// Whether it is a currency.
+/// Whether a string is a valid currency.
 pub fn is_currency(text: &Text) -> bool
     ensures { result ≡ is_kept is_currency text.now }
 {
@@ -40,7 +40,7 @@ pub fn is_currency(text: &Text) -> bool
     content::is_currency(text.as_str())
 }
 
-/// A text is in UTF-8. It changes nothing, and is called where that is to be known.
+/// Proves that a string is in UTF-8. Does nothing at run time.
 pub fn is_in_utf8(text: &Text)
     ensures { is_utf8 text.now ≡ true }
 {

@@ -7,16 +7,16 @@ use land_wire_json::bodies::wire_fault::WireFault;
 use sqlite::Row;
 use std::alloc::Global;
 
-/// By which version of their shapes the tables were made.
+/// The schema version of the tables.
 #[derive(Clone, Copy, Debug, PartialEq, Eq)]
 pub struct Edition {
-    /// The id of the row: 1, where it is the one row.
+    /// The id of the row: 1, if it is the only row.
     pub id: u64,
     /// The version, counted from 1.
     pub version: u64,
 }
 
-/// What a row of `edition` says: id, version.
+/// Decodes a row of `edition`: id, version.
 impl FromRow for Edition {
     ghost said = { edition_in };
 

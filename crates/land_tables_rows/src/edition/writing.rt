@@ -1,19 +1,16 @@
 //! The edition of the tables.
-ghost use Rattle.std.specs.Prelude.{◌≡◌};
 ghost use Rattle.land_tables_rows.specs.Edition.Writing.{AddsEdition, current_edition};
-ghost use Rattle.land_tables_schema.specs.Land.{IsLand};
-ghost use Rattle.land_tables_schema.specs.Steps.{IsStep};
-ghost use Rattle.sqlite.specs.Held.{state};
-ghost use Rattle.sqlite.specs.State.{HasCleanDisk};
+ghost use Rattle.land_tables_rows.specs.Effects.{Performs};
+ghost use Rattle.land_tables_schema.specs.Connections.{HasRegisterTables, SameReference};
 
 use land_tables_schema::rows::tables as rows;
 use sqlite::{Alter, Error, Transaction};
 
-/// Puts in that the tables are of the second version.
+/// Inserts edition 2.
 pub fn insert<S: Alter>(tx: &mut Transaction<'_, S>) -> Result<usize, Error>
-    requires { HasCleanDisk (state S.Store tx.old.conn.now) → IsLand (state S.Store tx.old.conn.now).now.schema }
-    ensures same_reference { tx.new.conn.ghost_name ≡ tx.old.conn.ghost_name }
-    ensures step { IsStep result (AddsEdition current_edition) (state S.Store tx.old.conn.now) (state S.Store tx.new.conn.now) }
+    requires { HasRegisterTables S.Store tx.old.conn.now }
+    ensures same_reference { SameReference tx.old tx.new }
+    ensures step { Performs S.Store result (AddsEdition current_edition) tx.old tx.new }
 {
     rows::edition::insert(tx)
 }

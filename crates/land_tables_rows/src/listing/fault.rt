@@ -1,18 +1,18 @@
-//! Why rows were not read.
+//! Errors of reading rows.
 ghost use Rattle.std.specs.Prelude.{◌≡◌};
 
 use land_wire_json::bodies::wire_fault::WireFault;
 use sqlite::{Error, ErrorCode};
 use std::alloc::AllocError;
 
-/// Why rows were not read. The store is as it was, or shut.
+/// Why rows were not read. The store is then unchanged, or closed.
 #[derive(Clone, Copy, Debug, PartialEq, Eq)]
 pub enum ReadFault {
-    /// A value cannot be read as its field.
+    /// A value is not a valid value of its field.
     Unreadable,
-    /// There was no memory.
+    /// Out of memory.
     NoMemory,
-    /// A call of the store failed for another cause.
+    /// Another error of the store.
     Store,
 }
 
@@ -26,7 +26,7 @@ impl From<AllocError> for ReadFault {
     }
 }
 
-/// A failed call of the store: want of memory, or another cause.
+/// Converts an error of the store: out of memory, or another cause.
 impl From<Error> for ReadFault {
     ghost use Rattle.land_tables_rows.specs.Listing.Faults.{of_error};
 
@@ -40,7 +40,7 @@ impl From<Error> for ReadFault {
     }
 }
 
-/// A value that cannot be read: want of memory, or a value that is none of its field.
+/// Converts the fault of a value: out of memory, or not a valid value of its field.
 impl From<WireFault> for ReadFault {
     ghost use Rattle.land_tables_rows.specs.Listing.Faults.{of_wire};
 

@@ -1,11 +1,8 @@
-//! All versions that the tables hold.
-ghost use Rattle.std.specs.Prelude.{◌≡◌, false, IfErr};
+//! Reads all versions in the tables.
+ghost use Rattle.land_tables_rows.specs.Effects.{ReadsTables};
 ghost use Rattle.land_tables_rows.specs.Listing.Groups.{SaysHoldings, SaysPapers, SaysPersons};
-ghost use Rattle.land_tables_rows.specs.Listing.Reading.{CannotSay, SaysFirst, SaysHistory};
-ghost use Rattle.land_tables_schema.specs.Land.{HasFirstTables, IsLand};
-ghost use Rattle.land_tables_schema.specs.Rows.Looks.{IsLook};
-ghost use Rattle.sqlite.specs.Held.{state};
-ghost use Rattle.sqlite.specs.State.{HasCleanDisk};
+ghost use Rattle.land_tables_rows.specs.Listing.Reading.{FailsOnlyIfNone, SaysFirst, SaysHistory};
+ghost use Rattle.land_tables_schema.specs.Connections.{HasRegisterTables, HasV1Tables, LeavesAutocommit};
 
 use crate::listing::fault::ReadFault;
 use crate::listing::reading::read_table;
@@ -24,7 +21,7 @@ use land_tables_history::version::Version;
 use sqlite::{Alter, Connection};
 use std::alloc::Global;
 
-/// Versions of who there is.
+/// Versions of parties, roles and members.
 #[derive(Debug, Drop)]
 struct Persons {
     parties: Sequence<Version<(u64, PartyRecord)>>,
@@ -32,7 +29,7 @@ struct Persons {
     members: Sequence<Version<GroupMember>>,
 }
 
-/// Versions of what is held.
+/// Versions of units, parcels and entries.
 #[derive(Debug, Drop)]
 struct Holdings {
     units: Sequence<Version<(u64, UnitRecord)>>,
@@ -40,7 +37,7 @@ struct Holdings {
     rrrs: Sequence<Version<(u64, RrrRecord)>>,
 }
 
-/// Versions of what was handed in.
+/// Versions of sources, of mutations, and of their links to units.
 #[derive(Debug, Drop)]
 struct Papers {
     sources: Sequence<Version<(u64, SourceRecord)>>,
@@ -49,10 +46,10 @@ struct Papers {
 }
 
 fn all_persons<S: Alter>(alloc: Global, conn: &mut Connection<S>) -> Result<Persons, ReadFault>
-    requires { HasCleanDisk (state S.Store conn.old) → HasFirstTables (state S.Store conn.old).now.schema }
-    ensures look { IsLook result (λ it. SaysPersons (state S.Store conn.old).now.trees it) (state S.Store conn.old) (state S.Store conn.new) }
-    ensures unreadable { HasCleanDisk (state S.Store conn.new) → IfErr result (CannotSay (SaysPersons (state S.Store conn.old).now.trees)) }
-    ensures mode { conn.old.in_transaction ≡ false → conn.new.in_transaction ≡ false }
+    requires { HasV1Tables S.Store conn.old }
+    ensures look { ReadsTables S.Store result SaysPersons conn.old conn.new }
+    ensures unreadable { FailsOnlyIfNone S.Store result SaysPersons conn.old conn.new }
+    ensures mode { LeavesAutocommit conn.old conn.new }
 {
     let parties = read_table(alloc, conn)?;
     let roles = read_table(alloc, conn)?;
@@ -65,10 +62,10 @@ fn all_persons<S: Alter>(alloc: Global, conn: &mut Connection<S>) -> Result<Pers
 }
 
 fn all_holdings<S: Alter>(alloc: Global, conn: &mut Connection<S>) -> Result<Holdings, ReadFault>
-    requires { HasCleanDisk (state S.Store conn.old) → HasFirstTables (state S.Store conn.old).now.schema }
-    ensures look { IsLook result (λ it. SaysHoldings (state S.Store conn.old).now.trees it) (state S.Store conn.old) (state S.Store conn.new) }
-    ensures unreadable { HasCleanDisk (state S.Store conn.new) → IfErr result (CannotSay (SaysHoldings (state S.Store conn.old).now.trees)) }
-    ensures mode { conn.old.in_transaction ≡ false → conn.new.in_transaction ≡ false }
+    requires { HasV1Tables S.Store conn.old }
+    ensures look { ReadsTables S.Store result SaysHoldings conn.old conn.new }
+    ensures unreadable { FailsOnlyIfNone S.Store result SaysHoldings conn.old conn.new }
+    ensures mode { LeavesAutocommit conn.old conn.new }
 {
     let units = read_table(alloc, conn)?;
     let parcels = read_table(alloc, conn)?;
@@ -81,10 +78,10 @@ fn all_holdings<S: Alter>(alloc: Global, conn: &mut Connection<S>) -> Result<Hol
 }
 
 fn all_papers<S: Alter>(alloc: Global, conn: &mut Connection<S>) -> Result<Papers, ReadFault>
-    requires { HasCleanDisk (state S.Store conn.old) → HasFirstTables (state S.Store conn.old).now.schema }
-    ensures look { IsLook result (λ it. SaysPapers (state S.Store conn.old).now.trees it) (state S.Store conn.old) (state S.Store conn.new) }
-    ensures unreadable { HasCleanDisk (state S.Store conn.new) → IfErr result (CannotSay (SaysPapers (state S.Store conn.old).now.trees)) }
-    ensures mode { conn.old.in_transaction ≡ false → conn.new.in_transaction ≡ false }
+    requires { HasV1Tables S.Store conn.old }
+    ensures look { ReadsTables S.Store result SaysPapers conn.old conn.new }
+    ensures unreadable { FailsOnlyIfNone S.Store result SaysPapers conn.old conn.new }
+    ensures mode { LeavesAutocommit conn.old conn.new }
 {
     let sources = read_table(alloc, conn)?;
     let mutations = read_table(alloc, conn)?;
@@ -96,16 +93,16 @@ fn all_papers<S: Alter>(alloc: Global, conn: &mut Connection<S>) -> Result<Paper
     })
 }
 
-/// All versions that the tables of the first version hold, of each kind in whatever order, and no mandates. 520: a value cannot be read as its
-/// field. 501, 502: as for each look.
+/// Reads all versions in the tables of schema version 1, of each kind in unspecified order, without mandates.
+/// Errors: `Unreadable` (520) if a value is not a valid value of its field; `NoMemory` (501); `Store` (502).
 pub fn first_history<S: Alter>(
     alloc: Global,
     conn: &mut Connection<S>,
 ) -> Result<History, ReadFault>
-    requires { HasCleanDisk (state S.Store conn.old) → HasFirstTables (state S.Store conn.old).now.schema }
-    ensures look { IsLook result (λ it. SaysFirst (state S.Store conn.old).now.trees it) (state S.Store conn.old) (state S.Store conn.new) }
-    ensures unreadable { HasCleanDisk (state S.Store conn.new) → IfErr result (CannotSay (SaysFirst (state S.Store conn.old).now.trees)) }
-    ensures mode { conn.old.in_transaction ≡ false → conn.new.in_transaction ≡ false }
+    requires { HasV1Tables S.Store conn.old }
+    ensures look { ReadsTables S.Store result SaysFirst conn.old conn.new }
+    ensures unreadable { FailsOnlyIfNone S.Store result SaysFirst conn.old conn.new }
+    ensures mode { LeavesAutocommit conn.old conn.new }
 {
     let persons = all_persons(alloc, conn)?;
     let holdings = all_holdings(alloc, conn)?;
@@ -124,12 +121,13 @@ pub fn first_history<S: Alter>(
     })
 }
 
-/// All versions, of each kind in whatever order. 520: a value cannot be read as its field. 501, 502: as for each look.
+/// Reads all versions, of each kind in unspecified order. Errors: `Unreadable` (520) if a value is not a
+/// valid value of its field; `NoMemory` (501); `Store` (502).
 pub fn history<S: Alter>(alloc: Global, conn: &mut Connection<S>) -> Result<History, ReadFault>
-    requires { HasCleanDisk (state S.Store conn.old) → IsLand (state S.Store conn.old).now.schema }
-    ensures look { IsLook result (λ it. SaysHistory (state S.Store conn.old).now.trees it) (state S.Store conn.old) (state S.Store conn.new) }
-    ensures unreadable { HasCleanDisk (state S.Store conn.new) → IfErr result (CannotSay (SaysHistory (state S.Store conn.old).now.trees)) }
-    ensures mode { conn.old.in_transaction ≡ false → conn.new.in_transaction ≡ false }
+    requires { HasRegisterTables S.Store conn.old }
+    ensures look { ReadsTables S.Store result SaysHistory conn.old conn.new }
+    ensures unreadable { FailsOnlyIfNone S.Store result SaysHistory conn.old conn.new }
+    ensures mode { LeavesAutocommit conn.old conn.new }
 {
     let mut history = first_history(alloc, conn)?;
     let mandates = read_table(alloc, conn)?;

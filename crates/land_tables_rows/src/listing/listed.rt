@@ -1,7 +1,8 @@
-//! What the rows of a table are read as.
-ghost use Rattle.std.specs.Prelude.{◌≡◌, false};
+//! Records that the rows of a table decode to.
+ghost use Rattle.std.specs.Prelude.{◌≡◌};
+ghost use Rattle.land_tables_rows.specs.Effects.{ReadsTables};
 ghost use Rattle.land_tables_rows.specs.Listing.Reading.{AreListed, Listing};
-ghost use Rattle.land_tables_schema.specs.Rows.Looks.{IsLook};
+ghost use Rattle.land_tables_schema.specs.Connections.{LeavesAutocommit};
 ghost use Rattle.sqlite.specs.Held.{state};
 ghost use Rattle.sqlite.specs.State.{HasCleanDisk};
 ghost use Rattle.sqlite_schema.specs.declared.schema.Schema.{Schema};
@@ -9,20 +10,21 @@ ghost use Rattle.sqlite_schema.specs.declared.schema.Schema.{Schema};
 use crate::reading::from_row::FromRow;
 use sqlite::{Alter, Connection, Error, Row};
 
-/// What each row of a table says.
+/// A record that is read from the rows of one table.
 pub trait Listed: FromRow {
-    /// How it is read from the rows of the table.
+    /// How the record is decoded from the rows of the table.
     ghost listing: { Listing Self };
 
-    /// Which schemas have the table.
+    /// The schemas that contain the table.
     ghost has: { Schema → Type 0 };
 
-    /// All rows of the table, each as the cells that are read, in whatever order.
+    /// Reads all rows of the table, in unspecified order.
     fn all<S: Alter>(conn: &mut Connection<S>) -> Result<Vec<Row>, Error>
         requires { HasCleanDisk (state S.Store conn.old) → has (state S.Store conn.old).now.schema }
-        ensures look { IsLook result (λ rows. AreListed listing (state S.Store conn.old).now.trees rows.items) (state S.Store conn.old) (state S.Store conn.new) }
-        ensures mode { conn.old.in_transaction ≡ false → conn.new.in_transaction ≡ false };
+        ensures look { ReadsTables S.Store result
+            (λ db rows. AreListed listing db rows.items) conn.old conn.new }
+        ensures mode { LeavesAutocommit conn.old conn.new };
 
-    /// What these cells say is what is read of them.
+    /// The row decodes as `FromRow` decodes it.
     ghost says: { listing.said ≡ Self.said };
 }

@@ -1,4 +1,4 @@
-//! Which table each thing is read from.
+//! The table of each kind of record.
 ghost use Rattle.std.specs.Prelude.{refl};
 ghost use Rattle.land_tables_rows.specs.Listing.Reading as listing;
 ghost use Rattle.land_tables_schema.specs.Land.{HasFirstTables, IsLand};

@@ -1,4 +1,4 @@
-//! The mandates that parties have given.
+//! Mandates that parties have given.
 ghost use Rattle.land_tables_rows.specs.Mandate.Reading.{mandate_in};
 
 use crate::reading::cells::{end_at, moment_at, number_at};
@@ -9,7 +9,7 @@ use land_wire_json::bodies::wire_fault::WireFault;
 use sqlite::Row;
 use std::alloc::Global;
 
-/// The version that a row of `mandate` says: principal, agent, since, until.
+/// Decodes a row of `mandate`: principal, agent, since, until.
 impl FromRow for Version<Mandate> {
     ghost said = { mandate_in };
 

@@ -1,4 +1,4 @@
-//! The mandates that parties have given.
+//! Mandates that parties have given.
 ghost use Rattle.std.specs.Prelude.{◌≡◌, IsTrue};
 ghost use Rattle.land_core.specs.declared.mandates.Mandate.{Mandate};
 ghost use Rattle.land_tables_history.specs.Intervals.{is_same_mandate};

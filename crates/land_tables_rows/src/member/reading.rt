@@ -1,4 +1,4 @@
-//! The members of groups (LA_PartyMember).
+//! Members of groups (LA_PartyMember).
 ghost use Rattle.land_tables_rows.specs.Member.Reading.{member_in};
 
 use crate::reading::cells::{end_at, moment_at, number_at, share_at};
@@ -10,7 +10,7 @@ use land_wire_json::bodies::wire_fault::WireFault;
 use sqlite::Row;
 use std::alloc::Global;
 
-/// The version that a row of `member` says: group, party, numerator and denominator of its share, since, until.
+/// Decodes a row of `member`: group, party, numerator and denominator of its share, since, until.
 impl FromRow for Version<GroupMember> {
     ghost said = { member_in };
 

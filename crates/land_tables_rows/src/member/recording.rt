@@ -1,4 +1,4 @@
-//! The members of groups (LA_PartyMember).
+//! Members of groups (LA_PartyMember).
 ghost use Rattle.std.specs.Prelude.{◌≡◌, ℕ, nat_eq, IsTrue};
 ghost use Rattle.land_core.specs.Numbers.{is_number};
 ghost use Rattle.land_tables_history.specs.declared.group_member.GroupMember.{GroupMember};

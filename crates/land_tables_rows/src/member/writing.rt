@@ -1,11 +1,9 @@
-//! The members of groups (LA_PartyMember).
+//! Members of groups (LA_PartyMember).
 ghost use Rattle.std.specs.Prelude.{◌≡◌, ◌<◌, ◌^◌, IsTrue, nat_eq};
+ghost use Rattle.land_tables_rows.specs.Effects.{Performs};
 ghost use Rattle.land_tables_rows.specs.Member.Writing.{fits_member, members};
 ghost use Rattle.land_tables_rows.specs.Writing.Holding.{Begins, Closes, IsMoment};
-ghost use Rattle.land_tables_schema.specs.Land.{IsLand};
-ghost use Rattle.land_tables_schema.specs.Steps.{IsStep};
-ghost use Rattle.sqlite.specs.Held.{state};
-ghost use Rattle.sqlite.specs.State.{HasCleanDisk};
+ghost use Rattle.land_tables_schema.specs.Connections.{HasRegisterTables, SameReference};
 
 use land_core::limits::is_number;
 use land_tables_history::group_member::GroupMember;
@@ -27,9 +25,9 @@ pub fn begin<S: Alter>(
 ) -> Result<usize, Error>
     requires fits { IsTrue (fits_member entry.now) }
     requires moment { IsMoment since }
-    requires land { HasCleanDisk (state S.Store tx.old.conn.now) → IsLand (state S.Store tx.old.conn.now).now.schema }
-    ensures same_reference { tx.new.conn.ghost_name ≡ tx.old.conn.ghost_name }
-    ensures step { IsStep result (Begins members entry.now since) (state S.Store tx.old.conn.now) (state S.Store tx.new.conn.now) }
+    requires land { HasRegisterTables S.Store tx.old.conn.now }
+    ensures same_reference { SameReference tx.old tx.new }
+    ensures step { Performs S.Store result (Begins members entry.now since) tx.old tx.new }
 {
     let numerator = entry.member.share.numerator();
     let denominator = entry.member.share.denominator();
@@ -43,13 +41,13 @@ pub fn begin<S: Alter>(
     )
 }
 
-/// Closes the versions of all members of a group that stand.
+/// Closes the current versions of all members of a group.
 pub fn close<S: Alter>(tx: &mut Transaction<'_, S>, group: u64, stamp: i64) -> Result<usize, Error>
     requires group_fits { group < 2 ^ 63 }
     requires moment { IsMoment stamp }
-    requires land { HasCleanDisk (state S.Store tx.old.conn.now) → IsLand (state S.Store tx.old.conn.now).now.schema }
-    ensures same_reference { tx.new.conn.ghost_name ≡ tx.old.conn.ghost_name }
-    ensures step { IsStep result (Closes members (λ e. nat_eq e.group group) stamp) (state S.Store tx.old.conn.now) (state S.Store tx.new.conn.now) }
+    requires land { HasRegisterTables S.Store tx.old.conn.now }
+    ensures same_reference { SameReference tx.old tx.new }
+    ensures step { Performs S.Store result (Closes members (λ e. nat_eq e.group group) stamp) tx.old tx.new }
 {
     rows::member::close(tx, group, stamp)
 }

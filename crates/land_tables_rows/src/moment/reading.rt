@@ -1,4 +1,4 @@
-//! The moments at which the register was changed.
+//! Moments at which the register changed.
 ghost use Rattle.land_tables_rows.specs.Moment.Reading.{change_in};
 
 use crate::reading::cells::{moment_at, next_at};
@@ -8,7 +8,7 @@ use land_wire_json::bodies::wire_fault::WireFault;
 use sqlite::Row;
 use std::alloc::Global;
 
-/// What a row of `moments` says: stamp, next.
+/// Decodes a row of `moments`: stamp, next.
 impl FromRow for Moment {
     ghost said = { change_in };
 

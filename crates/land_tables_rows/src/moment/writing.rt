@@ -1,30 +1,29 @@
-//! The moments at which the register was changed.
+//! Moments at which the register changed.
 ghost use Rattle.std.specs.Prelude.{◌≡◌, IsTrue};
+ghost use Rattle.land_tables_rows.specs.Effects.{Performs};
 ghost use Rattle.land_tables_rows.specs.Moment.Writing.{AddsMoment};
 ghost use Rattle.land_tables_rows.specs.Reading.Cells.{is_next};
 ghost use Rattle.land_tables_rows.specs.Writing.Holding.{IsMoment};
-ghost use Rattle.land_tables_schema.specs.Land.{IsLand};
-ghost use Rattle.land_tables_schema.specs.Steps.{IsStep};
-ghost use Rattle.sqlite.specs.Held.{state};
-ghost use Rattle.sqlite.specs.State.{HasCleanDisk};
+ghost use Rattle.land_tables_schema.specs.Connections.{HasRegisterTables, SameReference};
 
 use land_tables_schema::rows::tables as rows;
 use sqlite::{Alter, Error, Transaction};
 
-/// Whether a number can be written as the next one: 2 to 1_000_000_001.
+/// Whether a number can be written as the next number: 2 to 1,000,000,001.
 pub fn fits(next: u64) -> bool
     ensures { result ≡ is_next next }
 {
     2 <= next && next <= 1_000_000_001
 }
 
-/// Puts a moment in at which the register was changed, with the number that the next new object takes from then on.
+/// Inserts a moment at which the register changed, with the number that the next new object takes after that.
 pub fn insert<S: Alter>(tx: &mut Transaction<'_, S>, stamp: i64, next: u64) -> Result<usize, Error>
     requires fits { IsTrue (is_next next) }
     requires moment { IsMoment stamp }
-    requires land { HasCleanDisk (state S.Store tx.old.conn.now) → IsLand (state S.Store tx.old.conn.now).now.schema }
-    ensures same_reference { tx.new.conn.ghost_name ≡ tx.old.conn.ghost_name }
-    ensures step { IsStep result (AddsMoment (record { stamp = stamp; next = next })) (state S.Store tx.old.conn.now) (state S.Store tx.new.conn.now) }
+    requires land { HasRegisterTables S.Store tx.old.conn.now }
+    ensures same_reference { SameReference tx.old tx.new }
+    ensures step { Performs S.Store result
+        (AddsMoment (record { stamp = stamp; next = next })) tx.old tx.new }
 {
     rows::moments::insert(tx, stamp, next)
 }

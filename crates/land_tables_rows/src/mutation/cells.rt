@@ -1,13 +1,15 @@
-//! Mutations as they are written.
+//! The cells in which mutations are written.
 ghost use Rattle.std.specs.Prelude.{◌≡◌, true};
 ghost use Rattle.std.specs.List.{list_all};
-ghost use Rattle.land_tables_rows.specs.Mutation.Cells.{IsExactMutation, fits_mutation, is_content_kept, is_moment, is_new_name_kept, is_part_kept, mutation_row_of};
+ghost use Rattle.land_tables_rows.specs.Mutation.Cells.{IsExactMutation, fits_mutation, is_content_kept};
+ghost use Rattle.land_tables_rows.specs.Mutation.Cells.{is_moment, is_new_name_kept, is_part_kept};
+ghost use Rattle.land_tables_rows.specs.Mutation.Cells.{mutation_row_of};
 ghost use Rattle.land_tables_schema.specs.Rows.Mutation.{FitsMutation, mutation_of};
 ghost use Rattle.land_wire_json.specs.Texts.Mutations.{content_text as text_of_content};
 
 use crate::cells::texts::{is_in_utf8, is_reference};
 use land_core::content::Content;
-use land_core::limits::is_number;
+use land_core::limits::{LAST_MOMENT, is_number};
 use land_core::mutation::MutationRecord;
 use land_core::subdivision::Part;
 use land_core::text::Text;
@@ -15,7 +17,8 @@ use land_core::words::{act_word, state_word};
 use land_tables_schema::rows::tables::mutation::MutationCells;
 use land_wire_json::bodies::stored::content_is_exact;
 
-/// The cells of a mutation, with what it asks for as that is written (`land_wire_json::texts::mutation::content_text` writes it).
+/// Returns the cells of a mutation, with its content as JSON (written by
+/// `land_wire_json::texts::mutation::content_text`).
 pub fn mutation_cells<'a>(
     number: u64,
     mutation: &'a MutationRecord,
@@ -37,8 +40,8 @@ pub fn mutation_cells<'a>(
     }
 }
 
-/// Whether a mutation keeps the limits within which it is read from its cells. The share of what it asks for is a fraction by its type, and
-/// its outlines are outlines.
+/// Whether a mutation is within the limits of its fields, so that it decodes from its cells. By their types,
+/// the share in its content is a fraction, and its outlines are valid rings.
 pub fn fits_mutation(number: u64, mutation: &MutationRecord) -> bool
     ensures fits { result ≡ fits_mutation (number, mutation.now) }
     ensures exact { IsExactMutation mutation.now }
@@ -53,14 +56,14 @@ pub fn fits_mutation(number: u64, mutation: &MutationRecord) -> bool
         && mutation.content.is_well_formed()
 }
 
-/// Whether it is a moment: 0 to 4_102_444_799_999 milliseconds since 1970 UTC.
+/// Whether an integer is a moment: Unix time in milliseconds, from 1970 to the end of 2099.
 fn is_moment(at: i64) -> bool
     ensures { result ≡ is_moment at }
 {
-    0 <= at && at <= 4_102_444_799_999
+    0 <= at && at <= LAST_MOMENT
 }
 
-/// The texts of what a mutation asks for are in UTF-8, by their type. It changes nothing.
+/// Proves that the strings of a mutation's content are in UTF-8. Does nothing at run time.
 fn content_is_kept(content: &Content)
     ensures { is_content_kept content.now ≡ true }
 {

@@ -11,7 +11,7 @@ use land_wire_json::bodies::wire_fault::WireFault;
 use sqlite::Row;
 use std::alloc::Global;
 
-/// The version that a row of `mutation` says: number, lodger, reference, source, lodged, act, content, state, since, until.
+/// Decodes a row of `mutation`: number, lodger, reference, source, lodged, act, content, state, since, until.
 impl FromRow for Version<(u64, MutationRecord)> {
     ghost said = { mutation_in };
 

@@ -1,12 +1,10 @@
 //! Mutations.
 ghost use Rattle.std.specs.Prelude.{◌≡◌, ◌<◌, ◌^◌, IsTrue, nat_eq};
+ghost use Rattle.land_tables_rows.specs.Effects.{Performs};
 ghost use Rattle.land_tables_rows.specs.Mutation.Cells.{fits_mutation};
 ghost use Rattle.land_tables_rows.specs.Mutation.Writing.{mutations};
 ghost use Rattle.land_tables_rows.specs.Writing.Holding.{Begins, Closes, IsMoment};
-ghost use Rattle.land_tables_schema.specs.Land.{IsLand};
-ghost use Rattle.land_tables_schema.specs.Steps.{IsStep};
-ghost use Rattle.sqlite.specs.Held.{state};
-ghost use Rattle.sqlite.specs.State.{HasCleanDisk};
+ghost use Rattle.land_tables_schema.specs.Connections.{HasRegisterTables, SameReference};
 
 use crate::cells::laws::mutations_read_back;
 use crate::mutation::cells::{fits_mutation, mutation_cells};
@@ -17,8 +15,8 @@ use land_wire_json::texts::mutation::content_text;
 use sqlite::{Alter, Error, Transaction};
 use std::alloc::Global;
 
-/// Whether a mutation can be written: its numbers, its reference and what it asks for are within their limits, and it was lodged at a
-/// moment.
+/// Whether a mutation can be written: its numbers, its reference and its content are within their limits, and
+/// it was lodged at a moment.
 pub fn fits(number: u64, mutation: &MutationRecord) -> bool
     ensures { result ≡ fits_mutation (number, mutation.now) }
 {
@@ -35,9 +33,9 @@ pub fn begin<S: Alter>(
 ) -> Result<usize, Error>
     requires fits { IsTrue (fits_mutation (number, mutation.now)) }
     requires moment { IsMoment since }
-    requires land { HasCleanDisk (state S.Store tx.old.conn.now) → IsLand (state S.Store tx.old.conn.now).now.schema }
-    ensures same_reference { tx.new.conn.ghost_name ≡ tx.old.conn.ghost_name }
-    ensures step { IsStep result (Begins mutations (number, mutation.now) since) (state S.Store tx.old.conn.now) (state S.Store tx.new.conn.now) }
+    requires land { HasRegisterTables S.Store tx.old.conn.now }
+    ensures same_reference { SameReference tx.old tx.new }
+    ensures step { Performs S.Store result (Begins mutations (number, mutation.now) since) tx.old tx.new }
 {
     mutations_read_back();
     content_is_exact(&mutation.content);
@@ -49,13 +47,13 @@ pub fn begin<S: Alter>(
     )
 }
 
-/// Closes the version of a mutation that stands.
+/// Closes the current version of a mutation.
 pub fn close<S: Alter>(tx: &mut Transaction<'_, S>, number: u64, stamp: i64) -> Result<usize, Error>
     requires number_fits { number < 2 ^ 63 }
     requires moment { IsMoment stamp }
-    requires land { HasCleanDisk (state S.Store tx.old.conn.now) → IsLand (state S.Store tx.old.conn.now).now.schema }
-    ensures same_reference { tx.new.conn.ghost_name ≡ tx.old.conn.ghost_name }
-    ensures step { IsStep result (Closes mutations (λ e. nat_eq e.0 number) stamp) (state S.Store tx.old.conn.now) (state S.Store tx.new.conn.now) }
+    requires land { HasRegisterTables S.Store tx.old.conn.now }
+    ensures same_reference { SameReference tx.old tx.new }
+    ensures step { Performs S.Store result (Closes mutations (λ e. nat_eq e.0 number) stamp) tx.old tx.new }
 {
     rows::mutation::close(tx, number, stamp)
 }

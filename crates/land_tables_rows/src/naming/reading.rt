@@ -1,4 +1,4 @@
-//! Which units mutations name.
+//! Links of mutations to units.
 ghost use Rattle.land_tables_rows.specs.Naming.Reading.{naming_in};
 
 use crate::reading::cells::{end_at, moment_at, number_at};
@@ -9,7 +9,7 @@ use land_wire_json::bodies::wire_fault::WireFault;
 use sqlite::Row;
 use std::alloc::Global;
 
-/// The version that a row of `names` says: mutation, unit, since, until.
+/// Decodes a row of `names`: mutation, unit, since, until.
 impl FromRow for Version<Naming> {
     ghost said = { naming_in };
 

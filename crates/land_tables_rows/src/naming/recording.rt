@@ -1,4 +1,4 @@
-//! Which units mutations name.
+//! Links of mutations to units.
 ghost use Rattle.std.specs.Prelude.{◌≡◌, IsTrue};
 ghost use Rattle.land_tables_history.specs.declared.naming.Naming.{Naming};
 ghost use Rattle.land_tables_rows.specs.Naming.Writing.{fits_naming, namings};

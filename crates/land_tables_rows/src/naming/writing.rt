@@ -1,25 +1,23 @@
-//! Which units mutations name. Nothing closes a naming: it stands as long as its mutation.
+//! Links of mutations to units. A link is never closed: it exists as long as its mutation.
 ghost use Rattle.std.specs.Prelude.{◌≡◌, IsTrue};
+ghost use Rattle.land_tables_rows.specs.Effects.{Performs};
 ghost use Rattle.land_tables_rows.specs.Naming.Writing.{fits_naming, namings};
 ghost use Rattle.land_tables_rows.specs.Writing.Holding.{Begins, IsMoment};
-ghost use Rattle.land_tables_schema.specs.Land.{IsLand};
-ghost use Rattle.land_tables_schema.specs.Steps.{IsStep};
-ghost use Rattle.sqlite.specs.Held.{state};
-ghost use Rattle.sqlite.specs.State.{HasCleanDisk};
+ghost use Rattle.land_tables_schema.specs.Connections.{HasRegisterTables, SameReference};
 
 use land_core::limits::is_number;
 use land_tables_history::naming::Naming;
 use land_tables_schema::rows::tables as rows;
 use sqlite::{Alter, Error, Transaction};
 
-/// Whether a naming can be written: the numbers of the mutation and of the unit are within their limits.
+/// Whether a link can be written: the numbers of the mutation and of the unit are within their limits.
 pub fn fits(naming: Naming) -> bool
     ensures { result ≡ fits_naming naming }
 {
     is_number(naming.mutation) && is_number(naming.unit)
 }
 
-/// Begins a version of a naming.
+/// Begins a version of a link.
 pub fn begin<S: Alter>(
     tx: &mut Transaction<'_, S>,
     naming: Naming,
@@ -27,9 +25,9 @@ pub fn begin<S: Alter>(
 ) -> Result<usize, Error>
     requires fits { IsTrue (fits_naming naming) }
     requires moment { IsMoment since }
-    requires land { HasCleanDisk (state S.Store tx.old.conn.now) → IsLand (state S.Store tx.old.conn.now).now.schema }
-    ensures same_reference { tx.new.conn.ghost_name ≡ tx.old.conn.ghost_name }
-    ensures step { IsStep result (Begins namings naming since) (state S.Store tx.old.conn.now) (state S.Store tx.new.conn.now) }
+    requires land { HasRegisterTables S.Store tx.old.conn.now }
+    ensures same_reference { SameReference tx.old tx.new }
+    ensures step { Performs S.Store result (Begins namings naming since) tx.old tx.new }
 {
     rows::names::begin(tx, naming.mutation, naming.unit, since)
 }

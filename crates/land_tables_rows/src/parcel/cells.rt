@@ -1,13 +1,14 @@
-//! Parcels as they are written (LA_SpatialUnit).
+//! The cells in which parcels are written (LA_SpatialUnit).
 ghost use Rattle.std.specs.Prelude.{◌≡◌, IfOk, true};
-ghost use Rattle.land_tables_rows.specs.Parcel.Cells.{FitsParcel, IsExactParcel, fits_parcel, parcel_of, parcel_row_of};
+ghost use Rattle.land_tables_rows.specs.Parcel.Cells.{FitsParcel, IsExactParcel, fits_parcel, parcel_of};
+ghost use Rattle.land_tables_rows.specs.Parcel.Cells.{parcel_row_of};
 
 use crate::cells::texts::is_label;
 use land_core::limits::is_number;
 use land_core::parcel::ParcelRecord;
 use std::alloc::AllocError;
 
-/// What the cells of a parcel's row hold.
+/// The cells of a parcel's row.
 #[derive(Debug, Drop)]
 pub struct ParcelCells<'a> {
     /// The parcel's number.
@@ -16,13 +17,13 @@ pub struct ParcelCells<'a> {
     pub unit: u64,
     /// Its label.
     pub label: &'a str,
-    /// Its outline as it is printed.
+    /// Its outline in canonical form.
     pub outline: String,
     /// The number of its source.
     pub source: u64,
 }
 
-/// The cells of a parcel. An error is a want of memory.
+/// Returns the cells of a parcel. Fails only if out of memory.
 pub fn parcel_cells(number: u64, parcel: &ParcelRecord) -> Result<ParcelCells<'_>, AllocError>
     ensures row { IfOk result (λ cells. parcel_of cells ≡ parcel_row_of (number, parcel.now)) }
     ensures columns { IfOk result (λ cells. fits_parcel (number, parcel.now) ≡ true → FitsParcel cells) }
@@ -36,7 +37,8 @@ pub fn parcel_cells(number: u64, parcel: &ParcelRecord) -> Result<ParcelCells<'_
     })
 }
 
-/// Whether a parcel keeps the limits within which it is read from its cells. Its outline is one by its type.
+/// Whether a parcel is within the limits of its fields, so that it decodes from its cells. By its type, its
+/// outline is a valid ring.
 pub fn fits_parcel(number: u64, parcel: &ParcelRecord) -> bool
     ensures fits { result ≡ fits_parcel (number, parcel.now) }
     ensures exact { IsExactParcel parcel.now }

@@ -10,7 +10,7 @@ use land_wire_json::bodies::wire_fault::WireFault;
 use sqlite::Row;
 use std::alloc::Global;
 
-/// The version that a row of `parcel` says: number, unit, label, outline, source, since, until.
+/// Decodes a row of `parcel`: number, unit, label, outline, source, since, until.
 impl FromRow for Version<(u64, ParcelRecord)> {
     ghost said = { parcel_in };
 

@@ -10,7 +10,7 @@ use land_wire_json::bodies::wire_fault::WireFault;
 use sqlite::Row;
 use std::alloc::Global;
 
-/// The version that a row of `party` says: number, name, kind, since, until.
+/// Decodes a row of `party`: number, name, kind, since, until.
 impl FromRow for Version<(u64, PartyRecord)> {
     ghost said = { party_in };
 

@@ -1,12 +1,15 @@
-//! The cells of a row.
+//! Decodes the cells of a row.
 ghost use Rattle.std.specs.Prelude.{◌≡◌};
-ghost use Rattle.land_tables_rows.specs.Reading.Cells.{amount_in, currency_in, end_in, flag_in, integer_in, label_in, moment_in, name_in, natural_in, next_in, null_in, number_in, reference_in, share_in, text_in, title_in, words_in};
+ghost use Rattle.land_tables_rows.specs.Reading.Cells.{amount_in, currency_in, end_in, flag_in, integer_in};
+ghost use Rattle.land_tables_rows.specs.Reading.Cells.{label_in, moment_in, name_in, natural_in, next_in};
+ghost use Rattle.land_tables_rows.specs.Reading.Cells.{null_in, number_in, reference_in, share_in, text_in};
+ghost use Rattle.land_tables_rows.specs.Reading.Cells.{title_in, words_in};
 ghost use Rattle.land_wire_json.specs.Bodies.WireFaults.{Gives, seen_by};
 ghost use Rattle.sqlite_value.specs.Order.{column};
 ghost use Rattle.sqlite_value.specs.Value.{owned};
 
 use land_core::content::is_amount;
-use land_core::limits::is_number;
+use land_core::limits::{LAST_MOMENT, is_number};
 use land_core::text::Text;
 use land_fraction::Fraction;
 use land_wire_json::bodies::content::currency_of;
@@ -16,7 +19,7 @@ use sqlite::Row;
 use sqlite::types::ValueRef;
 use std::alloc::Global;
 
-/// The cell of a column, counted from 0; NULL past the last one.
+/// Returns the cell of a column, counted from 0; NULL after the last column.
 pub fn cell(row: &Row, at: usize) -> ValueRef<'_>
     ensures { owned result ≡ column row.now at }
 {
@@ -26,7 +29,7 @@ pub fn cell(row: &Row, at: usize) -> ValueRef<'_>
     }
 }
 
-/// NULL. 131: anything else.
+/// Accepts NULL. Errors: 131 if the cell is not NULL.
 pub fn null_at(row: &Row, at: usize) -> Result<(), WireFault>
     ensures { result ≡ null_in (column row.now at) }
 {
@@ -36,7 +39,7 @@ pub fn null_at(row: &Row, at: usize) -> Result<(), WireFault>
     }
 }
 
-/// A text in UTF-8. 131: it is of another kind. 133: it is not in UTF-8.
+/// Decodes a string. Errors: 131 if the cell has another type; 133 if it is not UTF-8.
 pub fn text_at(row: &Row, at: usize) -> Result<&str, WireFault>
     ensures { seen_by (λ text. text.now) result ≡ text_in (column row.now at) }
 {
@@ -55,7 +58,7 @@ fn text_of(cell: ValueRef<'_>) -> Result<&str, WireFault>
     }
 }
 
-/// An integer. 131: it is of another kind.
+/// Decodes an integer. Errors: 131 if the cell has another type.
 pub fn integer_at(row: &Row, at: usize) -> Result<i64, WireFault>
     ensures { result ≡ integer_in (column row.now at) }
 {
@@ -65,7 +68,7 @@ pub fn integer_at(row: &Row, at: usize) -> Result<i64, WireFault>
     }
 }
 
-/// An integer from 0 on. 131: it is of another kind. 132: it is negative.
+/// Decodes a non-negative integer. Errors: 131 if the cell has another type; 132 if it is negative.
 #[tactic(auto, unfolding(crate::specs::Reading::Cells::natural_in))]
 pub fn natural_at(row: &Row, at: usize) -> Result<u64, WireFault>
     ensures { result ≡ natural_in (column row.now at) }
@@ -76,7 +79,8 @@ pub fn natural_at(row: &Row, at: usize) -> Result<u64, WireFault>
     }
 }
 
-/// The number of an object, 1 to 1_000_000_000. 131: it is of another kind. 132: it is out of range.
+/// Decodes an object number, 1 to 1,000,000,000. Errors: 131 if the cell has another type; 132 if it is out
+/// of range.
 #[tactic(auto, unfolding(crate::specs::Reading::Cells::number_in))]
 pub fn number_at(row: &Row, at: usize) -> Result<u64, WireFault>
     ensures { result ≡ number_in (column row.now at) }
@@ -89,7 +93,8 @@ pub fn number_at(row: &Row, at: usize) -> Result<u64, WireFault>
     }
 }
 
-/// The number that the next new object takes, 2 to 1_000_000_001. 131: it is of another kind. 132: it is out of range.
+/// Decodes the number that the next new object takes, 2 to 1,000,000,001. Errors: 131 if the cell has another
+/// type; 132 if it is out of range.
 #[tactic(auto, unfolding(crate::specs::Reading::Cells::next_in))]
 pub fn next_at(row: &Row, at: usize) -> Result<u64, WireFault>
     ensures { result ≡ next_in (column row.now at) }
@@ -102,7 +107,8 @@ pub fn next_at(row: &Row, at: usize) -> Result<u64, WireFault>
     }
 }
 
-/// An amount in minor units, 1 to 1_000_000_000_000_000. 131: it is of another kind. 132: it is out of range.
+/// Decodes an amount in minor units, 1 to 1,000,000,000,000,000. Errors: 131 if the cell has another type;
+/// 132 if it is out of range.
 #[tactic(auto, unfolding(crate::specs::Reading::Cells::amount_in))]
 pub fn amount_at(row: &Row, at: usize) -> Result<u64, WireFault>
     ensures { result ≡ amount_in (column row.now at) }
@@ -115,7 +121,7 @@ pub fn amount_at(row: &Row, at: usize) -> Result<u64, WireFault>
     }
 }
 
-/// Whether something is so: 0 no, 1 yes. 131: it is of another kind. 132: it is another integer.
+/// Decodes a flag, 0 or 1. Errors: 131 if the cell has another type; 132 if it is another integer.
 #[tactic(auto, unfolding(crate::specs::Reading::Cells::flag_in))]
 pub fn flag_at(row: &Row, at: usize) -> Result<bool, WireFault>
     ensures { result ≡ flag_in (column row.now at) }
@@ -127,20 +133,22 @@ pub fn flag_at(row: &Row, at: usize) -> Result<bool, WireFault>
     }
 }
 
-/// A moment in milliseconds since 1970 UTC, 0 to 4_102_444_799_999. 131: it is of another kind. 132: it is out of range.
+/// Decodes a moment: Unix time in milliseconds, from 1970 to the end of 2099. Errors: 131 if the cell has
+/// another type; 132 if it is out of range.
 #[tactic(auto, unfolding(crate::specs::Reading::Cells::moment_in))]
 pub fn moment_at(row: &Row, at: usize) -> Result<i64, WireFault>
     ensures { result ≡ moment_in (column row.now at) }
 {
     let moment = integer_at(row, at)?;
-    if 0 <= moment && moment <= 4_102_444_799_999 {
+    if 0 <= moment && moment <= LAST_MOMENT {
         Ok(moment)
     } else {
         Err(WireFault::Number)
     }
 }
 
-/// The end of a lifespan: a moment, or 4_102_444_800_000. 131: it is of another kind. 132: it is out of range.
+/// Decodes the end of a lifespan: a moment, or never (one millisecond after the last moment). Errors: 131 if
+/// the cell has another type; 132 if it is out of range.
 #[tactic(auto, unfolding(crate::specs::Reading::Cells::end_in))]
 pub fn end_at(row: &Row, at: usize) -> Result<i64, WireFault>
     ensures { result ≡ end_in (column row.now at) }
@@ -153,8 +161,8 @@ pub fn end_at(row: &Row, at: usize) -> Result<i64, WireFault>
     }
 }
 
-/// A share in two columns, numerator and denominator, in lowest terms or not. 131: one is of another kind. 132: one is negative. 101 to
-/// 103: they make no fraction.
+/// Decodes a share from two columns, numerator and denominator, in lowest terms or not. Errors: 131 if a cell
+/// has another type; 132 if one is negative; 101 to 103 if they are not a fraction.
 #[tactic(auto, unfolding(crate::specs::Reading::Cells::share_in))]
 pub fn share_at(row: &Row, numerator: usize, denominator: usize) -> Result<Fraction, WireFault>
     ensures { result ≡ share_in (column row.now numerator) (column row.now denominator) }
@@ -167,42 +175,45 @@ pub fn share_at(row: &Row, numerator: usize, denominator: usize) -> Result<Fract
     }
 }
 
-/// A name: 1 to 200 characters. 131: it is of another kind. 133: it is another text. 501: there was no memory.
+/// Decodes a name of 1 to 200 characters. Errors: 131 if the cell has another type; 133 if it is another
+/// string; 501 if out of memory.
 pub fn name_at(alloc: Global, row: &Row, at: usize) -> Result<Text, WireFault>
     ensures { Gives (λ text. text) result (name_in (column row.now at)) }
 {
     name_of(alloc, text_at(row, at)?)
 }
 
-/// The title of a document, with the limits and faults of a name.
+/// Decodes the title of a document. Limits and errors are those of a name.
 pub fn title_at(alloc: Global, row: &Row, at: usize) -> Result<Text, WireFault>
     ensures { Gives (λ text. text) result (title_in (column row.now at)) }
 {
     name_at(alloc, row, at)
 }
 
-/// The words of a burden, with the limits and faults of a name.
+/// Decodes the words of a restriction or a responsibility. Limits and errors are those of a name.
 pub fn words_at(alloc: Global, row: &Row, at: usize) -> Result<Text, WireFault>
     ensures { Gives (λ text. text) result (words_in (column row.now at)) }
 {
     name_at(alloc, row, at)
 }
 
-/// A label: 1 to 40 characters. 131: it is of another kind. 133: it is another text. 501: there was no memory.
+/// Decodes a label of 1 to 40 characters. Errors: 131 if the cell has another type; 133 if it is another
+/// string; 501 if out of memory.
 pub fn label_at(alloc: Global, row: &Row, at: usize) -> Result<Text, WireFault>
     ensures { Gives (λ text. text) result (label_in (column row.now at)) }
 {
     label_of(alloc, text_at(row, at)?)
 }
 
-/// The reference of a lodging, with the limits and faults of a label.
+/// Decodes the reference of a mutation. Limits and errors are those of a label.
 pub fn reference_at(alloc: Global, row: &Row, at: usize) -> Result<Text, WireFault>
     ensures { Gives (λ text. text) result (reference_in (column row.now at)) }
 {
     label_at(alloc, row, at)
 }
 
-/// A currency: three letters from A to Z (ISO 4217). 131: it is of another kind. 133: it is another text. 501: there was no memory.
+/// Decodes a currency: three letters from A to Z (ISO 4217). Errors: 131 if the cell has another type; 133 if
+/// it is another string; 501 if out of memory.
 pub fn currency_at(alloc: Global, row: &Row, at: usize) -> Result<Text, WireFault>
     ensures { Gives (λ text. text) result (currency_in (column row.now at)) }
 {

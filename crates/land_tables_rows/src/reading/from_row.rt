@@ -1,4 +1,4 @@
-//! What rows say.
+//! Decodes rows.
 ghost use Rattle.std.specs.Prelude.{◌≡◌, Result};
 ghost use Rattle.land_tables_rows.specs.Reading.Readings.{each_of};
 ghost use Rattle.land_wire_json.specs.Bodies.WireFaults.{Gives};
@@ -10,17 +10,17 @@ use land_wire_json::bodies::wire_fault::WireFault;
 use sqlite::Row;
 use std::alloc::Global;
 
-/// What a row of a table says.
+/// A record that a row decodes to.
 pub trait FromRow: Drop {
-    /// What the cells of a row say, or the fault of the first that cannot be read as its field.
+    /// The record that the cells decode to, or the fault of the first cell that is not valid for its field.
     ghost said: { SqlRow → Result Self Fault };
 
-    /// Reads a row.
+    /// Decodes a row.
     fn from_row(alloc: Global, row: &Row) -> Result<Self, WireFault>
         ensures { Gives (λ it. it) result (said row.now) };
 }
 
-/// What some rows say, each read in its turn.
+/// Decodes rows in order.
 pub fn read_all<X: FromRow>(alloc: Global, rows: &[Row]) -> Result<Sequence<X>, WireFault>
     ensures { Gives (λ it. it) result (each_of X.FromRow.said rows.now) }
 {

@@ -1,6 +1,8 @@
 //! The words of kinds, roles, classes and states.
 ghost use Rattle.std.specs.Prelude.{◌≡◌};
-ghost use Rattle.land_tables_rows.specs.Reading.Words.{class_of, class_word_in, kind_of, party_kind_in, role_in, source_kind_in, source_kind_of, state_in, state_of};
+ghost use Rattle.land_tables_rows.specs.Reading.Words.{class_of, class_word_in, kind_of, party_kind_in};
+ghost use Rattle.land_tables_rows.specs.Reading.Words.{role_in, source_kind_in, source_kind_of, state_in};
+ghost use Rattle.land_tables_rows.specs.Reading.Words.{state_of};
 ghost use Rattle.land_wire_json.specs.Bodies.WireFaults.{Gives};
 ghost use Rattle.sqlite_value.specs.Order.{column};
 
@@ -14,7 +16,7 @@ use land_wire_json::bodies::wire_fault::WireFault;
 use land_wire_json::bodies::words;
 use sqlite::Row;
 
-/// What an entry says, by the word of its class.
+/// The class of an entry, by the word in its row.
 #[derive(Clone, Copy, Debug, PartialEq, Eq)]
 pub enum ClassWord {
     /// A right of a type.
@@ -27,7 +29,7 @@ pub enum ClassWord {
     Mortgage,
 }
 
-/// What a party is. 131: the cell holds no text. 133: it is another word.
+/// Decodes the kind of a party. Errors: 131 if the cell is not a string; 133 if it is another word.
 #[tactic(auto, unfolding(crate::specs::Reading::Words::party_kind_in))]
 pub fn party_kind_at(row: &Row, at: usize) -> Result<PartyKind, WireFault>
     ensures { result ≡ party_kind_in (column row.now at) }
@@ -45,7 +47,7 @@ fn kind_of(word: &str) -> Result<PartyKind, WireFault>
     }
 }
 
-/// A role. 131: the cell holds no text. 134: it is another word.
+/// Decodes a role. Errors: 131 if the cell is not a string; 134 if it is another word.
 #[tactic(auto, unfolding(crate::specs::Reading::Words::role_in))]
 pub fn role_at(row: &Row, at: usize) -> Result<Role, WireFault>
     ensures { result ≡ role_in (column row.now at) }
@@ -53,7 +55,7 @@ pub fn role_at(row: &Row, at: usize) -> Result<Role, WireFault>
     words::role_of(text_at(row, at)?.as_bytes())
 }
 
-/// What a source is. 131: the cell holds no text. 133: it is another word.
+/// Decodes the kind of a source. Errors: 131 if the cell is not a string; 133 if it is another word.
 #[tactic(auto, unfolding(crate::specs::Reading::Words::source_kind_in))]
 pub fn source_kind_at(row: &Row, at: usize) -> Result<SourceKind, WireFault>
     ensures { result ≡ source_kind_in (column row.now at) }
@@ -73,7 +75,7 @@ fn source_kind_of(word: &str) -> Result<SourceKind, WireFault>
     }
 }
 
-/// How far a mutation has come. 131: the cell holds no text. 133: it is another word.
+/// Decodes the state of a mutation. Errors: 131 if the cell is not a string; 133 if it is another word.
 #[tactic(auto, unfolding(crate::specs::Reading::Words::state_in))]
 pub fn state_at(row: &Row, at: usize) -> Result<MutationState, WireFault>
     ensures { result ≡ state_in (column row.now at) }
@@ -95,7 +97,7 @@ fn state_of(word: &str) -> Result<MutationState, WireFault>
     }
 }
 
-/// What an entry says. 131: the cell holds no text. 133: it is another word.
+/// Decodes the class of an entry. Errors: 131 if the cell is not a string; 133 if it is another word.
 #[tactic(auto, unfolding(crate::specs::Reading::Words::class_word_in))]
 pub fn class_word_at(row: &Row, at: usize) -> Result<ClassWord, WireFault>
     ensures { result ≡ class_word_in (column row.now at) }

@@ -1,18 +1,16 @@
-//! Loops over what is begun, and over what is closed.
+//! Loops that begin versions and that close them.
 ghost use Rattle.std.specs.Prelude.{◌≡◌, ◌++◌, IsTrue, map};
 ghost use Rattle.std.specs.List.{list_all, list_any};
+ghost use Rattle.land_tables_rows.specs.Effects.{Performs};
 ghost use Rattle.land_tables_rows.specs.Recording.{BeginsAll, Changes};
 ghost use Rattle.land_tables_rows.specs.Writing.Holding.{Closes, IsMoment};
-ghost use Rattle.land_tables_schema.specs.Land.{IsLand};
-ghost use Rattle.land_tables_schema.specs.Steps.{IsStep};
-ghost use Rattle.sqlite.specs.Held.{state};
-ghost use Rattle.sqlite.specs.State.{HasCleanDisk};
+ghost use Rattle.land_tables_schema.specs.Connections.{HasRegisterTables, SameReference};
 
 use crate::recording::recorded::{Closing, Known, Recorded};
 use sqlite::{Alter, Error, Transaction};
 use std::alloc::Global;
 
-/// Whether all can be written.
+/// Whether all records can be written.
 pub fn fit<X: Recorded>(put: &[X]) -> bool
     ensures { result ≡ list_all X.fits put.now }
 {
@@ -26,7 +24,7 @@ pub fn keys_fit<K, X: Closing<K>>(keys: &[K]) -> bool
     keys.iter().all(|key| X::fits_key(key))
 }
 
-/// Begins a version of each.
+/// Begins a version of each record.
 pub fn begin_all<S: Alter, X: Recorded>(
     alloc: Global,
     tx: &mut Transaction<'_, S>,
@@ -35,9 +33,9 @@ pub fn begin_all<S: Alter, X: Recorded>(
 ) -> Result<(), Error>
     requires fits { IsTrue (list_all X.fits put.now) }
     requires moment { IsMoment since }
-    requires land { HasCleanDisk (state S.Store tx.old.conn.now) → IsLand (state S.Store tx.old.conn.now).now.schema }
-    ensures same_reference { tx.new.conn.ghost_name ≡ tx.old.conn.ghost_name }
-    ensures step { IsStep result (BeginsAll X.reading put.now since) (state S.Store tx.old.conn.now) (state S.Store tx.new.conn.now) }
+    requires land { HasRegisterTables S.Store tx.old.conn.now }
+    ensures same_reference { SameReference tx.old tx.new }
+    ensures step { Performs S.Store result (BeginsAll X.reading put.now since) tx.old tx.new }
 {
     for x in put {
         x.begin(alloc, tx, since)?;
@@ -45,7 +43,7 @@ pub fn begin_all<S: Alter, X: Recorded>(
     Ok(())
 }
 
-/// Closes what is known by some keys.
+/// Closes the current versions with the given keys.
 pub fn close_all<S: Alter, K, X: Closing<K>>(
     tx: &mut Transaction<'_, S>,
     keys: &[K],
@@ -53,9 +51,10 @@ pub fn close_all<S: Alter, K, X: Closing<K>>(
 ) -> Result<(), Error>
     requires fits { IsTrue (list_all X.fits_key keys.now) }
     requires moment { IsMoment stamp }
-    requires land { HasCleanDisk (state S.Store tx.old.conn.now) → IsLand (state S.Store tx.old.conn.now).now.schema }
-    ensures same_reference { tx.new.conn.ghost_name ≡ tx.old.conn.ghost_name }
-    ensures step { IsStep result (Closes X.reading (λ x. list_any (X.has x) keys.now) stamp) (state S.Store tx.old.conn.now) (state S.Store tx.new.conn.now) }
+    requires land { HasRegisterTables S.Store tx.old.conn.now }
+    ensures same_reference { SameReference tx.old tx.new }
+    ensures step { Performs S.Store result
+        (Closes X.reading (λ x. list_any (X.has x) keys.now) stamp) tx.old tx.new }
 {
     for key in keys {
         X::close(tx, key, stamp)?;
@@ -63,7 +62,7 @@ pub fn close_all<S: Alter, K, X: Closing<K>>(
     Ok(())
 }
 
-/// Closes what is known by the keys of what is put.
+/// Closes the current versions with the keys of the inserted records.
 pub fn close_put<S: Alter, K, P: Known<K>, X: Closing<K>>(
     tx: &mut Transaction<'_, S>,
     put: &[P],
@@ -71,9 +70,10 @@ pub fn close_put<S: Alter, K, P: Known<K>, X: Closing<K>>(
 ) -> Result<(), Error>
     requires fits { IsTrue (list_all (λ x. X.fits_key (P.key x)) put.now) }
     requires moment { IsMoment stamp }
-    requires land { HasCleanDisk (state S.Store tx.old.conn.now) → IsLand (state S.Store tx.old.conn.now).now.schema }
-    ensures same_reference { tx.new.conn.ghost_name ≡ tx.old.conn.ghost_name }
-    ensures step { IsStep result (Closes X.reading (λ x. list_any (X.has x) (map P.key put.now)) stamp) (state S.Store tx.old.conn.now) (state S.Store tx.new.conn.now) }
+    requires land { HasRegisterTables S.Store tx.old.conn.now }
+    ensures same_reference { SameReference tx.old tx.new }
+    ensures step { Performs S.Store result
+        (Closes X.reading (λ x. list_any (X.has x) (map P.key put.now)) stamp) tx.old tx.new }
 {
     for x in put {
         X::close(tx, x.key(), stamp)?;
@@ -81,7 +81,8 @@ pub fn close_put<S: Alter, K, P: Known<K>, X: Closing<K>>(
     Ok(())
 }
 
-/// Closes what is known by the keys of what is put and by other keys, and begins what is put.
+/// Closes the current versions with the keys of the inserted records and with the ended keys, then begins
+/// versions of the inserted records.
 pub fn change<S: Alter, K, X: Known<K> + Closing<K>>(
     alloc: Global,
     tx: &mut Transaction<'_, S>,
@@ -93,10 +94,11 @@ pub fn change<S: Alter, K, X: Known<K> + Closing<K>>(
     requires keys { IsTrue (list_all (λ x. X.fits_key (X.key x)) put.now) }
     requires ended { IsTrue (list_all X.fits_key ended.now) }
     requires moment { IsMoment stamp }
-    requires land { HasCleanDisk (state S.Store tx.old.conn.now) → IsLand (state S.Store tx.old.conn.now).now.schema }
-    ensures same_reference { tx.new.conn.ghost_name ≡ tx.old.conn.ghost_name }
-    ensures step { IsStep result (Changes X.reading put.now (λ x. list_any (X.has x) (map X.key put.now ++ ended.now)) stamp)
-        (state S.Store tx.old.conn.now) (state S.Store tx.new.conn.now) }
+    requires land { HasRegisterTables S.Store tx.old.conn.now }
+    ensures same_reference { SameReference tx.old tx.new }
+    ensures step { Performs S.Store result
+        (Changes X.reading put.now
+        (λ x. list_any (X.has x) (map X.key put.now ++ ended.now)) stamp) tx.old tx.new }
 {
     close_put::<S, K, X, X>(tx, put, stamp)?;
     close_all::<S, K, X>(tx, ended, stamp)?;

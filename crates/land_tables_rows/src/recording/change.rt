@@ -1,12 +1,11 @@
-//! A whole change of the register is written in its tables.
+//! Writes a whole change to the register's tables.
 ghost use Rattle.std.specs.Prelude.{◌≡◌, IsTrue};
 ghost use Rattle.land_tables_history.specs.Changed.{changed};
-ghost use Rattle.land_tables_rows.specs.Recording.Whole.{Edits, Records, fits_change, fits_estates, fits_papers, fits_people};
+ghost use Rattle.land_tables_rows.specs.Effects.{Performs};
+ghost use Rattle.land_tables_rows.specs.Recording.Whole.{Edits, Records, fits_change, fits_estates};
+ghost use Rattle.land_tables_rows.specs.Recording.Whole.{fits_papers, fits_people};
 ghost use Rattle.land_tables_rows.specs.Writing.Holding.{IsMoment};
-ghost use Rattle.land_tables_schema.specs.Land.{IsLand};
-ghost use Rattle.land_tables_schema.specs.Steps.{IsStep};
-ghost use Rattle.sqlite.specs.Held.{state};
-ghost use Rattle.sqlite.specs.State.{HasCleanDisk};
+ghost use Rattle.land_tables_schema.specs.Connections.{HasRegisterTables, SameReference};
 
 use crate::moment::writing;
 use crate::recording::estates::record_estates;
@@ -18,15 +17,15 @@ use land_core::change::Change;
 use sqlite::{Alter, Error, Transaction};
 use std::alloc::Global;
 
-/// Whether a change can be written: all that it puts is within the limits of its fields, what it ends is known by numbers of objects, and the
-/// next number from then on is 2 to 1_000_000_001.
+/// Whether a change can be written: its records are within the limits of their fields, its ended keys are
+/// object numbers, and its next number is 2 to 1,000,000,001.
 pub fn fits(change: &Change) -> bool
     ensures { result ≡ fits_change change.now }
 {
     people_fit(change) && estates_fit(change) && papers_fit(change) && writing::fits(change.next)
 }
 
-/// Whether what a change says of parties, roles, members and mandates can be written.
+/// Whether the parties, roles, members and mandates of a change can be written.
 fn people_fit(change: &Change) -> bool
     ensures { result ≡ fits_people change.now }
 {
@@ -36,7 +35,7 @@ fn people_fit(change: &Change) -> bool
         && fit_kind(&change.put.mandates, &change.ended.mandates)
 }
 
-/// Whether what it says of units, parcels and entries can be written.
+/// Whether its units, parcels and entries can be written.
 fn estates_fit(change: &Change) -> bool
     ensures { result ≡ fits_estates change.now }
 {
@@ -45,7 +44,7 @@ fn estates_fit(change: &Change) -> bool
         && fit_kind(&change.put.rrrs, &change.ended.rrrs)
 }
 
-/// Whether what it says of sources and mutations can be written.
+/// Whether its sources and mutations can be written.
 fn papers_fit(change: &Change) -> bool
     ensures { result ≡ fits_papers change.now }
 {
@@ -53,9 +52,10 @@ fn papers_fit(change: &Change) -> bool
         && fit_kind(&change.put.mutations, &change.ended.mutations)
 }
 
-/// Writes a change with its moment, inside a transaction: what it puts begins at the stamp, and what it ends, or puts in another form, ends
-/// there. The units begin to be named that those mutations name whose numbers are none below `next`, the number that the next new object took
-/// before. An error is the store's, `OutOfMemory` after want of memory; the transaction is then to be given up.
+/// Writes a change and its moment, in an active transaction. Inserted records begin at the stamp; ended and
+/// replaced ones end at it. New mutations, whose numbers are at least `next` (the next number from before the
+/// change), are linked to their units. Returns the store's error, `OutOfMemory` if out of memory; the caller
+/// must then roll the transaction back.
 pub fn record_change<S: Alter>(
     alloc: Global,
     tx: &mut Transaction<'_, S>,
@@ -65,9 +65,9 @@ pub fn record_change<S: Alter>(
 ) -> Result<(), Error>
     requires fits { IsTrue (fits_change change.now) }
     requires moment { IsMoment stamp }
-    requires land { HasCleanDisk (state S.Store tx.old.conn.now) → IsLand (state S.Store tx.old.conn.now).now.schema }
-    ensures same_reference { tx.new.conn.ghost_name ≡ tx.old.conn.ghost_name }
-    ensures step { IsStep result (Records change.now next stamp) (state S.Store tx.old.conn.now) (state S.Store tx.new.conn.now) }
+    requires land { HasRegisterTables S.Store tx.old.conn.now }
+    ensures same_reference { SameReference tx.old tx.new }
+    ensures step { Performs S.Store result (Records change.now next stamp) tx.old tx.new }
 {
     changes_are_held();
     record_objects(alloc, tx, change, next, stamp)?;
@@ -75,7 +75,7 @@ pub fn record_change<S: Alter>(
     Ok(())
 }
 
-/// Writes what a change says of all kinds of objects.
+/// Writes the objects of a change, of all kinds.
 fn record_objects<S: Alter>(
     alloc: Global,
     tx: &mut Transaction<'_, S>,
@@ -85,9 +85,9 @@ fn record_objects<S: Alter>(
 ) -> Result<(), Error>
     requires fits { IsTrue (fits_change change.now) }
     requires moment { IsMoment stamp }
-    requires land { HasCleanDisk (state S.Store tx.old.conn.now) → IsLand (state S.Store tx.old.conn.now).now.schema }
-    ensures same_reference { tx.new.conn.ghost_name ≡ tx.old.conn.ghost_name }
-    ensures step { IsStep result (Edits (changed next change.now stamp)) (state S.Store tx.old.conn.now) (state S.Store tx.new.conn.now) }
+    requires land { HasRegisterTables S.Store tx.old.conn.now }
+    ensures same_reference { SameReference tx.old tx.new }
+    ensures step { Performs S.Store result (Edits (changed next change.now stamp)) tx.old tx.new }
 {
     record_people(alloc, tx, change, stamp)?;
     record_estates(alloc, tx, change, stamp)?;

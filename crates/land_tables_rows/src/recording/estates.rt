@@ -1,11 +1,9 @@
-//! Units, parcels, and the entries of units are written.
-ghost use Rattle.std.specs.Prelude.{◌≡◌, IsTrue};
+//! Writes units, parcels, and the entries of units.
+ghost use Rattle.std.specs.Prelude.{IsTrue};
+ghost use Rattle.land_tables_rows.specs.Effects.{Performs};
 ghost use Rattle.land_tables_rows.specs.Recording.Whole.{Edits, changed_estates, fits_estates};
 ghost use Rattle.land_tables_rows.specs.Writing.Holding.{IsMoment};
-ghost use Rattle.land_tables_schema.specs.Land.{IsLand};
-ghost use Rattle.land_tables_schema.specs.Steps.{IsStep};
-ghost use Rattle.sqlite.specs.Held.{state};
-ghost use Rattle.sqlite.specs.State.{HasCleanDisk};
+ghost use Rattle.land_tables_schema.specs.Connections.{HasRegisterTables, SameReference};
 
 use crate::recording::kinds::change_kind;
 use crate::writing::laws::changes_are_held;
@@ -13,7 +11,7 @@ use land_core::change::Change;
 use sqlite::{Alter, Error, Transaction};
 use std::alloc::Global;
 
-/// Writes what a change says of units, parcels and entries.
+/// Writes the units, parcels and entries of a change.
 pub(crate) fn record_estates<S: Alter>(
     alloc: Global,
     tx: &mut Transaction<'_, S>,
@@ -22,9 +20,9 @@ pub(crate) fn record_estates<S: Alter>(
 ) -> Result<(), Error>
     requires fits { IsTrue (fits_estates change.now) }
     requires moment { IsMoment stamp }
-    requires land { HasCleanDisk (state S.Store tx.old.conn.now) → IsLand (state S.Store tx.old.conn.now).now.schema }
-    ensures same_reference { tx.new.conn.ghost_name ≡ tx.old.conn.ghost_name }
-    ensures step { IsStep result (Edits (changed_estates change.now stamp)) (state S.Store tx.old.conn.now) (state S.Store tx.new.conn.now) }
+    requires land { HasRegisterTables S.Store tx.old.conn.now }
+    ensures same_reference { SameReference tx.old tx.new }
+    ensures step { Performs S.Store result (Edits (changed_estates change.now stamp)) tx.old tx.new }
 {
     changes_are_held();
     change_kind(alloc, tx, &change.put.units, &change.ended.units, stamp)?;

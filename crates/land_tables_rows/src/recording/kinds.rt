@@ -1,19 +1,17 @@
-//! What a change says of one kind: what it puts, and the keys of what it ends.
+//! Writes a change of one kind: its inserted records, and the keys of its ended ones.
 ghost use Rattle.std.specs.FinMap as map;
 ghost use Rattle.std.specs.List.{list_all, list_any};
 ghost use Rattle.std.specs.Prelude.{◌≡◌, ◌++◌, IsTrue, map as map_list};
 ghost use Rattle.land_core.specs.Numbers.{is_number};
 ghost use Rattle.land_tables_history.specs.Changed.{is_changed, listed_members, named_by, new_mutations};
+ghost use Rattle.land_tables_rows.specs.Effects.{Performs};
 ghost use Rattle.land_tables_rows.specs.Member.Writing.{members};
 ghost use Rattle.land_tables_rows.specs.Mutation.Cells.{fits_mutation};
 ghost use Rattle.land_tables_rows.specs.Naming.Writing.{namings};
 ghost use Rattle.land_tables_rows.specs.Recording.{BeginsAll, Changes};
 ghost use Rattle.land_tables_rows.specs.Recording.Whole.{fits_group, fits_kind};
 ghost use Rattle.land_tables_rows.specs.Writing.Holding.{IsMoment};
-ghost use Rattle.land_tables_schema.specs.Land.{IsLand};
-ghost use Rattle.land_tables_schema.specs.Steps.{IsStep};
-ghost use Rattle.sqlite.specs.Held.{state};
-ghost use Rattle.sqlite.specs.State.{HasCleanDisk};
+ghost use Rattle.land_tables_schema.specs.Connections.{HasRegisterTables, SameReference};
 
 use crate::recording::all::{begin_all, change, close_all, close_put, fit, keys_fit};
 use crate::recording::lists::{list_members, list_names};
@@ -26,14 +24,14 @@ use land_tables_history::group_member::GroupMember;
 use sqlite::{Alter, Error, Transaction};
 use std::alloc::Global;
 
-/// Whether what is put can be written, and so can the keys of what ends.
+/// Whether the inserted records and the ended keys can be written.
 pub(crate) fn fit_kind<K, X: Closing<K>>(put: &Sequence<X>, ended: &Sequence<K>) -> bool
     ensures { result ≡ fits_kind X.fits X.fits_key put.now ended.now }
 {
     fit(put.as_slice()) && keys_fit::<K, X>(ended.as_slice())
 }
 
-/// Whether groups can be written, and so can the numbers of those that end.
+/// Whether groups can be written, and the numbers of those that end.
 pub(crate) fn groups_fit(put: &Sequence<(u64, Members)>, ended: &NumberList) -> bool
     ensures { result ≡ fits_kind fits_group is_number put.now ended.now }
 {
@@ -61,7 +59,7 @@ fn are_numbers(members: &Members) -> bool
     members.iter().all(|(party, _)| is_number(*party))
 }
 
-/// Writes what is put and ended of a kind.
+/// Writes the inserted records and the ended keys of a kind.
 pub(crate) fn change_kind<S: Alter, K, X: Known<K> + Closing<K>>(
     alloc: Global,
     tx: &mut Transaction<'_, S>,
@@ -73,15 +71,16 @@ pub(crate) fn change_kind<S: Alter, K, X: Known<K> + Closing<K>>(
     requires keys { IsTrue (list_all (λ x. X.fits_key (X.key x)) put.now) }
     requires ended { IsTrue (list_all X.fits_key ended.now) }
     requires moment { IsMoment stamp }
-    requires land { HasCleanDisk (state S.Store tx.old.conn.now) → IsLand (state S.Store tx.old.conn.now).now.schema }
-    ensures same_reference { tx.new.conn.ghost_name ≡ tx.old.conn.ghost_name }
-    ensures step { IsStep result (Changes X.reading put.now (λ x. list_any (X.has x) (map_list X.key put.now ++ ended.now)) stamp)
-        (state S.Store tx.old.conn.now) (state S.Store tx.new.conn.now) }
+    requires land { HasRegisterTables S.Store tx.old.conn.now }
+    ensures same_reference { SameReference tx.old tx.new }
+    ensures step { Performs S.Store result
+        (Changes X.reading put.now
+        (λ x. list_any (X.has x) (map_list X.key put.now ++ ended.now)) stamp) tx.old tx.new }
 {
     change(alloc, tx, put.as_slice(), ended.as_slice(), stamp)
 }
 
-/// Writes the members of groups: those of the groups that are put begin, and all that were in a changed group end.
+/// Writes the members of groups: all current members of a changed group end, and the new members begin.
 pub(crate) fn change_members<S: Alter>(
     alloc: Global,
     tx: &mut Transaction<'_, S>,
@@ -91,10 +90,11 @@ pub(crate) fn change_members<S: Alter>(
 ) -> Result<(), Error>
     requires fits { IsTrue (fits_kind fits_group is_number put.now ended.now) }
     requires moment { IsMoment stamp }
-    requires land { HasCleanDisk (state S.Store tx.old.conn.now) → IsLand (state S.Store tx.old.conn.now).now.schema }
-    ensures same_reference { tx.new.conn.ghost_name ≡ tx.old.conn.ghost_name }
-    ensures step { IsStep result (Changes members (listed_members put.now) (λ e. is_changed put.now ended.now e.group) stamp)
-        (state S.Store tx.old.conn.now) (state S.Store tx.new.conn.now) }
+    requires land { HasRegisterTables S.Store tx.old.conn.now }
+    ensures same_reference { SameReference tx.old tx.new }
+    ensures step { Performs S.Store result
+        (Changes members (listed_members put.now)
+        (λ e. is_changed put.now ended.now e.group) stamp) tx.old tx.new }
 {
     let listed = list_members(alloc, put.as_slice())?;
     close_put::<S, u64, (u64, Members), GroupMember>(tx, put.as_slice(), stamp)?;
@@ -102,7 +102,7 @@ pub(crate) fn change_members<S: Alter>(
     begin_all(alloc, tx, listed.as_slice(), stamp)
 }
 
-/// Writes which units new mutations name: those whose numbers are none below the next one.
+/// Writes the links of new mutations to units. A mutation is new if its number is at least the next number.
 pub(crate) fn begin_names<S: Alter>(
     alloc: Global,
     tx: &mut Transaction<'_, S>,
@@ -112,9 +112,10 @@ pub(crate) fn begin_names<S: Alter>(
 ) -> Result<(), Error>
     requires fits { IsTrue (list_all fits_mutation put.now) }
     requires moment { IsMoment stamp }
-    requires land { HasCleanDisk (state S.Store tx.old.conn.now) → IsLand (state S.Store tx.old.conn.now).now.schema }
-    ensures same_reference { tx.new.conn.ghost_name ≡ tx.old.conn.ghost_name }
-    ensures step { IsStep result (BeginsAll namings (named_by (new_mutations next put.now)) stamp) (state S.Store tx.old.conn.now) (state S.Store tx.new.conn.now) }
+    requires land { HasRegisterTables S.Store tx.old.conn.now }
+    ensures same_reference { SameReference tx.old tx.new }
+    ensures step { Performs S.Store result
+        (BeginsAll namings (named_by (new_mutations next put.now)) stamp) tx.old tx.new }
 {
     let names = list_names(alloc, next, put.as_slice())?;
     begin_all(alloc, tx, names.as_slice(), stamp)

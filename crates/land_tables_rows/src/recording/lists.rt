@@ -1,4 +1,4 @@
-//! Lists of what has no number of its own: members of groups, and the units that mutations name.
+//! Lists rows that have no number of their own: members of groups, and links of mutations to units.
 ghost use Rattle.std.specs.Prelude.{◌≡◌, ◌++◌, ◌∷◌, [], IfOk, OnOk};
 ghost use Rattle.land_tables_history.specs.Changed.{listed_members, named_by, new_mutations};
 ghost use Rattle.land_tables_rows.specs.Recording.Whole.{group_members, mutation_names, names_of};
@@ -11,7 +11,7 @@ use land_tables_history::group_member::GroupMember;
 use land_tables_history::naming::Naming;
 use std::alloc::{AllocError, Global};
 
-/// The members of groups, each with the number of its group.
+/// Lists the members of groups, each with the number of its group.
 pub(crate) fn list_members(
     alloc: Global,
     groups: &[(u64, Members)],
@@ -43,7 +43,7 @@ fn add_members(
     Ok(())
 }
 
-/// The units that new mutations name: those whose numbers are none below the next one.
+/// Lists the links of new mutations to units. A mutation is new if its number is at least the next number.
 pub(crate) fn list_names(
     alloc: Global,
     next: u64,
@@ -60,7 +60,7 @@ pub(crate) fn list_names(
     Ok(listed)
 }
 
-/// Appends the units that one mutation names.
+/// Appends the links of one mutation.
 fn add_names(
     listed: &mut Sequence<Naming>,
     mutation: u64,
@@ -80,7 +80,7 @@ fn add_names(
     }
 }
 
-/// Appends some units that a mutation names.
+/// Appends links of a mutation to some units.
 fn add_each_name(
     listed: &mut Sequence<Naming>,
     mutation: u64,
@@ -94,7 +94,7 @@ fn add_each_name(
     Ok(())
 }
 
-/// Appends one unit that a mutation names.
+/// Appends the link of a mutation to one unit.
 fn add_name(listed: &mut Sequence<Naming>, mutation: u64, unit: u64) -> Result<(), AllocError>
     ensures { OnOk result (listed.new ≡ listed.old ++ names_of mutation (unit ∷ [])) }
 {

@@ -1,11 +1,9 @@
-//! Sources and mutations are written, and the units that new mutations name.
-ghost use Rattle.std.specs.Prelude.{◌≡◌, IsTrue};
+//! Writes sources and mutations, and the links of new mutations to units.
+ghost use Rattle.std.specs.Prelude.{IsTrue};
+ghost use Rattle.land_tables_rows.specs.Effects.{Performs};
 ghost use Rattle.land_tables_rows.specs.Recording.Whole.{Edits, changed_papers, fits_papers};
 ghost use Rattle.land_tables_rows.specs.Writing.Holding.{IsMoment};
-ghost use Rattle.land_tables_schema.specs.Land.{IsLand};
-ghost use Rattle.land_tables_schema.specs.Steps.{IsStep};
-ghost use Rattle.sqlite.specs.Held.{state};
-ghost use Rattle.sqlite.specs.State.{HasCleanDisk};
+ghost use Rattle.land_tables_schema.specs.Connections.{HasRegisterTables, SameReference};
 
 use crate::recording::kinds::{begin_names, change_kind};
 use crate::writing::laws::changes_are_held;
@@ -13,7 +11,8 @@ use land_core::change::Change;
 use sqlite::{Alter, Error, Transaction};
 use std::alloc::Global;
 
-/// Writes what a change says of sources and mutations, and the units that those mutations name whose numbers are none below `next`.
+/// Writes the sources and mutations of a change, and the links of mutations whose numbers are at least
+/// `next`.
 pub(crate) fn record_papers<S: Alter>(
     alloc: Global,
     tx: &mut Transaction<'_, S>,
@@ -23,9 +22,9 @@ pub(crate) fn record_papers<S: Alter>(
 ) -> Result<(), Error>
     requires fits { IsTrue (fits_papers change.now) }
     requires moment { IsMoment stamp }
-    requires land { HasCleanDisk (state S.Store tx.old.conn.now) → IsLand (state S.Store tx.old.conn.now).now.schema }
-    ensures same_reference { tx.new.conn.ghost_name ≡ tx.old.conn.ghost_name }
-    ensures step { IsStep result (Edits (changed_papers next change.now stamp)) (state S.Store tx.old.conn.now) (state S.Store tx.new.conn.now) }
+    requires land { HasRegisterTables S.Store tx.old.conn.now }
+    ensures same_reference { SameReference tx.old tx.new }
+    ensures step { Performs S.Store result (Edits (changed_papers next change.now stamp)) tx.old tx.new }
 {
     changes_are_held();
     change_kind(alloc, tx, &change.put.sources, &change.ended.sources, stamp)?;

@@ -1,4 +1,4 @@
-//! The roles of parties (LA_PartyRoleType).
+//! Roles of parties (LA_PartyRoleType).
 ghost use Rattle.land_tables_rows.specs.Role.Reading.{grant_in};
 
 use crate::reading::cells::{end_at, moment_at, number_at};
@@ -10,7 +10,7 @@ use land_wire_json::bodies::wire_fault::WireFault;
 use sqlite::Row;
 use std::alloc::Global;
 
-/// The version that a row of `role` says: party, role, since, until.
+/// Decodes a row of `role`: party, role, since, until.
 impl FromRow for Version<Grant> {
     ghost said = { grant_in };
 

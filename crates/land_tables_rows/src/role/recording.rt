@@ -1,4 +1,4 @@
-//! The roles of parties (LA_PartyRoleType).
+//! Roles of parties (LA_PartyRoleType).
 ghost use Rattle.std.specs.Prelude.{◌≡◌, IsTrue};
 ghost use Rattle.land_core.specs.declared.roles.Grant.{Grant};
 ghost use Rattle.land_tables_history.specs.Intervals.{is_same_grant};

@@ -1,12 +1,10 @@
-//! The roles of parties (LA_PartyRoleType).
+//! Roles of parties (LA_PartyRoleType).
 ghost use Rattle.std.specs.Prelude.{◌≡◌, ◌<◌, ◌^◌, IsTrue};
 ghost use Rattle.land_tables_history.specs.Intervals.{is_same_grant};
+ghost use Rattle.land_tables_rows.specs.Effects.{Performs};
 ghost use Rattle.land_tables_rows.specs.Role.Writing.{fits_grant, roles};
 ghost use Rattle.land_tables_rows.specs.Writing.Holding.{Begins, Closes, IsMoment};
-ghost use Rattle.land_tables_schema.specs.Land.{IsLand};
-ghost use Rattle.land_tables_schema.specs.Steps.{IsStep};
-ghost use Rattle.sqlite.specs.Held.{state};
-ghost use Rattle.sqlite.specs.State.{HasCleanDisk};
+ghost use Rattle.land_tables_schema.specs.Connections.{HasRegisterTables, SameReference};
 
 use land_core::limits::is_number;
 use land_core::roles::Grant;
@@ -21,7 +19,7 @@ pub fn fits(grant: Grant) -> bool
     is_number(grant.party)
 }
 
-/// Begins a version of a grant: from then on the party holds the role.
+/// Begins a version of a grant: from its beginning on the party holds the role.
 pub fn begin<S: Alter>(
     tx: &mut Transaction<'_, S>,
     grant: Grant,
@@ -29,14 +27,14 @@ pub fn begin<S: Alter>(
 ) -> Result<usize, Error>
     requires fits { IsTrue (fits_grant grant) }
     requires moment { IsMoment since }
-    requires land { HasCleanDisk (state S.Store tx.old.conn.now) → IsLand (state S.Store tx.old.conn.now).now.schema }
-    ensures same_reference { tx.new.conn.ghost_name ≡ tx.old.conn.ghost_name }
-    ensures step { IsStep result (Begins roles grant since) (state S.Store tx.old.conn.now) (state S.Store tx.new.conn.now) }
+    requires land { HasRegisterTables S.Store tx.old.conn.now }
+    ensures same_reference { SameReference tx.old tx.new }
+    ensures step { Performs S.Store result (Begins roles grant since) tx.old tx.new }
 {
     rows::role::begin(tx, grant.party, role_word(grant.role), since)
 }
 
-/// Closes the version of a grant that stands.
+/// Closes the current version of a grant.
 pub fn close<S: Alter>(
     tx: &mut Transaction<'_, S>,
     grant: Grant,
@@ -44,9 +42,9 @@ pub fn close<S: Alter>(
 ) -> Result<usize, Error>
     requires party_fits { grant.party < 2 ^ 63 }
     requires moment { IsMoment stamp }
-    requires land { HasCleanDisk (state S.Store tx.old.conn.now) → IsLand (state S.Store tx.old.conn.now).now.schema }
-    ensures same_reference { tx.new.conn.ghost_name ≡ tx.old.conn.ghost_name }
-    ensures step { IsStep result (Closes roles (λ e. is_same_grant e grant) stamp) (state S.Store tx.old.conn.now) (state S.Store tx.new.conn.now) }
+    requires land { HasRegisterTables S.Store tx.old.conn.now }
+    ensures same_reference { SameReference tx.old tx.new }
+    ensures step { Performs S.Store result (Closes roles (λ e. is_same_grant e grant) stamp) tx.old tx.new }
 {
     rows::role::close(tx, grant.party, role_word(grant.role), stamp)
 }

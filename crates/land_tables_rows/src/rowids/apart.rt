@@ -1,4 +1,4 @@
-//! Whether rowids are each another.
+//! Checks that rowids are unique.
 ghost use Rattle.std.specs.Prelude.{◌≡◌, ◌≢◌, ◌↔◌, true, IfErr, IfOk, OnOk};
 ghost use Rattle.std.specs.List.{IsDistinct};
 ghost use Rattle.std.specs.List.Sorted.{IsStrictlySortedBy};
@@ -12,7 +12,8 @@ ghost use Rattle.sqlite_rules.specs.Edit.{have_rowids};
 use sqlite::{Error, ErrorCode, Row};
 use std::alloc::{AllocError, Global};
 
-/// Refuses rows of which two lie under one rowid, or one under none, as those of a damaged store. Each row begins with its rowid.
+/// Checks that all rows have a rowid and no two have the same. Errors: `Store` if they do not, since the file
+/// is then corrupted; `NoMemory`. Each row begins with its rowid.
 pub(crate) fn are_numbered(alloc: Global, rows: &[Row]) -> Result<(), Error>
     ensures numbered { OnOk result (AreNumbered rows.now) }
     ensures damaged { IfErr result (λ e. e ≡ SqliteFailure DatabaseCorrupt → ¬ AreNumbered rows.now) }
@@ -25,7 +26,7 @@ pub(crate) fn are_numbered(alloc: Global, rows: &[Row]) -> Result<(), Error>
     }
 }
 
-/// The rowids of rows, which are all integers.
+/// Returns the rowids of rows. Errors: `Store` if one is not an integer.
 fn rowids(alloc: Global, rows: &[Row]) -> Result<Vec<i64>, Error>
     ensures ids { IfOk result (λ ids. ids.items ≡ ids_of rows.now) }
     ensures whole { OnOk result (have_rowids rows.now ≡ true) }
@@ -38,7 +39,8 @@ fn rowids(alloc: Global, rows: &[Row]) -> Result<Vec<i64>, Error>
     Ok(ids)
 }
 
-/// Whether no two numbers are the same. Those that rise, as the rowids of a table mostly come, are neither copied nor put in order.
+/// Whether no two numbers are the same. Strictly increasing numbers, the usual order of a table's rowids, are
+/// neither copied nor sorted.
 fn are_apart(alloc: Global, ids: &[i64]) -> Result<bool, AllocError>
     ensures { IfOk result (λ it. (it ≡ true) ↔ IsDistinct int_eq ids.now) }
 {
@@ -50,7 +52,7 @@ fn are_apart(alloc: Global, ids: &[i64]) -> Result<bool, AllocError>
     Ok(is_rising(sorted.as_slice()))
 }
 
-/// Whether each number is less than the next one.
+/// Whether each number is less than its successor.
 fn is_rising(ids: &[i64]) -> bool
     ensures { (result ≡ true) ↔ IsStrictlySortedBy int_cmp ids.now }
 {

@@ -1,18 +1,19 @@
-//! What lies under rowids in a table.
-ghost use Rattle.std.specs.Prelude.{◌≡◌, false};
+//! Tables that are keyed by rowids.
+ghost use Rattle.land_tables_rows.specs.Effects.{ReadsTables};
 ghost use Rattle.land_tables_rows.specs.Rowids.{AreRowids};
-ghost use Rattle.land_tables_schema.specs.Rows.Looks.{IsLook};
+ghost use Rattle.land_tables_schema.specs.Connections.{LeavesAutocommit};
 ghost use Rattle.sqlite.specs.Held.{state};
 ghost use Rattle.sqlite.specs.State.{HasCleanDisk};
 
 use crate::listing::listed::Listed;
 use sqlite::{Alter, Connection, Error, Row};
 
-/// What has versions in a table, each under a rowid.
+/// A record that has versions in a table, each under a rowid.
 pub(crate) trait Keyed: Listed {
-    /// The rowids of the table, in whatever order.
+    /// Reads the rowids of the table, in unspecified order.
     fn rowids<S: Alter>(conn: &mut Connection<S>) -> Result<Vec<Row>, Error>
         requires { HasCleanDisk (state S.Store conn.old) → Self.has (state S.Store conn.old).now.schema }
-        ensures look { IsLook result (λ rows. AreRowids Self.listing.table (state S.Store conn.old).now.trees rows.items) (state S.Store conn.old) (state S.Store conn.new) }
-        ensures mode { conn.old.in_transaction ≡ false → conn.new.in_transaction ≡ false };
+        ensures look { ReadsTables S.Store result
+            (λ db rows. AreRowids Self.listing.table db rows.items) conn.old conn.new }
+        ensures mode { LeavesAutocommit conn.old conn.new };
 }

@@ -1,4 +1,4 @@
-//! The rowids of each table of versions.
+//! Reads the rowids of each table of versions.
 
 use crate::rowids::keyed::Keyed;
 use land_core::mandates::Mandate;
@@ -14,7 +14,7 @@ use land_tables_history::naming::Naming;
 use land_tables_history::version::Version;
 use sqlite::{Alter, Connection, Error, Row};
 
-/// The text that lists the rowids of `party`.
+/// The query for the rowids of `party`.
 const PARTY: &str = "SELECT rowid FROM party";
 
 impl Keyed for Version<(u64, PartyRecord)> {
@@ -23,7 +23,7 @@ impl Keyed for Version<(u64, PartyRecord)> {
     }
 }
 
-/// The text that lists the rowids of `role`.
+/// The query for the rowids of `role`.
 const ROLE: &str = "SELECT rowid FROM role";
 
 impl Keyed for Version<Grant> {
@@ -32,7 +32,7 @@ impl Keyed for Version<Grant> {
     }
 }
 
-/// The text that lists the rowids of `member`.
+/// The query for the rowids of `member`.
 const MEMBER: &str = "SELECT rowid FROM member";
 
 impl Keyed for Version<GroupMember> {
@@ -41,7 +41,7 @@ impl Keyed for Version<GroupMember> {
     }
 }
 
-/// The text that lists the rowids of `unit`.
+/// The query for the rowids of `unit`.
 const UNIT: &str = "SELECT rowid FROM unit";
 
 impl Keyed for Version<(u64, UnitRecord)> {
@@ -50,7 +50,7 @@ impl Keyed for Version<(u64, UnitRecord)> {
     }
 }
 
-/// The text that lists the rowids of `parcel`.
+/// The query for the rowids of `parcel`.
 const PARCEL: &str = "SELECT rowid FROM parcel";
 
 impl Keyed for Version<(u64, ParcelRecord)> {
@@ -59,7 +59,7 @@ impl Keyed for Version<(u64, ParcelRecord)> {
     }
 }
 
-/// The text that lists the rowids of `rrr`.
+/// The query for the rowids of `rrr`.
 const RRR: &str = "SELECT rowid FROM rrr";
 
 impl Keyed for Version<(u64, RrrRecord)> {
@@ -68,7 +68,7 @@ impl Keyed for Version<(u64, RrrRecord)> {
     }
 }
 
-/// The text that lists the rowids of `source`.
+/// The query for the rowids of `source`.
 const SOURCE: &str = "SELECT rowid FROM source";
 
 impl Keyed for Version<(u64, SourceRecord)> {
@@ -77,7 +77,7 @@ impl Keyed for Version<(u64, SourceRecord)> {
     }
 }
 
-/// The text that lists the rowids of `mutation`.
+/// The query for the rowids of `mutation`.
 const MUTATION: &str = "SELECT rowid FROM mutation";
 
 impl Keyed for Version<(u64, MutationRecord)> {
@@ -86,7 +86,7 @@ impl Keyed for Version<(u64, MutationRecord)> {
     }
 }
 
-/// The text that lists the rowids of `names`.
+/// The query for the rowids of `names`.
 const NAMES: &str = "SELECT rowid FROM names";
 
 impl Keyed for Version<Naming> {
@@ -95,7 +95,7 @@ impl Keyed for Version<Naming> {
     }
 }
 
-/// The text that lists the rowids of `mandate`.
+/// The query for the rowids of `mandate`.
 const MANDATE: &str = "SELECT rowid FROM mandate";
 
 impl Keyed for Version<Mandate> {

@@ -1,8 +1,8 @@
-//! Whether the rows of each table of versions lie under rowids of their own.
-ghost use Rattle.std.specs.Prelude.{◌≡◌, false};
-ghost use Rattle.land_tables_rows.specs.Rowids.{AreFirstKeyed, AreHoldingsKeyed, AreKeyed, ArePapersKeyed, ArePersonsKeyed};
-ghost use Rattle.land_tables_schema.specs.Land.{HasFirstTables, IsLand};
-ghost use Rattle.land_tables_schema.specs.Rows.Looks.{IsLook};
+//! Checks that the rows of each table of versions have unique rowids.
+ghost use Rattle.land_tables_rows.specs.Effects.{ReadsTables};
+ghost use Rattle.land_tables_rows.specs.Rowids.{AreFirstKeyed, AreHoldingsKeyed, AreKeyed, ArePapersKeyed};
+ghost use Rattle.land_tables_rows.specs.Rowids.{ArePersonsKeyed};
+ghost use Rattle.land_tables_schema.specs.Connections.{HasRegisterTables, HasV1Tables, LeavesAutocommit};
 ghost use Rattle.land_tables_schema.specs.Tables as table;
 ghost use Rattle.sqlite.specs.Held.{state};
 ghost use Rattle.sqlite.specs.State.{HasCleanDisk};
@@ -23,66 +23,67 @@ use land_tables_history::version::Version;
 use sqlite::{Alter, Connection, Error};
 use std::alloc::Global;
 
-/// Refuses a table in which two rows lie under one rowid, or one under none.
+/// Checks that the rows of a table have unique rowids.
 fn judge_table<S: Alter, X: Keyed>(alloc: Global, conn: &mut Connection<S>) -> Result<(), Error>
     requires { HasCleanDisk (state S.Store conn.old) → X.has (state S.Store conn.old).now.schema }
-    ensures look { IsLook result (λ _. AreKeyed X.listing.table (state S.Store conn.old).now.trees) (state S.Store conn.old) (state S.Store conn.new) }
-    ensures mode { conn.old.in_transaction ≡ false → conn.new.in_transaction ≡ false }
+    ensures look { ReadsTables S.Store result (λ db _. AreKeyed X.listing.table db) conn.old conn.new }
+    ensures mode { LeavesAutocommit conn.old conn.new }
 {
     let rows = X::rowids(conn)?;
     are_numbered(alloc, rows.as_slice())
 }
 
-/// The tables of who there is.
+/// Checks the tables of parties, roles and members.
 fn persons<S: Alter>(alloc: Global, conn: &mut Connection<S>) -> Result<(), Error>
-    requires { HasCleanDisk (state S.Store conn.old) → HasFirstTables (state S.Store conn.old).now.schema }
-    ensures look { IsLook result (λ _. ArePersonsKeyed (state S.Store conn.old).now.trees) (state S.Store conn.old) (state S.Store conn.new) }
-    ensures mode { conn.old.in_transaction ≡ false → conn.new.in_transaction ≡ false }
+    requires { HasV1Tables S.Store conn.old }
+    ensures look { ReadsTables S.Store result (λ db _. ArePersonsKeyed db) conn.old conn.new }
+    ensures mode { LeavesAutocommit conn.old conn.new }
 {
     judge_table::<S, Version<(u64, PartyRecord)>>(alloc, conn)?;
     judge_table::<S, Version<Grant>>(alloc, conn)?;
     judge_table::<S, Version<GroupMember>>(alloc, conn)
 }
 
-/// The tables of what is held.
+/// Checks the tables of units, parcels and entries.
 fn holdings<S: Alter>(alloc: Global, conn: &mut Connection<S>) -> Result<(), Error>
-    requires { HasCleanDisk (state S.Store conn.old) → HasFirstTables (state S.Store conn.old).now.schema }
-    ensures look { IsLook result (λ _. AreHoldingsKeyed (state S.Store conn.old).now.trees) (state S.Store conn.old) (state S.Store conn.new) }
-    ensures mode { conn.old.in_transaction ≡ false → conn.new.in_transaction ≡ false }
+    requires { HasV1Tables S.Store conn.old }
+    ensures look { ReadsTables S.Store result (λ db _. AreHoldingsKeyed db) conn.old conn.new }
+    ensures mode { LeavesAutocommit conn.old conn.new }
 {
     judge_table::<S, Version<(u64, UnitRecord)>>(alloc, conn)?;
     judge_table::<S, Version<(u64, ParcelRecord)>>(alloc, conn)?;
     judge_table::<S, Version<(u64, RrrRecord)>>(alloc, conn)
 }
 
-/// The tables of what was handed in.
+/// Checks the tables of sources, mutations and their units.
 fn papers<S: Alter>(alloc: Global, conn: &mut Connection<S>) -> Result<(), Error>
-    requires { HasCleanDisk (state S.Store conn.old) → HasFirstTables (state S.Store conn.old).now.schema }
-    ensures look { IsLook result (λ _. ArePapersKeyed (state S.Store conn.old).now.trees) (state S.Store conn.old) (state S.Store conn.new) }
-    ensures mode { conn.old.in_transaction ≡ false → conn.new.in_transaction ≡ false }
+    requires { HasV1Tables S.Store conn.old }
+    ensures look { ReadsTables S.Store result (λ db _. ArePapersKeyed db) conn.old conn.new }
+    ensures mode { LeavesAutocommit conn.old conn.new }
 {
     judge_table::<S, Version<(u64, SourceRecord)>>(alloc, conn)?;
     judge_table::<S, Version<(u64, MutationRecord)>>(alloc, conn)?;
     judge_table::<S, Version<Naming>>(alloc, conn)
 }
 
-/// Refuses tables of versions, of those that the first version has, in which two rows lie under one rowid, or one under none, as those of a
-/// damaged store. Other errors are the store's own. A store that it leaves open is as it was.
+/// Checks that the rows of all tables of schema version 1 that hold versions have unique rowids. Errors:
+/// `Store` (502) if they do not, since the file is then corrupted, or if a read fails; `NoMemory` (501). A
+/// store that is still open is unchanged.
 pub fn are_first_keyed<S: Alter>(alloc: Global, conn: &mut Connection<S>) -> Result<(), Error>
-    requires { HasCleanDisk (state S.Store conn.old) → HasFirstTables (state S.Store conn.old).now.schema }
-    ensures look { IsLook result (λ _. AreFirstKeyed (state S.Store conn.old).now.trees) (state S.Store conn.old) (state S.Store conn.new) }
-    ensures mode { conn.old.in_transaction ≡ false → conn.new.in_transaction ≡ false }
+    requires { HasV1Tables S.Store conn.old }
+    ensures look { ReadsTables S.Store result (λ db _. AreFirstKeyed db) conn.old conn.new }
+    ensures mode { LeavesAutocommit conn.old conn.new }
 {
     persons(alloc, conn)?;
     holdings(alloc, conn)?;
     papers(alloc, conn)
 }
 
-/// The same of the table of mandates.
+/// Checks the table of mandates likewise.
 pub fn are_mandates_keyed<S: Alter>(alloc: Global, conn: &mut Connection<S>) -> Result<(), Error>
-    requires { HasCleanDisk (state S.Store conn.old) → IsLand (state S.Store conn.old).now.schema }
-    ensures look { IsLook result (λ _. AreKeyed table.mandate (state S.Store conn.old).now.trees) (state S.Store conn.old) (state S.Store conn.new) }
-    ensures mode { conn.old.in_transaction ≡ false → conn.new.in_transaction ≡ false }
+    requires { HasRegisterTables S.Store conn.old }
+    ensures look { ReadsTables S.Store result (λ db _. AreKeyed table.mandate db) conn.old conn.new }
+    ensures mode { LeavesAutocommit conn.old conn.new }
 {
     judge_table::<S, Version<Mandate>>(alloc, conn)
 }

@@ -1,6 +1,7 @@
-//! Entries of units as they are written (LA_RRR).
+//! The cells in which entries of units are written (LA_RRR).
 ghost use Rattle.std.specs.Prelude.{◌≡◌, true};
-ghost use Rattle.land_tables_rows.specs.Rrr.Cells.{IsExactClass, IsExactRrr, fits_class, fits_rrr, rrr_row_of};
+ghost use Rattle.land_tables_rows.specs.Rrr.Cells.{IsExactClass, IsExactRrr, fits_class, fits_rrr};
+ghost use Rattle.land_tables_rows.specs.Rrr.Cells.{rrr_row_of};
 ghost use Rattle.land_tables_schema.specs.Rows.Rrr.{FitsRrr, rrr_of};
 
 use crate::cells::texts::{are_words, is_currency};
@@ -10,10 +11,10 @@ use land_core::rrr::{Class, RrrRecord};
 use land_core::words::right_word;
 use land_tables_schema::rows::tables::rrr::RrrCells;
 
-/// The first rank that no column can hold.
+/// The lowest rank that no column can hold.
 const TOO_LOW_A_RANK: u64 = 9_223_372_036_854_775_808;
 
-/// The cells of an entry.
+/// Returns the cells of an entry.
 pub fn rrr_cells(number: u64, entry: &RrrRecord) -> RrrCells<'_>
     ensures row { rrr_of result ≡ rrr_row_of (number, entry.now) }
     ensures columns { fits_rrr (number, entry.now) ≡ true → FitsRrr result }
@@ -62,7 +63,8 @@ pub fn rrr_cells(number: u64, entry: &RrrRecord) -> RrrCells<'_>
     }
 }
 
-/// Whether an entry keeps the limits within which it is read from its cells. The share of a right is a fraction by its type.
+/// Whether an entry is within the limits of its fields, so that it decodes from its cells. By its type, the
+/// share of a right is a fraction.
 pub fn fits_rrr(number: u64, entry: &RrrRecord) -> bool
     ensures fits { result ≡ fits_rrr (number, entry.now) }
     ensures exact { IsExactRrr entry.now }
@@ -90,8 +92,8 @@ fn fits_class(class: &Class) -> bool
     }
 }
 
-/// The share of a right is a fraction, by its type. It changes nothing, and is called where that is to be known of an entry that is to be
-/// written.
+/// Proves that the share of a right is a fraction, of an entry that is about to be written. Does nothing at
+/// run time.
 pub fn class_is_exact(class: &Class)
     ensures { IsExactClass class.now }
 {

@@ -1,6 +1,7 @@
 //! The entries of units: rights, restrictions, responsibilities and mortgages (LA_RRR).
 ghost use Rattle.std.specs.Prelude.{◌≡◌};
-ghost use Rattle.land_tables_rows.specs.Rrr.Reading.{burden_in, class_by, mortgage_in, no_mortgage_in, no_right_in, right_in, rrr_in};
+ghost use Rattle.land_tables_rows.specs.Rrr.Reading.{burden_in, class_by, mortgage_in, no_mortgage_in};
+ghost use Rattle.land_tables_rows.specs.Rrr.Reading.{no_right_in, right_in, rrr_in};
 ghost use Rattle.land_wire_json.specs.Bodies.WireFaults.{Gives};
 
 use crate::reading::cells::{
@@ -15,8 +16,8 @@ use land_wire_json::bodies::wire_fault::WireFault;
 use sqlite::Row;
 use std::alloc::Global;
 
-/// The version that a row of `rrr` says: number, unit, party, class, numerator, denominator, amount, currency, rank, words, source, since,
-/// until. 131, too: a column that the class does not use is not NULL.
+/// Decodes a row of `rrr`: number, unit, party, class, numerator, denominator, amount, currency, rank, words,
+/// source, since, until. Errors include 131 if a column that the class does not use is not NULL.
 impl FromRow for Version<(u64, RrrRecord)> {
     ghost said = { rrr_in };
 
@@ -44,7 +45,7 @@ impl FromRow for Version<(u64, RrrRecord)> {
     }
 }
 
-/// What an entry of a class says.
+/// Decodes the columns of a class.
 fn class_by(alloc: Global, which: ClassWord, row: &Row) -> Result<Class, WireFault>
     ensures { Gives (λ it. it) result (class_by which row.now) }
 {
@@ -60,7 +61,7 @@ fn class_by(alloc: Global, which: ClassWord, row: &Row) -> Result<Class, WireFau
     }
 }
 
-/// A right, and nothing in the columns of other classes.
+/// Decodes a right. The columns of other classes must be NULL.
 #[tactic(auto, unfolding(crate::specs::Rrr::Reading::right_in))]
 fn right_in(right_type: RightType, row: &Row) -> Result<Class, WireFault>
     ensures { result ≡ right_in right_type row.now }
@@ -71,7 +72,7 @@ fn right_in(right_type: RightType, row: &Row) -> Result<Class, WireFault>
     Ok(Class::Right { right_type, share })
 }
 
-/// The words of a burden, and nothing in the columns of other classes.
+/// Decodes the words of a restriction or a responsibility. The columns of other classes must be NULL.
 #[tactic(auto, unfolding(crate::specs::Rrr::Reading::burden_in))]
 fn burden_in(alloc: Global, row: &Row) -> Result<Text, WireFault>
     ensures { Gives (λ it. it) result (burden_in row.now) }
@@ -81,7 +82,7 @@ fn burden_in(alloc: Global, row: &Row) -> Result<Text, WireFault>
     words_at(alloc, row, 9)
 }
 
-/// A mortgage, and nothing in the columns of other classes.
+/// Decodes a mortgage. The columns of other classes must be NULL.
 #[tactic(auto, unfolding(crate::specs::Rrr::Reading::mortgage_in))]
 fn mortgage_in(alloc: Global, row: &Row) -> Result<Class, WireFault>
     ensures { Gives (λ it. it) result (mortgage_in row.now) }
@@ -98,7 +99,7 @@ fn mortgage_in(alloc: Global, row: &Row) -> Result<Class, WireFault>
     })
 }
 
-/// Nothing in the columns of a right.
+/// Checks that the columns of a right are NULL.
 #[tactic(auto, unfolding(crate::specs::Rrr::Reading::no_right_in))]
 fn no_right_in(row: &Row) -> Result<(), WireFault>
     ensures { result ≡ no_right_in row.now }
@@ -107,7 +108,7 @@ fn no_right_in(row: &Row) -> Result<(), WireFault>
     null_at(row, 5)
 }
 
-/// Nothing in the columns of a mortgage.
+/// Checks that the columns of a mortgage are NULL.
 #[tactic(auto, unfolding(crate::specs::Rrr::Reading::no_mortgage_in))]
 fn no_mortgage_in(row: &Row) -> Result<(), WireFault>
     ensures { result ≡ no_mortgage_in row.now }

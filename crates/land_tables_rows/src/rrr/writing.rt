@@ -1,12 +1,10 @@
 //! The entries of units: rights, restrictions, responsibilities and mortgages (LA_RRR).
 ghost use Rattle.std.specs.Prelude.{◌≡◌, ◌<◌, ◌^◌, IsTrue, nat_eq};
+ghost use Rattle.land_tables_rows.specs.Effects.{Performs};
 ghost use Rattle.land_tables_rows.specs.Rrr.Cells.{fits_rrr};
 ghost use Rattle.land_tables_rows.specs.Rrr.Writing.{rrrs};
 ghost use Rattle.land_tables_rows.specs.Writing.Holding.{Begins, Closes, IsMoment};
-ghost use Rattle.land_tables_schema.specs.Land.{IsLand};
-ghost use Rattle.land_tables_schema.specs.Steps.{IsStep};
-ghost use Rattle.sqlite.specs.Held.{state};
-ghost use Rattle.sqlite.specs.State.{HasCleanDisk};
+ghost use Rattle.land_tables_schema.specs.Connections.{HasRegisterTables, SameReference};
 
 use crate::cells::laws::rrrs_read_back;
 use crate::rrr::cells::{class_is_exact, fits_rrr, rrr_cells};
@@ -14,7 +12,7 @@ use land_core::rrr::RrrRecord;
 use land_tables_schema::rows::tables as rows;
 use sqlite::{Alter, Error, Transaction};
 
-/// Whether an entry can be written: its numbers and what it says are within their limits.
+/// Whether an entry can be written: its numbers and the fields of its class are within their limits.
 pub fn fits(number: u64, entry: &RrrRecord) -> bool
     ensures { result ≡ fits_rrr (number, entry.now) }
 {
@@ -30,22 +28,22 @@ pub fn begin<S: Alter>(
 ) -> Result<usize, Error>
     requires fits { IsTrue (fits_rrr (number, entry.now)) }
     requires moment { IsMoment since }
-    requires land { HasCleanDisk (state S.Store tx.old.conn.now) → IsLand (state S.Store tx.old.conn.now).now.schema }
-    ensures same_reference { tx.new.conn.ghost_name ≡ tx.old.conn.ghost_name }
-    ensures step { IsStep result (Begins rrrs (number, entry.now) since) (state S.Store tx.old.conn.now) (state S.Store tx.new.conn.now) }
+    requires land { HasRegisterTables S.Store tx.old.conn.now }
+    ensures same_reference { SameReference tx.old tx.new }
+    ensures step { Performs S.Store result (Begins rrrs (number, entry.now) since) tx.old tx.new }
 {
     rrrs_read_back();
     class_is_exact(&entry.class);
     rows::rrr::begin(tx, rrr_cells(number, entry), since)
 }
 
-/// Closes the version of an entry that stands.
+/// Closes the current version of an entry.
 pub fn close<S: Alter>(tx: &mut Transaction<'_, S>, number: u64, stamp: i64) -> Result<usize, Error>
     requires number_fits { number < 2 ^ 63 }
     requires moment { IsMoment stamp }
-    requires land { HasCleanDisk (state S.Store tx.old.conn.now) → IsLand (state S.Store tx.old.conn.now).now.schema }
-    ensures same_reference { tx.new.conn.ghost_name ≡ tx.old.conn.ghost_name }
-    ensures step { IsStep result (Closes rrrs (λ e. nat_eq e.0 number) stamp) (state S.Store tx.old.conn.now) (state S.Store tx.new.conn.now) }
+    requires land { HasRegisterTables S.Store tx.old.conn.now }
+    ensures same_reference { SameReference tx.old tx.new }
+    ensures step { Performs S.Store result (Closes rrrs (λ e. nat_eq e.0 number) stamp) tx.old tx.new }
 {
     rows::rrr::close(tx, number, stamp)
 }

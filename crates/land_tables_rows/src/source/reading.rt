@@ -10,7 +10,7 @@ use land_wire_json::bodies::wire_fault::WireFault;
 use sqlite::Row;
 use std::alloc::Global;
 
-/// The version that a row of `source` says: number, kind, title, since, until.
+/// Decodes a row of `source`: number, kind, title, since, until.
 impl FromRow for Version<(u64, SourceRecord)> {
     ghost said = { source_in };
 

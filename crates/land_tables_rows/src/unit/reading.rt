@@ -9,7 +9,7 @@ use land_wire_json::bodies::wire_fault::WireFault;
 use sqlite::Row;
 use std::alloc::Global;
 
-/// The version that a row of `unit` says: number, name, checked, since, until.
+/// Decodes a row of `unit`: number, name, checked, since, until.
 impl FromRow for Version<(u64, UnitRecord)> {
     ghost said = { unit_in };
 

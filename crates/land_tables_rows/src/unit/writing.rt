@@ -1,11 +1,9 @@
 //! Basic administrative units (LA_BAUnit).
 ghost use Rattle.std.specs.Prelude.{◌≡◌, ◌<◌, ◌^◌, IsTrue, nat_eq};
+ghost use Rattle.land_tables_rows.specs.Effects.{Performs};
 ghost use Rattle.land_tables_rows.specs.Unit.Writing.{fits_unit, units};
 ghost use Rattle.land_tables_rows.specs.Writing.Holding.{Begins, Closes, IsMoment};
-ghost use Rattle.land_tables_schema.specs.Land.{IsLand};
-ghost use Rattle.land_tables_schema.specs.Steps.{IsStep};
-ghost use Rattle.sqlite.specs.Held.{state};
-ghost use Rattle.sqlite.specs.State.{HasCleanDisk};
+ghost use Rattle.land_tables_schema.specs.Connections.{HasRegisterTables, SameReference};
 
 use land_core::limits::{is_name, is_number};
 use land_core::unit::UnitRecord;
@@ -28,20 +26,20 @@ pub fn begin<S: Alter>(
 ) -> Result<usize, Error>
     requires fits { IsTrue (fits_unit number unit.now) }
     requires moment { IsMoment since }
-    requires land { HasCleanDisk (state S.Store tx.old.conn.now) → IsLand (state S.Store tx.old.conn.now).now.schema }
-    ensures same_reference { tx.new.conn.ghost_name ≡ tx.old.conn.ghost_name }
-    ensures step { IsStep result (Begins units (number, unit.now) since) (state S.Store tx.old.conn.now) (state S.Store tx.new.conn.now) }
+    requires land { HasRegisterTables S.Store tx.old.conn.now }
+    ensures same_reference { SameReference tx.old tx.new }
+    ensures step { Performs S.Store result (Begins units (number, unit.now) since) tx.old tx.new }
 {
     rows::unit::begin(tx, number, unit.name.as_str(), unit.checked, since)
 }
 
-/// Closes the version of a unit that stands.
+/// Closes the current version of a unit.
 pub fn close<S: Alter>(tx: &mut Transaction<'_, S>, number: u64, stamp: i64) -> Result<usize, Error>
     requires number_fits { number < 2 ^ 63 }
     requires moment { IsMoment stamp }
-    requires land { HasCleanDisk (state S.Store tx.old.conn.now) → IsLand (state S.Store tx.old.conn.now).now.schema }
-    ensures same_reference { tx.new.conn.ghost_name ≡ tx.old.conn.ghost_name }
-    ensures step { IsStep result (Closes units (λ e. nat_eq e.0 number) stamp) (state S.Store tx.old.conn.now) (state S.Store tx.new.conn.now) }
+    requires land { HasRegisterTables S.Store tx.old.conn.now }
+    ensures same_reference { SameReference tx.old tx.new }
+    ensures step { Performs S.Store result (Closes units (λ e. nat_eq e.0 number) stamp) tx.old tx.new }
 {
     rows::unit::close(tx, number, stamp)
 }

@@ -1,17 +1,19 @@
-//! Laws, each stated over the definitions alone.
-ghost use Rattle.land_tables_rows.specs.Writing.Laws.{ChangesAreHeld, NewRegistersAreHeld, RaisedRegistersAreHeld};
+//! Laws, each over the definitions only.
+ghost use Rattle.land_tables_rows.specs.Writing.Laws.{ChangesAreHeld, NewRegistersAreHeld};
+ghost use Rattle.land_tables_rows.specs.Writing.Laws.{RaisedRegistersAreHeld};
 
-/// Where one table holds other versions and all others are as they were, the tables hold the history with these versions.
+/// States that if one table is rewritten and the others are unchanged, the tables hold the history with the
+/// new versions of that table.
 pub fn changes_are_held()
     ensures { ChangesAreHeld }
 {}
 
-/// The rows that a new register is made with are those of its history.
+/// States that the rows of a new register decode to its history.
 pub fn new_registers_are_held()
     ensures { NewRegistersAreHeld }
 {}
 
-/// Where a register of the first version becomes one of the second, it holds what it held, and no mandates.
+/// States that migrating from schema version 1 to 2 preserves the history, and adds no mandates.
 pub fn raised_registers_are_held()
     ensures { RaisedRegistersAreHeld }
 {}

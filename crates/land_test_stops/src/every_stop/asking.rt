@@ -1,39 +1,39 @@
-//! What is told of a change, and of a look after it, over a store that may stop.
+//! Replies to a change, and to a read after it, on a store that may stop.
 use land_desk::serve::{DeskFault, Served, serve};
 use land_keep::keeper::Keeper;
 use land_test_scenario::doubles::{Pieces, Readings, Sink};
 use land_test_scenario::talk::Talk;
 use std::alloc::Global;
 
-/// The reply of a keeper whose store fails: the connection ends.
+/// The reply of a keeper whose store fails. The connection closes.
 const FAILED: &[u8] =
     b"HTTP/1.1 503 Service Unavailable\r\nContent-Type: application/json\r\nContent-Length: 13\r\nConnection: close\r\n\r\n{\"store\":502}";
 
-/// The reply of a closed keeper: the connection ends.
+/// The reply of a closed keeper. The connection closes.
 const CLOSED: &[u8] =
     b"HTTP/1.1 503 Service Unavailable\r\nContent-Type: application/json\r\nContent-Length: 13\r\nConnection: close\r\n\r\n{\"store\":503}";
 
-/// What a reply ends with that tells of want of memory.
+/// The end of an out-of-memory reply.
 const NO_ROOM: &[u8] = b"{\"store\":501}";
 
-/// What becomes of a change and a look after it.
+/// The outcome of a change and of a read after it.
 #[derive(Clone, Copy)]
 pub enum Ending {
-    /// The store is not opened, or not taken, so that nothing is asked.
+    /// The store was not opened, or refused, so that nothing was requested.
     Unasked,
-    /// The change is told 502, which ends the connection, and the next request 503.
+    /// The change got 502, which closes the connection, and the next request 503.
     Failed,
-    /// The change is done, the look is told 502, which ends the connection, and the next request 503.
+    /// The change was done, the read got 502, which closes the connection, and the next request 503.
     Done,
-    /// The change is done, and the look told.
+    /// The change was done, and the read got its reply.
     Told,
-    /// There was no memory.
+    /// Out of memory.
     Lacked,
-    /// Anything else.
+    /// Any other outcome.
     Other,
 }
 
-/// Serves a stream over a keeper. What was told before is taken off the sink.
+/// Serves a stream from a keeper. Earlier replies are removed from the sink.
 fn served<K: Keeper>(
     alloc: Global,
     keeper: &mut K,
@@ -50,12 +50,12 @@ fn served<K: Keeper>(
     serve(alloc, &mut reader, told, keeper, &mut clock)
 }
 
-/// Whether so many requests were answered.
+/// Whether the given number of requests were answered.
 fn answered(served: &Result<Served, DeskFault>, replies: u64) -> bool {
     *served == Ok(Served { replies })
 }
 
-/// Whether the change's own reply was told, and then that the store fails.
+/// Whether the change got its own reply, followed by the reply of a failed store.
 fn is_done_then_failed(talk: &Talk, taken: &[u8]) -> bool {
     let Some(mark) = talk.marks.first() else {
         return false;
@@ -69,7 +69,7 @@ fn is_done_then_failed(talk: &Talk, taken: &[u8]) -> bool {
     }
 }
 
-/// What becomes of them, by what is told.
+/// Determines the outcome from the replies.
 fn became(talk: &Talk, served: &Result<Served, DeskFault>, taken: &[u8]) -> Ending {
     if taken == talk.output.as_bytes() && answered(served, 2) {
         return Ending::Told;
@@ -86,13 +86,13 @@ fn became(talk: &Talk, served: &Result<Served, DeskFault>, taken: &[u8]) -> Endi
     Ending::Other
 }
 
-/// Whether a keeper is closed, and tells the next request so, after which the connection ends.
+/// Whether a keeper is closed, and the next request gets 503, after which the connection closes.
 fn is_closed<K: Keeper>(alloc: Global, keeper: &mut K, talk: &Talk, told: &mut Sink) -> bool {
     let outcome = served(alloc, keeper, talk, told);
     keeper.is_closed() && told.taken.as_slice() == CLOSED && answered(&outcome, 1)
 }
 
-/// Asks a change and a look as one stream, and once more where the store fails.
+/// Sends a change and a read as one stream, and again if the store fails.
 pub fn ask<K: Keeper>(alloc: Global, keeper: &mut K, talk: &Talk, told: &mut Sink) -> Ending {
     let outcome = served(alloc, keeper, talk, told);
     let ending = became(talk, &outcome, &told.taken);

@@ -1,4 +1,5 @@
-//! Changes over files of which one stops, after no call of it, after one, after two, until a run ends with no stop.
+//! Changes on two files of which one stops: after none of its calls, after one, after two, until a run is not
+//! stopped.
 use crate::every_stop::asking::Ending;
 use crate::every_stop::disks::{Disks, Fuses, Image, have_stopped, lose_power};
 use crate::every_stop::opening::{Asked, Room, Way, ask_files};
@@ -10,17 +11,17 @@ use land_test_scenario::playing::open_sink;
 use land_test_scenario::stop::{Stop, expect};
 use std::alloc::Global;
 
-/// A run ends with no stop at the latest after so many calls of a file.
+/// A run is not stopped if a file may make this many calls.
 pub(crate) const MOST: u64 = 100000;
 
-/// Which file stops.
+/// The file that stops.
 #[derive(Clone, Copy)]
 pub(crate) enum Which {
     Log,
     Database,
 }
 
-/// It stops after so many calls, the other one does not.
+/// Returns fuses that stop one file after a number of calls, and never the other one.
 pub(crate) fn stopping(which: Which, calls: u64) -> Fuses {
     match which {
         Which::Log => Fuses {
@@ -34,7 +35,7 @@ pub(crate) fn stopping(which: Which, calls: u64) -> Fuses {
     }
 }
 
-/// Whether files hold the register from before a change, or that from after it.
+/// Whether files hold the register from before a change, or from after it.
 #[derive(Clone, Copy)]
 struct Held {
     is_before: bool,
@@ -49,13 +50,13 @@ fn held_by(alloc: Global, image: &Image, story: &Story) -> Result<Held, Stop> {
     })
 }
 
-/// The register that files hold as they are.
+/// Returns which register the files hold now.
 fn held_in(alloc: Global, files: &Disks, story: &Story) -> Result<Held, Stop> {
     let image = Image::of(alloc, files)?;
     held_by(alloc, &image, story)
 }
 
-/// Whether that may be left, by what became of the change.
+/// Whether that register is allowed, by the outcome of the change.
 fn may_be_left(ending: Ending, held: Held) -> bool {
     match ending {
         Ending::Unasked => held.is_before,
@@ -79,7 +80,7 @@ fn is_failed(ending: Ending) -> bool {
     }
 }
 
-/// A change, and the files over which it is asked.
+/// A change, and the files on which it is requested.
 #[derive(Clone, Copy)]
 struct Trial<'a> {
     story: &'a Story,
@@ -87,7 +88,7 @@ struct Trial<'a> {
     which: Which,
 }
 
-/// Looks at what files hold: what a process leaves that dies, and then what a machine leaves that loses its power.
+/// Checks the content of the files after the death of the process, and then after a power failure.
 fn look_at_files(
     alloc: Global,
     story: &Story,
@@ -102,7 +103,8 @@ fn look_at_files(
     expect(may_be_left(ending, synced), "what was synced", calls)
 }
 
-/// What becomes of the change where the file stops after so many calls, and whether it has stopped.
+/// Requests the change on files of which one stops after a number of calls. Returns the outcome, and whether
+/// the file stopped.
 fn run(
     alloc: Global,
     trial: Trial<'_>,
@@ -123,7 +125,8 @@ fn run(
     Ok((ending, is_stopped))
 }
 
-/// The file stops, until a run ends with no stop, in which all is told: how often the store failed at the change.
+/// Stops the file after each number of calls, until a run is not stopped, in which all requests get their
+/// replies. Returns the number of runs in which the store failed at the change.
 fn count_failed(alloc: Global, trial: Trial<'_>, told: &mut Sink) -> Result<u64, Stop> {
     let mut failed = 0u64;
     for calls in 0..MOST {
@@ -139,7 +142,7 @@ fn count_failed(alloc: Global, trial: Trial<'_>, told: &mut Sink) -> Result<u64,
     Err(Stop::Unlike("a run with no stop", 0))
 }
 
-/// The log stops, and then the database file. The store fails at the change, at least where the log stops.
+/// Stops the log, and then the database file. The store fails at the change at least if the log stops.
 fn each_file_stops(alloc: Global, story: &Story, asked: Asked<'_>) -> Result<(), Stop> {
     let mut told = open_sink(alloc, 4096)?;
     let mut trial = Trial {
@@ -153,7 +156,7 @@ fn each_file_stops(alloc: Global, story: &Story, asked: Asked<'_>) -> Result<(),
     Ok(())
 }
 
-/// They stop in a store that is opened as the program does, and in one with little room.
+/// Stops files in a store that is opened as the program opens it, and in one with a small cache.
 fn stops(alloc: Global, change: &Change, way: Way) -> Result<(), Stop> {
     let story = story_of(alloc, change)?;
     let mut asked = Asked {
@@ -166,42 +169,42 @@ fn stops(alloc: Global, change: &Change, way: Way) -> Result<(), Stop> {
     each_file_stops(alloc, &story, asked)
 }
 
-/// A registration, over whole tables.
+/// A registration, with whole tables.
 pub fn a_registration_over_tables(alloc: Global) -> Result<(), Stop> {
     stops(alloc, &REGISTRATION, Way::Tables)
 }
 
-/// The same, over joins.
+/// The same, with queries.
 pub fn a_registration_over_joins(alloc: Global) -> Result<(), Stop> {
     stops(alloc, &REGISTRATION, Way::Joins)
 }
 
-/// The approval of a transfer, over whole tables.
+/// The approval of a transfer, with whole tables.
 pub fn a_transfer_over_tables(alloc: Global) -> Result<(), Stop> {
     stops(alloc, &TRANSFER, Way::Tables)
 }
 
-/// The same, over joins.
+/// The same, with queries.
 pub fn a_transfer_over_joins(alloc: Global) -> Result<(), Stop> {
     stops(alloc, &TRANSFER, Way::Joins)
 }
 
-/// The approval of a subdivision, over whole tables.
+/// The approval of a subdivision, with whole tables.
 pub fn a_subdivision_over_tables(alloc: Global) -> Result<(), Stop> {
     stops(alloc, &SUBDIVISION, Way::Tables)
 }
 
-/// The same, over joins.
+/// The same, with queries.
 pub fn a_subdivision_over_joins(alloc: Global) -> Result<(), Stop> {
     stops(alloc, &SUBDIVISION, Way::Joins)
 }
 
-/// The approval of a merger, over whole tables.
+/// The approval of a merger, with whole tables.
 pub fn a_merger_over_tables(alloc: Global) -> Result<(), Stop> {
     stops(alloc, &MERGER, Way::Tables)
 }
 
-/// The same, over joins.
+/// The same, with queries.
 pub fn a_merger_over_joins(alloc: Global) -> Result<(), Stop> {
     stops(alloc, &MERGER, Way::Joins)
 }

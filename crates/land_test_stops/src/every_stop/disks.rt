@@ -1,4 +1,4 @@
-//! Two files in memory: what they hold, and disks over it that stop.
+//! Two files in memory: their content, and disks with that content that stop.
 use land_test_scenario::stop::Stop;
 use sqlite::Files;
 use sqlite_disk::{Crash, Disk, Fuse, Memory};
@@ -7,21 +7,21 @@ use std::alloc::{AllocError, Global};
 /// A database file and its log, whose disks stop.
 pub type Disks = Files<Fuse<Memory>>;
 
-/// What such files hold.
+/// The content of the two files.
 #[derive(Drop)]
 pub struct Image {
     log: Vec<u8>,
     db: Vec<u8>,
 }
 
-/// After how many calls each disk stops.
+/// The number of calls after which each disk stops.
 #[derive(Clone, Copy)]
 pub struct Fuses {
     pub log: u64,
     pub db: u64,
 }
 
-/// None stops.
+/// Neither disk stops.
 pub const ENDLESS: Fuses = Fuses {
     log: u64::MAX,
     db: u64::MAX,
@@ -33,7 +33,7 @@ fn copy(alloc: Global, bytes: &[u8]) -> Result<Vec<u8>, AllocError> {
     Ok(copy)
 }
 
-/// A disk that holds these bytes and stops after so many calls.
+/// Returns a disk with the given bytes that stops after a number of calls.
 fn disk(alloc: Global, bytes: &[u8], calls: u64) -> Result<Fuse<Memory>, Stop> {
     let mut memory = Memory::new(alloc);
     memory.write_at(0, bytes)?;
@@ -42,7 +42,7 @@ fn disk(alloc: Global, bytes: &[u8], calls: u64) -> Result<Fuse<Memory>, Stop> {
 }
 
 impl Image {
-    /// Files that hold nothing.
+    /// Returns empty files.
     pub fn empty(alloc: Global) -> Image {
         Image {
             log: Vec::new(alloc),
@@ -50,7 +50,7 @@ impl Image {
         }
     }
 
-    /// What files hold now.
+    /// Returns the current content of files.
     pub fn of(alloc: Global, files: &Disks) -> Result<Image, AllocError> {
         Ok(Image {
             log: copy(alloc, files.log.inner().bytes())?,
@@ -58,7 +58,7 @@ impl Image {
         })
     }
 
-    /// Files that hold this.
+    /// Returns files with this content.
     pub fn disks(&self, alloc: Global, fuses: Fuses) -> Result<Disks, Stop> {
         Ok(Files {
             log: disk(alloc, &self.log, fuses.log)?,
@@ -76,7 +76,7 @@ pub fn have_stopped(files: &mut Disks) -> bool {
     has_stopped(&mut files.log) || has_stopped(&mut files.db)
 }
 
-/// What was written and not synced is lost.
+/// Drops data that was written and not synced.
 pub fn lose_power(files: &mut Disks) {
     files.log.crash();
     files.db.crash();

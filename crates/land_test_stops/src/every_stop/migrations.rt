@@ -1,5 +1,6 @@
-//! A migration over files of which one stops, after no call of it, after one, after two, until a run ends with no stop. Where the store
-//! fails, the fault is 502. Opened again, the files hold the register of the first version or that of the second, these where it was told.
+//! A migration on files of which one stops: after none of its calls, after one, after two, until a run is not
+//! stopped. If the store fails, the fault is 502. Reopened, the files hold the register in schema version 1
+//! or 2; in version 2, if the migration succeeded.
 use crate::every_stop::changes::{MOST, Which, stopping};
 use crate::every_stop::disks::{Disks, ENDLESS, Image, have_stopped, lose_power};
 use crate::every_stop::opening::{Room, files_of, opened, options};
@@ -12,22 +13,22 @@ use land_test_tables::tables::migrating::{AFTER, BEFORE};
 use sqlite::{Alter, Connection, Error, ErrorCode};
 use std::alloc::Global;
 
-/// What becomes of a migration.
+/// The outcome of a migration.
 #[derive(Clone, Copy)]
 enum Ending {
-    /// The store is not opened.
+    /// The store was not opened.
     Unopened,
-    /// It fails.
+    /// The migration failed.
     Failed,
-    /// The register is migrated.
+    /// The register was migrated.
     Migrated,
-    /// There was no memory.
+    /// Out of memory.
     Lacked,
-    /// Anything else.
+    /// Any other outcome.
     Other,
 }
 
-/// A store that is not opened.
+/// Returns the outcome if the store cannot be opened.
 fn unopened(error: Error) -> Ending {
     match error {
         Error::SqliteFailure(ErrorCode::SystemIoFailure) => Ending::Unopened,
@@ -36,7 +37,7 @@ fn unopened(error: Error) -> Ending {
     }
 }
 
-/// A store that is not migrated.
+/// Returns the outcome if the store is not migrated.
 fn unmigrated(fault: AdoptFault) -> Ending {
     match fault {
         AdoptFault::Store => Ending::Failed,
@@ -45,7 +46,7 @@ fn unmigrated(fault: AdoptFault) -> Ending {
     }
 }
 
-/// Tables that were migrated hold the register of the scenario.
+/// Returns the outcome of migrated tables, which must hold the register of the scenario.
 fn is_last<S: Alter>(tables: &Tables<S>) -> Ending {
     if tables.last() == 1017 && tables.next() == 30 {
         Ending::Migrated
@@ -61,7 +62,7 @@ fn migrate_store<S: Alter>(alloc: Global, conn: Connection<S>) -> (Ending, Conne
     }
 }
 
-/// Opens files and migrates the register in them: what becomes of it, and the files then.
+/// Opens files and migrates the register in them. Returns the outcome and the files.
 fn migrate_files(alloc: Global, files: Disks, room: Room) -> (Ending, Disks) {
     if !files.may_be_used() {
         return (Ending::Other, files);
@@ -75,7 +76,7 @@ fn migrate_files(alloc: Global, files: Disks, room: Room) -> (Ending, Disks) {
     }
 }
 
-/// By which version the tables in a store were made, which hold the register of the scenario; 0 where it is none of these.
+/// Returns the schema version of the tables in a store that holds the register of the scenario; 0 if neither.
 fn version_of<S: Alter + Drop>(alloc: Global, conn: Connection<S>) -> Result<u64, Stop> {
     match Tables::adopt(alloc, conn) {
         Ok(tables) => {
@@ -90,7 +91,7 @@ fn version_of<S: Alter + Drop>(alloc: Global, conn: Connection<S>) -> Result<u64
     }
 }
 
-/// Tables of the first version are migrated, and have then the rows of the scenario.
+/// Migrates tables of schema version 1, which must then have the rows of the scenario.
 fn first_of<S: Alter + Drop>(alloc: Global, conn: Connection<S>) -> Result<u64, Stop> {
     let mut conn = conn;
     look_at(alloc, &mut conn, BEFORE)?;
@@ -105,7 +106,7 @@ fn first_of<S: Alter + Drop>(alloc: Global, conn: Connection<S>) -> Result<u64, 
     }
 }
 
-/// Which version files hold as they are.
+/// Returns the schema version in the files now.
 fn version_in(alloc: Global, files: &Disks) -> Result<u64, Stop> {
     let image = Image::of(alloc, files)?;
     version_of(
@@ -114,7 +115,7 @@ fn version_in(alloc: Global, files: &Disks) -> Result<u64, Stop> {
     )
 }
 
-/// Whether that may be left, by what became of the migration.
+/// Whether that version is allowed, by the outcome of the migration.
 fn may_be_left(ending: Ending, version: u64) -> bool {
     match ending {
         Ending::Unopened => version == 1,
@@ -138,7 +139,7 @@ fn is_failed(ending: Ending) -> bool {
     }
 }
 
-/// Looks at what files hold: what a process leaves that dies, and then what a machine leaves that loses its power.
+/// Checks the content of the files after the death of the process, and then after a power failure.
 fn look_at_files(
     alloc: Global,
     ending: Ending,
@@ -152,7 +153,7 @@ fn look_at_files(
     expect(may_be_left(ending, synced), "what was synced", calls)
 }
 
-/// A register of the first version, and how it is migrated.
+/// A register of schema version 1, and how it is migrated.
 #[derive(Clone, Copy)]
 struct Trial<'a> {
     files: &'a Image,
@@ -160,7 +161,8 @@ struct Trial<'a> {
     which: Which,
 }
 
-/// What becomes of the migration where the file stops after so many calls, and whether it has stopped.
+/// Migrates on files of which one stops after a number of calls. Returns the outcome, and whether the file
+/// stopped.
 fn run(alloc: Global, trial: Trial<'_>, calls: u64) -> Result<(Ending, bool), Stop> {
     let files = trial.files.disks(alloc, stopping(trial.which, calls))?;
     let (ending, left) = migrate_files(alloc, files, trial.room);
@@ -173,7 +175,8 @@ fn run(alloc: Global, trial: Trial<'_>, calls: u64) -> Result<(Ending, bool), St
     Ok((ending, is_stopped))
 }
 
-/// The file stops, until a run ends with no stop, in which the register is migrated: how often the store failed.
+/// Stops the file after each number of calls, until a run is not stopped, in which the register is migrated.
+/// Returns the number of runs in which the store failed.
 fn count_failed(alloc: Global, trial: Trial<'_>) -> Result<u64, Stop> {
     let mut failed = 0u64;
     for calls in 0..MOST {
@@ -189,7 +192,7 @@ fn count_failed(alloc: Global, trial: Trial<'_>) -> Result<u64, Stop> {
     Err(Stop::Unlike("a run with no stop", 0))
 }
 
-/// The log stops, and then the database file. The store fails, at least where the log stops.
+/// Stops the log, and then the database file. The store fails at least if the log stops.
 fn each_file_stops(alloc: Global, files: &Image, room: Room) -> Result<(), Stop> {
     let mut trial = Trial {
         files,
@@ -202,12 +205,12 @@ fn each_file_stops(alloc: Global, files: &Image, room: Room) -> Result<(), Stop>
     Ok(())
 }
 
-/// The migration of the register that the scenario leaves, in a store that is opened as the program does.
+/// The migration of the scenario's register, in a store that is opened as the program opens it.
 pub fn a_migration(alloc: Global) -> Result<(), Stop> {
     each_file_stops(alloc, &first_files(alloc)?, Room::Ample)
 }
 
-/// The same in one with little room.
+/// The same, in a store with a small cache.
 pub fn a_migration_in_little_room(alloc: Global) -> Result<(), Stop> {
     each_file_stops(alloc, &first_files(alloc)?, Room::Tight)
 }

@@ -15,7 +15,7 @@ use std::alloc::Global;
 /// A store in such files.
 pub type Store = FileStore<Fuse<Memory>>;
 
-/// How tables are read.
+/// How the keeper reads tables.
 #[derive(Clone, Copy)]
 pub enum Way {
     Tables,
@@ -27,12 +27,12 @@ pub enum Way {
 pub enum Room {
     /// As the program opens a file.
     Ample,
-    /// With few pages in memory, so that both files are read again and again, and with a log that is copied into the database file before
-    /// each change.
+    /// With few pages in memory, so that both files are read repeatedly, and with a log that is copied into
+    /// the database file before each change.
     Tight,
 }
 
-/// How a store with this room is opened.
+/// Returns the options for opening a store.
 pub fn options(room: Room) -> Options {
     let ample = Options::new(1);
     match room {
@@ -46,7 +46,7 @@ pub fn options(room: Room) -> Options {
     }
 }
 
-/// A change and a look, and how they are asked.
+/// A change and a read, and how they are requested.
 #[derive(Clone, Copy)]
 pub struct Asked<'a> {
     pub way: Way,
@@ -76,7 +76,7 @@ fn by_joins<S: Alter>(
     (ending, keeper.into_tables())
 }
 
-/// Asks over tables.
+/// Sends the requests to a keeper of the tables.
 fn over<S: Alter>(
     alloc: Global,
     tables: Tables<S>,
@@ -89,12 +89,12 @@ fn over<S: Alter>(
     }
 }
 
-/// The files of a store. What is not committed is lost.
+/// Returns the files of a store. Uncommitted data is lost.
 pub fn files_of(conn: Connection<Store>) -> Disks {
     conn.into_store().close()
 }
 
-/// A store that is not opened.
+/// Returns the outcome if the store cannot be opened.
 fn unopened(error: Error) -> Ending {
     match error {
         Error::SqliteFailure(ErrorCode::SystemIoFailure) => Ending::Unasked,
@@ -103,7 +103,7 @@ fn unopened(error: Error) -> Ending {
     }
 }
 
-/// A store that is not taken.
+/// Returns the outcome if the store is refused.
 fn untaken(fault: AdoptFault) -> Ending {
     match fault {
         AdoptFault::Store => Ending::Unasked,
@@ -127,7 +127,7 @@ fn ask_store<S: Alter>(
     }
 }
 
-/// Opens files, takes the register in them, and asks: what becomes of it, and the files then.
+/// Opens files and the register in them, and sends the requests. Returns the outcome and the files.
 pub fn ask_files(
     alloc: Global,
     files: Disks,
@@ -146,7 +146,7 @@ pub fn ask_files(
     }
 }
 
-/// A store in files that do not stop.
+/// Opens a store in files that do not stop.
 pub fn opened(alloc: Global, files: Disks, room: Room) -> Result<Connection<Store>, Stop> {
     if !files.may_be_used() {
         return Err(Stop::Call);

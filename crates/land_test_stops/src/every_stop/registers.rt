@@ -1,4 +1,4 @@
-//! Registers before a change, in files, and the rows that stand before it and after it.
+//! Registers before a change, in files, and the rows before it and after it.
 use crate::every_stop::disks::{Disks, ENDLESS, Image};
 use crate::every_stop::opening::{Room, Store, files_of, opened};
 use crate::every_stop::rows::rows_at;
@@ -15,7 +15,7 @@ use land_test_tables::tables::migrating::TO_FIRST;
 use sqlite::{Alter, Connection, Error, MemStore};
 use std::alloc::{AllocError, Global};
 
-/// A change: how many steps come before it, the stamp of the last of them, and its own.
+/// A change: the number of steps before it, the stamp of the last of them, and its own stamp.
 pub struct Change {
     steps: usize,
     before: i64,
@@ -49,14 +49,14 @@ pub const MERGER: Change = Change {
     after: 1019,
 };
 
-/// What comes after the scenario.
+/// The sequel of the scenario.
 const PLAYED: Change = Change {
     steps: 18,
     before: 1017,
     after: 1018,
 };
 
-/// What is asked after each change: the parties.
+/// The read after each change: the list of parties.
 const LOOK: Row = Row(
     "GET /parties",
     OFFICE,
@@ -64,7 +64,8 @@ const LOOK: Row = Row(
     Told::Shown(r#"{"numbers":[1,2,3,4,5,6,7]}"#),
 );
 
-/// Files that hold the register before a change, the rows before and after it, and the change with a look after it.
+/// Files that hold the register before a change, the rows before and after it, and requests for the change
+/// and for a read after it.
 #[derive(Drop)]
 pub struct Story {
     pub files: Image,
@@ -73,7 +74,7 @@ pub struct Story {
     pub talk: Talk,
 }
 
-/// A step of the scenario, or of what comes after it.
+/// Returns a step of the scenario, or of its sequel.
 fn step(place: usize) -> Option<&'static Row> {
     match place.checked_sub(STEPS.len()) {
         None => STEPS.get(place),
@@ -81,7 +82,7 @@ fn step(place: usize) -> Option<&'static Row> {
     }
 }
 
-/// The steps before a change, as requests.
+/// Returns the steps before a change, as requests.
 fn steps_before(alloc: Global, change: &Change) -> Result<Talk, AllocError> {
     let mut talk = Talk::new(alloc)?;
     for place in 0..change.steps {
@@ -92,7 +93,7 @@ fn steps_before(alloc: Global, change: &Change) -> Result<Talk, AllocError> {
     Ok(talk)
 }
 
-/// A change and a look, as requests.
+/// Returns a change and a read, as requests.
 fn asked(alloc: Global, change: &Change) -> Result<Talk, AllocError> {
     let mut talk = Talk::new(alloc)?;
     if let Some(step) = step(change.steps) {
@@ -102,13 +103,13 @@ fn asked(alloc: Global, change: &Change) -> Result<Talk, AllocError> {
     Ok(talk)
 }
 
-/// A store in files that are new, and do not stop.
+/// Opens a store in new files that do not stop.
 fn new_store(alloc: Global) -> Result<Connection<Store>, Stop> {
     let files = Image::empty(alloc).disks(alloc, ENDLESS)?;
     opened(alloc, files, Room::Tight)
 }
 
-/// Plays steps over tables, and gives back their store.
+/// Plays steps on tables, and returns their store.
 fn play_over<S: Alter>(
     alloc: Global,
     tables: Tables<S>,
@@ -119,7 +120,8 @@ fn play_over<S: Alter>(
     (done, keeper.into_tables().into_connection())
 }
 
-/// Files in which the steps before a change are played. Their log holds the last step, which the database file has not got yet.
+/// Returns files in which the steps before a change were played. The log holds the last step, which is not
+/// yet in the database file.
 fn played_files(alloc: Global, change: &Change) -> Result<Disks, Stop> {
     let steps = steps_before(alloc, change)?;
     let (done, conn) = play_over(alloc, created(new_store(alloc)?)?, &steps);
@@ -133,7 +135,8 @@ fn image_before(alloc: Global, change: &Change) -> Result<Image, Stop> {
     Ok(Image::of(alloc, &files)?)
 }
 
-/// Files of the first version in which the scenario is played. Their log holds what made them so.
+/// Returns files of schema version 1 in which the scenario was played. The log holds the conversion to that
+/// version.
 pub fn first_files(alloc: Global) -> Result<Image, Stop> {
     let files = played_files(alloc, &PLAYED)?;
     let (done, conn) = lowered(opened(alloc, files, Room::Ample)?);
@@ -142,21 +145,21 @@ pub fn first_files(alloc: Global) -> Result<Image, Stop> {
     Ok(Image::of(alloc, &files)?)
 }
 
-/// Makes the first version of a store, and gives it back.
+/// Converts a store to schema version 1, and returns it.
 fn lowered<S: Alter>(conn: Connection<S>) -> (Result<(), Error>, Connection<S>) {
     let mut conn = conn;
     let done = conn.execute_batch(TO_FIRST);
     (done, conn)
 }
 
-/// A store in memory after the scenario: it has the rows that are known.
+/// Returns a store in memory after the scenario, and checks its rows.
 fn known_steps(alloc: Global) -> Result<Connection<MemStore>, Stop> {
     let mut conn = played(alloc)?.into_connection();
     look_at_steps(alloc, &mut conn)?;
     Ok(conn)
 }
 
-/// The same after what comes after the scenario.
+/// Returns a store in memory after the scenario's sequel, and checks its rows.
 fn known_rows(alloc: Global) -> Result<Connection<MemStore>, Stop> {
     let mut keeper = TableKeeper::new(taken(alloc, known_steps(alloc)?)?);
     play_more(alloc, &mut keeper)?;
@@ -170,7 +173,7 @@ fn known_at(alloc: Global, at: i64) -> Result<String, Stop> {
     rows_at(alloc, &mut conn, at)
 }
 
-/// A change, and the register before it.
+/// Returns a change, and the register before it.
 pub fn story_of(alloc: Global, change: &Change) -> Result<Story, Stop> {
     Ok(Story {
         files: image_before(alloc, change)?,
@@ -180,13 +183,13 @@ pub fn story_of(alloc: Global, change: &Change) -> Result<Story, Stop> {
     })
 }
 
-/// All rows of the register that files hold, which are opened and taken.
+/// Reads all rows of the register in files, which are opened.
 pub fn rows_in(alloc: Global, image: &Image) -> Result<String, Stop> {
     let conn = opened(alloc, image.disks(alloc, ENDLESS)?, Room::Ample)?;
     taken_rows(alloc, conn)
 }
 
-/// All rows of the register in a store, which is taken.
+/// Reads all rows of the register in a store, which is opened.
 fn taken_rows<S: Alter + Drop>(alloc: Global, conn: Connection<S>) -> Result<String, Stop> {
     let mut conn = taken(alloc, conn)?.into_connection();
     rows_at(alloc, &mut conn, LAST_MOMENT)

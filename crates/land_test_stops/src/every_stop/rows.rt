@@ -1,10 +1,10 @@
-//! All rows of a store.
+//! Reads all rows of a store.
 use land_test_scenario::lines::lines;
 use land_test_scenario::stop::Stop;
 use sqlite::{Alter, Connection};
 use std::alloc::{AllocError, Global};
 
-/// A table: its name, its key but for the beginning of a row, and its other columns but for the lifespan.
+/// A table: its name, its key without the beginning, and its other columns without the lifespan.
 struct Table(&'static str, &'static str, &'static str);
 
 const TABLES: &[Table] = &[
@@ -28,7 +28,8 @@ const TABLES: &[Table] = &[
     Table("mandate", "principal, agent", "0"),
 ];
 
-/// The rows of a table that begin up to a moment, where what ends later does not end.
+/// Returns the query for the rows of a table that begin at or before a time. Ends after that time are
+/// reported as never.
 fn query(alloc: Global, table: &Table, at: i64) -> Result<String, AllocError> {
     let Table(name, key, others) = table;
     format!(in alloc;
@@ -72,7 +73,8 @@ fn push_table<S: Alter>(
     push_rows(alloc, conn, all, query.as_str())
 }
 
-/// All rows that the tables had at a moment, as lines: those that began up to it, and what ends later does not end.
+/// Reads all rows that the tables had at a time, as lines: those that begin at or before it. Ends after it
+/// are reported as never.
 pub fn rows_at<S: Alter>(alloc: Global, conn: &mut Connection<S>, at: i64) -> Result<String, Stop> {
     let mut all = String::with_capacity(alloc, 8192)?;
     push_rows(

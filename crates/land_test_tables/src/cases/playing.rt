@@ -1,4 +1,4 @@
-//! Registers in tables, and what is played over them.
+//! Registers in tables, and scenarios that are played on them.
 use land_tables::fault::AdoptFault;
 use land_tables::table_keeper::TableKeeper;
 use land_tables::tables::Tables;
@@ -7,7 +7,7 @@ use land_test_scenario::stop::Stop;
 use sqlite::{Alter, Connection, MemStore};
 use std::alloc::Global;
 
-/// The tables of a new register in a store.
+/// Creates the tables of a new register in a store.
 pub fn created<S: Alter + Drop>(conn: Connection<S>) -> Result<Tables<S>, Stop> {
     match Tables::create(conn) {
         Ok(tables) => Ok(tables),
@@ -15,7 +15,7 @@ pub fn created<S: Alter + Drop>(conn: Connection<S>) -> Result<Tables<S>, Stop> 
     }
 }
 
-/// Why a test stops where a store is not taken.
+/// Returns why a test stops if a store is refused.
 fn stop_of(fault: AdoptFault) -> Stop {
     match fault {
         AdoptFault::NoMemory => Stop::Memory,
@@ -23,7 +23,7 @@ fn stop_of(fault: AdoptFault) -> Stop {
     }
 }
 
-/// The tables of a store.
+/// Opens the tables of a store.
 pub fn taken<S: Alter + Drop>(alloc: Global, conn: Connection<S>) -> Result<Tables<S>, Stop> {
     match Tables::adopt(alloc, conn) {
         Ok(tables) => Ok(tables),
@@ -31,31 +31,31 @@ pub fn taken<S: Alter + Drop>(alloc: Global, conn: Connection<S>) -> Result<Tabl
     }
 }
 
-/// The tables after the scenario.
+/// Plays the scenario on tables.
 fn with_steps<S: Alter + Drop>(alloc: Global, tables: Tables<S>) -> Result<Tables<S>, Stop> {
     let mut keeper = TableKeeper::new(tables);
     play_steps(alloc, &mut keeper)?;
     Ok(keeper.into_tables())
 }
 
-/// The tables after what comes after the scenario.
+/// Plays the sequel of the scenario on tables.
 fn with_more<S: Alter + Drop>(alloc: Global, tables: Tables<S>) -> Result<Tables<S>, Stop> {
     let mut keeper = TableKeeper::new(tables);
     play_more(alloc, &mut keeper)?;
     Ok(keeper.into_tables())
 }
 
-/// The tables of a new register in memory.
+/// Creates the tables of a new register in memory.
 pub fn new_tables(alloc: Global) -> Result<Tables<MemStore>, Stop> {
     created(Connection::open_in_memory(alloc)?)
 }
 
-/// The tables in memory after the scenario.
+/// Returns tables in memory after the scenario.
 pub fn played(alloc: Global) -> Result<Tables<MemStore>, Stop> {
     with_steps(alloc, new_tables(alloc)?)
 }
 
-/// The tables in memory after what comes after the scenario, too. They are taken as tables of a store between the two.
+/// Returns tables in memory after the scenario and its sequel. The store is opened again between the two.
 pub fn played_more(alloc: Global) -> Result<Tables<MemStore>, Stop> {
     let conn = played(alloc)?.into_connection();
     with_more(alloc, taken(alloc, conn)?)

@@ -1,10 +1,10 @@
-//! Stores in memory, and the faults that they have.
+//! Stores in memory, and their faults.
 use land_tables::tables::Tables;
 use land_test_scenario::stop::{Stop, expect};
 use sqlite::{Connection, MemStore};
 use std::alloc::Global;
 
-/// The number of the fault with which a store is given back, 0 where a register was made in it.
+/// Creates a register in a store. Returns the number of the fault, 0 if it was created, and the store.
 pub fn made(conn: Connection<MemStore>) -> (u16, Connection<MemStore>) {
     match Tables::create(conn) {
         Ok(tables) => {
@@ -15,13 +15,13 @@ pub fn made(conn: Connection<MemStore>) -> (u16, Connection<MemStore>) {
     }
 }
 
-/// Runs a text on a store.
+/// Runs SQL statements on a store.
 pub fn run(conn: &mut Connection<MemStore>, text: &str) -> Result<(), Stop> {
     conn.execute_batch(text)?;
     Ok(())
 }
 
-/// Runs a text on the store that is left.
+/// Runs SQL statements on the store in the option.
 pub fn run_on(left: &mut Option<Connection<MemStore>>, text: &str) -> Result<(), Stop> {
     match left.as_mut() {
         Some(conn) => run(conn, text),
@@ -29,14 +29,14 @@ pub fn run_on(left: &mut Option<Connection<MemStore>>, text: &str) -> Result<(),
     }
 }
 
-/// A store on which a text was run.
+/// Returns a new store on which SQL statements were run.
 pub fn store(alloc: Global, text: &str) -> Result<Connection<MemStore>, Stop> {
     let mut conn = Connection::open_in_memory(alloc)?;
     run(&mut conn, text)?;
     Ok(conn)
 }
 
-/// Goes on where a fault is the one that is to be. Want of memory stops the test.
+/// Fails if a fault is not the expected one. Running out of memory stops the test.
 pub fn expect_fault(fault: u16, wanted: u16, name: &'static str, place: usize) -> Result<(), Stop> {
     if fault == 501 {
         return Err(Stop::Memory);

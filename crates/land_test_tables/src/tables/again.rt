@@ -1,5 +1,5 @@
-//! Calls that lack memory and are made again. `.ci/oom-tests` refuses each of their allocations in turn: then nothing has changed, and the
-//! same call succeeds.
+//! Calls that run out of memory and are repeated. `.ci/oom-tests` fails each of their allocations in turn:
+//! then nothing has changed, and the same call succeeds.
 use crate::cases::playing::{created, taken};
 use land_core::ask::Request;
 use land_keep::keeper::Keeper;
@@ -13,7 +13,7 @@ use land_test_scenario::stop::{Stop, expect};
 use sqlite::{Connection, MemStore};
 use std::alloc::Global;
 
-/// What the tables have once Anna is enrolled, whatever had to be done again.
+/// The rows of the tables after Anna is enrolled, regardless of repeated calls.
 const ONCE: &[Look] = &[
     Look("SELECT * FROM edition", "1|2|\n"),
     Look("SELECT * FROM moments ORDER BY stamp", "0|2|\n1000|3|\n"),
@@ -29,7 +29,7 @@ const ONCE: &[Look] = &[
     ),
 ];
 
-/// The tables of a new register in a store in which none could be made for want of memory.
+/// Creates the tables of a new register in a store in which creation ran out of memory.
 fn created_after(conn: Connection<MemStore>, fault: StoreFault) -> Result<Tables<MemStore>, Stop> {
     match fault {
         StoreFault::NoMemory => created(conn),
@@ -37,7 +37,7 @@ fn created_after(conn: Connection<MemStore>, fault: StoreFault) -> Result<Tables
     }
 }
 
-/// The tables of a new register in a store, made again where there was no memory.
+/// Creates the tables of a new register, once more if it ran out of memory.
 fn created_at_last(conn: Connection<MemStore>) -> Result<Tables<MemStore>, Stop> {
     match Tables::create(conn) {
         Ok(tables) => Ok(tables),
@@ -45,7 +45,7 @@ fn created_at_last(conn: Connection<MemStore>) -> Result<Tables<MemStore>, Stop>
     }
 }
 
-/// The tables of a store that was not taken for want of memory.
+/// Opens a store that ran out of memory while it was opened.
 fn taken_after(
     alloc: Global,
     conn: Connection<MemStore>,
@@ -57,7 +57,7 @@ fn taken_after(
     }
 }
 
-/// The tables of a store, taken again where there was no memory.
+/// Opens the tables of a store, once more if it ran out of memory.
 fn taken_at_last(alloc: Global, conn: Connection<MemStore>) -> Result<Tables<MemStore>, Stop> {
     match Tables::adopt(alloc, conn) {
         Ok(tables) => Ok(tables),
@@ -65,7 +65,7 @@ fn taken_at_last(alloc: Global, conn: Connection<MemStore>) -> Result<Tables<Mem
     }
 }
 
-/// What the caller of the first step is told, which asks again where there was no memory.
+/// Returns the reply of the first step, which is requested once more if it ran out of memory.
 fn fault_at_last<K: Keeper>(alloc: Global, keeper: &mut K, request: &Request) -> u16 {
     match first_fault(alloc, keeper, request) {
         501 => first_fault(alloc, keeper, request),
@@ -73,7 +73,7 @@ fn fault_at_last<K: Keeper>(alloc: Global, keeper: &mut K, request: &Request) ->
     }
 }
 
-/// A register that is made, taken as a store, and written to.
+/// Creates a register, opens it as a store, and writes to it.
 fn written(alloc: Global, request: &Request) -> Result<(u16, Tables<MemStore>), Stop> {
     let new = created_at_last(Connection::open_in_memory(alloc)?)?;
     let mut keeper = TableKeeper::new(taken_at_last(alloc, new.into_connection())?);
@@ -81,7 +81,7 @@ fn written(alloc: Global, request: &Request) -> Result<(u16, Tables<MemStore>), 
     Ok((fault, keeper.into_tables()))
 }
 
-/// It has what it would have if memory had been there all the time.
+/// Repeated calls lead to the same rows as calls that never run out of memory.
 pub fn calls_that_lacked_memory_are_made_again(alloc: Global) -> Result<(), Stop> {
     let request = first_request(alloc)?;
     let (fault, tables) = written(alloc, &request)?;

@@ -1,11 +1,11 @@
-//! A new register in a store, and stores in which none is made.
+//! A new register in a store, and stores in which none is created.
 use crate::cases::stores::{expect_fault, made, store};
 use land_test_scenario::looks::{Look, look_at};
 use land_test_scenario::stop::Stop;
 use sqlite::{Connection, MemStore};
 use std::alloc::Global;
 
-/// What the tables of a new register have.
+/// The rows of a new register.
 const NEW: &[Look] = &[
     Look("SELECT * FROM edition", "1|2|\n"),
     Look("SELECT * FROM moments", "0|2|\n"),
@@ -27,7 +27,8 @@ const NEW: &[Look] = &[
     Look("SELECT * FROM mandate", ""),
 ];
 
-/// A text that is run on an empty store, and the fault that `create` has then, 0 where it makes a register.
+/// SQL statements that are run on an empty store, and the fault that `create` then returns, 0 if it creates a
+/// register.
 struct Begin(&'static str, u16);
 
 const BEGINS: &[Begin] = &[
@@ -38,12 +39,12 @@ const BEGINS: &[Begin] = &[
     Begin("CREATE TABLE other (x INTEGER); DROP TABLE other", 0),
 ];
 
-/// The fault that `create` has after a text.
+/// Returns the fault of `create` after SQL statements.
 fn fault_after(alloc: Global, text: &str) -> Result<u16, Stop> {
     Ok(made(store(alloc, text)?).0)
 }
 
-/// A register is made where the store is empty.
+/// A register is created if the store is empty.
 pub fn a_register_is_made_in_an_empty_store(alloc: Global) -> Result<(), Stop> {
     for (place, begin) in BEGINS.iter().enumerate() {
         expect_fault(fault_after(alloc, begin.0)?, begin.1, "begin", place)?;
@@ -51,14 +52,14 @@ pub fn a_register_is_made_in_an_empty_store(alloc: Global) -> Result<(), Stop> {
     Ok(())
 }
 
-/// A store in which a register was made twice.
+/// Creates a register in a store twice.
 fn made_twice(alloc: Global) -> Result<(u16, u16, Connection<MemStore>), Stop> {
     let (first, conn) = made(store(alloc, "")?);
     let (second, conn) = made(conn);
     Ok((first, second, conn))
 }
 
-/// A register is made in an empty store and not made there again, and its tables are then as they were.
+/// A register is created in an empty store, is not created there again, and its tables are then unchanged.
 pub fn a_register_is_made_once(alloc: Global) -> Result<(), Stop> {
     let (first, second, back) = made_twice(alloc)?;
     let mut conn = back;

@@ -1,4 +1,4 @@
-//! A new register that is taken as a store, and goes on: each allocation of this may be refused in turn.
+//! A new register that is opened as a store and then used: each allocation of this may fail in turn.
 use crate::cases::playing::{new_tables, taken};
 use land_tables::table_keeper::TableKeeper;
 use land_tables::tables::Tables;
@@ -7,13 +7,13 @@ use land_test_scenario::stop::{Stop, expect};
 use sqlite::MemStore;
 use std::alloc::Global;
 
-/// The tables of a new register, as they are taken.
+/// Opens the tables of a new register.
 fn new_taken(alloc: Global) -> Result<Tables<MemStore>, Stop> {
     let conn = new_tables(alloc)?.into_connection();
     taken(alloc, conn)
 }
 
-/// A new register that is taken shows its last stamp and its next number, and goes on.
+/// A new register that is opened has its last stamp and its next number, and accepts changes.
 pub fn a_new_register_goes_on(alloc: Global) -> Result<(), Stop> {
     let tables = new_taken(alloc)?;
     let is_new = tables.last() == 0 && tables.next() == 2;

@@ -1,4 +1,5 @@
-//! Stores of the first version, which has no mandates: what becomes of them, and which are left as they are.
+//! Stores of schema version 1, which has no mandates: those that are migrated, and those that are left
+//! unchanged.
 use crate::cases::playing::played;
 use crate::cases::stores::{expect_fault, run, run_on};
 use land_tables::tables::Tables;
@@ -7,15 +8,16 @@ use land_test_scenario::stop::Stop;
 use sqlite::{Connection, MemStore};
 use std::alloc::Global;
 
-/// What makes a store of the first version of one of the second that has no mandates.
+/// SQL statements that turn a store of schema version 2 without mandates into one of version 1.
 pub const TO_FIRST: &str = "DROP TABLE mandate; UPDATE edition SET version = 1";
 
-/// Statements on the tables of the first version, others that undo them, and the fault that `migrate` has between.
+/// SQL statements on the tables of schema version 1, others that undo them, and the fault that `migrate`
+/// returns in between.
 struct Change(&'static str, &'static str, u16);
 
 const CHANGES: &[Change] = &[
     Change("BEGIN", "ROLLBACK", 502),
-    // other tables, or values that cannot be read
+    // other tables, or values that do not decode
     Change("CREATE TABLE other (x INTEGER)", "DROP TABLE other", 520),
     Change(
         "CREATE TABLE mandate (principal INTEGER NOT NULL, agent INTEGER NOT NULL, since INTEGER NOT NULL, \
@@ -55,7 +57,7 @@ const CHANGES: &[Change] = &[
         "UPDATE edition SET version = 1; UPDATE unit SET since = 1009 WHERE number = 9",
         523,
     ),
-    // lifespans, and then registers that are not sound
+    // intervals, and then registers that are not sound
     Change(
         "UPDATE unit SET since = 1 WHERE number = 9; UPDATE rrr SET unit = 999 WHERE number = 13",
         "UPDATE unit SET since = 1009 WHERE number = 9; UPDATE rrr SET unit = 9 WHERE number = 13",
@@ -66,7 +68,7 @@ const CHANGES: &[Change] = &[
         "UPDATE rrr SET unit = 9 WHERE number = 13",
         522,
     ),
-    // an index that is not the register's would lie before the mandates
+    // an additional index would get the tree of the mandates
     Change("CREATE INDEX more ON party (name)", "DROP INDEX more", 502),
     Change(
         "CREATE UNIQUE INDEX more ON party (number, since)",
@@ -75,12 +77,13 @@ const CHANGES: &[Change] = &[
     ),
 ];
 
-/// What the tables of the first version have, and those of the second, that differ.
+/// Rows of schema version 1 and of version 2 that differ.
 pub const BEFORE: &[Look] = &[Look("SELECT id, version FROM edition", "1|1|\n")];
 
 pub const AFTER: &[Look] = &[Look("SELECT * FROM mandate", "")];
 
-/// The number of the fault with which a store is given back, 0 where it is migrated and has the register of the scenario.
+/// Migrates a store. Returns the number of the fault, 0 if it is migrated and has the register of the
+/// scenario, and the store.
 fn migrated(alloc: Global, conn: Connection<MemStore>) -> (u16, Connection<MemStore>) {
     match Tables::migrate(alloc, conn) {
         Ok(tables) => {
@@ -91,7 +94,7 @@ fn migrated(alloc: Global, conn: Connection<MemStore>) -> (u16, Connection<MemSt
     }
 }
 
-/// Migrates the store that is left, and leaves it again.
+/// Migrates the store in the option, and puts it back.
 fn migrate_back(alloc: Global, left: &mut Option<Connection<MemStore>>) -> Result<u16, Stop> {
     match left.take() {
         Some(conn) => {
@@ -103,7 +106,7 @@ fn migrate_back(alloc: Global, left: &mut Option<Connection<MemStore>>) -> Resul
     }
 }
 
-/// Changes the store that is left, migrates it, and undoes the change: the fault that it had.
+/// Changes the store in the option, migrates it, and undoes the change. Returns the fault of migrating.
 fn undone(
     alloc: Global,
     left: &mut Option<Connection<MemStore>>,
@@ -115,7 +118,7 @@ fn undone(
     Ok(fault)
 }
 
-/// Each change has its fault.
+/// Fails if some change does not have its fault.
 fn are_refused(alloc: Global, left: &mut Option<Connection<MemStore>>) -> Result<(), Stop> {
     for (place, change) in CHANGES.iter().enumerate() {
         expect_fault(undone(alloc, left, change)?, change.2, "change", place)?;
@@ -123,7 +126,7 @@ fn are_refused(alloc: Global, left: &mut Option<Connection<MemStore>>) -> Result
     Ok(())
 }
 
-/// The store that is left is of the first version.
+/// Fails if the store in the option is not of schema version 1.
 fn look_before(alloc: Global, left: &mut Option<Connection<MemStore>>) -> Result<(), Stop> {
     match left.as_mut() {
         Some(conn) => look_at(alloc, conn, BEFORE),
@@ -131,7 +134,7 @@ fn look_before(alloc: Global, left: &mut Option<Connection<MemStore>>) -> Result
     }
 }
 
-/// It is of the second, with the rows of the scenario, and no mandates.
+/// Fails if it is not of schema version 2, with the rows of the scenario and no mandates.
 fn look_after(alloc: Global, left: &mut Option<Connection<MemStore>>) -> Result<(), Stop> {
     match left.as_mut() {
         Some(conn) => {
@@ -142,7 +145,7 @@ fn look_after(alloc: Global, left: &mut Option<Connection<MemStore>>) -> Result<
     }
 }
 
-/// The store that is left is migrated, and not again.
+/// The store in the option is migrated, and not a second time.
 fn is_migrated(alloc: Global, left: &mut Option<Connection<MemStore>>) -> Result<(), Stop> {
     expect_fault(migrate_back(alloc, left)?, 0, "migrated", 0)?;
     look_after(alloc, left)?;
@@ -150,28 +153,29 @@ fn is_migrated(alloc: Global, left: &mut Option<Connection<MemStore>>) -> Result
     look_after(alloc, left)
 }
 
-/// A store of the first version after the scenario.
+/// Returns a store of schema version 1 after the scenario.
 fn old_store(alloc: Global) -> Result<Option<Connection<MemStore>>, Stop> {
     let mut conn = played(alloc)?.into_connection();
     run(&mut conn, TO_FIRST)?;
     Ok(Some(conn))
 }
 
-/// Each change is refused, and the store is as it was.
+/// Each change is refused, and the store is unchanged.
 fn stays(alloc: Global, left: &mut Option<Connection<MemStore>>) -> Result<(), Stop> {
     look_before(alloc, left)?;
     are_refused(alloc, left)?;
     look_before(alloc, left)
 }
 
-/// Stores that are not migrated stay as they are, and one that is has the rows that it had; it is not migrated again.
+/// Stores that are refused are unchanged, and one that is migrated has its old rows; it is not migrated
+/// again.
 pub fn a_register_of_the_first_version_is_migrated_once(alloc: Global) -> Result<(), Stop> {
     let mut left = old_store(alloc)?;
     stays(alloc, &mut left)?;
     is_migrated(alloc, &mut left)
 }
 
-/// A store that has lost indexes of the first version is migrated as one that has them.
+/// A store that has lost indexes of schema version 1 is migrated like one that has them.
 pub fn a_register_without_its_indexes_is_migrated(alloc: Global) -> Result<(), Stop> {
     let mut left = old_store(alloc)?;
     run_on(

@@ -1,4 +1,4 @@
-//! What callers are told over tables, as over the plain keeper.
+//! Replies from tables, compared with those of the plain keeper.
 use crate::cases::playing::played;
 use land_core::ask::{Ask, Request};
 use land_core::caller::Caller;
@@ -12,7 +12,7 @@ use land_test_scenario::playing::plain;
 use land_test_scenario::stop::{Stop, expect};
 use std::alloc::Global;
 
-/// A caller, by its party and role.
+/// Callers, by party and role.
 const CALLERS: &[(u64, Role)] = &[
     (1, Role::StateAdministrator),
     (2, Role::Citizen),
@@ -33,10 +33,10 @@ const KINDS: &[Kind] = &[
     Kind::Mutation,
 ];
 
-/// Moments that are asked for: none, past ones, and one that is still to come.
+/// Requested times: none, past ones, and one in the future.
 const MOMENTS: &[Option<i64>] = &[None, Some(1009), Some(1011), Some(1015), Some(5000)];
 
-/// Whether a reply tells of want of memory.
+/// Whether a reply is an out-of-memory error.
 fn wants_memory(reply: &Reply) -> bool {
     match reply {
         Reply::Store(number) => *number == 501,
@@ -52,7 +52,7 @@ fn lists(reply: &Reply, numbers: &[u64]) -> bool {
     }
 }
 
-/// Whether a reply denies by this rule.
+/// Whether a reply is a denial by this rule.
 fn denies(reply: &Reply, rule: u8) -> bool {
     match reply {
         Reply::Denied(found) => *found == rule,
@@ -60,7 +60,7 @@ fn denies(reply: &Reply, rule: u8) -> bool {
     }
 }
 
-/// Whether a reply tells this fault of the request.
+/// Whether a reply is this fault of the request.
 fn tells_fault(reply: &Reply, number: u16) -> bool {
     match reply {
         Reply::Fault(found) => *found == number,
@@ -68,7 +68,7 @@ fn tells_fault(reply: &Reply, number: u16) -> bool {
     }
 }
 
-/// Whether a reply to a list is what another is.
+/// Whether the reply to a list equals another.
 fn is_alike(reply: &Reply, other: &Reply) -> bool {
     match other {
         Reply::Numbers(numbers) => lists(reply, numbers.as_slice()),
@@ -78,7 +78,7 @@ fn is_alike(reply: &Reply, other: &Reply) -> bool {
     }
 }
 
-/// The same, where want of memory stops the test.
+/// Whether two replies are equal. Running out of memory stops the test.
 fn is_one(reply: &Reply, other: &Reply) -> Result<bool, Stop> {
     if wants_memory(reply) || wants_memory(other) {
         Err(Stop::Memory)
@@ -87,7 +87,7 @@ fn is_one(reply: &Reply, other: &Reply) -> Result<bool, Stop> {
     }
 }
 
-/// Whether two keepers tell a caller the same of a kind at a moment.
+/// Whether two keepers give a caller the same reply for a kind at a time.
 fn tell_one<K: Keeper, L: Keeper>(
     alloc: Global,
     keeper: &mut K,
@@ -101,7 +101,7 @@ fn tell_one<K: Keeper, L: Keeper>(
     is_one(&reply, &answer(alloc, other, 1000, request))
 }
 
-/// Whether two keepers tell a caller the same of all kinds at a moment.
+/// Whether two keepers give a caller the same replies for all kinds at a time.
 fn tell_kinds<K: Keeper, L: Keeper>(
     alloc: Global,
     keeper: &mut K,
@@ -118,7 +118,7 @@ fn tell_kinds<K: Keeper, L: Keeper>(
     Ok(true)
 }
 
-/// Whether two keepers tell a caller the same at all moments.
+/// Whether two keepers give a caller the same replies at all times.
 fn tell_same<K: Keeper, L: Keeper>(
     alloc: Global,
     keeper: &mut K,
@@ -137,7 +137,7 @@ fn tell_same<K: Keeper, L: Keeper>(
     Ok(true)
 }
 
-/// All callers are told the same.
+/// Fails if some caller gets different replies.
 fn tell_all<K: Keeper, L: Keeper>(
     alloc: Global,
     keeper: &mut K,
@@ -149,7 +149,7 @@ fn tell_all<K: Keeper, L: Keeper>(
     Ok(())
 }
 
-/// Callers are told by the tables what the plain keeper tells them.
+/// Callers get the same replies from tables as from the plain keeper.
 pub fn callers_are_told_what_the_plain_keeper_tells(alloc: Global) -> Result<(), Stop> {
     let mut plain = plain(alloc)?;
     let mut keeper = TableKeeper::new(played(alloc)?);

@@ -5,7 +5,7 @@ use land_test_scenario::looks::{look_at_more, look_at_steps};
 use land_test_scenario::stop::Stop;
 use std::alloc::Global;
 
-/// The tables have the rows of the scenario, once no register was made in them.
+/// The tables have the rows of the scenario, and creating a register in them fails.
 pub fn tables_rows(alloc: Global) -> Result<(), Stop> {
     let (fault, conn) = made(played(alloc)?.into_connection());
     let mut conn = conn;
@@ -13,7 +13,7 @@ pub fn tables_rows(alloc: Global) -> Result<(), Stop> {
     look_at_steps(alloc, &mut conn)
 }
 
-/// They have the rows of what comes after it.
+/// The tables have the rows of the scenario's sequel.
 pub fn tables_rows_after_more(alloc: Global) -> Result<(), Stop> {
     let mut conn = played_more(alloc)?.into_connection();
     look_at_more(alloc, &mut conn)

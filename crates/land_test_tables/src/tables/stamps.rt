@@ -1,4 +1,4 @@
-//! The register at each stamp, as the plain keeper has it.
+//! The register at each stamp, compared with that of the plain keeper.
 use crate::cases::playing::played_more;
 use land_core::kind::Kind;
 use land_core::object::Object;
@@ -22,10 +22,10 @@ const KINDS: &[Kind] = &[
     Kind::Mutation,
 ];
 
-/// A moment, how many objects stand then, and the number that the next new one takes.
+/// A time, the number of objects at that time, and the number that the next new object takes.
 struct At(i64, usize, u64);
 
-/// The stamps of all steps, and moments between and after.
+/// The stamps of all steps, and times between and after.
 const AT: &[At] = &[
     At(0, 1, 2),
     At(999, 1, 2),
@@ -60,7 +60,7 @@ const AT: &[At] = &[
     At(4_102_444_799_999, 27, 39),
 ];
 
-/// An object as it is shown, and nothing where there is none.
+/// Writes an object in its shown form; the empty string if there is none.
 fn text_shown(alloc: Global, object: &Option<Object>) -> Result<String, AllocError> {
     match object {
         Some(object) => {
@@ -72,13 +72,13 @@ fn text_shown(alloc: Global, object: &Option<Object>) -> Result<String, AllocErr
     }
 }
 
-/// What stands under a number in a register, as it is shown.
+/// Writes the object with a number in a register.
 fn text_in(alloc: Global, register: &Register, what: (Kind, u64)) -> Result<String, Stop> {
     let object = register.object(alloc, what.0, what.1)?;
     Ok(text_shown(alloc, &object)?)
 }
 
-/// What the plain keeper has under it at a moment.
+/// Writes the plain keeper's object with that number at a time.
 fn text_at(
     alloc: Global,
     plain: &mut PlainKeeper,
@@ -89,7 +89,7 @@ fn text_at(
     Ok(text_shown(alloc, &object)?)
 }
 
-/// Whether what stands under a number in a register is what the plain keeper has at a moment.
+/// Whether the object with a number in a register equals the plain keeper's at a time.
 fn is_same(
     alloc: Global,
     register: &Register,
@@ -101,7 +101,7 @@ fn is_same(
     Ok(text.as_str() == text_at(alloc, plain, what, at)?.as_str())
 }
 
-/// The same of all objects of a kind.
+/// Whether all objects of a kind are equal.
 fn are_same(
     alloc: Global,
     register: &Register,
@@ -117,7 +117,7 @@ fn are_same(
     Ok(true)
 }
 
-/// The same of all objects.
+/// Whether all objects are equal.
 fn is_plain(
     alloc: Global,
     register: &Register,
@@ -132,7 +132,7 @@ fn is_plain(
     Ok(true)
 }
 
-/// How many objects stand in a register.
+/// Counts the objects in a register.
 fn count(register: &Register) -> usize {
     let mut count = 0usize;
     for number in 0..40 {
@@ -145,7 +145,7 @@ fn count(register: &Register) -> usize {
     count
 }
 
-/// Whether the register that tables have at a moment is the plain keeper's, and has so many objects.
+/// Whether the register in tables at a time is the plain keeper's, and has the given number of objects.
 fn is_as_said<S: Alter>(
     alloc: Global,
     tables: &mut Tables<S>,
@@ -160,7 +160,7 @@ fn is_as_said<S: Alter>(
     )
 }
 
-/// The tables have the plain keeper's register at each moment.
+/// Fails if the tables do not have the plain keeper's register at some time.
 fn are_as_said<S: Alter>(
     alloc: Global,
     tables: &mut Tables<S>,
@@ -172,7 +172,7 @@ fn are_as_said<S: Alter>(
     Ok(())
 }
 
-/// After the scenario and what comes after it the tables have the registers of the plain keeper.
+/// After the scenario and its sequel the tables have the registers of the plain keeper.
 pub fn tables_have_the_registers_of_the_plain_keeper(alloc: Global) -> Result<(), Stop> {
     let mut plain = plain_more(alloc)?;
     let mut tables = played_more(alloc)?;

@@ -5,7 +5,7 @@ use Rattle.land_keep.specs.Timeline.{register_at}
 use Rattle.land_tables.specs.Office.{held}
 use Rattle.land_tables.proofs.table_keeper.TableKeeperKeeper.objects.Goals as goal
 
--- what is listed is of the register that was read
+-- the list is of the register that was read
 pub returns-clause-value : goal.returns-clause-value
 returns-clause-value g c clean =
     let alike : to_z w64 (of_z w64 c.args.at) ≡ c.args.at = search rules in
