@@ -17,9 +17,9 @@ use Rattle.land_core.specs.declared.unit.UnitRecord.{UnitRecord}
 use Rattle.land_keep.specs.Timeline.{Timeline, register_at}
 use Rattle.land_select.proofs.Viewed.{have_members}
 use Rattle.land_select.specs.Kept.{IsFound, IsFoundFor, IsKeptOf, IsObjectFound, IsToldWith, found_as}
-use Rattle.land_select.specs.declared.kept.Found.{Found}
-use Rattle.land_select.specs.declared.kept.Found.TheVariants as found
-use Rattle.land_select.specs.declared.kept.Kept.{Kept}
+use Rattle.land_select.specs.declared.cache.Found.{Found}
+use Rattle.land_select.specs.declared.cache.Found.TheVariants as found
+use Rattle.land_select.specs.declared.cache.Kept.{Kept}
 use Rattle.land_select_joins.specs.Lookups.Parts.{IsPart}
 use Rattle.sqlite_trees.specs.Tree.{Trees}
 

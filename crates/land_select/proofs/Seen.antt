@@ -22,7 +22,7 @@ use Rattle.land_select.specs.Slices.Gathered.{IsSo}
 use Rattle.land_select.specs.Kept.{IsFoundFor}
 use Rattle.land_select.specs.Verdicts.{IsVerdictWith}
 use Rattle.land_select.specs.Views.{IsShownGiven}
-use Rattle.land_select.specs.declared.kept.Found.{Found}
+use Rattle.land_select.specs.declared.cache.Found.{Found}
 use Rattle.land_select_joins.specs.Joins.Sight.{IsSight}
 use Rattle.land_select_joins.specs.Lookups.Parts.{IsPart}
 use Rattle.land_tables.proofs.LookedAt.{IsLookedAt}

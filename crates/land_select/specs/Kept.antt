@@ -13,9 +13,9 @@ use Rattle.land_rules.specs.Laws.{IsSoundOrNothing}
 use Rattle.land_rules.specs.Rules.{first_denial, sight_rules}
 use Rattle.land_rules.specs.declared.verdict.Verdict.{Verdict}
 use Rattle.land_select.specs.Views.{in_sight}
-use Rattle.land_select.specs.declared.kept.Found.{Found}
-use Rattle.land_select.specs.declared.kept.Found.TheVariants as found
-use Rattle.land_select.specs.declared.kept.Kept.{Kept}
+use Rattle.land_select.specs.declared.cache.Found.{Found}
+use Rattle.land_select.specs.declared.cache.Found.TheVariants as found
+use Rattle.land_select.specs.declared.cache.Kept.{Kept}
 use Rattle.land_select_joins.specs.Joins.Running.{OfHeld}
 use Rattle.land_tables_history.specs.History.{StandsAt}
 use Rattle.sqlite_trees.specs.Tree.{Trees}

@@ -18,7 +18,7 @@ use Rattle.land_rules.specs.Laws.{IsSoundOrNothing}
 use Rattle.land_rules.specs.Rules.{verdict_of}
 use Rattle.land_rules.specs.declared.verdict.Verdict.{Verdict}
 use Rattle.land_select.specs.Kept.{IsFoundFor}
-use Rattle.land_select.specs.declared.kept.Found.{Found}
+use Rattle.land_select.specs.declared.cache.Found.{Found}
 use Rattle.land_select_joins.specs.Joins.Running.{OfHeld}
 use Rattle.land_tables_history.specs.History.{StandsAt}
 use Rattle.sqlite_trees.specs.Tree.{Trees}

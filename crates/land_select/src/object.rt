@@ -1,7 +1,7 @@
 //! An object as it stands at a moment, by look-ups.
 ghost use Rattle.std.specs.Prelude.{◌≡◌};
 
-use crate::asking::Question;
+use crate::query::Question;
 use land_core::kind::Kind;
 use land_core::object::Object;
 use land_select_joins::lookups::objects::object;

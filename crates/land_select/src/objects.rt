@@ -16,7 +16,7 @@ ghost use Rattle.land_tables_schema.specs.Rows.Looks.{IsLook};
 ghost use Rattle.sqlite.specs.Held.{state};
 ghost use Rattle.sqlite.specs.State.{HasCleanDisk};
 
-use crate::asking::Question;
+use crate::query::Question;
 use land_core::duplicate::Duplicate;
 use land_core::kind::Kind;
 use land_core::mutation::MutationRecord;

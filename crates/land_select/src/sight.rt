@@ -1,7 +1,7 @@
 //! What a caller sees of a kind, by joins.
 ghost use Rattle.std.specs.Prelude.{◌≡◌};
 
-use crate::asking::Question;
+use crate::query::Question;
 use land_core::caller::Caller;
 use land_core::kind::Kind;
 use land_core::sequence::NumberList;

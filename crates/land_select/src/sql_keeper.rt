@@ -2,13 +2,13 @@
 ghost use Rattle.std.specs.Prelude.{◌≡◌, ◌≤ℤ◌};
 ghost use Rattle.land_keep.specs.Moments.{last_moment};
 
-use crate::asking::answer;
-use crate::denial::Denial;
-use crate::kept::{Kept, forget, found_of, keep, kept_for, object_of};
+use crate::cache::{Kept, forget, found_of, keep, kept_for, object_of};
 use crate::object::ObjectAt;
 use crate::objects::ObjectsAt;
+use crate::query::answer;
 use crate::sight::Sight;
-use crate::slicing::Sliced;
+use crate::slice_query::Sliced;
+use crate::verdict::query::Denial;
 use crate::view::{UnitSeen, naming};
 use land_acts::slice::Slice;
 use land_core::act::Act;

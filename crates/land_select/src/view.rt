@@ -14,10 +14,10 @@ ghost use Rattle.land_tables_schema.specs.Rows.Looks.{IsLook};
 ghost use Rattle.sqlite.specs.Held.{state};
 ghost use Rattle.sqlite.specs.State.{HasCleanDisk};
 
-use crate::asking::Question;
-use crate::awaited::awaited_of;
-use crate::interests::shown_of;
-use crate::kept::Found;
+use crate::cache::Found;
+use crate::query::Question;
+use crate::verdict::conveyancer::awaited_of;
+use crate::verdict::interest::shown_of;
 use land_core::caller::Caller;
 use land_core::duplicate::Duplicate;
 use land_core::kind::Kind;

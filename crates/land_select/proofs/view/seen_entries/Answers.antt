@@ -4,7 +4,7 @@ use Rattle.land_keep.specs.Sheets.{entries_seen}
 use Rattle.land_select.proofs.Looks.{look_means}
 use Rattle.land_select.specs.Kept.{IsFound}
 use Rattle.land_select.specs.Views.{IsShownGiven, in_sight}
-use Rattle.land_select.specs.declared.kept.Found.{Found}
+use Rattle.land_select.specs.declared.cache.Found.{Found}
 use Rattle.land_select_joins.proofs.Chains.{look_after}
 use Rattle.sqlite.specs.Effect.{Database}
 use Rattle.sqlite.specs.Held.{state}

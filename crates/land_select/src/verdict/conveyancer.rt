@@ -1,0 +1,131 @@
+//! What a conveyancer awaits at a moment, by look-ups: undecided mutations of its own that name a unit.
+ghost use Rattle.std.specs.FinMap as map;
+ghost use Rattle.std.specs.Prelude.{◌≡◌, false, if◌then◌else◌, IsTrue};
+ghost use Rattle.land_core.specs.declared.kind.Kind.TheVariants as kinds;
+ghost use Rattle.land_rules.specs.Denials.Sight.{is_awaited};
+ghost use Rattle.land_rules.specs.Relations.{is_lodger_on};
+ghost use Rattle.land_select.specs.Kept.{IsToldWith};
+ghost use Rattle.land_select.specs.Views.{awaited_of};
+ghost use Rattle.land_select_joins.specs.Lookups.Parts.{IsPart};
+ghost use Rattle.land_tables_schema.specs.Land.{IsLand};
+ghost use Rattle.land_tables_schema.specs.Rows.Looks.{IsLook};
+ghost use Rattle.sqlite.specs.Held.{state};
+ghost use Rattle.sqlite.specs.State.{HasCleanDisk};
+
+use crate::cache::{Found, found_as};
+use land_core::caller::Caller;
+use land_core::kind::Kind;
+use land_core::laws::soundness_by_look_ups;
+use land_core::records::Records;
+use land_core::rrr::RrrRecord;
+use land_select_joins::lookups::by_number;
+use land_select_joins::lookups::lodgers::is_lodger_on;
+use land_select_joins::lookups::presence::unit_stands;
+use land_select_joins::lookups::shown::Shown;
+use land_tables_rows::listing::fault::ReadFault;
+use sqlite::{Alter, Connection};
+use std::alloc::Global;
+
+/// Whether a unit stands at a moment and an undecided mutation of a caller names it, and whether one names it, be the unit there or not.
+pub(crate) fn unit_awaited<S: Alter>(
+    alloc: Global,
+    conn: &mut Connection<S>,
+    caller: Caller,
+    unit: u64,
+    at: i64,
+) -> Result<(bool, bool), ReadFault>
+    requires land { HasCleanDisk (state S.Store conn.old) → IsLand (state S.Store conn.old).now.schema }
+    ensures look { IsLook result (λ it. IsPart (λ r. (is_awaited r caller kinds.Unit unit, is_lodger_on r caller.party unit)) at (state S.Store conn.old).now.trees it) (state S.Store conn.old) (state S.Store conn.new) }
+    ensures mode { conn.old.in_transaction ≡ false → conn.new.in_transaction ≡ false }
+{
+    if !is_lodger_on(alloc, conn, caller.party, unit, at)? {
+        return Ok((false, false));
+    }
+    let there = unit_stands(alloc, conn, unit, at)?;
+    Ok((there, true))
+}
+
+/// Whether a unit stands at a moment and an undecided mutation of a caller names it.
+fn is_unit_awaited<S: Alter>(
+    alloc: Global,
+    conn: &mut Connection<S>,
+    caller: Caller,
+    unit: u64,
+    at: i64,
+) -> Result<bool, ReadFault>
+    requires land { HasCleanDisk (state S.Store conn.old) → IsLand (state S.Store conn.old).now.schema }
+    ensures look { IsLook result (λ it. IsPart (λ r. is_awaited r caller kinds.Unit unit) at (state S.Store conn.old).now.trees it) (state S.Store conn.old) (state S.Store conn.new) }
+    ensures mode { conn.old.in_transaction ≡ false → conn.new.in_transaction ≡ false }
+{
+    let told = unit_awaited(alloc, conn, caller, unit, at)?;
+    let (awaited, _) = told;
+    Ok(awaited)
+}
+
+/// Whether the entry of a number stands at a moment and an undecided mutation of a caller names its unit, and the entry.
+fn entry_awaited<S: Alter>(
+    alloc: Global,
+    conn: &mut Connection<S>,
+    caller: Caller,
+    number: u64,
+    at: i64,
+) -> Result<(bool, Found), ReadFault>
+    requires land { HasCleanDisk (state S.Store conn.old) → IsLand (state S.Store conn.old).now.schema }
+    ensures look { IsLook result (λ it. IsToldWith (λ r. is_awaited r caller kinds.Rrr number) caller kinds.Rrr number at (state S.Store conn.old).now.trees it) (state S.Store conn.old) (state S.Store conn.new) }
+    ensures mode { conn.old.in_transaction ≡ false → conn.new.in_transaction ≡ false }
+{
+    soundness_by_look_ups();
+    let found = by_number::record::<RrrRecord, S>(alloc, conn, number, at)?;
+    match found {
+        Some(entry) => {
+            let awaited = is_lodger_on(alloc, conn, caller.party, entry.unit, at)?;
+            Ok((awaited, found_as(RrrRecord::shown(number, Some(entry)))))
+        }
+        None => Ok((false, Found::Nothing)),
+    }
+}
+
+/// Whether an object is a unit that an undecided mutation of a caller names, or an entry of such a unit, and stands at a moment. An entry that
+/// stands is found on the way.
+pub(crate) fn awaited<S: Alter>(
+    alloc: Global,
+    conn: &mut Connection<S>,
+    caller: Caller,
+    kind: Kind,
+    number: u64,
+    at: i64,
+) -> Result<(bool, Found), ReadFault>
+    requires open { HasCleanDisk (state S.Store conn.old) → IsTrue (state S.Store conn.old).is_open }
+    requires land { HasCleanDisk (state S.Store conn.old) → IsLand (state S.Store conn.old).now.schema }
+    ensures look { IsLook result (λ it. IsToldWith (λ r. is_awaited r caller kind number) caller kind number at (state S.Store conn.old).now.trees it) (state S.Store conn.old) (state S.Store conn.new) }
+    ensures mode { conn.old.in_transaction ≡ false → conn.new.in_transaction ≡ false }
+{
+    soundness_by_look_ups();
+    match kind {
+        Kind::Unit => {
+            let awaited = is_unit_awaited(alloc, conn, caller, number, at)?;
+            Ok((awaited, Found::Nothing))
+        }
+        Kind::Rrr => entry_awaited(alloc, conn, caller, number, at),
+        Kind::Party | Kind::Parcel | Kind::Source | Kind::Mutation => Ok((false, Found::Nothing)),
+    }
+}
+
+/// The entries of a unit, where an undecided mutation of a party names the unit at a moment, else none.
+pub(crate) fn awaited_of<S: Alter>(
+    alloc: Global,
+    conn: &mut Connection<S>,
+    party: u64,
+    unit: u64,
+    entries: Records<RrrRecord>,
+    at: i64,
+) -> Result<Records<RrrRecord>, ReadFault>
+    requires land { HasCleanDisk (state S.Store conn.old) → IsLand (state S.Store conn.old).now.schema }
+    ensures look { IsLook result (λ it. IsPart (λ r. awaited_of r party unit entries) at (state S.Store conn.old).now.trees it) (state S.Store conn.old) (state S.Store conn.new) }
+    ensures mode { conn.old.in_transaction ≡ false → conn.new.in_transaction ≡ false }
+{
+    if is_lodger_on(alloc, conn, party, unit, at)? {
+        return Ok(entries);
+    }
+    Ok(Records::new(alloc))
+}

@@ -1,0 +1,240 @@
+//! The interest of a citizen or a bank in a unit at a moment, and what it is shown by that, by look-ups.
+ghost use Rattle.std.specs.Prelude.{◌≡◌, ◌++◌, false, true, IfOk, IsTrue};
+ghost use Rattle.land_core.specs.Entries.{only};
+ghost use Rattle.land_core.specs.Role.{is_role};
+ghost use Rattle.land_core.specs.declared.kind.Kind.TheVariants as kinds;
+ghost use Rattle.land_core.specs.declared.role.Role.TheVariants as roles;
+ghost use Rattle.land_rules.specs.Circles.{circle_of, is_name_of};
+ghost use Rattle.land_rules.specs.Denials.Interests.{interest_at, interest_of, is_shown_by_interest, sees_by_interest, shows_entry, shows_unit};
+ghost use Rattle.land_select.specs.Kept.{IsToldWith};
+ghost use Rattle.land_select.specs.Views.{AreGroupsAt, AreNamesAt, shown_of};
+ghost use Rattle.land_select_joins.specs.Lookups.Parts.{IsPart};
+ghost use Rattle.land_tables_schema.specs.Land.{IsLand};
+ghost use Rattle.land_tables_schema.specs.Rows.Looks.{IsLook};
+ghost use Rattle.sqlite.specs.Held.{state};
+ghost use Rattle.sqlite.specs.State.{HasCleanDisk};
+
+use crate::cache::{Found, found_as};
+use land_core::caller::Caller;
+use land_core::duplicate::Duplicate;
+use land_core::laws::soundness_by_look_ups;
+use land_core::records::Records;
+use land_core::role::Role;
+use land_core::rrr::RrrRecord;
+use land_core::sequence::{NumberList, Sequence};
+use land_rules::denials::interests::{Interest, interest_of};
+use land_rules::denials::laws::{interests_tell_sight, names_tell_interests};
+use land_select_joins::joins::running::unite_for;
+use land_select_joins::lookups::of_agent::circle;
+use land_select_joins::lookups::shown::Shown;
+use land_select_joins::lookups::{by_number, of_unit};
+use land_select_joins::sights::selection::Selection;
+use land_tables_rows::listing::fault::ReadFault;
+use sqlite::{Alter, Connection};
+use std::alloc::{AllocError, Global};
+
+/// Whether a role is that of a citizen.
+pub(crate) fn is_citizen(role: Role) -> bool
+    ensures { result ≡ is_role role roles.Citizen }
+{
+    role == Role::Citizen
+}
+
+/// The groups of which one of some parties is a member at a moment.
+fn groups_of<S: Alter>(
+    alloc: Global,
+    conn: &mut Connection<S>,
+    callers: &[u64],
+    at: i64,
+) -> Result<NumberList, ReadFault>
+    requires open { HasCleanDisk (state S.Store conn.old) → IsTrue (state S.Store conn.old).is_open }
+    requires land { HasCleanDisk (state S.Store conn.old) → IsLand (state S.Store conn.old).now.schema }
+    ensures look { IsLook result (λ it. AreGroupsAt callers.now at (state S.Store conn.old).now.trees it) (state S.Store conn.old) (state S.Store conn.new) }
+    ensures mode { conn.old.in_transaction ≡ false → conn.new.in_transaction ≡ false }
+{
+    unite_for(alloc, conn, &[Selection::ItsGroups], callers, at)
+}
+
+/// The names of some groups and those of a circle.
+fn together(groups: NumberList, circle: &[u64]) -> Result<NumberList, AllocError>
+    ensures { IfOk result (λ it. it ≡ groups ++ circle.now) }
+{
+    let mut names = groups.into_vec();
+    names.extend_from_slice(circle)?;
+    Ok(Sequence::from_vec(names))
+}
+
+/// The names in which a citizen holds at a moment, in whatever order: those of its circle at that moment, and of the groups of which one of it
+/// is a member. For another role none is looked for.
+pub(crate) fn names_of<S: Alter>(
+    alloc: Global,
+    conn: &mut Connection<S>,
+    caller: Caller,
+    at: i64,
+) -> Result<NumberList, ReadFault>
+    requires open { HasCleanDisk (state S.Store conn.old) → IsTrue (state S.Store conn.old).is_open }
+    requires land { HasCleanDisk (state S.Store conn.old) → IsLand (state S.Store conn.old).now.schema }
+    ensures look { IsLook result (λ it. AreNamesAt caller at (state S.Store conn.old).now.trees it) (state S.Store conn.old) (state S.Store conn.new) }
+    ensures mode { conn.old.in_transaction ≡ false → conn.new.in_transaction ≡ false }
+{
+    if !is_citizen(caller.role) {
+        return Ok(Sequence::new(alloc));
+    }
+    let callers = circle(alloc, conn, caller.party, at)?;
+    let groups = groups_of(alloc, conn, callers.as_slice(), at)?;
+    Ok(together(groups, callers.as_slice())?)
+}
+
+/// The interest of a caller at a moment in the unit of which these are the entries.
+fn interest_by<S: Alter>(
+    alloc: Global,
+    conn: &mut Connection<S>,
+    caller: Caller,
+    entries: &Records<RrrRecord>,
+    at: i64,
+) -> Result<Interest, ReadFault>
+    requires open { HasCleanDisk (state S.Store conn.old) → IsTrue (state S.Store conn.old).is_open }
+    requires land { HasCleanDisk (state S.Store conn.old) → IsLand (state S.Store conn.old).now.schema }
+    ensures look { IsLook result (λ it. IsPart (λ r. interest_of (is_name_of r (circle_of r caller.party)) caller entries.now) at (state S.Store conn.old).now.trees it) (state S.Store conn.old) (state S.Store conn.new) }
+    ensures mode { conn.old.in_transaction ≡ false → conn.new.in_transaction ≡ false }
+{
+    names_tell_interests();
+    let names = names_of(alloc, conn, caller, at)?;
+    Ok(interest_of(caller, names.as_slice(), entries))
+}
+
+/// The interest of a caller in a unit at a moment.
+fn interest_in<S: Alter>(
+    alloc: Global,
+    conn: &mut Connection<S>,
+    caller: Caller,
+    unit: u64,
+    at: i64,
+) -> Result<Interest, ReadFault>
+    requires open { HasCleanDisk (state S.Store conn.old) → IsTrue (state S.Store conn.old).is_open }
+    requires land { HasCleanDisk (state S.Store conn.old) → IsLand (state S.Store conn.old).now.schema }
+    ensures look { IsLook result (λ it. IsPart (λ r. interest_at r caller unit) at (state S.Store conn.old).now.trees it) (state S.Store conn.old) (state S.Store conn.new) }
+    ensures mode { conn.old.in_transaction ≡ false → conn.new.in_transaction ≡ false }
+{
+    let entries = of_unit::entries(alloc, conn, unit, at)?;
+    interest_by(alloc, conn, caller, &entries, at)
+}
+
+/// Whether a unit is shown to a caller at a moment by the caller's interest in it.
+pub(crate) fn is_unit_shown<S: Alter>(
+    alloc: Global,
+    conn: &mut Connection<S>,
+    caller: Caller,
+    unit: u64,
+    at: i64,
+) -> Result<bool, ReadFault>
+    requires open { HasCleanDisk (state S.Store conn.old) → IsTrue (state S.Store conn.old).is_open }
+    requires land { HasCleanDisk (state S.Store conn.old) → IsLand (state S.Store conn.old).now.schema }
+    ensures look { IsLook result (λ it. IsPart (λ r. shows_unit (interest_at r caller unit)) at (state S.Store conn.old).now.trees it) (state S.Store conn.old) (state S.Store conn.new) }
+    ensures mode { conn.old.in_transaction ≡ false → conn.new.in_transaction ≡ false }
+{
+    let interest = interest_in(alloc, conn, caller, unit, at)?;
+    Ok(interest.shows_unit())
+}
+
+/// Whether an entry is shown to a caller at a moment by the caller's interest in the unit of the entry.
+fn is_entry_shown<S: Alter>(
+    alloc: Global,
+    conn: &mut Connection<S>,
+    caller: Caller,
+    entry: &RrrRecord,
+    at: i64,
+) -> Result<bool, ReadFault>
+    requires open { HasCleanDisk (state S.Store conn.old) → IsTrue (state S.Store conn.old).is_open }
+    requires land { HasCleanDisk (state S.Store conn.old) → IsLand (state S.Store conn.old).now.schema }
+    ensures look { IsLook result (λ it. IsPart (λ r. shows_entry (interest_at r caller entry.now.unit) caller.party entry.now) at (state S.Store conn.old).now.trees it)
+        (state S.Store conn.old) (state S.Store conn.new) }
+    ensures mode { conn.old.in_transaction ≡ false → conn.new.in_transaction ≡ false }
+{
+    let interest = interest_in(alloc, conn, caller, entry.unit, at)?;
+    Ok(interest.shows_entry(caller.party, entry))
+}
+
+/// Whether the entry of a number stands at a moment and is shown to a caller by the caller's interest in the unit of the entry, and the entry.
+pub(crate) fn entry_shown<S: Alter>(
+    alloc: Global,
+    conn: &mut Connection<S>,
+    caller: Caller,
+    number: u64,
+    at: i64,
+) -> Result<(bool, Found), ReadFault>
+    requires open { HasCleanDisk (state S.Store conn.old) → IsTrue (state S.Store conn.old).is_open }
+    requires land { HasCleanDisk (state S.Store conn.old) → IsLand (state S.Store conn.old).now.schema }
+    ensures look { IsLook result (λ it. IsToldWith (λ r. is_shown_by_interest r caller kinds.Rrr number) caller kinds.Rrr number at (state S.Store conn.old).now.trees it) (state S.Store conn.old) (state S.Store conn.new) }
+    ensures mode { conn.old.in_transaction ≡ false → conn.new.in_transaction ≡ false }
+{
+    soundness_by_look_ups();
+    let found = by_number::record(alloc, conn, number, at)?;
+    match found {
+        Some(entry) => {
+            let shown = is_entry_shown(alloc, conn, caller, &entry, at)?;
+            Ok((shown, found_as(RrrRecord::shown(number, Some(entry)))))
+        }
+        None => Ok((false, Found::Nothing)),
+    }
+}
+
+/// Of the entries of a unit those that are shown to a party by the party's interest in the unit.
+fn shown_by(
+    alloc: Global,
+    interest: Interest,
+    party: u64,
+    entries: &Records<RrrRecord>,
+) -> Result<Records<RrrRecord>, AllocError>
+    ensures { IfOk result (λ it. it ≡ only (λ n e. shows_entry interest party e) entries.now) }
+{
+    let mut kept = Records::new(alloc);
+    for (number, entry) in entries.iter() {
+        if interest.shows_entry(party, entry) {
+            kept.insert(*number, entry.copy(alloc)?)?;
+        }
+    }
+    Ok(kept)
+}
+
+/// Of the entries of a unit those that are shown to a caller at a moment by the caller's interest in the unit.
+pub(crate) fn shown_of<S: Alter>(
+    alloc: Global,
+    conn: &mut Connection<S>,
+    caller: Caller,
+    entries: &Records<RrrRecord>,
+    at: i64,
+) -> Result<Records<RrrRecord>, ReadFault>
+    requires open { HasCleanDisk (state S.Store conn.old) → IsTrue (state S.Store conn.old).is_open }
+    requires land { HasCleanDisk (state S.Store conn.old) → IsLand (state S.Store conn.old).now.schema }
+    ensures look { IsLook result (λ it. IsPart (λ r. shown_of r caller entries.now) at (state S.Store conn.old).now.trees it) (state S.Store conn.old) (state S.Store conn.new) }
+    ensures mode { conn.old.in_transaction ≡ false → conn.new.in_transaction ≡ false }
+{
+    let interest = interest_by(alloc, conn, caller, entries, at)?;
+    Ok(shown_by(alloc, interest, caller.party, entries)?)
+}
+
+/// Whether a unit is shown to a caller at a moment by the caller's interest in it, and if so those of its entries that the caller sees.
+pub(crate) fn unit_with_entries<S: Alter>(
+    alloc: Global,
+    conn: &mut Connection<S>,
+    caller: Caller,
+    unit: u64,
+    at: i64,
+) -> Result<(bool, Found), ReadFault>
+    requires role { sees_by_interest caller.role kinds.Rrr ≡ true }
+    requires open { HasCleanDisk (state S.Store conn.old) → IsTrue (state S.Store conn.old).is_open }
+    requires land { HasCleanDisk (state S.Store conn.old) → IsLand (state S.Store conn.old).now.schema }
+    ensures look { IsLook result (λ it. IsToldWith (λ r. is_shown_by_interest r caller kinds.Unit unit) caller kinds.Unit unit at (state S.Store conn.old).now.trees it) (state S.Store conn.old) (state S.Store conn.new) }
+    ensures mode { conn.old.in_transaction ≡ false → conn.new.in_transaction ≡ false }
+{
+    soundness_by_look_ups();
+    interests_tell_sight();
+    let all = of_unit::entries(alloc, conn, unit, at)?;
+    let interest = interest_by(alloc, conn, caller, &all, at)?;
+    if !interest.shows_unit() {
+        return Ok((false, Found::Nothing));
+    }
+    let shown = shown_by(alloc, interest, caller.party, &all)?;
+    Ok((true, Found::Entries(shown)))
+}

@@ -1,0 +1,115 @@
+//! Whether a mutation is shown to a caller at a moment by the caller's interest in a unit that the mutation names, by look-ups.
+ghost use Rattle.std.specs.List.{list_any};
+ghost use Rattle.std.specs.Prelude.{◌≡◌, ◌||◌, false, IsTrue};
+ghost use Rattle.land_core.specs.declared.kind.Kind.TheVariants as kinds;
+ghost use Rattle.land_rules.specs.Denials.Interests.{interest_at, is_shown_by_interest, names_shown, shows_unit};
+ghost use Rattle.land_select.specs.Kept.{IsToldWith};
+ghost use Rattle.land_select_joins.specs.Lookups.Parts.{IsPart};
+ghost use Rattle.land_tables_schema.specs.Land.{IsLand};
+ghost use Rattle.land_tables_schema.specs.Rows.Looks.{IsLook};
+ghost use Rattle.sqlite.specs.Held.{state};
+ghost use Rattle.sqlite.specs.State.{HasCleanDisk};
+
+use crate::cache::{Found, found_as};
+use crate::verdict::interest::is_unit_shown;
+use land_core::caller::Caller;
+use land_core::content::Content;
+use land_core::laws::soundness_by_look_ups;
+use land_core::merger::Merger;
+use land_core::mutation::MutationRecord;
+use land_select_joins::lookups::by_number;
+use land_select_joins::lookups::shown::Shown;
+use land_tables_rows::listing::fault::ReadFault;
+use sqlite::{Alter, Connection};
+use std::alloc::Global;
+
+/// Whether one of some units is shown to a caller at a moment by the caller's interest in it.
+fn is_one_shown<S: Alter>(
+    alloc: Global,
+    conn: &mut Connection<S>,
+    caller: Caller,
+    units: &[u64],
+    at: i64,
+) -> Result<bool, ReadFault>
+    requires open { HasCleanDisk (state S.Store conn.old) → IsTrue (state S.Store conn.old).is_open }
+    requires land { HasCleanDisk (state S.Store conn.old) → IsLand (state S.Store conn.old).now.schema }
+    ensures look { IsLook result (λ it. IsPart (λ r. list_any (λ unit. shows_unit (interest_at r caller unit)) units.now) at (state S.Store conn.old).now.trees it) (state S.Store conn.old) (state S.Store conn.new) }
+    ensures mode { conn.old.in_transaction ≡ false → conn.new.in_transaction ≡ false }
+{
+    for unit in units {
+        if is_unit_shown(alloc, conn, caller, *unit, at)? {
+            return Ok(true);
+        }
+    }
+    Ok(false)
+}
+
+/// Whether the unit of a merger, or one of the others that it names, is shown to a caller at a moment by the caller's interest in that unit.
+fn is_merger_shown<S: Alter>(
+    alloc: Global,
+    conn: &mut Connection<S>,
+    caller: Caller,
+    merger: &Merger,
+    at: i64,
+) -> Result<bool, ReadFault>
+    requires open { HasCleanDisk (state S.Store conn.old) → IsTrue (state S.Store conn.old).is_open }
+    requires land { HasCleanDisk (state S.Store conn.old) → IsLand (state S.Store conn.old).now.schema }
+    ensures look { IsLook result (λ it. IsPart (λ r. shows_unit (interest_at r caller merger.now.unit) || list_any (λ unit. shows_unit (interest_at r caller unit)) merger.now.others) at (state S.Store conn.old).now.trees it)
+        (state S.Store conn.old) (state S.Store conn.new) }
+    ensures mode { conn.old.in_transaction ≡ false → conn.new.in_transaction ≡ false }
+{
+    if is_unit_shown(alloc, conn, caller, merger.unit, at)? {
+        return Ok(true);
+    }
+    is_one_shown(alloc, conn, caller, merger.others.as_slice(), at)
+}
+
+/// Whether a mutation names a unit that is shown to a caller at a moment by the caller's interest in that unit.
+fn names_shown<S: Alter>(
+    alloc: Global,
+    conn: &mut Connection<S>,
+    caller: Caller,
+    mutation: &MutationRecord,
+    at: i64,
+) -> Result<bool, ReadFault>
+    requires open { HasCleanDisk (state S.Store conn.old) → IsTrue (state S.Store conn.old).is_open }
+    requires land { HasCleanDisk (state S.Store conn.old) → IsLand (state S.Store conn.old).now.schema }
+    ensures look { IsLook result (λ it. IsPart (λ r. names_shown r caller mutation.now) at (state S.Store conn.old).now.trees it) (state S.Store conn.old) (state S.Store conn.new) }
+    ensures mode { conn.old.in_transaction ≡ false → conn.new.in_transaction ≡ false }
+{
+    match &mutation.content {
+        Content::Transfer(it) => is_unit_shown(alloc, conn, caller, it.unit, at),
+        Content::Subdivision(it) => is_unit_shown(alloc, conn, caller, it.unit, at),
+        Content::Merger(it) => is_merger_shown(alloc, conn, caller, it, at),
+        Content::Mortgage(it) => is_unit_shown(alloc, conn, caller, it.unit, at),
+        Content::Discharge(it) => is_unit_shown(alloc, conn, caller, it.unit, at),
+    }
+}
+
+/// Whether the mutation of a number stands at a moment and is shown to a caller by the caller's interest in a unit that the mutation names, and
+/// the mutation.
+pub(crate) fn mutation_shown<S: Alter>(
+    alloc: Global,
+    conn: &mut Connection<S>,
+    caller: Caller,
+    number: u64,
+    at: i64,
+) -> Result<(bool, Found), ReadFault>
+    requires open { HasCleanDisk (state S.Store conn.old) → IsTrue (state S.Store conn.old).is_open }
+    requires land { HasCleanDisk (state S.Store conn.old) → IsLand (state S.Store conn.old).now.schema }
+    ensures look { IsLook result (λ it. IsToldWith (λ r. is_shown_by_interest r caller kinds.Mutation number) caller kinds.Mutation number at (state S.Store conn.old).now.trees it) (state S.Store conn.old) (state S.Store conn.new) }
+    ensures mode { conn.old.in_transaction ≡ false → conn.new.in_transaction ≡ false }
+{
+    soundness_by_look_ups();
+    let found = by_number::record(alloc, conn, number, at)?;
+    match found {
+        Some(mutation) => {
+            let shown = names_shown(alloc, conn, caller, &mutation, at)?;
+            Ok((
+                shown,
+                found_as(MutationRecord::shown(number, Some(mutation))),
+            ))
+        }
+        None => Ok((false, Found::Nothing)),
+    }
+}

@@ -1,0 +1,164 @@
+//! Whether a party is in the sight of a caller that is not shown all of them, by look-ups, and what is found of it on the way.
+ghost use Rattle.std.specs.List.{list_any};
+ghost use Rattle.std.specs.Prelude.{◌≡◌, false, nat_eq, IsTrue, Some};
+ghost use Rattle.land_core.specs.declared.kind.Kind.TheVariants as kinds;
+ghost use Rattle.land_rules.specs.Denials.Sight.{sees_all};
+ghost use Rattle.land_rules.specs.Rules.{sees};
+ghost use Rattle.land_select.specs.Kept.{IsToldWith};
+ghost use Rattle.land_select.specs.Parties.{AreOtherNames, AreOwnNamesAt, relation_of};
+ghost use Rattle.land_select.specs.Views.{IsShown, IsShownGiven};
+ghost use Rattle.land_tables_schema.specs.Land.{IsLand};
+ghost use Rattle.land_tables_schema.specs.Rows.Looks.{IsLook};
+ghost use Rattle.sqlite.specs.Held.{state};
+ghost use Rattle.sqlite.specs.State.{HasCleanDisk};
+
+use crate::cache::Found;
+use crate::verdict::interest::{is_citizen, names_of};
+use crate::verdict::view::standing_object;
+use crate::view::is_listed;
+use land_core::caller::Caller;
+use land_core::kind::Kind;
+use land_core::role::Role;
+use land_core::sequence::{NumberList, Sequence};
+use land_rules::laws::{circles_see_together, seen_is_exact};
+use land_select_joins::joins::sight::sight;
+use land_select_joins::lookups::relation::Relation;
+use land_select_joins::lookups::seers::seers;
+use land_select_joins::sights::laws::selections_are_the_rules;
+use land_tables_rows::listing::fault::ReadFault;
+use sqlite::{Alter, Connection};
+use std::alloc::Global;
+
+/// By what a role is told of the parties of entries, if by anything.
+fn relation_of(role: Role) -> Option<Relation>
+    ensures { result ≡ relation_of role }
+{
+    match role {
+        Role::Citizen => Some(Relation::Holding),
+        Role::Bank => Some(Relation::Crediting),
+        Role::Conveyancer => Some(Relation::Awaiting),
+        Role::CertifiedSurveyor | Role::Notary | Role::StateAdministrator => None,
+    }
+}
+
+/// Whether one of some parties is among others.
+fn are_met(parties: &[u64], others: &[u64]) -> bool
+    ensures { result ≡ list_any (λ party. list_any (nat_eq party) others.now) parties.now }
+{
+    parties.iter().any(|party| is_listed(others, *party))
+}
+
+/// The names of a caller at a moment, in whatever order: of a citizen those in which it holds, of another its own.
+fn own_names<S: Alter>(
+    alloc: Global,
+    conn: &mut Connection<S>,
+    caller: Caller,
+    at: i64,
+) -> Result<NumberList, ReadFault>
+    requires open { HasCleanDisk (state S.Store conn.old) → IsTrue (state S.Store conn.old).is_open }
+    requires land { HasCleanDisk (state S.Store conn.old) → IsLand (state S.Store conn.old).now.schema }
+    ensures look { IsLook result (λ it. AreOwnNamesAt caller at (state S.Store conn.old).now.trees it) (state S.Store conn.old) (state S.Store conn.new) }
+    ensures mode { conn.old.in_transaction ≡ false → conn.new.in_transaction ≡ false }
+{
+    if is_citizen(caller.role) {
+        return names_of(alloc, conn, caller, at);
+    }
+    Ok(Sequence::of_one(alloc, caller.party)?)
+}
+
+/// Whether a party is in the list of all that a caller sees.
+fn is_in_list<S: Alter>(
+    alloc: Global,
+    conn: &mut Connection<S>,
+    caller: Caller,
+    number: u64,
+    at: i64,
+) -> Result<bool, ReadFault>
+    requires open { HasCleanDisk (state S.Store conn.old) → IsTrue (state S.Store conn.old).is_open }
+    requires land { HasCleanDisk (state S.Store conn.old) → IsLand (state S.Store conn.old).now.schema }
+    ensures look { IsLook result (λ it. IsShown (λ r. sees r caller kinds.Party number) at (state S.Store conn.old).now.trees it) (state S.Store conn.old) (state S.Store conn.new) }
+    ensures mode { conn.old.in_transaction ≡ false → conn.new.in_transaction ≡ false }
+{
+    seen_is_exact();
+    let listed = sight(alloc, conn, caller, Kind::Party, at)?;
+    Ok(is_listed(listed.as_slice(), number))
+}
+
+/// Whether a caller that is told of parties by a relation sees one that is none of its names: where few are told of the party, by whether it
+/// is one of these; where they are many, by the list of all parties that the caller sees. So no more is read than a few rows, or what the
+/// caller's own list takes.
+fn is_told_by<S: Alter>(
+    alloc: Global,
+    conn: &mut Connection<S>,
+    caller: Caller,
+    relation: Relation,
+    names: &[u64],
+    number: u64,
+    at: i64,
+) -> Result<bool, ReadFault>
+    requires role { sees_all caller.role kinds.Party ≡ false }
+    requires by { relation_of caller.role ≡ Some relation }
+    requires open { HasCleanDisk (state S.Store conn.old) → IsTrue (state S.Store conn.old).is_open }
+    requires land { HasCleanDisk (state S.Store conn.old) → IsLand (state S.Store conn.old).now.schema }
+    ensures look { IsLook result (λ it. IsShownGiven (AreOtherNames caller names.now number) (λ r. sees r caller kinds.Party number) at (state S.Store conn.old).now.trees it) (state S.Store conn.old) (state S.Store conn.new) }
+    ensures mode { conn.old.in_transaction ≡ false → conn.new.in_transaction ≡ false }
+{
+    seen_is_exact();
+    circles_see_together();
+    selections_are_the_rules();
+    let told = seers(alloc, conn, relation, number, at)?;
+    match told {
+        Some(few) => Ok(are_met(few.as_slice(), names)),
+        None => is_in_list(alloc, conn, caller, number, at),
+    }
+}
+
+/// Whether a caller sees a party that is none of its names.
+fn is_told<S: Alter>(
+    alloc: Global,
+    conn: &mut Connection<S>,
+    caller: Caller,
+    names: &[u64],
+    number: u64,
+    at: i64,
+) -> Result<bool, ReadFault>
+    requires role { sees_all caller.role kinds.Party ≡ false }
+    requires open { HasCleanDisk (state S.Store conn.old) → IsTrue (state S.Store conn.old).is_open }
+    requires land { HasCleanDisk (state S.Store conn.old) → IsLand (state S.Store conn.old).now.schema }
+    ensures look { IsLook result (λ it. IsShownGiven (AreOtherNames caller names.now number) (λ r. sees r caller kinds.Party number) at (state S.Store conn.old).now.trees it) (state S.Store conn.old) (state S.Store conn.new) }
+    ensures mode { conn.old.in_transaction ≡ false → conn.new.in_transaction ≡ false }
+{
+    seen_is_exact();
+    circles_see_together();
+    selections_are_the_rules();
+    match relation_of(caller.role) {
+        Some(relation) => is_told_by(alloc, conn, caller, relation, names, number, at),
+        None => Ok(false),
+    }
+}
+
+/// Whether a caller sees a party at a moment, and what is found of it on the way: one of its own names is seen where it stands, another party
+/// where the caller is told of it.
+pub(crate) fn party_in_sight<S: Alter>(
+    alloc: Global,
+    conn: &mut Connection<S>,
+    caller: Caller,
+    number: u64,
+    at: i64,
+) -> Result<(bool, Found), ReadFault>
+    requires role { sees_all caller.role kinds.Party ≡ false }
+    requires open { HasCleanDisk (state S.Store conn.old) → IsTrue (state S.Store conn.old).is_open }
+    requires land { HasCleanDisk (state S.Store conn.old) → IsLand (state S.Store conn.old).now.schema }
+    ensures look { IsLook result (λ it. IsToldWith (λ r. sees r caller kinds.Party number) caller kinds.Party number at (state S.Store conn.old).now.trees it) (state S.Store conn.old) (state S.Store conn.new) }
+    ensures mode { conn.old.in_transaction ≡ false → conn.new.in_transaction ≡ false }
+{
+    seen_is_exact();
+    circles_see_together();
+    selections_are_the_rules();
+    let names = own_names(alloc, conn, caller, at)?;
+    if is_listed(names.as_slice(), number) {
+        return standing_object(alloc, conn, caller, Kind::Party, number, at);
+    }
+    let seen = is_told(alloc, conn, caller, names.as_slice(), number, at)?;
+    Ok((seen, Found::Nothing))
+}

@@ -1,0 +1,89 @@
+//! The verdict on what is asked, by look-ups and joins, and what is found on the way.
+ghost use Rattle.std.specs.Prelude.{◌≡◌, false, IsTrue};
+ghost use Rattle.land_select.specs.Kept.{IsSightedWith};
+ghost use Rattle.land_select.specs.Verdicts.{IsVerdictWith};
+ghost use Rattle.land_tables_schema.specs.Land.{IsLand};
+ghost use Rattle.land_tables_schema.specs.Rows.Looks.{IsLook};
+ghost use Rattle.sqlite.specs.Held.{state};
+ghost use Rattle.sqlite.specs.State.{HasCleanDisk};
+
+use crate::cache::Found;
+use crate::query::Question;
+use crate::verdict::caller::standing;
+use crate::verdict::sheet::sheet;
+use crate::verdict::view::viewing;
+use land_core::ask::Ask;
+use land_core::caller::Caller;
+use land_core::limits::LAST_MOMENT;
+use land_rules::verdict::Verdict;
+use land_tables_rows::listing::fault::ReadFault;
+use sqlite::{Alter, Connection};
+use std::alloc::Global;
+
+/// The least sight rule that denies what is asked, by what stands at a moment, and what was found on the way.
+fn sighted<S: Alter>(
+    alloc: Global,
+    conn: &mut Connection<S>,
+    caller: Caller,
+    ask: &Ask,
+    at: i64,
+) -> Result<(Verdict, Found), ReadFault>
+    requires open { HasCleanDisk (state S.Store conn.old) → IsTrue (state S.Store conn.old).is_open }
+    requires land { HasCleanDisk (state S.Store conn.old) → IsLand (state S.Store conn.old).now.schema }
+    ensures look { IsLook result (λ it. IsSightedWith caller ask.now at (state S.Store conn.old).now.trees it) (state S.Store conn.old) (state S.Store conn.new) }
+    ensures mode { conn.old.in_transaction ≡ false → conn.new.in_transaction ≡ false }
+{
+    match ask {
+        Ask::View { kind, number, .. } => viewing(alloc, conn, caller, *kind, *number, at),
+        Ask::Sheet { unit, .. } => sheet(alloc, conn, caller, *unit, at),
+        Ask::List { .. } | Ask::Do(_) => Ok((Verdict::Allowed, Found::Nothing)),
+    }
+}
+
+/// The verdict on what is asked at a moment, and what was found on the way: who asks is judged by what stands at the last moment.
+fn judged<S: Alter>(
+    alloc: Global,
+    conn: &mut Connection<S>,
+    caller: Caller,
+    ask: &Ask,
+    past: bool,
+    at: i64,
+) -> Result<(Verdict, Found), ReadFault>
+    requires open { HasCleanDisk (state S.Store conn.old) → IsTrue (state S.Store conn.old).is_open }
+    requires land { HasCleanDisk (state S.Store conn.old) → IsLand (state S.Store conn.old).now.schema }
+    ensures look { IsLook result (λ it. IsVerdictWith caller ask.now past at (state S.Store conn.old).now.trees it) (state S.Store conn.old) (state S.Store conn.new) }
+    ensures mode { conn.old.in_transaction ≡ false → conn.new.in_transaction ≡ false }
+{
+    let first = standing(alloc, conn, caller, ask, past, LAST_MOMENT)?;
+    match first {
+        Verdict::Allowed => sighted(alloc, conn, caller, ask, at),
+        Verdict::Denied(rule) => Ok((Verdict::Denied(rule), Found::Nothing)),
+    }
+}
+
+/// What a caller asks at a moment.
+#[derive(Clone, Copy, Debug)]
+pub(crate) struct Denial<'a> {
+    /// Who asks.
+    pub(crate) caller: Caller,
+    /// What is asked.
+    pub(crate) ask: &'a Ask,
+    /// Whether the moment is before now.
+    pub(crate) past: bool,
+    /// The moment, in milliseconds since 1970 UTC.
+    pub(crate) moment: i64,
+}
+
+impl Question<(Verdict, Found)> for Denial<'_> {
+    ghost use Rattle.land_select.specs.Verdicts.{IsVerdictWith};
+
+    ghost answers = { λ it db told. IsVerdictWith it.caller it.ask.now it.past it.moment db told };
+
+    fn ask<S: Alter>(
+        &self,
+        alloc: Global,
+        conn: &mut Connection<S>,
+    ) -> Result<(Verdict, Found), ReadFault> {
+        judged(alloc, conn, self.caller, self.ask, self.past, self.moment)
+    }
+}

@@ -1,0 +1,101 @@
+//! The verdict on the title sheet of a unit, by look-ups, and what is found of the unit on the way.
+ghost use Rattle.std.specs.Prelude.{◌≡◌, false, true, IsTrue};
+ghost use Rattle.land_core.specs.declared.kind.Kind.TheVariants as kinds;
+ghost use Rattle.land_rules.specs.Denials.Interests.{sees_by_interest};
+ghost use Rattle.land_rules.specs.Denials.Sight.{is_unit_of_conveyancer};
+ghost use Rattle.land_rules.specs.Rules.{first_denial, view_rules};
+ghost use Rattle.land_select.specs.Kept.{IsToldWith};
+ghost use Rattle.land_tables_schema.specs.Land.{IsLand};
+ghost use Rattle.land_tables_schema.specs.Rows.Looks.{IsLook};
+ghost use Rattle.sqlite.specs.Held.{state};
+ghost use Rattle.sqlite.specs.State.{HasCleanDisk};
+
+use crate::cache::Found;
+use crate::verdict::conveyancer::unit_awaited;
+use crate::verdict::interest::unit_with_entries;
+use crate::verdict::view::viewing;
+use land_core::caller::Caller;
+use land_core::kind::Kind;
+use land_core::laws::soundness_by_look_ups;
+use land_rules::denials::interests::sees_by_interest;
+use land_rules::denials::laws::{
+    interests_tell_sight, sight_tells_verdicts, what_is_awaited_is_seen,
+};
+use land_rules::denials::sight::{is_unit_of_conveyancer, view_verdict};
+use land_rules::verdict::Verdict;
+use land_select_joins::lookups::of_unit;
+use land_tables_rows::listing::fault::ReadFault;
+use sqlite::{Alter, Connection};
+use std::alloc::Global;
+
+/// The verdict on the sheet of a unit by a conveyancer, and the entries of the unit, where it is awaited.
+fn awaited_sheet<S: Alter>(
+    alloc: Global,
+    conn: &mut Connection<S>,
+    caller: Caller,
+    unit: u64,
+    at: i64,
+) -> Result<(Verdict, Found), ReadFault>
+    requires role { is_unit_of_conveyancer caller.role kinds.Unit ≡ true }
+    requires land { HasCleanDisk (state S.Store conn.old) → IsLand (state S.Store conn.old).now.schema }
+    ensures look { IsLook result (λ it. IsToldWith (λ r. first_denial (view_rules r caller kinds.Unit unit)) caller kinds.Unit unit at (state S.Store conn.old).now.trees it) (state S.Store conn.old) (state S.Store conn.new) }
+    ensures mode { conn.old.in_transaction ≡ false → conn.new.in_transaction ≡ false }
+{
+    soundness_by_look_ups();
+    sight_tells_verdicts();
+    what_is_awaited_is_seen();
+    let told = unit_awaited(alloc, conn, caller, unit, at)?;
+    let (is_seen, is_named) = told;
+    let verdict = view_verdict(is_seen, is_named, caller, Kind::Unit, unit);
+    if !is_seen {
+        return Ok((verdict, Found::Nothing));
+    }
+    let entries = of_unit::entries(alloc, conn, unit, at)?;
+    Ok((verdict, Found::Entries(entries)))
+}
+
+/// The verdict on the sheet of a unit by a citizen or a bank, and those entries of the unit that the caller sees, where the unit is shown.
+fn sheet_by_interest<S: Alter>(
+    alloc: Global,
+    conn: &mut Connection<S>,
+    caller: Caller,
+    unit: u64,
+    at: i64,
+) -> Result<(Verdict, Found), ReadFault>
+    requires role { sees_by_interest caller.role kinds.Unit ≡ true }
+    requires other { is_unit_of_conveyancer caller.role kinds.Unit ≡ false }
+    requires open { HasCleanDisk (state S.Store conn.old) → IsTrue (state S.Store conn.old).is_open }
+    requires land { HasCleanDisk (state S.Store conn.old) → IsLand (state S.Store conn.old).now.schema }
+    ensures look { IsLook result (λ it. IsToldWith (λ r. first_denial (view_rules r caller kinds.Unit unit)) caller kinds.Unit unit at (state S.Store conn.old).now.trees it) (state S.Store conn.old) (state S.Store conn.new) }
+    ensures mode { conn.old.in_transaction ≡ false → conn.new.in_transaction ≡ false }
+{
+    sight_tells_verdicts();
+    interests_tell_sight();
+    let told = unit_with_entries(alloc, conn, caller, unit, at)?;
+    let (is_seen, found) = told;
+    let verdict = view_verdict(is_seen, false, caller, Kind::Unit, unit);
+    Ok((verdict, found))
+}
+
+/// The verdict on the sheet of a unit, by what stands at a moment, and what was found of the unit on the way: where a sheet is shown, its entries
+/// in the caller's sight, or the unit.
+pub(crate) fn sheet<S: Alter>(
+    alloc: Global,
+    conn: &mut Connection<S>,
+    caller: Caller,
+    unit: u64,
+    at: i64,
+) -> Result<(Verdict, Found), ReadFault>
+    requires open { HasCleanDisk (state S.Store conn.old) → IsTrue (state S.Store conn.old).is_open }
+    requires land { HasCleanDisk (state S.Store conn.old) → IsLand (state S.Store conn.old).now.schema }
+    ensures look { IsLook result (λ it. IsToldWith (λ r. first_denial (view_rules r caller kinds.Unit unit)) caller kinds.Unit unit at (state S.Store conn.old).now.trees it) (state S.Store conn.old) (state S.Store conn.new) }
+    ensures mode { conn.old.in_transaction ≡ false → conn.new.in_transaction ≡ false }
+{
+    if is_unit_of_conveyancer(caller.role, Kind::Unit) {
+        return awaited_sheet(alloc, conn, caller, unit, at);
+    }
+    if sees_by_interest(caller.role, Kind::Unit) {
+        return sheet_by_interest(alloc, conn, caller, unit, at);
+    }
+    viewing(alloc, conn, caller, Kind::Unit, unit, at)
+}

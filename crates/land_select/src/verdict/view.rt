@@ -1,0 +1,145 @@
+//! Whether an object is in a caller's sight, and the verdict on its view, by look-ups and joins.
+ghost use Rattle.std.specs.Prelude.{◌≡◌, false, IsTrue};
+ghost use Rattle.land_core.specs.Register.{stands};
+ghost use Rattle.land_core.specs.declared.kind.Kind.TheVariants as kinds;
+ghost use Rattle.land_rules.specs.Denials.Sight.{is_awaited, told_by};
+ghost use Rattle.land_rules.specs.Relations.{is_lodger_on};
+ghost use Rattle.land_rules.specs.Rules.{first_denial, sees, view_rules};
+ghost use Rattle.land_select.specs.Kept.{IsToldWith};
+ghost use Rattle.land_select_joins.specs.Lookups.Parts.{IsPart};
+ghost use Rattle.land_tables_schema.specs.Land.{IsLand};
+ghost use Rattle.land_tables_schema.specs.Rows.Looks.{IsLook};
+ghost use Rattle.sqlite.specs.Held.{state};
+ghost use Rattle.sqlite.specs.State.{HasCleanDisk};
+
+use crate::cache::{Found, found_as};
+use crate::verdict::by_interest::shown_by_interest;
+use crate::verdict::conveyancer::{awaited, unit_awaited};
+use crate::verdict::party::party_in_sight;
+use crate::view::is_listed;
+use land_core::caller::Caller;
+use land_core::kind::Kind;
+use land_core::laws::soundness_by_look_ups;
+use land_rules::denials::interests::sees_by_interest;
+use land_rules::denials::laws::{
+    all_that_stands_is_seen, interests_tell_sight, lodgers_see_their_own, sight_tells_verdicts,
+    what_is_awaited_is_seen,
+};
+use land_rules::denials::sight::{
+    is_unit_of_conveyancer, sees_all, sees_by_awaiting, sees_own_lodgings, view_verdict,
+};
+use land_rules::laws::seen_is_exact;
+use land_rules::verdict::Verdict;
+use land_select_joins::joins::sight::sight;
+use land_select_joins::lookups::lodgers::has_lodged;
+use land_select_joins::lookups::objects::object;
+use land_tables_rows::listing::fault::ReadFault;
+use sqlite::{Alter, Connection};
+use std::alloc::Global;
+
+/// Whether an object stands at a moment, and the object.
+pub(crate) fn standing_object<S: Alter>(
+    alloc: Global,
+    conn: &mut Connection<S>,
+    caller: Caller,
+    kind: Kind,
+    number: u64,
+    at: i64,
+) -> Result<(bool, Found), ReadFault>
+    requires land { HasCleanDisk (state S.Store conn.old) → IsLand (state S.Store conn.old).now.schema }
+    ensures look { IsLook result (λ it. IsToldWith (λ r. stands r kind number) caller kind number at (state S.Store conn.old).now.trees it) (state S.Store conn.old) (state S.Store conn.new) }
+    ensures mode { conn.old.in_transaction ≡ false → conn.new.in_transaction ≡ false }
+{
+    soundness_by_look_ups();
+    let found = object(alloc, conn, kind, number, at)?;
+    Ok((found.is_some(), found_as(found)))
+}
+
+/// Whether a caller sees an object at a moment, and what is found of it on the way. Where the caller is shown all objects of the kind, one look
+/// by its number finds it; where it is shown those that it lodged, one tells who lodged it. The entries of one unit, or of those that a mutation
+/// names, and a citizen's groups are read where the caller's interest in a unit tells; who lodged what names the unit, where a conveyancer
+/// awaits it; who is told of a party, where they are few; else the list of those that it sees.
+fn in_sight<S: Alter>(
+    alloc: Global,
+    conn: &mut Connection<S>,
+    caller: Caller,
+    kind: Kind,
+    number: u64,
+    at: i64,
+) -> Result<(bool, Found), ReadFault>
+    requires open { HasCleanDisk (state S.Store conn.old) → IsTrue (state S.Store conn.old).is_open }
+    requires land { HasCleanDisk (state S.Store conn.old) → IsLand (state S.Store conn.old).now.schema }
+    ensures look { IsLook result (λ it. IsToldWith (λ r. sees r caller kind number) caller kind number at (state S.Store conn.old).now.trees it) (state S.Store conn.old) (state S.Store conn.new) }
+    ensures mode { conn.old.in_transaction ≡ false → conn.new.in_transaction ≡ false }
+{
+    seen_is_exact();
+    soundness_by_look_ups();
+    all_that_stands_is_seen();
+    lodgers_see_their_own();
+    interests_tell_sight();
+    what_is_awaited_is_seen();
+    if sees_all(caller.role, kind) {
+        return standing_object(alloc, conn, caller, kind, number, at);
+    }
+    if sees_own_lodgings(caller.role, kind) {
+        let own = has_lodged(alloc, conn, caller.party, number, at)?;
+        return Ok((own, Found::Nothing));
+    }
+    if sees_by_interest(caller.role, kind) {
+        return shown_by_interest(alloc, conn, caller, kind, number, at);
+    }
+    if sees_by_awaiting(caller.role, kind) {
+        return awaited(alloc, conn, caller, kind, number, at);
+    }
+    if kind == Kind::Party {
+        return party_in_sight(alloc, conn, caller, number, at);
+    }
+    let listed = sight(alloc, conn, caller, kind, at)?;
+    Ok((is_listed(listed.as_slice(), number), Found::Nothing))
+}
+
+/// The verdict on the view of a unit by a conveyancer, by what stands at a moment: what its undecided mutations name is asked once, for the
+/// sight of the unit and for the rule that denies it.
+fn unit_verdict<S: Alter>(
+    alloc: Global,
+    conn: &mut Connection<S>,
+    caller: Caller,
+    unit: u64,
+    at: i64,
+) -> Result<Verdict, ReadFault>
+    requires land { HasCleanDisk (state S.Store conn.old) → IsLand (state S.Store conn.old).now.schema }
+    ensures look { IsLook result (λ it. IsPart (λ r. told_by (is_awaited r caller kinds.Unit unit) (is_lodger_on r caller.party unit) caller kinds.Unit unit) at (state S.Store conn.old).now.trees it)
+        (state S.Store conn.old) (state S.Store conn.new) }
+    ensures mode { conn.old.in_transaction ≡ false → conn.new.in_transaction ≡ false }
+{
+    let told = unit_awaited(alloc, conn, caller, unit, at)?;
+    let (in_sight, awaited) = told;
+    Ok(view_verdict(in_sight, awaited, caller, Kind::Unit, unit))
+}
+
+/// The verdict on the view of an object, by what stands at a moment, and what was found of it on the way.
+pub(crate) fn viewing<S: Alter>(
+    alloc: Global,
+    conn: &mut Connection<S>,
+    caller: Caller,
+    kind: Kind,
+    number: u64,
+    at: i64,
+) -> Result<(Verdict, Found), ReadFault>
+    requires open { HasCleanDisk (state S.Store conn.old) → IsTrue (state S.Store conn.old).is_open }
+    requires land { HasCleanDisk (state S.Store conn.old) → IsLand (state S.Store conn.old).now.schema }
+    ensures look { IsLook result (λ it. IsToldWith (λ r. first_denial (view_rules r caller kind number)) caller kind number at (state S.Store conn.old).now.trees it) (state S.Store conn.old) (state S.Store conn.new) }
+    ensures mode { conn.old.in_transaction ≡ false → conn.new.in_transaction ≡ false }
+{
+    soundness_by_look_ups();
+    sight_tells_verdicts();
+    what_is_awaited_is_seen();
+    if is_unit_of_conveyancer(caller.role, kind) {
+        let verdict = unit_verdict(alloc, conn, caller, number, at)?;
+        return Ok((verdict, Found::Nothing));
+    }
+    let told = in_sight(alloc, conn, caller, kind, number, at)?;
+    let (is_seen, found) = told;
+    let verdict = view_verdict(is_seen, false, caller, kind, number);
+    Ok((verdict, found))
+}
