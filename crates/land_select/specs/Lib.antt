@@ -1,5 +1,5 @@
 -- Definitions of what the keeper over joins shows, and of how it judges; the law on its texts.
-pub mod Asking
+pub mod Results
 pub mod Kept
 pub mod Laws
 pub mod Listing

@@ -1,7 +1,7 @@
 //! An object as it stands at a moment, by look-ups.
 ghost use Rattle.std.specs.Prelude.{◌≡◌};
 
-use crate::query::Question;
+use crate::query::Query;
 use land_core::kind::Kind;
 use land_core::object::Object;
 use land_select_joins::lookups::objects::object;
@@ -11,7 +11,7 @@ use std::alloc::Global;
 
 /// Which object of a kind stands at a number and a moment.
 #[derive(Clone, Copy, Debug)]
-pub(crate) struct ObjectAt {
+pub(crate) struct ObjectQuery {
     /// Its kind.
     pub(crate) kind: Kind,
     /// Its number.
@@ -20,13 +20,13 @@ pub(crate) struct ObjectAt {
     pub(crate) moment: i64,
 }
 
-impl Question<Option<Object>> for ObjectAt {
+impl Query<Option<Object>> for ObjectQuery {
     ghost use Rattle.land_core.specs.Register.{object_at};
     ghost use Rattle.land_select_joins.specs.Lookups.Parts.{IsPart};
 
-    ghost answers = { λ it db found. IsPart (λ r. object_at r it.kind it.number) it.moment db found };
+    ghost results = { λ it db found. IsPart (λ r. object_at r it.kind it.number) it.moment db found };
 
-    fn ask<S: Alter>(
+    fn run<S: Alter>(
         &self,
         alloc: Global,
         conn: &mut Connection<S>,

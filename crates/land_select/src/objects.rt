@@ -16,7 +16,7 @@ ghost use Rattle.land_tables_schema.specs.Rows.Looks.{IsLook};
 ghost use Rattle.sqlite.specs.Held.{state};
 ghost use Rattle.sqlite.specs.State.{HasCleanDisk};
 
-use crate::query::Question;
+use crate::query::Query;
 use land_core::duplicate::Duplicate;
 use land_core::kind::Kind;
 use land_core::mutation::MutationRecord;
@@ -223,7 +223,7 @@ fn objects<S: Alter>(
 
 /// Which objects of a kind stand under some numbers at a moment.
 #[derive(Clone, Copy)]
-pub(crate) struct ObjectsAt<'a> {
+pub(crate) struct ObjectsQuery<'a> {
     /// Their kind.
     pub(crate) kind: Kind,
     /// Their numbers.
@@ -232,13 +232,13 @@ pub(crate) struct ObjectsAt<'a> {
     pub(crate) moment: i64,
 }
 
-impl Question<Sequence<NamedObject>> for ObjectsAt<'_> {
+impl Query<Sequence<NamedObject>> for ObjectsQuery<'_> {
     ghost use Rattle.land_keep.specs.Named.{objects_at};
     ghost use Rattle.land_select_joins.specs.Lookups.Parts.{IsPart};
 
-    ghost answers = { λ it db found. IsPart (λ r. objects_at r it.kind it.numbers.now) it.moment db found };
+    ghost results = { λ it db found. IsPart (λ r. objects_at r it.kind it.numbers.now) it.moment db found };
 
-    fn ask<S: Alter>(
+    fn run<S: Alter>(
         &self,
         alloc: Global,
         conn: &mut Connection<S>,

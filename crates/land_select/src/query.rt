@@ -2,7 +2,7 @@
 ghost use Rattle.std.specs.Prelude.{◌≡◌, ◌≢◌, false, Err, IfOk, IsTrue};
 ghost use Rattle.land_keep.specs.Keeping.{Closes, IsLive};
 ghost use Rattle.land_keep.specs.declared.store_fault.StoreFault.TheVariants as store;
-ghost use Rattle.land_select.specs.Asking.{IsAnswer};
+ghost use Rattle.land_select.specs.Results.{IsResult};
 ghost use Rattle.land_tables.specs.Calls.{IsSafeRead};
 ghost use Rattle.land_tables.specs.Office.{HoldsRegister, IsHonest, held};
 ghost use Rattle.land_tables_schema.specs.Land.{IsLand};
@@ -19,42 +19,42 @@ use sqlite::{Alter, Connection};
 use std::alloc::Global;
 
 /// A question to the tables of a register, whose answer changes nothing.
-pub(crate) trait Question<T> {
+pub(crate) trait Query<T> {
     /// What an answer is, of the rows of the tables.
-    ghost answers: { Self → Trees → T → Type 0 };
+    ghost results: { Self → Trees → T → Type 0 };
 
     /// Looks for the answer in the tables. Want of memory, a failed call of the store, and a value that cannot be read are told apart.
-    fn ask<S: Alter>(&self, alloc: Global, conn: &mut Connection<S>) -> Result<T, ReadFault>
+    fn run<S: Alter>(&self, alloc: Global, conn: &mut Connection<S>) -> Result<T, ReadFault>
         requires open { HasCleanDisk (state S.Store conn.old) → IsTrue (state S.Store conn.old).is_open }
         requires land { HasCleanDisk (state S.Store conn.old) → IsLand (state S.Store conn.old).now.schema }
-        ensures look { IsLook result (λ it. answers self.now (state S.Store conn.old).now.trees it) (state S.Store conn.old) (state S.Store conn.new) }
+        ensures look { IsLook result (λ it. results self.now (state S.Store conn.old).now.trees it) (state S.Store conn.old) (state S.Store conn.new) }
         ensures mode { conn.old.in_transaction ≡ false → conn.new.in_transaction ≡ false };
 }
 
 /// The answer to a question. A store that it leaves without a fault 502 is open, and as it was.
-fn answer_in<S: Alter, T, Q: Question<T>>(
+fn execute_in<S: Alter, T, Q: Query<T>>(
     alloc: Global,
     conn: &mut Connection<S>,
-    question: &Q,
+    query: &Q,
 ) -> Result<T, StoreFault>
     requires { HasCleanDisk (state S.Store conn.old) → HoldsRegister (state S.Store conn.old) }
     ensures open { result ≢ Err store.Closed }
-    ensures safe { IsSafeRead result (λ it. Q.answers question.now (state S.Store conn.old).now.trees it) (state S.Store conn.old) (state S.Store conn.new) }
+    ensures safe { IsSafeRead result (λ it. Q.results query.now (state S.Store conn.old).now.trees it) (state S.Store conn.old) (state S.Store conn.new) }
     ensures mode { conn.old.in_transaction ≡ false → conn.new.in_transaction ≡ false }
 {
-    match question.ask(alloc, conn) {
+    match query.run(alloc, conn) {
         Ok(answer) => Ok(answer),
         Err(fault) => Err(failed(conn, fault)),
     }
 }
 
 /// The answer to a question. 501: there was no memory. 502: a call of the store failed, and from then on 503. Nothing changes.
-pub(crate) fn answer<S: Alter, T, Q: Question<T>>(
+pub(crate) fn execute<S: Alter, T, Q: Query<T>>(
     alloc: Global,
     tables: &mut Tables<S>,
-    question: &Q,
+    query: &Q,
 ) -> Result<T, StoreFault>
-    ensures value { IsHonest S.Store tables.new → IfOk result (λ it. IsAnswer (Q.answers question.now) (state S.Store tables.old.conn) it) }
+    ensures value { IsHonest S.Store tables.new → IfOk result (λ it. IsResult (Q.results query.now) (state S.Store tables.old.conn) it) }
     ensures same { IsLive (IsHonest S.Store tables.new) tables.new.is_closed → held S.Store tables.new ≡ held S.Store tables.old }
     ensures was { IsHonest S.Store tables.new → IsHonest S.Store tables.old }
     ensures last { tables.new.last ≡ tables.old.last }
@@ -65,7 +65,7 @@ pub(crate) fn answer<S: Alter, T, Q: Question<T>>(
     if tables.is_closed {
         return Err(StoreFault::Closed);
     }
-    match answer_in(alloc, &mut tables.conn, question) {
+    match execute_in(alloc, &mut tables.conn, query) {
         Ok(answer) => Ok(answer),
         Err(fault) => {
             tables.is_closed = fault == StoreFault::Store;

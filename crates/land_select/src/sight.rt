@@ -1,7 +1,7 @@
 //! What a caller sees of a kind, by joins.
 ghost use Rattle.std.specs.Prelude.{◌≡◌};
 
-use crate::query::Question;
+use crate::query::Query;
 use land_core::caller::Caller;
 use land_core::kind::Kind;
 use land_core::sequence::NumberList;
@@ -12,7 +12,7 @@ use std::alloc::Global;
 
 /// Which numbers of a kind a caller sees at a moment.
 #[derive(Clone, Copy, Debug)]
-pub(crate) struct Sight {
+pub(crate) struct SightQuery {
     /// Who asks.
     pub(crate) caller: Caller,
     /// What is asked for.
@@ -21,12 +21,12 @@ pub(crate) struct Sight {
     pub(crate) moment: i64,
 }
 
-impl Question<NumberList> for Sight {
+impl Query<NumberList> for SightQuery {
     ghost use Rattle.land_select_joins.specs.Joins.Sight.{IsSight};
 
-    ghost answers = { λ it db numbers. IsSight it.caller it.kind it.moment db numbers };
+    ghost results = { λ it db numbers. IsSight it.caller it.kind it.moment db numbers };
 
-    fn ask<S: Alter>(
+    fn run<S: Alter>(
         &self,
         alloc: Global,
         conn: &mut Connection<S>,

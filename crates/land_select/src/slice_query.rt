@@ -1,7 +1,7 @@
 //! The slice of the last register for an act, by look-ups.
 ghost use Rattle.std.specs.Prelude.{◌≡◌};
 
-use crate::query::Question;
+use crate::query::Query;
 use crate::slices::slice::slice_at;
 use land_acts::slice::Slice;
 use land_core::act::Act;
@@ -12,7 +12,7 @@ use std::alloc::Global;
 
 /// What planning an act may look at of the register that stands at a moment.
 #[derive(Clone, Copy, Debug)]
-pub(crate) struct Sliced<'a> {
+pub(crate) struct SliceQuery<'a> {
     /// Whose act it is.
     pub(crate) caller: Caller,
     /// The act.
@@ -23,13 +23,13 @@ pub(crate) struct Sliced<'a> {
     pub(crate) moment: i64,
 }
 
-impl Question<Slice> for Sliced<'_> {
+impl Query<Slice> for SliceQuery<'_> {
     ghost use Rattle.land_acts.specs.Slices.{slice_of};
     ghost use Rattle.land_select.specs.Slices.Gathered.{IsSo};
 
-    ghost answers = { λ it db slice. IsSo (λ r. r.next ≡ it.next → slice ≡ slice_of r it.caller it.act.now) it.moment db };
+    ghost results = { λ it db slice. IsSo (λ r. r.next ≡ it.next → slice ≡ slice_of r it.caller it.act.now) it.moment db };
 
-    fn ask<S: Alter>(&self, alloc: Global, conn: &mut Connection<S>) -> Result<Slice, ReadFault> {
+    fn run<S: Alter>(&self, alloc: Global, conn: &mut Connection<S>) -> Result<Slice, ReadFault> {
         slice_at(alloc, conn, self.caller, self.act, self.next, self.moment)
     }
 }

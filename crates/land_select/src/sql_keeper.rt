@@ -3,13 +3,13 @@ ghost use Rattle.std.specs.Prelude.{◌≡◌, ◌≤ℤ◌};
 ghost use Rattle.land_keep.specs.Moments.{last_moment};
 
 use crate::cache::{Kept, forget, found_of, keep, kept_for, object_of};
-use crate::object::ObjectAt;
-use crate::objects::ObjectsAt;
-use crate::query::answer;
-use crate::sight::Sight;
-use crate::slice_query::Sliced;
-use crate::verdict::query::Denial;
-use crate::view::{UnitSeen, naming};
+use crate::object::ObjectQuery;
+use crate::objects::ObjectsQuery;
+use crate::query::execute;
+use crate::sight::SightQuery;
+use crate::slice_query::SliceQuery;
+use crate::verdict::query::VerdictQuery;
+use crate::view::{UnitViewQuery, naming};
 use land_acts::slice::Slice;
 use land_core::act::Act;
 use land_core::ask::Ask;
@@ -111,13 +111,13 @@ impl<S: Alter> Keeper for SqlKeeper<S> {
         let at = named_moment(ask).unwrap_or(now);
         soundness_by_look_ups();
         let asked_for = at.min(LAST_MOMENT);
-        let denial = Denial {
+        let denial = VerdictQuery {
             caller,
             ask,
             past: at < now,
             moment: asked_for,
         };
-        let told = answer(alloc, &mut self.tables, &denial)?;
+        let told = execute(alloc, &mut self.tables, &denial)?;
         let (verdict, found) = told;
         let kept = kept_for(caller, ask, at, found);
         keep(&mut self.kept, kept);
@@ -132,12 +132,12 @@ impl<S: Alter> Keeper for SqlKeeper<S> {
         at: i64,
     ) -> Result<NumberList, StoreFault> {
         forget(&mut self.kept);
-        let sight = Sight {
+        let sight = SightQuery {
             caller,
             kind,
             moment: at.min(LAST_MOMENT),
         };
-        answer(alloc, &mut self.tables, &sight)
+        execute(alloc, &mut self.tables, &sight)
     }
 
     fn object(
@@ -156,12 +156,12 @@ impl<S: Alter> Keeper for SqlKeeper<S> {
         }
         soundness_by_look_ups();
         let looked_at = at.min(LAST_MOMENT);
-        let object = ObjectAt {
+        let object = ObjectQuery {
             kind,
             number,
             moment: looked_at,
         };
-        answer(alloc, &mut self.tables, &object)
+        execute(alloc, &mut self.tables, &object)
     }
 
     fn objects(
@@ -174,12 +174,12 @@ impl<S: Alter> Keeper for SqlKeeper<S> {
         forget(&mut self.kept);
         soundness_by_look_ups();
         let moment = at.min(LAST_MOMENT);
-        let listed = ObjectsAt {
+        let listed = ObjectsQuery {
             kind,
             numbers,
             moment,
         };
-        answer(alloc, &mut self.tables, &listed)
+        execute(alloc, &mut self.tables, &listed)
     }
 
     fn view(
@@ -192,26 +192,26 @@ impl<S: Alter> Keeper for SqlKeeper<S> {
         let kept = self.kept.take();
         let found = found_of(kept, caller, unit, at);
         let moment = at.min(LAST_MOMENT);
-        let seen = UnitSeen {
+        let seen = UnitViewQuery {
             caller,
             unit,
             moment,
             found: &found,
         };
-        let shown = answer(alloc, &mut self.tables, &seen)?;
+        let shown = execute(alloc, &mut self.tables, &seen)?;
         Ok(naming(shown, at))
     }
 
     fn slice(&mut self, alloc: Global, caller: Caller, act: &Act) -> Result<Slice, StoreFault> {
         forget(&mut self.kept);
         soundness_by_look_ups();
-        let sliced = Sliced {
+        let sliced = SliceQuery {
             caller,
             act,
             next: self.tables.next(),
             moment: LAST_MOMENT,
         };
-        answer(alloc, &mut self.tables, &sliced)
+        execute(alloc, &mut self.tables, &sliced)
     }
 
     fn write(&mut self, alloc: Global, change: &Change, stamp: i64) -> Result<(), StoreFault> {

@@ -15,7 +15,7 @@ ghost use Rattle.sqlite.specs.Held.{state};
 ghost use Rattle.sqlite.specs.State.{HasCleanDisk};
 
 use crate::cache::Found;
-use crate::query::Question;
+use crate::query::Query;
 use crate::verdict::conveyancer::awaited_of;
 use crate::verdict::interest::shown_of;
 use land_core::caller::Caller;
@@ -236,7 +236,7 @@ fn seen_entries<S: Alter>(
 fn view_with<S: Alter>(
     alloc: Global,
     conn: &mut Connection<S>,
-    seen: UnitSeen<'_>,
+    seen: UnitViewQuery<'_>,
     unit_record: UnitRecord,
 ) -> Result<Option<View>, ReadFault>
     requires open { HasCleanDisk (state S.Store conn.old) → IsTrue (state S.Store conn.old).is_open }
@@ -246,7 +246,7 @@ fn view_with<S: Alter>(
     ensures mode { conn.old.in_transaction ≡ false → conn.new.in_transaction ≡ false }
 {
     soundness_by_look_ups();
-    let UnitSeen {
+    let UnitViewQuery {
         caller,
         unit,
         moment,
@@ -297,7 +297,7 @@ fn record_of<S: Alter>(
 fn view<S: Alter>(
     alloc: Global,
     conn: &mut Connection<S>,
-    seen: UnitSeen<'_>,
+    seen: UnitViewQuery<'_>,
 ) -> Result<Option<View>, ReadFault>
     requires open { HasCleanDisk (state S.Store conn.old) → IsTrue (state S.Store conn.old).is_open }
     requires land { HasCleanDisk (state S.Store conn.old) → IsLand (state S.Store conn.old).now.schema }
@@ -314,7 +314,7 @@ fn view<S: Alter>(
 
 /// How a caller sees a unit at a moment.
 #[derive(Clone, Copy, Debug)]
-pub(crate) struct UnitSeen<'a> {
+pub(crate) struct UnitViewQuery<'a> {
     /// Who asks.
     pub(crate) caller: Caller,
     /// The number of the unit.
@@ -325,15 +325,15 @@ pub(crate) struct UnitSeen<'a> {
     pub(crate) found: &'a Found,
 }
 
-impl Question<Option<View>> for UnitSeen<'_> {
+impl Query<Option<View>> for UnitViewQuery<'_> {
     ghost use Rattle.land_core.specs.declared.kind.Kind.TheVariants as kinds;
     ghost use Rattle.land_keep.specs.Sheets.{view_at};
     ghost use Rattle.land_select.specs.Kept.{IsFound};
     ghost use Rattle.land_select.specs.Views.{IsShownGiven};
 
-    ghost answers = { λ it db shown. IsShownGiven (λ r. IsFound r it.caller kinds.Unit it.unit it.found.now) (λ r. view_at r it.caller it.unit it.moment) it.moment db shown };
+    ghost results = { λ it db shown. IsShownGiven (λ r. IsFound r it.caller kinds.Unit it.unit it.found.now) (λ r. view_at r it.caller it.unit it.moment) it.moment db shown };
 
-    fn ask<S: Alter>(
+    fn run<S: Alter>(
         &self,
         alloc: Global,
         conn: &mut Connection<S>,

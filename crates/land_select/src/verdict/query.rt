@@ -8,7 +8,7 @@ ghost use Rattle.sqlite.specs.Held.{state};
 ghost use Rattle.sqlite.specs.State.{HasCleanDisk};
 
 use crate::cache::Found;
-use crate::query::Question;
+use crate::query::Query;
 use crate::verdict::caller::standing;
 use crate::verdict::sheet::sheet;
 use crate::verdict::view::viewing;
@@ -63,7 +63,7 @@ fn judged<S: Alter>(
 
 /// What a caller asks at a moment.
 #[derive(Clone, Copy, Debug)]
-pub(crate) struct Denial<'a> {
+pub(crate) struct VerdictQuery<'a> {
     /// Who asks.
     pub(crate) caller: Caller,
     /// What is asked.
@@ -74,12 +74,12 @@ pub(crate) struct Denial<'a> {
     pub(crate) moment: i64,
 }
 
-impl Question<(Verdict, Found)> for Denial<'_> {
+impl Query<(Verdict, Found)> for VerdictQuery<'_> {
     ghost use Rattle.land_select.specs.Verdicts.{IsVerdictWith};
 
-    ghost answers = { λ it db told. IsVerdictWith it.caller it.ask.now it.past it.moment db told };
+    ghost results = { λ it db told. IsVerdictWith it.caller it.ask.now it.past it.moment db told };
 
-    fn ask<S: Alter>(
+    fn run<S: Alter>(
         &self,
         alloc: Global,
         conn: &mut Connection<S>,

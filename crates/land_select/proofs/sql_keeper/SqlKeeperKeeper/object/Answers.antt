@@ -21,5 +21,5 @@ returns-clause-value g c clean =
     let s = state g.S.Store c.args.self.now.conn in
     let u : to_z w64 (of_z w64 c.min-looked_at.result) ≡ c.min-looked_at.result = search rules in
     let least : c.min-looked_at.result ≡ int_min c.args.at last_moment = search rules in
-    let answer = rw (c.self.view_is, u) at (c.answer.ensures.value clean) in
-    part_stands c.soundness_by_look_ups.ensures (λ r. object_at r c.args.kind c.args.number) s c.args.at c.min-looked_at.result (look_moment c.args.at c.min-looked_at.result least) c.answer.result answer
+    let answer = rw (c.self.view_is, u) at (c.execute.ensures.value clean) in
+    part_stands c.soundness_by_look_ups.ensures (λ r. object_at r c.args.kind c.args.number) s c.args.at c.min-looked_at.result (look_moment c.args.at c.min-looked_at.result least) c.execute.result answer

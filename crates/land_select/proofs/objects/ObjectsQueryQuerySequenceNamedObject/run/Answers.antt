@@ -4,7 +4,7 @@ use Rattle.land_keep.specs.Named.{objects_at}
 use Rattle.land_select_joins.specs.Lookups.Parts.{IsPart}
 use Rattle.land_tables_schema.specs.Rows.Looks.{IsLook}
 use Rattle.sqlite.specs.Held.{state}
-use Rattle.land_select.proofs.objects.ObjectsAtQuestionSequenceNamedObject.ask.Goals as goal
+use Rattle.land_select.proofs.objects.ObjectsQueryQuerySequenceNamedObject.run.Goals as goal
 
 pub returns-clause-look : goal.returns-clause-look
 returns-clause-look g c =
