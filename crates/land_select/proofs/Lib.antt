@@ -1,7 +1,7 @@
 -- Lemmas of the keeper over joins.
 pub mod Awaiting
 pub mod Callers
-pub mod Found
+pub mod CachedValue
 pub mod Gathering
 pub mod Judged
 pub mod Keeping

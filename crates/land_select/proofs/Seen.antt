@@ -19,10 +19,10 @@ use Rattle.land_rules.specs.Rules.{seen_of, verdict_of}
 use Rattle.land_rules.specs.declared.verdict.Verdict.{Verdict}
 use Rattle.land_select.specs.Results.{IsResult}
 use Rattle.land_select.specs.Slices.Gathered.{IsSo}
-use Rattle.land_select.specs.Kept.{IsFoundFor}
+use Rattle.land_select.specs.Cache.{IsFoundFor}
 use Rattle.land_select.specs.Verdicts.{IsVerdictWith}
 use Rattle.land_select.specs.Views.{IsShownGiven}
-use Rattle.land_select.specs.declared.cache.Found.{Found}
+use Rattle.land_select.specs.declared.cache.CachedValue.{CachedValue}
 use Rattle.land_select_joins.specs.Joins.Sight.{IsSight}
 use Rattle.land_select_joins.specs.Lookups.Parts.{IsPart}
 use Rattle.land_tables.proofs.LookedAt.{IsLookedAt}
@@ -62,7 +62,7 @@ the_last = (omega (arith, ints), omega (arith, ints))
 
 -- the verdict that is answered of tables is told by the timeline's registers, the last one and the one at the moment, and what was found is of
 -- the latter
-verdict_stands : SoundnessByLookUps → (s : State) (caller : Caller) (a : Ask) (past : Bool) (t u : ℤ) → IsLookedAt t u → (it : Verdict × Found) → IsResult (IsVerdictWith caller a past u) s it
+verdict_stands : SoundnessByLookUps → (s : State) (caller : Caller) (a : Ask) (past : Bool) (t u : ℤ) → IsLookedAt t u → (it : Verdict × CachedValue) → IsResult (IsVerdictWith caller a past u) s it
     → (it.0 ≡ verdict_of (last_register (timeline_in s.now.trees)) (register_at (timeline_in s.now.trees) t) caller a past) × IsFoundFor (register_at (timeline_in s.now.trees) t) caller a it.1
 verdict_stands look_ups s caller a past t u place it answer =
     let tl = timeline_in s.now.trees in
@@ -74,7 +74,7 @@ verdict_stands look_ups s caller a past t u place it answer =
     (told.0 ∙ ap (λ (now : Register). verdict_of now (register_at tl t) caller a past) last, told.1)
 
 -- so it is the verdict on what is asked, and what was found is of the register at the moment that is asked about
-pub verdict_told : SoundnessByLookUps → (s : State) (caller : Caller) (a : Ask) (now t u : ℤ) → t ≡ moment_of a now → IsLookedAt t u → (it : Verdict × Found)
+pub verdict_told : SoundnessByLookUps → (s : State) (caller : Caller) (a : Ask) (now t u : ℤ) → t ≡ moment_of a now → IsLookedAt t u → (it : Verdict × CachedValue)
     → IsResult (IsVerdictWith caller a (int_lt t now) u) s it → (it.0 ≡ verdict_at (timeline_in s.now.trees) caller a now) × IsFoundFor (register_at (timeline_in s.now.trees) t) caller a it.1
 verdict_told look_ups s caller a now t u is_moment place it answer =
     let tl = timeline_in s.now.trees in

@@ -1,6 +1,6 @@
 -- Definitions of what the keeper over joins shows, and of how it judges; the law on its texts.
 pub mod Results
-pub mod Kept
+pub mod Cache
 pub mod Laws
 pub mod Listing
 pub mod Parties

@@ -17,8 +17,8 @@ use Rattle.land_rules.specs.Denials.Standing.{decided, discharged, evidence_of}
 use Rattle.land_rules.specs.Laws.{IsSoundOrNothing}
 use Rattle.land_rules.specs.Rules.{verdict_of}
 use Rattle.land_rules.specs.declared.verdict.Verdict.{Verdict}
-use Rattle.land_select.specs.Kept.{IsFoundFor}
-use Rattle.land_select.specs.declared.cache.Found.{Found}
+use Rattle.land_select.specs.Cache.{IsFoundFor}
+use Rattle.land_select.specs.declared.cache.CachedValue.{CachedValue}
 use Rattle.land_select_joins.specs.Joins.Running.{OfHeld}
 use Rattle.land_tables_history.specs.History.{StandsAt}
 use Rattle.sqlite_trees.specs.Tree.{Trees}
@@ -42,6 +42,6 @@ evidence_in r caller a =
 
 -- Where the tables hold a history, this is the verdict on what is asked, by the register that stands at the last moment and the one that
 -- stands at the asked one, each of which is sound or has nothing in it; and what was found of the latter on the way.
-abbrev pub IsVerdictWith : Caller → Ask → (past : Bool) → (t : ℤ) → Trees → Verdict × Found → Type 0
+abbrev pub IsVerdictWith : Caller → Ask → (past : Bool) → (t : ℤ) → Trees → Verdict × CachedValue → Type 0
 IsVerdictWith caller a past t db it =
     OfHeld db (λ h. (now at : Register) → IsSoundOrNothing now → IsSoundOrNothing at → StandsAt last_moment h now → StandsAt t h at → (it.0 ≡ verdict_of now at caller a past) × IsFoundFor at caller a it.1)

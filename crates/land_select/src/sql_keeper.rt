@@ -2,7 +2,7 @@
 ghost use Rattle.std.specs.Prelude.{◌≡◌, ◌≤ℤ◌};
 ghost use Rattle.land_keep.specs.Moments.{last_moment};
 
-use crate::cache::{Kept, forget, found_of, keep, kept_for, object_of};
+use crate::cache::{Cache, cache_for, forget, keep, take_object, take_unit};
 use crate::object::ObjectQuery;
 use crate::objects::ObjectsQuery;
 use crate::query::execute;
@@ -38,12 +38,12 @@ pub struct SqlKeeper<S: Alter> {
     /// The tables.
     tables: Tables<S>,
     /// What was found as the last request was judged, until its object or sheet is asked for, or anything else.
-    kept: Option<Kept>,
+    cache: Option<Cache>,
 }
 
 impl<S: Alter> Model for SqlKeeper<S> {
     ghost use Rattle.land_keep.specs.Keeping.{IsLive};
-    ghost use Rattle.land_select.specs.Kept.{IsKeptOf};
+    ghost use Rattle.land_select.specs.Cache.{IsKeptOf};
     ghost use Rattle.land_tables.specs.Office.{IsHonest, Office, held, office_code};
 
     ghost Value = { Office S };
@@ -52,12 +52,15 @@ impl<S: Alter> Model for SqlKeeper<S> {
 
     ghost view = { λ k. k.tables };
 
-    ghost invariant = { λ k. IsLive (IsHonest S.Store k.tables) k.tables.is_closed → IsKeptOf (held S.Store k.tables) k.kept };
+    ghost invariant = { λ k. IsLive (IsHonest S.Store k.tables) k.tables.is_closed → IsKeptOf (held S.Store k.tables) k.cache };
 }
 
 impl<S: Alter + Drop> Drop for SqlKeeper<S> {
     fn drop(self) {
-        let SqlKeeper { tables: _, kept: _ } = self;
+        let SqlKeeper {
+            tables: _,
+            cache: _,
+        } = self;
     }
 }
 
@@ -66,14 +69,17 @@ impl<S: Alter> SqlKeeper<S> {
     pub fn new(tables: Tables<S>) -> SqlKeeper<S>
         ensures { result ≡ tables }
     {
-        SqlKeeper { tables, kept: None }
+        SqlKeeper {
+            tables,
+            cache: None,
+        }
     }
 
     /// Hands the tables back, as they are.
     pub fn into_tables(self) -> Tables<S>
         ensures { result ≡ self }
     {
-        let SqlKeeper { tables, kept: _ } = self;
+        let SqlKeeper { tables, cache: _ } = self;
         tables
     }
 }
@@ -107,7 +113,7 @@ impl<S: Alter> Keeper for SqlKeeper<S> {
         ask: &Ask,
         now: i64,
     ) -> Result<Verdict, StoreFault> {
-        forget(&mut self.kept);
+        forget(&mut self.cache);
         let at = named_moment(ask).unwrap_or(now);
         soundness_by_look_ups();
         let asked_for = at.min(LAST_MOMENT);
@@ -119,8 +125,8 @@ impl<S: Alter> Keeper for SqlKeeper<S> {
         };
         let told = execute(alloc, &mut self.tables, &denial)?;
         let (verdict, found) = told;
-        let kept = kept_for(caller, ask, at, found);
-        keep(&mut self.kept, kept);
+        let cache = cache_for(caller, ask, at, found);
+        keep(&mut self.cache, cache);
         Ok(verdict)
     }
 
@@ -131,7 +137,7 @@ impl<S: Alter> Keeper for SqlKeeper<S> {
         kind: Kind,
         at: i64,
     ) -> Result<NumberList, StoreFault> {
-        forget(&mut self.kept);
+        forget(&mut self.cache);
         let sight = SightQuery {
             caller,
             kind,
@@ -150,8 +156,8 @@ impl<S: Alter> Keeper for SqlKeeper<S> {
         if self.tables.is_closed() {
             return Err(StoreFault::Closed);
         }
-        let kept = self.kept.take();
-        if let Some(found) = object_of(kept, kind, number, at) {
+        let cache = self.cache.take();
+        if let Some(found) = take_object(cache, kind, number, at) {
             return Ok(Some(found));
         }
         soundness_by_look_ups();
@@ -171,7 +177,7 @@ impl<S: Alter> Keeper for SqlKeeper<S> {
         numbers: &[u64],
         at: i64,
     ) -> Result<Sequence<NamedObject>, StoreFault> {
-        forget(&mut self.kept);
+        forget(&mut self.cache);
         soundness_by_look_ups();
         let moment = at.min(LAST_MOMENT);
         let listed = ObjectsQuery {
@@ -189,8 +195,8 @@ impl<S: Alter> Keeper for SqlKeeper<S> {
         unit: u64,
         at: i64,
     ) -> Result<Option<View>, StoreFault> {
-        let kept = self.kept.take();
-        let found = found_of(kept, caller, unit, at);
+        let cache = self.cache.take();
+        let found = take_unit(cache, caller, unit, at);
         let moment = at.min(LAST_MOMENT);
         let seen = UnitViewQuery {
             caller,
@@ -203,7 +209,7 @@ impl<S: Alter> Keeper for SqlKeeper<S> {
     }
 
     fn slice(&mut self, alloc: Global, caller: Caller, act: &Act) -> Result<Slice, StoreFault> {
-        forget(&mut self.kept);
+        forget(&mut self.cache);
         soundness_by_look_ups();
         let sliced = SliceQuery {
             caller,
@@ -215,7 +221,7 @@ impl<S: Alter> Keeper for SqlKeeper<S> {
     }
 
     fn write(&mut self, alloc: Global, change: &Change, stamp: i64) -> Result<(), StoreFault> {
-        forget(&mut self.kept); // The change may be of what was found.
+        forget(&mut self.cache); // The change may be of what was found.
         self.tables.write(alloc, change, stamp)
     }
 }

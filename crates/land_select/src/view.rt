@@ -6,7 +6,7 @@ ghost use Rattle.land_core.specs.Entries.{only};
 ghost use Rattle.land_core.specs.declared.caller.Caller.{Caller as Who};
 ghost use Rattle.land_core.specs.declared.kind.Kind.TheVariants as kinds;
 ghost use Rattle.land_keep.specs.Sheets.{entries_seen, parcels_at, shown_parcel, view_at};
-ghost use Rattle.land_select.specs.Kept.{IsFound, IsObjectFound};
+ghost use Rattle.land_select.specs.Cache.{IsFound, IsObjectFound};
 ghost use Rattle.land_select.specs.Views.{IsShown, IsShownGiven, in_sight, name_among, named_among, named_at, view_from, with_name};
 ghost use Rattle.land_select_joins.specs.Lookups.Parts.{IsPart};
 ghost use Rattle.land_tables_schema.specs.Land.{IsLand};
@@ -14,7 +14,7 @@ ghost use Rattle.land_tables_schema.specs.Rows.Looks.{IsLook};
 ghost use Rattle.sqlite.specs.Held.{state};
 ghost use Rattle.sqlite.specs.State.{HasCleanDisk};
 
-use crate::cache::Found;
+use crate::cache::CachedValue;
 use crate::query::Query;
 use crate::verdict::conveyancer::awaited_of;
 use crate::verdict::interest::shown_of;
@@ -215,7 +215,7 @@ fn seen_entries<S: Alter>(
     caller: Caller,
     unit: u64,
     at: i64,
-    found: &Found,
+    found: &CachedValue,
 ) -> Result<Sequence<NamedRrr>, ReadFault>
     requires open { HasCleanDisk (state S.Store conn.old) → IsTrue (state S.Store conn.old).is_open }
     requires land { HasCleanDisk (state S.Store conn.old) → IsLand (state S.Store conn.old).now.schema }
@@ -224,8 +224,8 @@ fn seen_entries<S: Alter>(
     ensures mode { conn.old.in_transaction ≡ false → conn.new.in_transaction ≡ false }
 {
     match found {
-        Found::Entries(entries) => with_names(alloc, conn, unit, entries, at),
-        Found::Object(_) | Found::Nothing => {
+        CachedValue::VisibleEntries(entries) => with_names(alloc, conn, unit, entries, at),
+        CachedValue::Object(_) | CachedValue::Nothing => {
             let entries = entries_in_sight(alloc, conn, caller, unit, at)?;
             with_names(alloc, conn, unit, &entries, at)
         }
@@ -273,7 +273,7 @@ fn record_of<S: Alter>(
     conn: &mut Connection<S>,
     unit: u64,
     at: i64,
-    found: &Found,
+    found: &CachedValue,
 ) -> Result<Option<UnitRecord>, ReadFault>
     requires open { HasCleanDisk (state S.Store conn.old) → IsTrue (state S.Store conn.old).is_open }
     requires land { HasCleanDisk (state S.Store conn.old) → IsLand (state S.Store conn.old).now.schema }
@@ -283,11 +283,11 @@ fn record_of<S: Alter>(
 {
     soundness_by_look_ups();
     match found {
-        Found::Object(Object::Unit(it)) => Ok(Some(UnitRecord {
+        CachedValue::Object(Object::Unit(it)) => Ok(Some(UnitRecord {
             name: it.name.copy(alloc)?,
             checked: it.checked,
         })),
-        Found::Object(_) | Found::Entries(_) | Found::Nothing => {
+        CachedValue::Object(_) | CachedValue::VisibleEntries(_) | CachedValue::Nothing => {
             by_number::record(alloc, conn, unit, at)
         }
     }
@@ -322,13 +322,13 @@ pub(crate) struct UnitViewQuery<'a> {
     /// The moment, in milliseconds since 1970 UTC.
     pub(crate) moment: i64,
     /// What was found as this was judged.
-    pub(crate) found: &'a Found,
+    pub(crate) found: &'a CachedValue,
 }
 
 impl Query<Option<View>> for UnitViewQuery<'_> {
     ghost use Rattle.land_core.specs.declared.kind.Kind.TheVariants as kinds;
     ghost use Rattle.land_keep.specs.Sheets.{view_at};
-    ghost use Rattle.land_select.specs.Kept.{IsFound};
+    ghost use Rattle.land_select.specs.Cache.{IsFound};
     ghost use Rattle.land_select.specs.Views.{IsShownGiven};
 
     ghost results = { λ it db shown. IsShownGiven (λ r. IsFound r it.caller kinds.Unit it.unit it.found.now) (λ r. view_at r it.caller it.unit it.moment) it.moment db shown };

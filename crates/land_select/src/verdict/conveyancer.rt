@@ -4,7 +4,7 @@ ghost use Rattle.std.specs.Prelude.{◌≡◌, false, if◌then◌else◌, IsTru
 ghost use Rattle.land_core.specs.declared.kind.Kind.TheVariants as kinds;
 ghost use Rattle.land_rules.specs.Denials.Sight.{is_awaited};
 ghost use Rattle.land_rules.specs.Relations.{is_lodger_on};
-ghost use Rattle.land_select.specs.Kept.{IsToldWith};
+ghost use Rattle.land_select.specs.Cache.{IsToldWith};
 ghost use Rattle.land_select.specs.Views.{awaited_of};
 ghost use Rattle.land_select_joins.specs.Lookups.Parts.{IsPart};
 ghost use Rattle.land_tables_schema.specs.Land.{IsLand};
@@ -12,7 +12,7 @@ ghost use Rattle.land_tables_schema.specs.Rows.Looks.{IsLook};
 ghost use Rattle.sqlite.specs.Held.{state};
 ghost use Rattle.sqlite.specs.State.{HasCleanDisk};
 
-use crate::cache::{Found, found_as};
+use crate::cache::{CachedValue, cached_object};
 use land_core::caller::Caller;
 use land_core::kind::Kind;
 use land_core::laws::soundness_by_look_ups;
@@ -69,7 +69,7 @@ fn entry_awaited<S: Alter>(
     caller: Caller,
     number: u64,
     at: i64,
-) -> Result<(bool, Found), ReadFault>
+) -> Result<(bool, CachedValue), ReadFault>
     requires land { HasCleanDisk (state S.Store conn.old) → IsLand (state S.Store conn.old).now.schema }
     ensures look { IsLook result (λ it. IsToldWith (λ r. is_awaited r caller kinds.Rrr number) caller kinds.Rrr number at (state S.Store conn.old).now.trees it) (state S.Store conn.old) (state S.Store conn.new) }
     ensures mode { conn.old.in_transaction ≡ false → conn.new.in_transaction ≡ false }
@@ -79,9 +79,12 @@ fn entry_awaited<S: Alter>(
     match found {
         Some(entry) => {
             let awaited = is_lodger_on(alloc, conn, caller.party, entry.unit, at)?;
-            Ok((awaited, found_as(RrrRecord::shown(number, Some(entry)))))
+            Ok((
+                awaited,
+                cached_object(RrrRecord::shown(number, Some(entry))),
+            ))
         }
-        None => Ok((false, Found::Nothing)),
+        None => Ok((false, CachedValue::Nothing)),
     }
 }
 
@@ -94,7 +97,7 @@ pub(crate) fn awaited<S: Alter>(
     kind: Kind,
     number: u64,
     at: i64,
-) -> Result<(bool, Found), ReadFault>
+) -> Result<(bool, CachedValue), ReadFault>
     requires open { HasCleanDisk (state S.Store conn.old) → IsTrue (state S.Store conn.old).is_open }
     requires land { HasCleanDisk (state S.Store conn.old) → IsLand (state S.Store conn.old).now.schema }
     ensures look { IsLook result (λ it. IsToldWith (λ r. is_awaited r caller kind number) caller kind number at (state S.Store conn.old).now.trees it) (state S.Store conn.old) (state S.Store conn.new) }
@@ -104,10 +107,13 @@ pub(crate) fn awaited<S: Alter>(
     match kind {
         Kind::Unit => {
             let awaited = is_unit_awaited(alloc, conn, caller, number, at)?;
-            Ok((awaited, Found::Nothing))
+            Ok((awaited, CachedValue::Nothing))
         }
         Kind::Rrr => entry_awaited(alloc, conn, caller, number, at),
-        Kind::Party | Kind::Parcel | Kind::Source | Kind::Mutation => Ok((false, Found::Nothing)),
+        Kind::Party | Kind::Parcel | Kind::Source | Kind::Mutation => Ok((
+            false,
+            CachedValue::Nothing,
+        )),
     }
 }
 

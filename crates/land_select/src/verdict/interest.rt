@@ -6,7 +6,7 @@ ghost use Rattle.land_core.specs.declared.kind.Kind.TheVariants as kinds;
 ghost use Rattle.land_core.specs.declared.role.Role.TheVariants as roles;
 ghost use Rattle.land_rules.specs.Circles.{circle_of, is_name_of};
 ghost use Rattle.land_rules.specs.Denials.Interests.{interest_at, interest_of, is_shown_by_interest, sees_by_interest, shows_entry, shows_unit};
-ghost use Rattle.land_select.specs.Kept.{IsToldWith};
+ghost use Rattle.land_select.specs.Cache.{IsToldWith};
 ghost use Rattle.land_select.specs.Views.{AreGroupsAt, AreNamesAt, shown_of};
 ghost use Rattle.land_select_joins.specs.Lookups.Parts.{IsPart};
 ghost use Rattle.land_tables_schema.specs.Land.{IsLand};
@@ -14,7 +14,7 @@ ghost use Rattle.land_tables_schema.specs.Rows.Looks.{IsLook};
 ghost use Rattle.sqlite.specs.Held.{state};
 ghost use Rattle.sqlite.specs.State.{HasCleanDisk};
 
-use crate::cache::{Found, found_as};
+use crate::cache::{CachedValue, cached_object};
 use land_core::caller::Caller;
 use land_core::duplicate::Duplicate;
 use land_core::laws::soundness_by_look_ups;
@@ -162,7 +162,7 @@ pub(crate) fn entry_shown<S: Alter>(
     caller: Caller,
     number: u64,
     at: i64,
-) -> Result<(bool, Found), ReadFault>
+) -> Result<(bool, CachedValue), ReadFault>
     requires open { HasCleanDisk (state S.Store conn.old) → IsTrue (state S.Store conn.old).is_open }
     requires land { HasCleanDisk (state S.Store conn.old) → IsLand (state S.Store conn.old).now.schema }
     ensures look { IsLook result (λ it. IsToldWith (λ r. is_shown_by_interest r caller kinds.Rrr number) caller kinds.Rrr number at (state S.Store conn.old).now.trees it) (state S.Store conn.old) (state S.Store conn.new) }
@@ -173,9 +173,9 @@ pub(crate) fn entry_shown<S: Alter>(
     match found {
         Some(entry) => {
             let shown = is_entry_shown(alloc, conn, caller, &entry, at)?;
-            Ok((shown, found_as(RrrRecord::shown(number, Some(entry)))))
+            Ok((shown, cached_object(RrrRecord::shown(number, Some(entry)))))
         }
-        None => Ok((false, Found::Nothing)),
+        None => Ok((false, CachedValue::Nothing)),
     }
 }
 
@@ -221,7 +221,7 @@ pub(crate) fn unit_with_entries<S: Alter>(
     caller: Caller,
     unit: u64,
     at: i64,
-) -> Result<(bool, Found), ReadFault>
+) -> Result<(bool, CachedValue), ReadFault>
     requires role { sees_by_interest caller.role kinds.Rrr ≡ true }
     requires open { HasCleanDisk (state S.Store conn.old) → IsTrue (state S.Store conn.old).is_open }
     requires land { HasCleanDisk (state S.Store conn.old) → IsLand (state S.Store conn.old).now.schema }
@@ -233,8 +233,8 @@ pub(crate) fn unit_with_entries<S: Alter>(
     let all = of_unit::entries(alloc, conn, unit, at)?;
     let interest = interest_by(alloc, conn, caller, &all, at)?;
     if !interest.shows_unit() {
-        return Ok((false, Found::Nothing));
+        return Ok((false, CachedValue::Nothing));
     }
     let shown = shown_by(alloc, interest, caller.party, &all)?;
-    Ok((true, Found::Entries(shown)))
+    Ok((true, CachedValue::VisibleEntries(shown)))
 }

@@ -3,14 +3,14 @@ ghost use Rattle.std.specs.List.{list_any};
 ghost use Rattle.std.specs.Prelude.{◌≡◌, ◌||◌, false, IsTrue};
 ghost use Rattle.land_core.specs.declared.kind.Kind.TheVariants as kinds;
 ghost use Rattle.land_rules.specs.Denials.Interests.{interest_at, is_shown_by_interest, names_shown, shows_unit};
-ghost use Rattle.land_select.specs.Kept.{IsToldWith};
+ghost use Rattle.land_select.specs.Cache.{IsToldWith};
 ghost use Rattle.land_select_joins.specs.Lookups.Parts.{IsPart};
 ghost use Rattle.land_tables_schema.specs.Land.{IsLand};
 ghost use Rattle.land_tables_schema.specs.Rows.Looks.{IsLook};
 ghost use Rattle.sqlite.specs.Held.{state};
 ghost use Rattle.sqlite.specs.State.{HasCleanDisk};
 
-use crate::cache::{Found, found_as};
+use crate::cache::{CachedValue, cached_object};
 use crate::verdict::interest::is_unit_shown;
 use land_core::caller::Caller;
 use land_core::content::Content;
@@ -94,7 +94,7 @@ pub(crate) fn mutation_shown<S: Alter>(
     caller: Caller,
     number: u64,
     at: i64,
-) -> Result<(bool, Found), ReadFault>
+) -> Result<(bool, CachedValue), ReadFault>
     requires open { HasCleanDisk (state S.Store conn.old) → IsTrue (state S.Store conn.old).is_open }
     requires land { HasCleanDisk (state S.Store conn.old) → IsLand (state S.Store conn.old).now.schema }
     ensures look { IsLook result (λ it. IsToldWith (λ r. is_shown_by_interest r caller kinds.Mutation number) caller kinds.Mutation number at (state S.Store conn.old).now.trees it) (state S.Store conn.old) (state S.Store conn.new) }
@@ -107,9 +107,9 @@ pub(crate) fn mutation_shown<S: Alter>(
             let shown = names_shown(alloc, conn, caller, &mutation, at)?;
             Ok((
                 shown,
-                found_as(MutationRecord::shown(number, Some(mutation))),
+                cached_object(MutationRecord::shown(number, Some(mutation))),
             ))
         }
-        None => Ok((false, Found::Nothing)),
+        None => Ok((false, CachedValue::Nothing)),
     }
 }

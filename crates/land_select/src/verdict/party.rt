@@ -4,7 +4,7 @@ ghost use Rattle.std.specs.Prelude.{◌≡◌, false, nat_eq, IsTrue, Some};
 ghost use Rattle.land_core.specs.declared.kind.Kind.TheVariants as kinds;
 ghost use Rattle.land_rules.specs.Denials.Sight.{sees_all};
 ghost use Rattle.land_rules.specs.Rules.{sees};
-ghost use Rattle.land_select.specs.Kept.{IsToldWith};
+ghost use Rattle.land_select.specs.Cache.{IsToldWith};
 ghost use Rattle.land_select.specs.Parties.{AreOtherNames, AreOwnNamesAt, relation_of};
 ghost use Rattle.land_select.specs.Views.{IsShown, IsShownGiven};
 ghost use Rattle.land_tables_schema.specs.Land.{IsLand};
@@ -12,7 +12,7 @@ ghost use Rattle.land_tables_schema.specs.Rows.Looks.{IsLook};
 ghost use Rattle.sqlite.specs.Held.{state};
 ghost use Rattle.sqlite.specs.State.{HasCleanDisk};
 
-use crate::cache::Found;
+use crate::cache::CachedValue;
 use crate::verdict::interest::{is_citizen, names_of};
 use crate::verdict::view::standing_object;
 use crate::view::is_listed;
@@ -145,7 +145,7 @@ pub(crate) fn party_in_sight<S: Alter>(
     caller: Caller,
     number: u64,
     at: i64,
-) -> Result<(bool, Found), ReadFault>
+) -> Result<(bool, CachedValue), ReadFault>
     requires role { sees_all caller.role kinds.Party ≡ false }
     requires open { HasCleanDisk (state S.Store conn.old) → IsTrue (state S.Store conn.old).is_open }
     requires land { HasCleanDisk (state S.Store conn.old) → IsLand (state S.Store conn.old).now.schema }
@@ -160,5 +160,5 @@ pub(crate) fn party_in_sight<S: Alter>(
         return standing_object(alloc, conn, caller, Kind::Party, number, at);
     }
     let seen = is_told(alloc, conn, caller, names.as_slice(), number, at)?;
-    Ok((seen, Found::Nothing))
+    Ok((seen, CachedValue::Nothing))
 }

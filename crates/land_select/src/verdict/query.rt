@@ -1,13 +1,13 @@
 //! The verdict on what is asked, by look-ups and joins, and what is found on the way.
 ghost use Rattle.std.specs.Prelude.{◌≡◌, false, IsTrue};
-ghost use Rattle.land_select.specs.Kept.{IsSightedWith};
+ghost use Rattle.land_select.specs.Cache.{IsSightedWith};
 ghost use Rattle.land_select.specs.Verdicts.{IsVerdictWith};
 ghost use Rattle.land_tables_schema.specs.Land.{IsLand};
 ghost use Rattle.land_tables_schema.specs.Rows.Looks.{IsLook};
 ghost use Rattle.sqlite.specs.Held.{state};
 ghost use Rattle.sqlite.specs.State.{HasCleanDisk};
 
-use crate::cache::Found;
+use crate::cache::CachedValue;
 use crate::query::Query;
 use crate::verdict::caller::standing;
 use crate::verdict::sheet::sheet;
@@ -27,7 +27,7 @@ fn sighted<S: Alter>(
     caller: Caller,
     ask: &Ask,
     at: i64,
-) -> Result<(Verdict, Found), ReadFault>
+) -> Result<(Verdict, CachedValue), ReadFault>
     requires open { HasCleanDisk (state S.Store conn.old) → IsTrue (state S.Store conn.old).is_open }
     requires land { HasCleanDisk (state S.Store conn.old) → IsLand (state S.Store conn.old).now.schema }
     ensures look { IsLook result (λ it. IsSightedWith caller ask.now at (state S.Store conn.old).now.trees it) (state S.Store conn.old) (state S.Store conn.new) }
@@ -36,7 +36,7 @@ fn sighted<S: Alter>(
     match ask {
         Ask::View { kind, number, .. } => viewing(alloc, conn, caller, *kind, *number, at),
         Ask::Sheet { unit, .. } => sheet(alloc, conn, caller, *unit, at),
-        Ask::List { .. } | Ask::Do(_) => Ok((Verdict::Allowed, Found::Nothing)),
+        Ask::List { .. } | Ask::Do(_) => Ok((Verdict::Allowed, CachedValue::Nothing)),
     }
 }
 
@@ -48,7 +48,7 @@ fn judged<S: Alter>(
     ask: &Ask,
     past: bool,
     at: i64,
-) -> Result<(Verdict, Found), ReadFault>
+) -> Result<(Verdict, CachedValue), ReadFault>
     requires open { HasCleanDisk (state S.Store conn.old) → IsTrue (state S.Store conn.old).is_open }
     requires land { HasCleanDisk (state S.Store conn.old) → IsLand (state S.Store conn.old).now.schema }
     ensures look { IsLook result (λ it. IsVerdictWith caller ask.now past at (state S.Store conn.old).now.trees it) (state S.Store conn.old) (state S.Store conn.new) }
@@ -57,7 +57,7 @@ fn judged<S: Alter>(
     let first = standing(alloc, conn, caller, ask, past, LAST_MOMENT)?;
     match first {
         Verdict::Allowed => sighted(alloc, conn, caller, ask, at),
-        Verdict::Denied(rule) => Ok((Verdict::Denied(rule), Found::Nothing)),
+        Verdict::Denied(rule) => Ok((Verdict::Denied(rule), CachedValue::Nothing)),
     }
 }
 
@@ -74,7 +74,7 @@ pub(crate) struct VerdictQuery<'a> {
     pub(crate) moment: i64,
 }
 
-impl Query<(Verdict, Found)> for VerdictQuery<'_> {
+impl Query<(Verdict, CachedValue)> for VerdictQuery<'_> {
     ghost use Rattle.land_select.specs.Verdicts.{IsVerdictWith};
 
     ghost results = { λ it db told. IsVerdictWith it.caller it.ask.now it.past it.moment db told };
@@ -83,7 +83,7 @@ impl Query<(Verdict, Found)> for VerdictQuery<'_> {
         &self,
         alloc: Global,
         conn: &mut Connection<S>,
-    ) -> Result<(Verdict, Found), ReadFault> {
+    ) -> Result<(Verdict, CachedValue), ReadFault> {
         judged(alloc, conn, self.caller, self.ask, self.past, self.moment)
     }
 }

@@ -4,13 +4,13 @@ ghost use Rattle.land_core.specs.declared.kind.Kind.TheVariants as kinds;
 ghost use Rattle.land_rules.specs.Denials.Interests.{sees_by_interest};
 ghost use Rattle.land_rules.specs.Denials.Sight.{is_unit_of_conveyancer};
 ghost use Rattle.land_rules.specs.Rules.{first_denial, view_rules};
-ghost use Rattle.land_select.specs.Kept.{IsToldWith};
+ghost use Rattle.land_select.specs.Cache.{IsToldWith};
 ghost use Rattle.land_tables_schema.specs.Land.{IsLand};
 ghost use Rattle.land_tables_schema.specs.Rows.Looks.{IsLook};
 ghost use Rattle.sqlite.specs.Held.{state};
 ghost use Rattle.sqlite.specs.State.{HasCleanDisk};
 
-use crate::cache::Found;
+use crate::cache::CachedValue;
 use crate::verdict::conveyancer::unit_awaited;
 use crate::verdict::interest::unit_with_entries;
 use crate::verdict::view::viewing;
@@ -35,7 +35,7 @@ fn awaited_sheet<S: Alter>(
     caller: Caller,
     unit: u64,
     at: i64,
-) -> Result<(Verdict, Found), ReadFault>
+) -> Result<(Verdict, CachedValue), ReadFault>
     requires role { is_unit_of_conveyancer caller.role kinds.Unit ≡ true }
     requires land { HasCleanDisk (state S.Store conn.old) → IsLand (state S.Store conn.old).now.schema }
     ensures look { IsLook result (λ it. IsToldWith (λ r. first_denial (view_rules r caller kinds.Unit unit)) caller kinds.Unit unit at (state S.Store conn.old).now.trees it) (state S.Store conn.old) (state S.Store conn.new) }
@@ -48,10 +48,10 @@ fn awaited_sheet<S: Alter>(
     let (is_seen, is_named) = told;
     let verdict = view_verdict(is_seen, is_named, caller, Kind::Unit, unit);
     if !is_seen {
-        return Ok((verdict, Found::Nothing));
+        return Ok((verdict, CachedValue::Nothing));
     }
     let entries = of_unit::entries(alloc, conn, unit, at)?;
-    Ok((verdict, Found::Entries(entries)))
+    Ok((verdict, CachedValue::VisibleEntries(entries)))
 }
 
 /// The verdict on the sheet of a unit by a citizen or a bank, and those entries of the unit that the caller sees, where the unit is shown.
@@ -61,7 +61,7 @@ fn sheet_by_interest<S: Alter>(
     caller: Caller,
     unit: u64,
     at: i64,
-) -> Result<(Verdict, Found), ReadFault>
+) -> Result<(Verdict, CachedValue), ReadFault>
     requires role { sees_by_interest caller.role kinds.Unit ≡ true }
     requires other { is_unit_of_conveyancer caller.role kinds.Unit ≡ false }
     requires open { HasCleanDisk (state S.Store conn.old) → IsTrue (state S.Store conn.old).is_open }
@@ -85,7 +85,7 @@ pub(crate) fn sheet<S: Alter>(
     caller: Caller,
     unit: u64,
     at: i64,
-) -> Result<(Verdict, Found), ReadFault>
+) -> Result<(Verdict, CachedValue), ReadFault>
     requires open { HasCleanDisk (state S.Store conn.old) → IsTrue (state S.Store conn.old).is_open }
     requires land { HasCleanDisk (state S.Store conn.old) → IsLand (state S.Store conn.old).now.schema }
     ensures look { IsLook result (λ it. IsToldWith (λ r. first_denial (view_rules r caller kinds.Unit unit)) caller kinds.Unit unit at (state S.Store conn.old).now.trees it) (state S.Store conn.old) (state S.Store conn.new) }

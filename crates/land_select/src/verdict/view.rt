@@ -5,14 +5,14 @@ ghost use Rattle.land_core.specs.declared.kind.Kind.TheVariants as kinds;
 ghost use Rattle.land_rules.specs.Denials.Sight.{is_awaited, told_by};
 ghost use Rattle.land_rules.specs.Relations.{is_lodger_on};
 ghost use Rattle.land_rules.specs.Rules.{first_denial, sees, view_rules};
-ghost use Rattle.land_select.specs.Kept.{IsToldWith};
+ghost use Rattle.land_select.specs.Cache.{IsToldWith};
 ghost use Rattle.land_select_joins.specs.Lookups.Parts.{IsPart};
 ghost use Rattle.land_tables_schema.specs.Land.{IsLand};
 ghost use Rattle.land_tables_schema.specs.Rows.Looks.{IsLook};
 ghost use Rattle.sqlite.specs.Held.{state};
 ghost use Rattle.sqlite.specs.State.{HasCleanDisk};
 
-use crate::cache::{Found, found_as};
+use crate::cache::{CachedValue, cached_object};
 use crate::verdict::by_interest::shown_by_interest;
 use crate::verdict::conveyancer::{awaited, unit_awaited};
 use crate::verdict::party::party_in_sight;
@@ -45,14 +45,14 @@ pub(crate) fn standing_object<S: Alter>(
     kind: Kind,
     number: u64,
     at: i64,
-) -> Result<(bool, Found), ReadFault>
+) -> Result<(bool, CachedValue), ReadFault>
     requires land { HasCleanDisk (state S.Store conn.old) → IsLand (state S.Store conn.old).now.schema }
     ensures look { IsLook result (λ it. IsToldWith (λ r. stands r kind number) caller kind number at (state S.Store conn.old).now.trees it) (state S.Store conn.old) (state S.Store conn.new) }
     ensures mode { conn.old.in_transaction ≡ false → conn.new.in_transaction ≡ false }
 {
     soundness_by_look_ups();
     let found = object(alloc, conn, kind, number, at)?;
-    Ok((found.is_some(), found_as(found)))
+    Ok((found.is_some(), cached_object(found)))
 }
 
 /// Whether a caller sees an object at a moment, and what is found of it on the way. Where the caller is shown all objects of the kind, one look
@@ -66,7 +66,7 @@ fn in_sight<S: Alter>(
     kind: Kind,
     number: u64,
     at: i64,
-) -> Result<(bool, Found), ReadFault>
+) -> Result<(bool, CachedValue), ReadFault>
     requires open { HasCleanDisk (state S.Store conn.old) → IsTrue (state S.Store conn.old).is_open }
     requires land { HasCleanDisk (state S.Store conn.old) → IsLand (state S.Store conn.old).now.schema }
     ensures look { IsLook result (λ it. IsToldWith (λ r. sees r caller kind number) caller kind number at (state S.Store conn.old).now.trees it) (state S.Store conn.old) (state S.Store conn.new) }
@@ -83,7 +83,7 @@ fn in_sight<S: Alter>(
     }
     if sees_own_lodgings(caller.role, kind) {
         let own = has_lodged(alloc, conn, caller.party, number, at)?;
-        return Ok((own, Found::Nothing));
+        return Ok((own, CachedValue::Nothing));
     }
     if sees_by_interest(caller.role, kind) {
         return shown_by_interest(alloc, conn, caller, kind, number, at);
@@ -95,7 +95,7 @@ fn in_sight<S: Alter>(
         return party_in_sight(alloc, conn, caller, number, at);
     }
     let listed = sight(alloc, conn, caller, kind, at)?;
-    Ok((is_listed(listed.as_slice(), number), Found::Nothing))
+    Ok((is_listed(listed.as_slice(), number), CachedValue::Nothing))
 }
 
 /// The verdict on the view of a unit by a conveyancer, by what stands at a moment: what its undecided mutations name is asked once, for the
@@ -125,7 +125,7 @@ pub(crate) fn viewing<S: Alter>(
     kind: Kind,
     number: u64,
     at: i64,
-) -> Result<(Verdict, Found), ReadFault>
+) -> Result<(Verdict, CachedValue), ReadFault>
     requires open { HasCleanDisk (state S.Store conn.old) → IsTrue (state S.Store conn.old).is_open }
     requires land { HasCleanDisk (state S.Store conn.old) → IsLand (state S.Store conn.old).now.schema }
     ensures look { IsLook result (λ it. IsToldWith (λ r. first_denial (view_rules r caller kind number)) caller kind number at (state S.Store conn.old).now.trees it) (state S.Store conn.old) (state S.Store conn.new) }
@@ -136,7 +136,7 @@ pub(crate) fn viewing<S: Alter>(
     what_is_awaited_is_seen();
     if is_unit_of_conveyancer(caller.role, kind) {
         let verdict = unit_verdict(alloc, conn, caller, number, at)?;
-        return Ok((verdict, Found::Nothing));
+        return Ok((verdict, CachedValue::Nothing));
     }
     let told = in_sight(alloc, conn, caller, kind, number, at)?;
     let (is_seen, found) = told;

@@ -5,7 +5,7 @@ use Rattle.land_keep.specs.Machine.{moment_of}
 use Rattle.land_keep.specs.Moments.{last_moment}
 use Rattle.land_keep.specs.Timeline.{Timeline, register_at}
 use Rattle.land_select.proofs.Seen.{verdict_told}
-use Rattle.land_select.specs.Kept.{IsFoundFor}
+use Rattle.land_select.specs.Cache.{IsFoundFor}
 use Rattle.land_tables.proofs.Keeping.{closes_ok}
 use Rattle.land_tables.proofs.LookedAt.{look_moment}
 use Rattle.land_tables.specs.Office.{held}
@@ -41,6 +41,6 @@ invariant_of-self-2 g c live =
     let answer = rw (c.self.view_is, now, t, u) at (c.in_ok-told.ensures.value live.0) in
     let found = (verdict_told c.soundness_by_look_ups.ensures s c.args.caller ask c.args.now at c.min-asked_for.result is_moment (look_moment at c.min-asked_for.result least) it answer).1 in
     let same = rw c.self.view_is at (c.in_ok-told.ensures.same live) in
-    let kept = c.kept_for-kept.ensures (held g.S.Store c.execute.new.tables)
+    let kept = c.cache_for-cache.ensures (held g.S.Store c.execute.new.tables)
     (subst (λ (x : ℤ). IsFoundFor (register_at (held g.S.Store c.execute.new.tables) x) c.args.caller ask it.1) (sym t) (subst (λ (tl : Timeline). IsFoundFor (register_at tl at) c.args.caller ask it.1) (sym same) found)) in
     rw c.keep.ensures kept

@@ -2,9 +2,9 @@ use Rattle.std.proofs.Common.{rules, ◌≡◌, subst, sym, to_z, of_z, w64}
 use Rattle.land_core.specs.declared.kind.Kind.{Kind}
 use Rattle.land_core.specs.declared.kind.Kind.TheVariants as kind
 use Rattle.land_rules.specs.Denials.Interests.{is_shown_by_interest}
-use Rattle.land_select.proofs.Found.{told_alone}
-use Rattle.land_select.specs.Kept.{IsToldWith}
-use Rattle.land_select.specs.declared.cache.Found.TheVariants as found
+use Rattle.land_select.proofs.CachedValue.{told_alone}
+use Rattle.land_select.specs.Cache.{IsToldWith}
+use Rattle.land_select.specs.declared.cache.CachedValue.TheVariants as found
 use Rattle.land_tables_schema.proofs.Looking.{look_told}
 use Rattle.land_tables_schema.specs.Rows.Looks.{IsLook}
 use Rattle.sqlite.specs.Held.{state}

@@ -3,7 +3,7 @@ use Rattle.std.specs.Option.{option_map_or}
 use Rattle.land_core.specs.declared.kind.Kind.TheVariants.{Rrr}
 use Rattle.land_core.specs.declared.rrr.RrrRecord.{RrrRecord}
 use Rattle.land_rules.specs.Relations.{is_lodger_on}
-use Rattle.land_select.proofs.Found.{found_told}
+use Rattle.land_select.proofs.CachedValue.{found_told}
 use Rattle.land_select.proofs.Viewed.{have_members}
 use Rattle.land_select_joins.specs.Lookups.Parts.{IsPart}
 use Rattle.land_tables_schema.proofs.Looking.{look_fails, look_then, look_told}
@@ -30,7 +30,7 @@ returns-in_ok-awaited-in-Some-clause-look g c =
     let there = sym c.in-Some.is ∙ is moments h held r have stands in (
       subst (λ (now : Database). IsPart (λ r. is_lodger_on r caller.party entry.unit) t now.trees c.in_ok-awaited-in-Some.awaited) same named moments h held r have stands
           ∙ ap (λ o. option_map_or (λ (e : RrrRecord). is_lodger_on r caller.party e.unit) o false) there,
-      found_told r caller Rrr n _ _ c.found_as.ensures (c.shown.ensures r there),
+      found_told r caller Rrr n _ _ c.cached_object.ensures (c.shown.ensures r there),
     ))
 
 pub returns-in-None-clause-look : goal.returns-in-None-clause-look

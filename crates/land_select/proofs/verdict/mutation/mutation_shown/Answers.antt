@@ -2,7 +2,7 @@ use Rattle.std.proofs.Common.{rules, ◌≡◌, ap, false, subst, sym, to_z, of_
 use Rattle.std.specs.Option.{option_map_or}
 use Rattle.land_core.specs.declared.kind.Kind.TheVariants.{Mutation}
 use Rattle.land_rules.specs.Denials.Interests.{names_shown}
-use Rattle.land_select.proofs.Found.{found_told}
+use Rattle.land_select.proofs.CachedValue.{found_told}
 use Rattle.land_select.proofs.Viewed.{have_members}
 use Rattle.land_select_joins.specs.Lookups.Parts.{IsPart}
 use Rattle.land_tables_schema.proofs.Looking.{look_fails, look_then, look_told}
@@ -28,7 +28,7 @@ returns-in_ok-shown-in-Some-clause-look g c =
     let have = have_members c.soundness_by_look_ups.ensures r premise in
     let there = sym c.in-Some.is ∙ is moments h held r have stands in (
       subst (λ (now : Database). IsPart (λ r. names_shown r caller mutation) t now.trees c.in_ok-shown-in-Some.shown) same shown moments h held r have stands ∙ ap (λ o. option_map_or (names_shown r caller) o false) there,
-      found_told r caller Mutation n _ _ c.found_as.ensures (c.shown.ensures r there),
+      found_told r caller Mutation n _ _ c.cached_object.ensures (c.shown.ensures r there),
     ))
 
 pub returns-in-None-clause-look : goal.returns-in-None-clause-look

@@ -3,7 +3,7 @@ use Rattle.land_core.specs.Register.{stands}
 use Rattle.land_core.specs.declared.kind.Kind.TheVariants.{Party}
 use Rattle.land_rules.specs.Rules.{sees}
 use Rattle.land_select.proofs.PartySight.{name_seen}
-use Rattle.land_select.specs.Kept.{IsToldWith}
+use Rattle.land_select.specs.Cache.{IsToldWith}
 use Rattle.land_select.specs.Parties.{AreOtherNames}
 use Rattle.land_select.specs.Views.{IsShownGiven}
 use Rattle.land_select_joins.proofs.Chains.{look_after}

@@ -1,6 +1,6 @@
 use Rattle.std.proofs.Common.{rules, ◌≡◌, subst, sym, to_z, of_z, w64}
 use Rattle.land_core.specs.declared.ask.Ask.{Ask}
-use Rattle.land_select.specs.Kept.{IsSightedWith}
+use Rattle.land_select.specs.Cache.{IsSightedWith}
 use Rattle.land_tables_schema.specs.Rows.Looks.{IsLook}
 use Rattle.sqlite.specs.Held.{state}
 use Rattle.land_select.proofs.verdict.query.sighted.Goals as goal

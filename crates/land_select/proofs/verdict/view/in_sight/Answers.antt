@@ -6,7 +6,7 @@ use Rattle.land_core.specs.contracts.kind.Kind.{the_type}
 use Rattle.land_core.specs.declared.kind.Kind.{Kind}
 use Rattle.land_core.specs.declared.kind.Kind.TheVariants.{Party, Unit, Parcel, Rrr, Source, Mutation}
 use Rattle.land_rules.specs.Rules.{sees}
-use Rattle.land_select.specs.Kept.{IsToldWith}
+use Rattle.land_select.specs.Cache.{IsToldWith}
 use Rattle.land_select.proofs.Looks.{look_means}
 use Rattle.land_select.proofs.Viewed.{have_members}
 use Rattle.land_tables_schema.proofs.Looking.{look_told}

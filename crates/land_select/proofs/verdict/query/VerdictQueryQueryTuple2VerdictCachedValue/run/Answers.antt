@@ -3,7 +3,7 @@ use Rattle.std.specs.Prelude.{ℤ}
 use Rattle.land_select.specs.Verdicts.{IsVerdictWith}
 use Rattle.land_tables_schema.specs.Rows.Looks.{IsLook}
 use Rattle.sqlite.specs.Held.{state}
-use Rattle.land_select.proofs.verdict.query.VerdictQueryQueryTuple2VerdictFound.run.Goals as goal
+use Rattle.land_select.proofs.verdict.query.VerdictQueryQueryTuple2VerdictCachedValue.run.Goals as goal
 
 pub returns-clause-look : goal.returns-clause-look
 returns-clause-look g c =

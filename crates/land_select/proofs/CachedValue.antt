@@ -16,10 +16,10 @@ use Rattle.land_core.specs.declared.unit.Unit.{Unit as UnitShown}
 use Rattle.land_core.specs.declared.unit.UnitRecord.{UnitRecord}
 use Rattle.land_keep.specs.Timeline.{Timeline, register_at}
 use Rattle.land_select.proofs.Viewed.{have_members}
-use Rattle.land_select.specs.Kept.{IsFound, IsFoundFor, IsKeptOf, IsObjectFound, IsToldWith, found_as}
-use Rattle.land_select.specs.declared.cache.Found.{Found}
-use Rattle.land_select.specs.declared.cache.Found.TheVariants as found
-use Rattle.land_select.specs.declared.cache.Kept.{Kept}
+use Rattle.land_select.specs.Cache.{IsFound, IsFoundFor, IsKeptOf, IsObjectFound, IsToldWith, cached_object}
+use Rattle.land_select.specs.declared.cache.CachedValue.{CachedValue}
+use Rattle.land_select.specs.declared.cache.CachedValue.TheVariants as found
+use Rattle.land_select.specs.declared.cache.Cache.{Cache}
 use Rattle.land_select_joins.specs.Lookups.Parts.{IsPart}
 use Rattle.sqlite_trees.specs.Tree.{Trees}
 
@@ -29,12 +29,12 @@ pub told_alone : SoundnessByLookUps → {T : Type 0} (part : Register → T) (ca
 told_alone look_ups part caller k n t db it is moments h held r premise stands = (is moments h held r (have_members look_ups r premise) stands, tt)
 
 -- the object that stands is found
-object_found : (r : Register) (caller : Caller) (k : Kind) (n : ℕ) (o : Option Object) → o ≡ object_at r k n → IsFound r caller k n (found_as o)
+object_found : (r : Register) (caller : Caller) (k : Kind) (n : ℕ) (o : Option Object) → o ≡ object_at r k n → IsFound r caller k n (cached_object o)
 object_found r caller k n None is = tt
 object_found r caller k n (Some it) is = sym is
 
 -- so it is where that is what was found
-pub found_told : (r : Register) (caller : Caller) (k : Kind) (n : ℕ) (o : Option Object) (it : Found) → it ≡ found_as o → o ≡ object_at r k n → IsFound r caller k n it
+pub found_told : (r : Register) (caller : Caller) (k : Kind) (n : ℕ) (o : Option Object) (it : CachedValue) → it ≡ cached_object o → o ≡ object_at r k n → IsFound r caller k n it
 found_told r caller k n o it is there = subst (IsFound r caller k n) (sym is) (object_found r caller k n o there)
 
 mapped : {A B : Type 0} (f : A → B) (o : Option A) → is_some (option_map f o) ≡ is_some o
@@ -51,10 +51,10 @@ object_stands r kind.Source n = mapped object.Source (source_at r n) ∙ mapped 
 object_stands r kind.Mutation n = mapped object.Mutation (mutation_at r n) ∙ mapped _ (map.get r.mutations n)
 
 -- an object that was found is the one that is asked for
-pub object_among : (r : Register) (caller : Caller) (k : Kind) (n : ℕ) (it : Found) → IsFound r caller k n it → IsObjectFound r k n it
+pub object_among : (r : Register) (caller : Caller) (k : Kind) (n : ℕ) (it : CachedValue) → IsFound r caller k n it → IsObjectFound r k n it
 object_among r caller k n found.Nothing is = tt
 object_among r caller k n (found.Object it) is = is
-object_among r caller k n (found.Entries entries) is = tt
+object_among r caller k n (found.VisibleEntries entries) is = tt
 
 -- whose unit was found, its record is that of the unit
 pub record_found : (r : Register) (n : ℕ) (it : UnitShown) → IsObjectFound r kind.Unit n (found.Object (object.Unit it)) → Some (record { name = it.name; checked = it.checked }) ≡ map.get r.units n
@@ -72,9 +72,9 @@ nothing_for r caller (ask.Sheet unit at) = tt
 nothing_for r caller (ask.Do act) = tt
 
 -- what was kept of an object is so for whom asks for it
-pub kept_is : (tl : Timeline) (kept : Option Kept) (it : Kept) → kept ≡ Some it → IsKeptOf tl kept → (caller : Caller) (k : Kind) (n : ℕ) (t : ℤ) → it.caller ≡ caller → it.kind ≡ k → it.number ≡ n → it.moment ≡ t
+pub cache_is : (tl : Timeline) (kept : Option Cache) (it : Cache) → kept ≡ Some it → IsKeptOf tl kept → (caller : Caller) (k : Kind) (n : ℕ) (t : ℤ) → it.caller ≡ caller → it.kind ≡ k → it.number ≡ n → it.moment ≡ t
     → IsFound (register_at tl t) caller k n it.found
-kept_is tl kept it is so caller k n t who which under when =
+cache_is tl kept it is so caller k n t who which under when =
     subst (λ (c : Caller). IsFound (register_at tl t) c k n it.found) who
     (subst (λ (kind : Kind). IsFound (register_at tl t) it.caller kind n it.found) which
     (subst (λ (m : ℕ). IsFound (register_at tl t) it.caller it.kind m it.found) under
