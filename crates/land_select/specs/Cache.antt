@@ -39,8 +39,11 @@ IsObjectFound r k n (found.VisibleEntries entries) = Unit {0}
 
 -- where the tables hold a history that at the moment stands for a register, sound or with nothing in it, this is told of it, and what was
 -- found for a caller that asks about an object is so
-abbrev pub IsToldWith : {T : Type 0} → (Register → T) → Caller → Kind → (number : ℕ) → (t : ℤ) → Trees → T × CachedValue → Type 0
-IsToldWith told caller k n t db it = OfHeld db (λ h. (r : Register) → IsSoundOrNothing r → StandsAt t h r → (it.0 ≡ told r) × IsFound r caller k n it.1)
+abbrev pub IsToldWith : {T : Type 0} → (Register → T) → Caller → Kind → (number : ℕ) → (t : ℤ) → Trees → T
+    × CachedValue → Type 0
+IsToldWith told caller k n t db it =
+    OfHeld db (λ h. (r : Register) → IsSoundOrNothing r → StandsAt t h r → (it.0 ≡ told r)
+    × IsFound r caller k n it.1)
 
 -- for lists and acts nothing is kept
 abbrev pub IsFoundFor : Register → Caller → Ask → CachedValue → Type 0
@@ -51,7 +54,9 @@ IsFoundFor r caller (ask.Do act) it = Unit {0}
 
 -- the sight rules on what is asked, and what was found as they were judged
 abbrev pub IsSightedWith : Caller → Ask → (t : ℤ) → Trees → Verdict × CachedValue → Type 0
-IsSightedWith caller a t db it = OfHeld db (λ h. (r : Register) → IsSoundOrNothing r → StandsAt t h r → (it.0 ≡ first_denial (sight_rules r caller a)) × IsFoundFor r caller a it.1)
+IsSightedWith caller a t db it = OfHeld db
+    (λ h. (r : Register) → IsSoundOrNothing r → StandsAt t h r
+    → (it.0 ≡ first_denial (sight_rules r caller a)) × IsFoundFor r caller a it.1)
 
 -- what is kept is so in a timeline
 abbrev pub IsKeptOf : Timeline → Option Cache → Type 0

@@ -35,17 +35,23 @@ pub record Asked : Type 0 where
 -- these rows are an answer that sqlite gives to a text: parameter 1 is the caller, parameter 2 the moment
 abbrev pub AreAnswer : Asked → (text : List ℕ) → (rows : List Row) → Type 0
 AreAnswer it text rows =
-    Reads (command_in (understood (land_with it.indexes) text)) (record { schema = land_with it.indexes; trees = it.db }) (given it.caller it.moment) rows
+    Reads (command_in (understood (land_with it.indexes) text))
+    (record { schema = land_with it.indexes; trees = it.db }) (given it.caller it.moment) rows
 
 -- Texts together give the wanted numbers and no others: each text has an answer, each row of an answer is one wanted number, and each wanted
 -- number is a row of every answer to one of the texts.
 pub record GiveTogether (texts : List (List ℕ)) (it : Asked) (Wanted : ℕ → Type 0) : Type 0 where
   pub answered : (text : List ℕ) → Contains texts text → (rows : List Row) × AreAnswer it text rows
-  pub none_more : (text : List ℕ) → Contains texts text → (rows : List Row) → AreAnswer it text rows → (row : Row) → Has rows row → (n : ℕ) × (row ≡ Int (pos n) ∷ []) × Wanted n
-  pub none_missing : (n : ℕ) → Wanted n → (text : List ℕ) × Contains texts text × ((rows : List Row) → AreAnswer it text rows → Has rows (Int (pos n) ∷ []))
+  pub none_more : (text : List ℕ) → Contains texts text → (rows : List Row) → AreAnswer it text rows
+      → (row : Row) → Has rows row → (n : ℕ) × (row ≡ Int (pos n) ∷ []) × Wanted n
+  pub none_missing : (n : ℕ) → Wanted n → (text : List ℕ) × Contains texts text
+      × ((rows : List Row) → AreAnswer it text rows → Has rows (Int (pos n) ∷ []))
 
 -- Over tables that stand for a sound timeline, whatever indexes they have, the texts of a role's sight of a kind together give at each moment
 -- the numbers that the rules let the caller see, without mandates, in the register at that moment: none is missing, and none is more.
 abbrev pub SightTextsAreTheRules : Type 0
-SightTextsAreTheRules = (indexes : List Index) (db : Trees) (tl : Timeline) → HoldsTimeline db tl → IsSoundTimeline tl → (t : ℤ) → IsMoment t → (caller : Caller) (k : Kind)
-    → GiveTogether (sight_texts caller.role k) (record { indexes = indexes; db = db; caller = caller.party; moment = t }) (Contains (seen_of (without_mandates (register_at tl t)) caller k))
+SightTextsAreTheRules = (indexes : List Index) (db : Trees) (tl : Timeline) → HoldsTimeline db tl
+    → IsSoundTimeline tl → (t : ℤ) → IsMoment t → (caller : Caller) (k : Kind)
+    → GiveTogether (sight_texts caller.role k)
+    (record { indexes = indexes; db = db; caller = caller.party; moment = t })
+    (Contains (seen_of (without_mandates (register_at tl t)) caller k))

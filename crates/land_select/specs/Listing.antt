@@ -11,8 +11,10 @@ use Rattle.sqlite_trees.specs.Tree.{Trees}
 
 -- a register lists the objects of a kind in a range as another does
 abbrev pub ListsAlike : Kind → (first last : ℕ) → (one other : Register) → Type 0
-ListsAlike k first last one other = (number : ℕ) → is_within first last number ≡ true → named_at one k number ≡ named_at other k number
+ListsAlike k first last one other =
+    (number : ℕ) → is_within first last number ≡ true → named_at one k number ≡ named_at other k number
 
 -- where the tables hold a history that at the moment stands for a register, in which no group is without members, this lists them as it does
 abbrev pub ListsRange : Kind → (first last : ℕ) → (t : ℤ) → Trees → Register → Type 0
-ListsRange k first last t db it = OfHeld db (λ h. (r : Register) → HaveMembers r.members → StandsAt t h r → ListsAlike k first last it r)
+ListsRange k first last t db it = OfHeld db
+    (λ h. (r : Register) → HaveMembers r.members → StandsAt t h r → ListsAlike k first last it r)

@@ -25,7 +25,8 @@ relation_of StateAdministrator = None
 
 -- the names of a caller: of a citizen those of its circle and of the groups of which one of it is a member, of another its own
 abbrev pub is_own_name : Register → Caller → (named : ℕ) → Bool
-is_own_name r caller named = if is_role caller.role Citizen then is_name_of r (circle_of r caller.party) named else nat_eq named caller.party
+is_own_name r caller named = if is_role caller.role Citizen then is_name_of r (circle_of r caller.party) named
+    else nat_eq named caller.party
 
 -- these are the caller's names
 abbrev pub AreOwnNames : Caller → List ℕ → Register → Type 0
@@ -37,4 +38,5 @@ AreOtherNames caller names party r = AreOwnNames caller names r × (list_any (na
 
 -- where the tables hold a history that at the moment stands for a register, these are the caller's names in it
 abbrev pub AreOwnNamesAt : Caller → (t : ℤ) → Trees → List ℕ → Type 0
-AreOwnNamesAt caller t db names = OfHeld db (λ h. (r : Register) → StandsAt t h r → AreOwnNames caller names r)
+AreOwnNamesAt caller t db names = OfHeld db
+    (λ h. (r : Register) → StandsAt t h r → AreOwnNames caller names r)

@@ -38,10 +38,13 @@ somebody there = if there then Some (record { kind = NaturalPerson; name = [] })
 -- the evidence of a register by which who asks is judged: what the caller is called is none
 abbrev pub evidence_in : Register → Caller → Ask → Register
 evidence_in r caller a =
-    evidence_of caller a (somebody (stands r kind.Party caller.party)) (roles_in r caller.party) (record_at r.rrrs (discharged a)) (record_at r.mutations (decided a))
+    evidence_of caller a (somebody (stands r kind.Party caller.party)) (roles_in r caller.party)
+    (record_at r.rrrs (discharged a)) (record_at r.mutations (decided a))
 
 -- Where the tables hold a history, this is the verdict on what is asked, by the register that stands at the last moment and the one that
 -- stands at the asked one, each of which is sound or has nothing in it; and what was found of the latter on the way.
 abbrev pub IsVerdictWith : Caller → Ask → (past : Bool) → (t : ℤ) → Trees → Verdict × CachedValue → Type 0
 IsVerdictWith caller a past t db it =
-    OfHeld db (λ h. (now at : Register) → IsSoundOrNothing now → IsSoundOrNothing at → StandsAt last_moment h now → StandsAt t h at → (it.0 ≡ verdict_of now at caller a past) × IsFoundFor at caller a it.1)
+    OfHeld db (λ h. (now at : Register) → IsSoundOrNothing now → IsSoundOrNothing at
+    → StandsAt last_moment h now → StandsAt t h at → (it.0 ≡ verdict_of now at caller a past)
+    × IsFoundFor at caller a it.1)

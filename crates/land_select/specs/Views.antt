@@ -30,8 +30,10 @@ abbrev pub IsShown : {T : Type 0} → (Register → T) → (t : ℤ) → Trees �
 IsShown shown t db it = OfHeld db (λ h. (r : Register) → IsSoundOrNothing r → StandsAt t h r → it ≡ shown r)
 
 -- and this, given what was found of it
-abbrev pub IsShownGiven : {T : Type 0} → (Given : Register → Type 0) → (Register → T) → (t : ℤ) → Trees → T → Type 0
-IsShownGiven Given shown t db it = OfHeld db (λ h. (r : Register) → IsSoundOrNothing r → StandsAt t h r → Given r → it ≡ shown r)
+abbrev pub IsShownGiven : {T : Type 0} → (Given : Register → Type 0) → (Register → T) → (t : ℤ) → Trees → T
+    → Type 0
+IsShownGiven Given shown t db it = OfHeld db
+    (λ h. (r : Register) → IsSoundOrNothing r → StandsAt t h r → Given r → it ≡ shown r)
 
 -- what the party of a number is called among some, nothing where it is not among them
 abbrev pub name_among : List (Version (ℕ × PartyRecord)) → (number : ℕ) → List ℕ
@@ -40,7 +42,11 @@ name_among (v ∷ vs) number = if nat_eq v.what.0 number then v.what.1.name else
 
 -- an entry with its number and a name
 abbrev pub with_name : ℕ → RrrRecord → List ℕ → NamedRrr
-with_name n e name = record { rrr = record { number = n; unit = e.unit; party = e.party; class = e.class; source = e.source }; name = name }
+with_name n e name = record {
+  rrr =
+      record { number = n; unit = e.unit; party = e.party; class = e.class; source = e.source };
+  name = name;
+}
 
 -- some entries, each with the name of its party, which is among some
 abbrev pub named_among : List (Version (ℕ × PartyRecord)) → List (ℕ × RrrRecord) → List NamedRrr
@@ -53,7 +59,9 @@ in_sight r caller unit = only (λ n e. nat_eq e.unit unit && sees r caller Rrr n
 -- where the tables hold a history that at the moment stands for a register, these are the groups of which one of some parties is a member in
 -- it
 abbrev pub AreGroupsAt : (callers : List ℕ) → (t : ℤ) → Trees → List ℕ → Type 0
-AreGroupsAt callers t db groups = OfHeld db (λ h. (r : Register) → StandsAt t h r → (group : ℕ) → Contains groups group ↔ (is_group_of r callers group ≡ true))
+AreGroupsAt callers t db groups = OfHeld db
+    (λ h. (r : Register) → StandsAt t h r → (group : ℕ) → Contains groups group
+    ↔ (is_group_of r callers group ≡ true))
 
 -- and these the names in which a citizen holds in it
 abbrev pub AreNamesAt : Caller → (t : ℤ) → Trees → List ℕ → Type 0
@@ -61,7 +69,8 @@ AreNamesAt caller t db names = OfHeld db (λ h. (r : Register) → StandsAt t h 
 
 -- of the entries of a unit those that are shown to a caller by the caller's interest in the unit
 abbrev pub shown_of : Register → Caller → Entries → Entries
-shown_of r caller entries = only (λ n e. shows_entry (interest_of (is_name_of r (circle_of r caller.party)) caller entries) caller.party e) entries
+shown_of r caller entries = only (λ n e. shows_entry
+    (interest_of (is_name_of r (circle_of r caller.party)) caller entries) caller.party e) entries
 
 -- the entries of a unit that an undecided mutation of a party names, none of another unit
 abbrev pub awaited_of : Register → (party unit : ℕ) → Entries → Entries

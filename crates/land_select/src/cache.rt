@@ -41,7 +41,8 @@ pub(crate) struct Cache {
 impl Cache {
     /// Whether this was found as an object was asked for at a moment.
     fn is_for(&self, kind: Kind, number: u64, at: i64) -> bool
-        ensures { result ≡ true → (self.now.kind ≡ kind) × (self.now.number ≡ number) × (self.now.moment ≡ at) }
+        ensures { result ≡ true → (self.now.kind ≡ kind) × (self.now.number ≡ number)
+            × (self.now.moment ≡ at) }
     {
         self.kind == kind && self.number == number && self.moment == at
     }
@@ -98,7 +99,8 @@ pub(crate) fn forget(cache: &mut Option<Cache>)
 
 /// The object of a kind and a number at a moment, where it was kept.
 pub(crate) fn take_object(cache: Option<Cache>, kind: Kind, number: u64, at: i64) -> Option<Object>
-    ensures { (tl : Timeline) → IsKeptOf tl cache → IfSome result (λ it. object_at (register_at tl at) kind number ≡ Some it) }
+    ensures { (tl : Timeline) → IsKeptOf tl cache
+        → IfSome result (λ it. object_at (register_at tl at) kind number ≡ Some it) }
 {
     match cache {
         Some(it) => {
@@ -117,7 +119,8 @@ pub(crate) fn take_object(cache: Option<Cache>, kind: Kind, number: u64, at: i64
 
 /// What was kept for a caller of a unit at a moment, where something was.
 pub(crate) fn take_unit(cache: Option<Cache>, caller: Caller, unit: u64, at: i64) -> CachedValue
-    ensures { (tl : Timeline) → IsKeptOf tl cache → IsFound (register_at tl at) caller kinds.Unit unit result }
+    ensures { (tl : Timeline) → IsKeptOf tl cache
+        → IsFound (register_at tl at) caller kinds.Unit unit result }
 {
     match cache {
         Some(it) => {

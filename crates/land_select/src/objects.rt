@@ -1,7 +1,9 @@
 //! Objects of a kind as they are listed: all of a range of numbers by one text, and the parties of entries by one more.
+ghost use Rattle.land_tables_schema.specs.Connections.{HasRegisterTables, LeavesAutocommit};
+ghost use Rattle.land_select_joins.specs.TableReads.{ReadsTables};
 ghost use Rattle.std.specs.FinMap as map;
 ghost use Rattle.std.specs.List.{AllByRecursion};
-ghost use Rattle.std.specs.Prelude.{◌≡◌, ℕ, false, true, map as map_list, IfOk};
+ghost use Rattle.std.specs.Prelude.{◌≡◌, ℕ, true, map as map_list, IfOk};
 ghost use Rattle.land_core.specs.Entries.{only, with_entries};
 ghost use Rattle.land_core.specs.Register.{nothing};
 ghost use Rattle.land_core.specs.declared.kind.Kind.TheVariants as kinds;
@@ -11,10 +13,6 @@ ghost use Rattle.land_select.specs.Listing.{ListsAlike, ListsRange};
 ghost use Rattle.land_select_joins.specs.Lookups.Parts.{IsPart};
 ghost use Rattle.land_select_joins.specs.Lookups.Ranges.{is_within};
 ghost use Rattle.land_tables_history.specs.declared.version.Version.{Version as Spanned};
-ghost use Rattle.land_tables_schema.specs.Land.{IsLand};
-ghost use Rattle.land_tables_schema.specs.Rows.Looks.{IsLook};
-ghost use Rattle.sqlite.specs.Held.{state};
-ghost use Rattle.sqlite.specs.State.{HasCleanDisk};
 
 use crate::query::Query;
 use land_core::duplicate::Duplicate;
@@ -45,12 +43,14 @@ where
 {
     /// A register that has these and nothing else.
     fn alone(alloc: Global, found: Records<Self>) -> Register
-        ensures { (r : Whole) (first last : ℕ) → found ≡ only (λ n v. is_within first last n) (Self.part r) → ListsAlike Self.KIND first last result r };
+        ensures { (r : Whole) (first last : ℕ) → found ≡ only (λ n v. is_within first last n) (Self.part r)
+            → ListsAlike Self.KIND first last result r };
 }
 
 impl Listed for PartyRecord {
     fn alone(alloc: Global, found: Records<PartyRecord>) -> Register
-        ensures { (r : Whole) (first last : ℕ) → found ≡ only (λ n v. is_within first last n) r.parties → ListsAlike kinds.Party first last result r }
+        ensures { (r : Whole) (first last : ℕ) → found ≡ only (λ n v. is_within first last n) r.parties
+            → ListsAlike kinds.Party first last result r }
     {
         Register {
             parties: found,
@@ -61,7 +61,8 @@ impl Listed for PartyRecord {
 
 impl Listed for UnitRecord {
     fn alone(alloc: Global, found: Records<UnitRecord>) -> Register
-        ensures { (r : Whole) (first last : ℕ) → found ≡ only (λ n v. is_within first last n) r.units → ListsAlike kinds.Unit first last result r }
+        ensures { (r : Whole) (first last : ℕ) → found ≡ only (λ n v. is_within first last n) r.units
+            → ListsAlike kinds.Unit first last result r }
     {
         Register {
             units: found,
@@ -72,7 +73,8 @@ impl Listed for UnitRecord {
 
 impl Listed for ParcelRecord {
     fn alone(alloc: Global, found: Records<ParcelRecord>) -> Register
-        ensures { (r : Whole) (first last : ℕ) → found ≡ only (λ n v. is_within first last n) r.parcels → ListsAlike kinds.Parcel first last result r }
+        ensures { (r : Whole) (first last : ℕ) → found ≡ only (λ n v. is_within first last n) r.parcels
+            → ListsAlike kinds.Parcel first last result r }
     {
         Register {
             parcels: found,
@@ -83,7 +85,8 @@ impl Listed for ParcelRecord {
 
 impl Listed for SourceRecord {
     fn alone(alloc: Global, found: Records<SourceRecord>) -> Register
-        ensures { (r : Whole) (first last : ℕ) → found ≡ only (λ n v. is_within first last n) r.sources → ListsAlike kinds.Source first last result r }
+        ensures { (r : Whole) (first last : ℕ) → found ≡ only (λ n v. is_within first last n) r.sources
+            → ListsAlike kinds.Source first last result r }
     {
         Register {
             sources: found,
@@ -94,7 +97,8 @@ impl Listed for SourceRecord {
 
 impl Listed for MutationRecord {
     fn alone(alloc: Global, found: Records<MutationRecord>) -> Register
-        ensures { (r : Whole) (first last : ℕ) → found ≡ only (λ n v. is_within first last n) r.mutations → ListsAlike kinds.Mutation first last result r }
+        ensures { (r : Whole) (first last : ℕ) → found ≡ only (λ n v. is_within first last n) r.mutations
+            → ListsAlike kinds.Mutation first last result r }
     {
         Register {
             mutations: found,
@@ -113,9 +117,9 @@ fn ranged<V: Listed, S: Alter>(
 ) -> Result<Register, ReadFault>
 where
     Version<(u64, V)>: FromRow,
-    requires land { HasCleanDisk (state S.Store conn.old) → IsLand (state S.Store conn.old).now.schema }
-    ensures look { IsLook result (λ it. ListsRange V.KIND first last at (state S.Store conn.old).now.trees it) (state S.Store conn.old) (state S.Store conn.new) }
-    ensures mode { conn.old.in_transaction ≡ false → conn.new.in_transaction ≡ false }
+    requires land { HasRegisterTables S.Store conn.old }
+    ensures look { ReadsTables S.Store result (ListsRange V.KIND first last at) conn.old conn.new }
+    ensures mode { LeavesAutocommit conn.old conn.new }
 {
     let found = records::<V, S>(alloc, conn, first, last, at)?;
     Ok(V::alone(alloc, found))
@@ -126,7 +130,8 @@ fn records_of(
     alloc: Global,
     parties: &[Version<(u64, PartyRecord)>],
 ) -> Result<Records<PartyRecord>, AllocError>
-    ensures { IfOk result (λ it. it ≡ with_entries map.empty (map_list (λ (v : Spanned (ℕ × PartyRecord)). v.what) parties.now)) }
+    ensures { IfOk result (λ it. it ≡ with_entries map.empty
+        (map_list (λ (v : Spanned (ℕ × PartyRecord)). v.what) parties.now)) }
 {
     let mut records = Records::new(alloc);
     for party in parties {
@@ -141,7 +146,11 @@ fn entries_alone(
     entries: Records<RrrRecord>,
     parties: &[Version<(u64, PartyRecord)>],
 ) -> Result<Register, AllocError>
-    ensures { IfOk result (λ it. it ≡ record nothing { rrrs = entries; parties = with_entries map.empty (map_list (λ (v : Spanned (ℕ × PartyRecord)). v.what) parties.now) }) }
+    ensures { IfOk result (λ it. it ≡ record nothing {
+      rrrs = entries;
+      parties =
+          with_entries map.empty (map_list (λ (v : Spanned (ℕ × PartyRecord)). v.what) parties.now);
+    }) }
 {
     let parties = records_of(alloc, parties)?;
     let mut register = Register::nothing(alloc);
@@ -158,9 +167,9 @@ fn entries<S: Alter>(
     last: u64,
     at: i64,
 ) -> Result<Register, ReadFault>
-    requires land { HasCleanDisk (state S.Store conn.old) → IsLand (state S.Store conn.old).now.schema }
-    ensures look { IsLook result (λ it. ListsRange kinds.Rrr first last at (state S.Store conn.old).now.trees it) (state S.Store conn.old) (state S.Store conn.new) }
-    ensures mode { conn.old.in_transaction ≡ false → conn.new.in_transaction ≡ false }
+    requires land { HasRegisterTables S.Store conn.old }
+    ensures look { ReadsTables S.Store result (ListsRange kinds.Rrr first last at) conn.old conn.new }
+    ensures mode { LeavesAutocommit conn.old conn.new }
 {
     let found = records::<RrrRecord, S>(alloc, conn, first, last, at)?;
     let parties = parties_within(alloc, conn, first, last, at)?;
@@ -176,9 +185,9 @@ fn register_of<S: Alter>(
     last: u64,
     at: i64,
 ) -> Result<Register, ReadFault>
-    requires land { HasCleanDisk (state S.Store conn.old) → IsLand (state S.Store conn.old).now.schema }
-    ensures look { IsLook result (λ it. ListsRange kind first last at (state S.Store conn.old).now.trees it) (state S.Store conn.old) (state S.Store conn.new) }
-    ensures mode { conn.old.in_transaction ≡ false → conn.new.in_transaction ≡ false }
+    requires land { HasRegisterTables S.Store conn.old }
+    ensures look { ReadsTables S.Store result (ListsRange kind first last at) conn.old conn.new }
+    ensures mode { LeavesAutocommit conn.old conn.new }
 {
     match kind {
         Kind::Party => ranged::<PartyRecord, S>(alloc, conn, first, last, at),
@@ -211,9 +220,10 @@ fn objects<S: Alter>(
     numbers: &[u64],
     at: i64,
 ) -> Result<Sequence<NamedObject>, ReadFault>
-    requires land { HasCleanDisk (state S.Store conn.old) → IsLand (state S.Store conn.old).now.schema }
-    ensures look { IsLook result (λ it. IsPart (λ r. objects_at r kind numbers.now) at (state S.Store conn.old).now.trees it) (state S.Store conn.old) (state S.Store conn.new) }
-    ensures mode { conn.old.in_transaction ≡ false → conn.new.in_transaction ≡ false }
+    requires land { HasRegisterTables S.Store conn.old }
+    ensures look { ReadsTables S.Store result (IsPart (λ r. objects_at r kind numbers.now) at) conn.old
+        conn.new }
+    ensures mode { LeavesAutocommit conn.old conn.new }
 {
     let range = range_of(numbers);
     let (first, last) = range;

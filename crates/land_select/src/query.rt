@@ -1,12 +1,12 @@
 //! Questions to the tables of a register, and what they answer.
-ghost use Rattle.std.specs.Prelude.{◌≡◌, ◌≢◌, false, Err, IfOk, IsTrue};
+ghost use Rattle.land_tables_schema.specs.Connections.{HasRegisterTables, IsUsable, LeavesAutocommit};
+ghost use Rattle.land_select_joins.specs.TableReads.{ReadsTables};
+ghost use Rattle.std.specs.Prelude.{◌≡◌, ◌≢◌, Err, IfOk};
 ghost use Rattle.land_keep.specs.Keeping.{Closes, IsLive};
 ghost use Rattle.land_keep.specs.declared.store_fault.StoreFault.TheVariants as store;
 ghost use Rattle.land_select.specs.Results.{IsResult};
 ghost use Rattle.land_tables.specs.Calls.{IsSafeRead};
 ghost use Rattle.land_tables.specs.Office.{HoldsRegister, IsHonest, held};
-ghost use Rattle.land_tables_schema.specs.Land.{IsLand};
-ghost use Rattle.land_tables_schema.specs.Rows.Looks.{IsLook};
 ghost use Rattle.sqlite.specs.Held.{state};
 ghost use Rattle.sqlite.specs.State.{HasCleanDisk, Survives};
 ghost use Rattle.sqlite_trees.specs.Tree.{Trees};
@@ -25,10 +25,10 @@ pub(crate) trait Query<T> {
 
     /// Looks for the answer in the tables. Want of memory, a failed call of the store, and a value that cannot be read are told apart.
     fn run<S: Alter>(&self, alloc: Global, conn: &mut Connection<S>) -> Result<T, ReadFault>
-        requires open { HasCleanDisk (state S.Store conn.old) → IsTrue (state S.Store conn.old).is_open }
-        requires land { HasCleanDisk (state S.Store conn.old) → IsLand (state S.Store conn.old).now.schema }
-        ensures look { IsLook result (λ it. results self.now (state S.Store conn.old).now.trees it) (state S.Store conn.old) (state S.Store conn.new) }
-        ensures mode { conn.old.in_transaction ≡ false → conn.new.in_transaction ≡ false };
+        requires open { IsUsable S.Store conn.old }
+        requires land { HasRegisterTables S.Store conn.old }
+        ensures look { ReadsTables S.Store result (results self.now) conn.old conn.new }
+        ensures mode { LeavesAutocommit conn.old conn.new };
 }
 
 /// The answer to a question. A store that it leaves without a fault 502 is open, and as it was.
@@ -39,8 +39,9 @@ fn execute_in<S: Alter, T, Q: Query<T>>(
 ) -> Result<T, StoreFault>
     requires { HasCleanDisk (state S.Store conn.old) → HoldsRegister (state S.Store conn.old) }
     ensures open { result ≢ Err store.Closed }
-    ensures safe { IsSafeRead result (λ it. Q.results query.now (state S.Store conn.old).now.trees it) (state S.Store conn.old) (state S.Store conn.new) }
-    ensures mode { conn.old.in_transaction ≡ false → conn.new.in_transaction ≡ false }
+    ensures safe { IsSafeRead result (λ it. Q.results query.now (state S.Store conn.old).now.trees it)
+        (state S.Store conn.old) (state S.Store conn.new) }
+    ensures mode { LeavesAutocommit conn.old conn.new }
 {
     match query.run(alloc, conn) {
         Ok(answer) => Ok(answer),
@@ -54,8 +55,10 @@ pub(crate) fn execute<S: Alter, T, Q: Query<T>>(
     tables: &mut Tables<S>,
     query: &Q,
 ) -> Result<T, StoreFault>
-    ensures value { IsHonest S.Store tables.new → IfOk result (λ it. IsResult (Q.results query.now) (state S.Store tables.old.conn) it) }
-    ensures same { IsLive (IsHonest S.Store tables.new) tables.new.is_closed → held S.Store tables.new ≡ held S.Store tables.old }
+    ensures value { IsHonest S.Store tables.new
+        → IfOk result (λ it. IsResult (Q.results query.now) (state S.Store tables.old.conn) it) }
+    ensures same { IsLive (IsHonest S.Store tables.new) tables.new.is_closed
+        → held S.Store tables.new ≡ held S.Store tables.old }
     ensures was { IsHonest S.Store tables.new → IsHonest S.Store tables.old }
     ensures last { tables.new.last ≡ tables.old.last }
     ensures next { tables.new.next ≡ tables.old.next }

@@ -27,7 +27,8 @@ impl Query<Slice> for SliceQuery<'_> {
     ghost use Rattle.land_acts.specs.Slices.{slice_of};
     ghost use Rattle.land_select.specs.Slices.Gathered.{IsSo};
 
-    ghost results = { λ it db slice. IsSo (λ r. r.next ≡ it.next → slice ≡ slice_of r it.caller it.act.now) it.moment db };
+    ghost results = { λ it db slice. IsSo (λ r. r.next ≡ it.next → slice ≡ slice_of r it.caller it.act.now)
+        it.moment db };
 
     fn run<S: Alter>(&self, alloc: Global, conn: &mut Connection<S>) -> Result<Slice, ReadFault> {
         slice_at(alloc, conn, self.caller, self.act, self.next, self.moment)

@@ -52,7 +52,8 @@ impl<S: Alter> Model for SqlKeeper<S> {
 
     ghost view = { λ k. k.tables };
 
-    ghost invariant = { λ k. IsLive (IsHonest S.Store k.tables) k.tables.is_closed → IsKeptOf (held S.Store k.tables) k.cache };
+    ghost invariant = { λ k. IsLive (IsHonest S.Store k.tables) k.tables.is_closed
+        → IsKeptOf (held S.Store k.tables) k.cache };
 }
 
 impl<S: Alter + Drop> Drop for SqlKeeper<S> {

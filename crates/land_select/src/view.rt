@@ -1,7 +1,9 @@
 //! A unit as a caller sees it at a moment, by look-ups and joins.
+ghost use Rattle.land_tables_schema.specs.Connections.{HasRegisterTables, IsUsable, LeavesAutocommit};
+ghost use Rattle.land_select_joins.specs.TableReads.{ReadsTables};
 ghost use Rattle.std.specs.FinMap as map;
 ghost use Rattle.std.specs.List.{list_any};
-ghost use Rattle.std.specs.Prelude.{◌≡◌, false, nat_eq, map as map_list, [], IfOk, IsTrue, Some};
+ghost use Rattle.std.specs.Prelude.{◌≡◌, nat_eq, map as map_list, [], IfOk, Some};
 ghost use Rattle.land_core.specs.Entries.{only};
 ghost use Rattle.land_core.specs.declared.caller.Caller.{Caller as Who};
 ghost use Rattle.land_core.specs.declared.kind.Kind.TheVariants as kinds;
@@ -9,10 +11,6 @@ ghost use Rattle.land_keep.specs.Sheets.{entries_seen, parcels_at, shown_parcel,
 ghost use Rattle.land_select.specs.Cache.{IsFound, IsObjectFound};
 ghost use Rattle.land_select.specs.Views.{IsShown, IsShownGiven, in_sight, name_among, named_among, named_at, view_from, with_name};
 ghost use Rattle.land_select_joins.specs.Lookups.Parts.{IsPart};
-ghost use Rattle.land_tables_schema.specs.Land.{IsLand};
-ghost use Rattle.land_tables_schema.specs.Rows.Looks.{IsLook};
-ghost use Rattle.sqlite.specs.Held.{state};
-ghost use Rattle.sqlite.specs.State.{HasCleanDisk};
 
 use crate::cache::CachedValue;
 use crate::query::Query;
@@ -73,9 +71,9 @@ fn parcels_of<S: Alter>(
     unit: u64,
     at: i64,
 ) -> Result<Sequence<Parcel>, ReadFault>
-    requires land { HasCleanDisk (state S.Store conn.old) → IsLand (state S.Store conn.old).now.schema }
-    ensures look { IsLook result (λ it. IsPart (λ r. parcels_at r unit) at (state S.Store conn.old).now.trees it) (state S.Store conn.old) (state S.Store conn.new) }
-    ensures mode { conn.old.in_transaction ≡ false → conn.new.in_transaction ≡ false }
+    requires land { HasRegisterTables S.Store conn.old }
+    ensures look { ReadsTables S.Store result (IsPart (λ r. parcels_at r unit) at) conn.old conn.new }
+    ensures mode { LeavesAutocommit conn.old conn.new }
 {
     let found = of_unit::parcels(alloc, conn, unit, at)?;
     Ok(shown_parcels(alloc, &found)?)
@@ -166,10 +164,10 @@ fn entries_in_sight<S: Alter>(
     unit: u64,
     at: i64,
 ) -> Result<Records<RrrRecord>, ReadFault>
-    requires open { HasCleanDisk (state S.Store conn.old) → IsTrue (state S.Store conn.old).is_open }
-    requires land { HasCleanDisk (state S.Store conn.old) → IsLand (state S.Store conn.old).now.schema }
-    ensures look { IsLook result (λ it. IsShown (λ r. in_sight r caller unit) at (state S.Store conn.old).now.trees it) (state S.Store conn.old) (state S.Store conn.new) }
-    ensures mode { conn.old.in_transaction ≡ false → conn.new.in_transaction ≡ false }
+    requires open { IsUsable S.Store conn.old }
+    requires land { HasRegisterTables S.Store conn.old }
+    ensures look { ReadsTables S.Store result (IsShown (λ r. in_sight r caller unit) at) conn.old conn.new }
+    ensures mode { LeavesAutocommit conn.old conn.new }
 {
     seen_is_exact();
     soundness_by_look_ups();
@@ -198,10 +196,11 @@ fn with_names<S: Alter>(
     entries: &Records<RrrRecord>,
     at: i64,
 ) -> Result<Sequence<NamedRrr>, ReadFault>
-    requires land { HasCleanDisk (state S.Store conn.old) → IsLand (state S.Store conn.old).now.schema }
-    ensures look { (caller : Who) → IsLook result (λ it. IsShownGiven (λ r. entries.now ≡ in_sight r caller unit) (λ r. entries_seen r caller unit) at (state S.Store conn.old).now.trees it)
-        (state S.Store conn.old) (state S.Store conn.new) }
-    ensures mode { conn.old.in_transaction ≡ false → conn.new.in_transaction ≡ false }
+    requires land { HasRegisterTables S.Store conn.old }
+    ensures look { (caller : Who) → ReadsTables S.Store result
+        (IsShownGiven (λ r. entries.now ≡ in_sight r caller unit) (λ r. entries_seen r caller unit) at)
+        conn.old conn.new }
+    ensures mode { LeavesAutocommit conn.old conn.new }
 {
     let found = parties(alloc, conn, unit, at)?;
     Ok(named_entries(alloc, entries, found.as_slice())?)
@@ -217,11 +216,12 @@ fn seen_entries<S: Alter>(
     at: i64,
     found: &CachedValue,
 ) -> Result<Sequence<NamedRrr>, ReadFault>
-    requires open { HasCleanDisk (state S.Store conn.old) → IsTrue (state S.Store conn.old).is_open }
-    requires land { HasCleanDisk (state S.Store conn.old) → IsLand (state S.Store conn.old).now.schema }
-    ensures look { IsLook result (λ it. IsShownGiven (λ r. IsFound r caller kinds.Unit unit found.now) (λ r. entries_seen r caller unit) at (state S.Store conn.old).now.trees it)
-        (state S.Store conn.old) (state S.Store conn.new) }
-    ensures mode { conn.old.in_transaction ≡ false → conn.new.in_transaction ≡ false }
+    requires open { IsUsable S.Store conn.old }
+    requires land { HasRegisterTables S.Store conn.old }
+    ensures look { ReadsTables S.Store result
+        (IsShownGiven (λ r. IsFound r caller kinds.Unit unit found.now) (λ r. entries_seen r caller unit) at)
+        conn.old conn.new }
+    ensures mode { LeavesAutocommit conn.old conn.new }
 {
     match found {
         CachedValue::VisibleEntries(entries) => with_names(alloc, conn, unit, entries, at),
@@ -239,11 +239,13 @@ fn view_with<S: Alter>(
     seen: UnitViewQuery<'_>,
     unit_record: UnitRecord,
 ) -> Result<Option<View>, ReadFault>
-    requires open { HasCleanDisk (state S.Store conn.old) → IsTrue (state S.Store conn.old).is_open }
-    requires land { HasCleanDisk (state S.Store conn.old) → IsLand (state S.Store conn.old).now.schema }
-    ensures look { IsLook result (λ it. IsShownGiven (λ r. IsFound r seen.entry.caller kinds.Unit seen.entry.unit seen.entry.found.now) (λ r. Some (view_from r seen.entry.caller seen.entry.unit seen.entry.moment unit_record)) seen.entry.moment (state S.Store conn.old).now.trees it)
-        (state S.Store conn.old) (state S.Store conn.new) }
-    ensures mode { conn.old.in_transaction ≡ false → conn.new.in_transaction ≡ false }
+    requires open { IsUsable S.Store conn.old }
+    requires land { HasRegisterTables S.Store conn.old }
+    ensures look { ReadsTables S.Store result
+        (IsShownGiven (λ r. IsFound r seen.entry.caller kinds.Unit seen.entry.unit seen.entry.found.now)
+        (λ r. Some (view_from r seen.entry.caller seen.entry.unit seen.entry.moment unit_record))
+        seen.entry.moment) conn.old conn.new }
+    ensures mode { LeavesAutocommit conn.old conn.new }
 {
     soundness_by_look_ups();
     let UnitViewQuery {
@@ -275,11 +277,12 @@ fn record_of<S: Alter>(
     at: i64,
     found: &CachedValue,
 ) -> Result<Option<UnitRecord>, ReadFault>
-    requires open { HasCleanDisk (state S.Store conn.old) → IsTrue (state S.Store conn.old).is_open }
-    requires land { HasCleanDisk (state S.Store conn.old) → IsLand (state S.Store conn.old).now.schema }
-    ensures look { IsLook result (λ it. IsShownGiven (λ r. IsObjectFound r kinds.Unit unit found.now) (λ r. map.get r.units unit) at (state S.Store conn.old).now.trees it)
-        (state S.Store conn.old) (state S.Store conn.new) }
-    ensures mode { conn.old.in_transaction ≡ false → conn.new.in_transaction ≡ false }
+    requires open { IsUsable S.Store conn.old }
+    requires land { HasRegisterTables S.Store conn.old }
+    ensures look { ReadsTables S.Store result
+        (IsShownGiven (λ r. IsObjectFound r kinds.Unit unit found.now) (λ r. map.get r.units unit) at)
+        conn.old conn.new }
+    ensures mode { LeavesAutocommit conn.old conn.new }
 {
     soundness_by_look_ups();
     match found {
@@ -299,11 +302,13 @@ fn view<S: Alter>(
     conn: &mut Connection<S>,
     seen: UnitViewQuery<'_>,
 ) -> Result<Option<View>, ReadFault>
-    requires open { HasCleanDisk (state S.Store conn.old) → IsTrue (state S.Store conn.old).is_open }
-    requires land { HasCleanDisk (state S.Store conn.old) → IsLand (state S.Store conn.old).now.schema }
-    ensures look { IsLook result (λ it. IsShownGiven (λ r. IsFound r seen.entry.caller kinds.Unit seen.entry.unit seen.entry.found.now) (λ r. view_at r seen.entry.caller seen.entry.unit seen.entry.moment) seen.entry.moment (state S.Store conn.old).now.trees it)
-        (state S.Store conn.old) (state S.Store conn.new) }
-    ensures mode { conn.old.in_transaction ≡ false → conn.new.in_transaction ≡ false }
+    requires open { IsUsable S.Store conn.old }
+    requires land { HasRegisterTables S.Store conn.old }
+    ensures look { ReadsTables S.Store result
+        (IsShownGiven (λ r. IsFound r seen.entry.caller kinds.Unit seen.entry.unit seen.entry.found.now)
+        (λ r. view_at r seen.entry.caller seen.entry.unit seen.entry.moment) seen.entry.moment) conn.old
+        conn.new }
+    ensures mode { LeavesAutocommit conn.old conn.new }
 {
     let known = record_of(alloc, conn, seen.unit, seen.moment, seen.found)?;
     match known {
@@ -331,7 +336,8 @@ impl Query<Option<View>> for UnitViewQuery<'_> {
     ghost use Rattle.land_select.specs.Cache.{IsFound};
     ghost use Rattle.land_select.specs.Views.{IsShownGiven};
 
-    ghost results = { λ it db shown. IsShownGiven (λ r. IsFound r it.caller kinds.Unit it.unit it.found.now) (λ r. view_at r it.caller it.unit it.moment) it.moment db shown };
+    ghost results = { λ it db shown. IsShownGiven (λ r. IsFound r it.caller kinds.Unit it.unit it.found.now)
+        (λ r. view_at r it.caller it.unit it.moment) it.moment db shown };
 
     fn run<S: Alter>(
         &self,

@@ -2,3 +2,4 @@
 pub mod Joins
 pub mod Lookups
 pub mod Sights
+pub mod TableReads

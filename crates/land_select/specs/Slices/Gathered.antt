@@ -66,7 +66,8 @@ with_person known n party roles members = record {
 }
 
 -- units, and one more with its parcels and its entries
-abbrev pub with_unit : Holdings → ℕ → Option UnitRecord → FinMap nat_cmp ParcelRecord → FinMap nat_cmp RrrRecord → Holdings
+abbrev pub with_unit : Holdings → ℕ → Option UnitRecord → FinMap nat_cmp ParcelRecord
+    → FinMap nat_cmp RrrRecord → Holdings
 with_unit known n unit parcels rrrs = record {
   units = put_one known.units n unit;
   parcels = put_all known.parcels parcels;
@@ -84,8 +85,10 @@ abbrev pub IsSo : (Register → Type 0) → (t : ℤ) → Trees → Type 0
 IsSo holds t db = OfHeld db (λ h. (r : Register) → HaveMembers r.members → StandsAt t h r → holds r)
 
 -- what was known of what is asked for is known with more
-abbrev pub Grows : {T : Type 0} → (Register → (ℕ → Bool) → T → Type 0) → (more : (ℕ → Bool) → ℕ → Bool) → (from it : T) → (t : ℤ) → Trees → Type 0
-Grows knows more from it t db = IsSo (λ r. (asked : ℕ → Bool) → knows r asked from → knows r (more asked) it) t db
+abbrev pub Grows : {T : Type 0} → (Register → (ℕ → Bool) → T → Type 0) → (more : (ℕ → Bool) → ℕ → Bool)
+    → (from it : T) → (t : ℤ) → Trees → Type 0
+Grows knows more from it t db = IsSo (λ r. (asked : ℕ → Bool) → knows r asked from → knows r (more asked) it)
+    t db
 
 -- what is known of a slice before its sources, and before the entry that the act lifts, is that of the register
 pub record IsKnown (r : Register) (caller : Caller) (a : Act) (known : Known) : Type 0 where

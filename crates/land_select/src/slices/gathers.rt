@@ -1,11 +1,9 @@
 //! Parts of a register that are gathered number by number.
-ghost use Rattle.std.specs.Prelude.{◌≡◌, false, ℕ, Bool, IsTrue};
+ghost use Rattle.land_tables_schema.specs.Connections.{HasRegisterTables, IsUsable, LeavesAutocommit};
+ghost use Rattle.land_select_joins.specs.TableReads.{ReadsTables};
+ghost use Rattle.std.specs.Prelude.{ℕ, Bool};
 ghost use Rattle.land_core.specs.declared.register.Register.{Register};
 ghost use Rattle.land_select.specs.Slices.Gathered.{Grows, with_number, with_numbers};
-ghost use Rattle.land_tables_schema.specs.Land.{IsLand};
-ghost use Rattle.land_tables_schema.specs.Rows.Looks.{IsLook};
-ghost use Rattle.sqlite.specs.Held.{state};
-ghost use Rattle.sqlite.specs.State.{HasCleanDisk};
 
 use land_tables_rows::listing::fault::ReadFault;
 use sqlite::{Alter, Connection};
@@ -24,9 +22,10 @@ pub(crate) trait Gathers: Sized {
         number: u64,
         at: i64,
     ) -> Result<Self, ReadFault>
-        requires land { HasCleanDisk (state S.Store conn.old) → IsLand (state S.Store conn.old).now.schema }
-        ensures look { IsLook result (λ it. Grows knows (with_number number) self it at (state S.Store conn.old).now.trees) (state S.Store conn.old) (state S.Store conn.new) }
-        ensures mode { conn.old.in_transaction ≡ false → conn.new.in_transaction ≡ false };
+        requires land { HasRegisterTables S.Store conn.old }
+        ensures look { ReadsTables S.Store result (λ db it. Grows knows (with_number number) self it at db)
+            conn.old conn.new }
+        ensures mode { LeavesAutocommit conn.old conn.new };
 }
 
 /// Looks up what stands under some numbers at a moment, in milliseconds since 1970 UTC.
@@ -37,10 +36,11 @@ pub(crate) fn gather_all<G: Gathers + Drop, S: Alter>(
     numbers: &[u64],
     at: i64,
 ) -> Result<G, ReadFault>
-    requires open { HasCleanDisk (state S.Store conn.old) → IsTrue (state S.Store conn.old).is_open }
-    requires land { HasCleanDisk (state S.Store conn.old) → IsLand (state S.Store conn.old).now.schema }
-    ensures look { IsLook result (λ it. Grows G.knows (with_numbers numbers.now) from it at (state S.Store conn.old).now.trees) (state S.Store conn.old) (state S.Store conn.new) }
-    ensures mode { conn.old.in_transaction ≡ false → conn.new.in_transaction ≡ false }
+    requires open { IsUsable S.Store conn.old }
+    requires land { HasRegisterTables S.Store conn.old }
+    ensures look { ReadsTables S.Store result
+        (λ db it. Grows G.knows (with_numbers numbers.now) from it at db) conn.old conn.new }
+    ensures mode { LeavesAutocommit conn.old conn.new }
 {
     let mut gathered = from;
     for number in numbers {

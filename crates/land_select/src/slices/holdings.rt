@@ -1,11 +1,9 @@
 //! Units, with what belongs to them.
+ghost use Rattle.land_tables_schema.specs.Connections.{HasRegisterTables, LeavesAutocommit};
+ghost use Rattle.land_select_joins.specs.TableReads.{ReadsTables};
 ghost use Rattle.std.specs.FinMap as map;
-ghost use Rattle.std.specs.Prelude.{◌≡◌, false, ℕ, Bool, IfOk};
+ghost use Rattle.std.specs.Prelude.{◌≡◌, ℕ, Bool, IfOk};
 ghost use Rattle.land_select.specs.Slices.Gathered.{IsSo, KnowsHoldings, with_number, with_unit};
-ghost use Rattle.land_tables_schema.specs.Land.{IsLand};
-ghost use Rattle.land_tables_schema.specs.Rows.Looks.{IsLook};
-ghost use Rattle.sqlite.specs.Held.{state};
-ghost use Rattle.sqlite.specs.State.{HasCleanDisk};
 
 use crate::slices::gathers::Gathers;
 use crate::slices::people::{put_all, put_one};
@@ -73,9 +71,12 @@ impl Holdings {
         unit: Option<UnitRecord>,
         at: i64,
     ) -> Result<Holdings, ReadFault>
-        requires land { HasCleanDisk (state S.Store conn.old) → IsLand (state S.Store conn.old).now.schema }
-        ensures look { IsLook result (λ it. IsSo (λ r. unit ≡ map.get r.units number → (asked : ℕ → Bool) → KnowsHoldings r asked self → KnowsHoldings r (with_number number asked) it) at (state S.Store conn.old).now.trees) (state S.Store conn.old) (state S.Store conn.new) }
-        ensures mode { conn.old.in_transaction ≡ false → conn.new.in_transaction ≡ false }
+        requires land { HasRegisterTables S.Store conn.old }
+        ensures look { ReadsTables S.Store result
+            (λ db it. IsSo (λ r. unit ≡ map.get r.units number → (asked : ℕ → Bool)
+            → KnowsHoldings r asked self → KnowsHoldings r (with_number number asked) it) at db) conn.old
+            conn.new }
+        ensures mode { LeavesAutocommit conn.old conn.new }
     {
         let parcels = of_unit::parcels(alloc, conn, number, at)?;
         let rrrs = of_unit::entries(alloc, conn, number, at)?;

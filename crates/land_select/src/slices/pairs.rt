@@ -1,13 +1,11 @@
 //! The mandate that an act gives or withdraws.
-ghost use Rattle.std.specs.Prelude.{◌≡◌, false, IfOk, IsTrue};
+ghost use Rattle.land_tables_schema.specs.Connections.{HasRegisterTables, IsUsable, LeavesAutocommit};
+ghost use Rattle.land_select_joins.specs.TableReads.{ReadsTables};
+ghost use Rattle.std.specs.Prelude.{◌≡◌, IfOk};
 ghost use Rattle.land_acts.specs.Slices.{is_mandate, names_mandate};
 ghost use Rattle.land_core.specs.Entries.{only};
 ghost use Rattle.land_select.specs.Slices.Named.{mandate_of_act};
 ghost use Rattle.land_select_joins.specs.Lookups.Parts.{IsPart};
-ghost use Rattle.land_tables_schema.specs.Land.{IsLand};
-ghost use Rattle.land_tables_schema.specs.Rows.Looks.{IsLook};
-ghost use Rattle.sqlite.specs.Held.{state};
-ghost use Rattle.sqlite.specs.State.{HasCleanDisk};
 
 use land_core::act::Act;
 use land_core::caller::Caller;
@@ -58,9 +56,10 @@ fn between<S: Alter>(
     it: Mandate,
     at: i64,
 ) -> Result<Mandates, ReadFault>
-    requires land { HasCleanDisk (state S.Store conn.old) → IsLand (state S.Store conn.old).now.schema }
-    ensures look { IsLook result (λ found. IsPart (λ r. only (λ mandate u. is_mandate it mandate) r.mandates) at (state S.Store conn.old).now.trees found) (state S.Store conn.old) (state S.Store conn.new) }
-    ensures mode { conn.old.in_transaction ≡ false → conn.new.in_transaction ≡ false }
+    requires land { HasRegisterTables S.Store conn.old }
+    ensures look { ReadsTables S.Store result
+        (IsPart (λ r. only (λ mandate u. is_mandate it mandate) r.mandates) at) conn.old conn.new }
+    ensures mode { LeavesAutocommit conn.old conn.new }
 {
     let held = of_agent::mandates(alloc, conn, it.agent, at)?;
     Ok(one_of(alloc, &held, it)?)
@@ -74,10 +73,12 @@ pub(crate) fn mandates_of<S: Alter>(
     act: &Act,
     at: i64,
 ) -> Result<Mandates, ReadFault>
-    requires open { HasCleanDisk (state S.Store conn.old) → IsTrue (state S.Store conn.old).is_open }
-    requires land { HasCleanDisk (state S.Store conn.old) → IsLand (state S.Store conn.old).now.schema }
-    ensures look { IsLook result (λ it. IsPart (λ r. only (λ mandate u. names_mandate caller act.now mandate) r.mandates) at (state S.Store conn.old).now.trees it) (state S.Store conn.old) (state S.Store conn.new) }
-    ensures mode { conn.old.in_transaction ≡ false → conn.new.in_transaction ≡ false }
+    requires open { IsUsable S.Store conn.old }
+    requires land { HasRegisterTables S.Store conn.old }
+    ensures look { ReadsTables S.Store result
+        (IsPart (λ r. only (λ mandate u. names_mandate caller act.now mandate) r.mandates) at) conn.old
+        conn.new }
+    ensures mode { LeavesAutocommit conn.old conn.new }
 {
     match mandate_of_act(caller, act) {
         Some(it) => between(alloc, conn, it, at),

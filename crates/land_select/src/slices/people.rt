@@ -1,11 +1,9 @@
 //! Parties, with all that stands under their numbers.
-ghost use Rattle.std.specs.Prelude.{◌≡◌, false, ℕ, Bool, IfOk};
+ghost use Rattle.land_tables_schema.specs.Connections.{HasRegisterTables, LeavesAutocommit};
+ghost use Rattle.land_select_joins.specs.TableReads.{ReadsTables};
+ghost use Rattle.std.specs.Prelude.{◌≡◌, ℕ, Bool, IfOk};
 ghost use Rattle.std.specs.FinMap as map;
 ghost use Rattle.land_select.specs.Slices.Gathered.{IsSo, KnowsPeople, put_all, put_one, with_number, with_person};
-ghost use Rattle.land_tables_schema.specs.Land.{IsLand};
-ghost use Rattle.land_tables_schema.specs.Rows.Looks.{IsLook};
-ghost use Rattle.sqlite.specs.Held.{state};
-ghost use Rattle.sqlite.specs.State.{HasCleanDisk};
 
 use crate::slices::gathers::Gathers;
 use land_core::duplicate::Duplicate;
@@ -113,9 +111,12 @@ impl People {
         party: Option<PartyRecord>,
         at: i64,
     ) -> Result<People, ReadFault>
-        requires land { HasCleanDisk (state S.Store conn.old) → IsLand (state S.Store conn.old).now.schema }
-        ensures look { IsLook result (λ it. IsSo (λ r. party ≡ map.get r.parties number → (asked : ℕ → Bool) → KnowsPeople r asked self → KnowsPeople r (with_number number asked) it) at (state S.Store conn.old).now.trees) (state S.Store conn.old) (state S.Store conn.new) }
-        ensures mode { conn.old.in_transaction ≡ false → conn.new.in_transaction ≡ false }
+        requires land { HasRegisterTables S.Store conn.old }
+        ensures look { ReadsTables S.Store result
+            (λ db it. IsSo (λ r. party ≡ map.get r.parties number → (asked : ℕ → Bool)
+            → KnowsPeople r asked self → KnowsPeople r (with_number number asked) it) at db) conn.old
+            conn.new }
+        ensures mode { LeavesAutocommit conn.old conn.new }
     {
         let roles = of_party::roles(alloc, conn, number, at)?;
         let members = of_group::members(alloc, conn, number, at)?;

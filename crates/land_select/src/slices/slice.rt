@@ -1,6 +1,8 @@
 //! The slice of a register for an act, by look-ups.
+ghost use Rattle.land_tables_schema.specs.Connections.{HasRegisterTables, IsUsable, LeavesAutocommit};
+ghost use Rattle.land_select_joins.specs.TableReads.{ReadsTables};
 ghost use Rattle.std.specs.FinMap as map;
-ghost use Rattle.std.specs.Prelude.{◌≡◌, ◌++◌, false, nat_eq, map as map_list, IfOk, IsTrue};
+ghost use Rattle.std.specs.Prelude.{◌≡◌, ◌++◌, nat_eq, map as map_list, IfOk};
 ghost use Rattle.land_acts.specs.Slices.{looks_at_party, looks_at_source, mutations_looked_at, names_mandate, names_rrr, names_unit, slice_of};
 ghost use Rattle.land_core.specs.Entries.{only, some};
 ghost use Rattle.land_core.specs.Grants.{grants_in};
@@ -8,10 +10,6 @@ ghost use Rattle.land_core.specs.declared.caller.Caller.{Caller as Asker};
 ghost use Rattle.land_select.specs.Slices.Gathered.{IsKnown, IsSo, KnowsHoldings, KnowsPapers, KnowsPeople};
 ghost use Rattle.land_select.specs.Slices.Named.{parties_of};
 ghost use Rattle.land_select_joins.specs.Lookups.Parts.{IsPart};
-ghost use Rattle.land_tables_schema.specs.Land.{IsLand};
-ghost use Rattle.land_tables_schema.specs.Rows.Looks.{IsLook};
-ghost use Rattle.sqlite.specs.Held.{state};
-ghost use Rattle.sqlite.specs.State.{HasCleanDisk};
 
 use crate::slices::gathers::gather_all;
 use crate::slices::holdings::Holdings;
@@ -42,7 +40,8 @@ fn named_and_holders(
     mutations: &Records<MutationRecord>,
     roles: &Roles,
 ) -> Result<NumberList, AllocError>
-    ensures { IfOk result (λ it. it ≡ parties_of act.now mutations.now ++ map_list (λ grant. grant.party) (grants_in roles.now)) }
+    ensures { IfOk result (λ it. it ≡ parties_of act.now mutations.now ++ map_list (λ grant. grant.party)
+        (grants_in roles.now)) }
 {
     let mut parties = parties_of(alloc, act, mutations)?;
     for grant in roles.iter() {
@@ -59,10 +58,12 @@ fn people_of<S: Alter>(
     mutations: &Records<MutationRecord>,
     at: i64,
 ) -> Result<People, ReadFault>
-    requires open { HasCleanDisk (state S.Store conn.old) → IsTrue (state S.Store conn.old).is_open }
-    requires land { HasCleanDisk (state S.Store conn.old) → IsLand (state S.Store conn.old).now.schema }
-    ensures look { IsLook result (λ it. IsSo (λ r. (caller : Asker) → mutations.now ≡ mutations_looked_at r caller act.now → KnowsPeople r (λ n. looks_at_party r act.now n) it) at (state S.Store conn.old).now.trees) (state S.Store conn.old) (state S.Store conn.new) }
-    ensures mode { conn.old.in_transaction ≡ false → conn.new.in_transaction ≡ false }
+    requires open { IsUsable S.Store conn.old }
+    requires land { HasRegisterTables S.Store conn.old }
+    ensures look { ReadsTables S.Store result
+        (λ db it. IsSo (λ r. (caller : Asker) → mutations.now ≡ mutations_looked_at r caller act.now
+        → KnowsPeople r (λ n. looks_at_party r act.now n) it) at db) conn.old conn.new }
+    ensures mode { LeavesAutocommit conn.old conn.new }
 {
     let office = office::administrators(alloc, conn, at)?;
     let parties = named_and_holders(alloc, act, mutations, &office)?;
@@ -77,10 +78,12 @@ fn holdings_of<S: Alter>(
     mutations: &Records<MutationRecord>,
     at: i64,
 ) -> Result<Holdings, ReadFault>
-    requires open { HasCleanDisk (state S.Store conn.old) → IsTrue (state S.Store conn.old).is_open }
-    requires land { HasCleanDisk (state S.Store conn.old) → IsLand (state S.Store conn.old).now.schema }
-    ensures look { IsLook result (λ it. IsSo (λ r. (caller : Asker) → mutations.now ≡ mutations_looked_at r caller act.now → KnowsHoldings r (λ n. names_unit r act.now n) it) at (state S.Store conn.old).now.trees) (state S.Store conn.old) (state S.Store conn.new) }
-    ensures mode { conn.old.in_transaction ≡ false → conn.new.in_transaction ≡ false }
+    requires open { IsUsable S.Store conn.old }
+    requires land { HasRegisterTables S.Store conn.old }
+    ensures look { ReadsTables S.Store result
+        (λ db it. IsSo (λ r. (caller : Asker) → mutations.now ≡ mutations_looked_at r caller act.now
+        → KnowsHoldings r (λ n. names_unit r act.now n) it) at db) conn.old conn.new }
+    ensures mode { LeavesAutocommit conn.old conn.new }
 {
     let units = units_of(alloc, act, mutations)?;
     gather_all(alloc, conn, Holdings::none(alloc), units.as_slice(), at)
@@ -93,10 +96,12 @@ fn papers_of<S: Alter>(
     mutations: &Records<MutationRecord>,
     at: i64,
 ) -> Result<Papers, ReadFault>
-    requires open { HasCleanDisk (state S.Store conn.old) → IsTrue (state S.Store conn.old).is_open }
-    requires land { HasCleanDisk (state S.Store conn.old) → IsLand (state S.Store conn.old).now.schema }
-    ensures look { IsLook result (λ it. IsSo (λ r. KnowsPapers r (λ n. some (λ k m. nat_eq m.source n) mutations.now) it) at (state S.Store conn.old).now.trees) (state S.Store conn.old) (state S.Store conn.new) }
-    ensures mode { conn.old.in_transaction ≡ false → conn.new.in_transaction ≡ false }
+    requires open { IsUsable S.Store conn.old }
+    requires land { HasRegisterTables S.Store conn.old }
+    ensures look { ReadsTables S.Store result
+        (λ db it. IsSo (λ r. KnowsPapers r (λ n. some (λ k m. nat_eq m.source n) mutations.now) it) at db)
+        conn.old conn.new }
+    ensures mode { LeavesAutocommit conn.old conn.new }
 {
     let sources = sources_of(alloc, mutations)?;
     gather_all(alloc, conn, Papers::none(alloc), sources.as_slice(), at)
@@ -109,9 +114,10 @@ fn entry_at<S: Alter>(
     number: u64,
     at: i64,
 ) -> Result<Records<RrrRecord>, ReadFault>
-    requires land { HasCleanDisk (state S.Store conn.old) → IsLand (state S.Store conn.old).now.schema }
-    ensures look { IsLook result (λ it. IsPart (λ r. only (λ n e. nat_eq n number) r.rrrs) at (state S.Store conn.old).now.trees it) (state S.Store conn.old) (state S.Store conn.new) }
-    ensures mode { conn.old.in_transaction ≡ false → conn.new.in_transaction ≡ false }
+    requires land { HasRegisterTables S.Store conn.old }
+    ensures look { ReadsTables S.Store result (IsPart (λ r. only (λ n e. nat_eq n number) r.rrrs) at) conn.old
+        conn.new }
+    ensures mode { LeavesAutocommit conn.old conn.new }
 {
     let found = by_number::record(alloc, conn, number, at)?;
     Ok(put_one(Records::new(alloc), number, found)?)
@@ -124,10 +130,11 @@ fn lifted_by<S: Alter>(
     act: &Act,
     at: i64,
 ) -> Result<Records<RrrRecord>, ReadFault>
-    requires open { HasCleanDisk (state S.Store conn.old) → IsTrue (state S.Store conn.old).is_open }
-    requires land { HasCleanDisk (state S.Store conn.old) → IsLand (state S.Store conn.old).now.schema }
-    ensures look { IsLook result (λ it. IsPart (λ r. only (λ n e. names_rrr r act.now n) r.rrrs) at (state S.Store conn.old).now.trees it) (state S.Store conn.old) (state S.Store conn.new) }
-    ensures mode { conn.old.in_transaction ≡ false → conn.new.in_transaction ≡ false }
+    requires open { IsUsable S.Store conn.old }
+    requires land { HasRegisterTables S.Store conn.old }
+    ensures look { ReadsTables S.Store result (IsPart (λ r. only (λ n e. names_rrr r act.now n) r.rrrs) at)
+        conn.old conn.new }
+    ensures mode { LeavesAutocommit conn.old conn.new }
 {
     match act {
         Act::Lift(it) => entry_at(alloc, conn, it.rrr, at),
@@ -153,10 +160,12 @@ fn slice_with<S: Alter>(
     known: Known,
     at: i64,
 ) -> Result<Slice, ReadFault>
-    requires open { HasCleanDisk (state S.Store conn.old) → IsTrue (state S.Store conn.old).is_open }
-    requires land { HasCleanDisk (state S.Store conn.old) → IsLand (state S.Store conn.old).now.schema }
-    ensures look { IsLook result (λ it. IsSo (λ r. (caller : Asker) → IsKnown r caller act.now known → it ≡ slice_of r caller act.now) at (state S.Store conn.old).now.trees) (state S.Store conn.old) (state S.Store conn.new) }
-    ensures mode { conn.old.in_transaction ≡ false → conn.new.in_transaction ≡ false }
+    requires open { IsUsable S.Store conn.old }
+    requires land { HasRegisterTables S.Store conn.old }
+    ensures look { ReadsTables S.Store result
+        (λ db it. IsSo (λ r. (caller : Asker) → IsKnown r caller act.now known
+        → it ≡ slice_of r caller act.now) at db) conn.old conn.new }
+    ensures mode { LeavesAutocommit conn.old conn.new }
 {
     let Known {
         mutations,
@@ -191,10 +200,14 @@ fn slice_about<S: Alter>(
     next: u64,
     at: i64,
 ) -> Result<Slice, ReadFault>
-    requires open { HasCleanDisk (state S.Store conn.old) → IsTrue (state S.Store conn.old).is_open }
-    requires land { HasCleanDisk (state S.Store conn.old) → IsLand (state S.Store conn.old).now.schema }
-    ensures look { IsLook result (λ it. IsSo (λ r. r.next ≡ next → (caller : Asker) → mutations ≡ mutations_looked_at r caller act.now → mandates ≡ only (λ m u. names_mandate caller act.now m) r.mandates → it ≡ slice_of r caller act.now) at (state S.Store conn.old).now.trees) (state S.Store conn.old) (state S.Store conn.new) }
-    ensures mode { conn.old.in_transaction ≡ false → conn.new.in_transaction ≡ false }
+    requires open { IsUsable S.Store conn.old }
+    requires land { HasRegisterTables S.Store conn.old }
+    ensures look { ReadsTables S.Store result
+        (λ db it. IsSo (λ r. r.next ≡ next → (caller : Asker)
+        → mutations ≡ mutations_looked_at r caller act.now
+        → mandates ≡ only (λ m u. names_mandate caller act.now m) r.mandates → it ≡ slice_of r caller act.now)
+        at db) conn.old conn.new }
+    ensures mode { LeavesAutocommit conn.old conn.new }
 {
     let people = people_of(alloc, conn, act, &mutations, at)?;
     let holdings = holdings_of(alloc, conn, act, &mutations, at)?;
@@ -219,10 +232,11 @@ pub fn slice_at<S: Alter>(
     next: u64,
     at: i64,
 ) -> Result<Slice, ReadFault>
-    requires open { HasCleanDisk (state S.Store conn.old) → IsTrue (state S.Store conn.old).is_open }
-    requires land { HasCleanDisk (state S.Store conn.old) → IsLand (state S.Store conn.old).now.schema }
-    ensures look { IsLook result (λ it. IsSo (λ r. r.next ≡ next → it ≡ slice_of r caller act.now) at (state S.Store conn.old).now.trees) (state S.Store conn.old) (state S.Store conn.new) }
-    ensures mode { conn.old.in_transaction ≡ false → conn.new.in_transaction ≡ false }
+    requires open { IsUsable S.Store conn.old }
+    requires land { HasRegisterTables S.Store conn.old }
+    ensures look { ReadsTables S.Store result
+        (λ db it. IsSo (λ r. r.next ≡ next → it ≡ slice_of r caller act.now) at db) conn.old conn.new }
+    ensures mode { LeavesAutocommit conn.old conn.new }
 {
     let mutations = mutations_of(alloc, conn, caller, act, at)?;
     let mandates = mandates_of(alloc, conn, caller, act, at)?;

@@ -1,11 +1,9 @@
 //! Whether an object is shown to a caller at a moment by the caller's interest in a unit, and what is found of it on the way.
-ghost use Rattle.std.specs.Prelude.{◌≡◌, false, IsTrue};
+ghost use Rattle.land_tables_schema.specs.Connections.{HasRegisterTables, IsUsable, LeavesAutocommit};
+ghost use Rattle.land_select_joins.specs.TableReads.{ReadsTables};
+ghost use Rattle.std.specs.Prelude.{false};
 ghost use Rattle.land_rules.specs.Denials.Interests.{is_shown_by_interest};
 ghost use Rattle.land_select.specs.Cache.{IsToldWith};
-ghost use Rattle.land_tables_schema.specs.Land.{IsLand};
-ghost use Rattle.land_tables_schema.specs.Rows.Looks.{IsLook};
-ghost use Rattle.sqlite.specs.Held.{state};
-ghost use Rattle.sqlite.specs.State.{HasCleanDisk};
 
 use crate::cache::CachedValue;
 use crate::verdict::interest::{entry_shown, is_unit_shown};
@@ -27,10 +25,12 @@ pub(crate) fn shown_by_interest<S: Alter>(
     number: u64,
     at: i64,
 ) -> Result<(bool, CachedValue), ReadFault>
-    requires open { HasCleanDisk (state S.Store conn.old) → IsTrue (state S.Store conn.old).is_open }
-    requires land { HasCleanDisk (state S.Store conn.old) → IsLand (state S.Store conn.old).now.schema }
-    ensures look { IsLook result (λ it. IsToldWith (λ r. is_shown_by_interest r caller kind number) caller kind number at (state S.Store conn.old).now.trees it) (state S.Store conn.old) (state S.Store conn.new) }
-    ensures mode { conn.old.in_transaction ≡ false → conn.new.in_transaction ≡ false }
+    requires open { IsUsable S.Store conn.old }
+    requires land { HasRegisterTables S.Store conn.old }
+    ensures look { ReadsTables S.Store result
+        (IsToldWith (λ r. is_shown_by_interest r caller kind number) caller kind number at) conn.old
+        conn.new }
+    ensures mode { LeavesAutocommit conn.old conn.new }
 {
     soundness_by_look_ups();
     match kind {

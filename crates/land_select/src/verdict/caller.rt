@@ -1,5 +1,7 @@
 //! Who may ask, by look-ups.
-ghost use Rattle.std.specs.Prelude.{◌≡◌, false, IsTrue};
+ghost use Rattle.land_tables_schema.specs.Connections.{HasRegisterTables, IsUsable, LeavesAutocommit};
+ghost use Rattle.land_select_joins.specs.TableReads.{ReadsTables};
+ghost use Rattle.std.specs.Prelude.{◌≡◌};
 ghost use Rattle.land_core.specs.Grants.{grant_of, has_grant};
 ghost use Rattle.land_core.specs.Register.{stands};
 ghost use Rattle.land_core.specs.declared.kind.Kind.TheVariants as kinds;
@@ -8,10 +10,6 @@ ghost use Rattle.land_rules.specs.Rules.{first_denial, standing_rules};
 ghost use Rattle.land_select.specs.Verdicts.{evidence_in, record_at, roles_in, somebody};
 ghost use Rattle.land_select.specs.Views.{IsShown};
 ghost use Rattle.land_select_joins.specs.Lookups.Parts.{IsPart};
-ghost use Rattle.land_tables_schema.specs.Land.{IsLand};
-ghost use Rattle.land_tables_schema.specs.Rows.Looks.{IsLook};
-ghost use Rattle.sqlite.specs.Held.{state};
-ghost use Rattle.sqlite.specs.State.{HasCleanDisk};
 
 use land_core::ask::Ask;
 use land_core::caller::Caller;
@@ -51,9 +49,10 @@ fn person<S: Alter>(
     caller: Caller,
     at: i64,
 ) -> Result<(bool, Roles), ReadFault>
-    requires land { HasCleanDisk (state S.Store conn.old) → IsLand (state S.Store conn.old).now.schema }
-    ensures look { IsLook result (λ it. IsShown (λ r. (stands r kinds.Party caller.party, roles_in r caller.party)) at (state S.Store conn.old).now.trees it) (state S.Store conn.old) (state S.Store conn.new) }
-    ensures mode { conn.old.in_transaction ≡ false → conn.new.in_transaction ≡ false }
+    requires land { HasRegisterTables S.Store conn.old }
+    ensures look { ReadsTables S.Store result
+        (IsShown (λ r. (stands r kinds.Party caller.party, roles_in r caller.party)) at) conn.old conn.new }
+    ensures mode { LeavesAutocommit conn.old conn.new }
 {
     soundness_by_look_ups();
     let roles = of_party::roles(alloc, conn, caller.party, at)?;
@@ -71,10 +70,10 @@ fn entry_at<S: Alter>(
     number: Option<u64>,
     at: i64,
 ) -> Result<Option<RrrRecord>, ReadFault>
-    requires open { HasCleanDisk (state S.Store conn.old) → IsTrue (state S.Store conn.old).is_open }
-    requires land { HasCleanDisk (state S.Store conn.old) → IsLand (state S.Store conn.old).now.schema }
-    ensures look { IsLook result (λ it. IsPart (λ r. record_at r.rrrs number) at (state S.Store conn.old).now.trees it) (state S.Store conn.old) (state S.Store conn.new) }
-    ensures mode { conn.old.in_transaction ≡ false → conn.new.in_transaction ≡ false }
+    requires open { IsUsable S.Store conn.old }
+    requires land { HasRegisterTables S.Store conn.old }
+    ensures look { ReadsTables S.Store result (IsPart (λ r. record_at r.rrrs number) at) conn.old conn.new }
+    ensures mode { LeavesAutocommit conn.old conn.new }
 {
     match number {
         Some(number) => by_number::record(alloc, conn, number, at),
@@ -89,10 +88,11 @@ fn mutation_at<S: Alter>(
     number: Option<u64>,
     at: i64,
 ) -> Result<Option<MutationRecord>, ReadFault>
-    requires open { HasCleanDisk (state S.Store conn.old) → IsTrue (state S.Store conn.old).is_open }
-    requires land { HasCleanDisk (state S.Store conn.old) → IsLand (state S.Store conn.old).now.schema }
-    ensures look { IsLook result (λ it. IsPart (λ r. record_at r.mutations number) at (state S.Store conn.old).now.trees it) (state S.Store conn.old) (state S.Store conn.new) }
-    ensures mode { conn.old.in_transaction ≡ false → conn.new.in_transaction ≡ false }
+    requires open { IsUsable S.Store conn.old }
+    requires land { HasRegisterTables S.Store conn.old }
+    ensures look { ReadsTables S.Store result (IsPart (λ r. record_at r.mutations number) at) conn.old
+        conn.new }
+    ensures mode { LeavesAutocommit conn.old conn.new }
 {
     match number {
         Some(number) => by_number::record(alloc, conn, number, at),
@@ -107,11 +107,12 @@ fn named<S: Alter>(
     ask: &Ask,
     at: i64,
 ) -> Result<(Option<RrrRecord>, Option<MutationRecord>), ReadFault>
-    requires open { HasCleanDisk (state S.Store conn.old) → IsTrue (state S.Store conn.old).is_open }
-    requires land { HasCleanDisk (state S.Store conn.old) → IsLand (state S.Store conn.old).now.schema }
-    ensures look { IsLook result (λ it. IsPart (λ r. (record_at r.rrrs (discharged ask.now), record_at r.mutations (decided ask.now))) at (state S.Store conn.old).now.trees it)
-        (state S.Store conn.old) (state S.Store conn.new) }
-    ensures mode { conn.old.in_transaction ≡ false → conn.new.in_transaction ≡ false }
+    requires open { IsUsable S.Store conn.old }
+    requires land { HasRegisterTables S.Store conn.old }
+    ensures look { ReadsTables S.Store result
+        (IsPart (λ r. (record_at r.rrrs (discharged ask.now), record_at r.mutations (decided ask.now))) at)
+        conn.old conn.new }
+    ensures mode { LeavesAutocommit conn.old conn.new }
 {
     let entry = entry_at(alloc, conn, discharged(ask), at)?;
     let mutation = mutation_at(alloc, conn, decided(ask), at)?;
@@ -140,10 +141,11 @@ fn evidence<S: Alter>(
     ask: &Ask,
     at: i64,
 ) -> Result<Register, ReadFault>
-    requires open { HasCleanDisk (state S.Store conn.old) → IsTrue (state S.Store conn.old).is_open }
-    requires land { HasCleanDisk (state S.Store conn.old) → IsLand (state S.Store conn.old).now.schema }
-    ensures look { IsLook result (λ it. IsShown (λ r. evidence_in r caller ask.now) at (state S.Store conn.old).now.trees it) (state S.Store conn.old) (state S.Store conn.new) }
-    ensures mode { conn.old.in_transaction ≡ false → conn.new.in_transaction ≡ false }
+    requires open { IsUsable S.Store conn.old }
+    requires land { HasRegisterTables S.Store conn.old }
+    ensures look { ReadsTables S.Store result (IsShown (λ r. evidence_in r caller ask.now) at) conn.old
+        conn.new }
+    ensures mode { LeavesAutocommit conn.old conn.new }
 {
     soundness_by_look_ups();
     let asking = person(alloc, conn, caller, at)?;
@@ -163,11 +165,11 @@ pub(crate) fn standing<S: Alter>(
     past: bool,
     at: i64,
 ) -> Result<Verdict, ReadFault>
-    requires open { HasCleanDisk (state S.Store conn.old) → IsTrue (state S.Store conn.old).is_open }
-    requires land { HasCleanDisk (state S.Store conn.old) → IsLand (state S.Store conn.old).now.schema }
-    ensures look { IsLook result (λ it. IsShown (λ r. first_denial (standing_rules r caller ask.now past)) at (state S.Store conn.old).now.trees it)
-        (state S.Store conn.old) (state S.Store conn.new) }
-    ensures mode { conn.old.in_transaction ≡ false → conn.new.in_transaction ≡ false }
+    requires open { IsUsable S.Store conn.old }
+    requires land { HasRegisterTables S.Store conn.old }
+    ensures look { ReadsTables S.Store result
+        (IsShown (λ r. first_denial (standing_rules r caller ask.now past)) at) conn.old conn.new }
+    ensures mode { LeavesAutocommit conn.old conn.new }
 {
     evidence_is_enough();
     looked_up_is_enough();

@@ -1,16 +1,14 @@
 //! What a conveyancer awaits at a moment, by look-ups: undecided mutations of its own that name a unit.
+ghost use Rattle.land_tables_schema.specs.Connections.{HasRegisterTables, IsUsable, LeavesAutocommit};
+ghost use Rattle.land_select_joins.specs.TableReads.{ReadsTables};
 ghost use Rattle.std.specs.FinMap as map;
-ghost use Rattle.std.specs.Prelude.{◌≡◌, false, if◌then◌else◌, IsTrue};
+ghost use Rattle.std.specs.Prelude.{false, if◌then◌else◌};
 ghost use Rattle.land_core.specs.declared.kind.Kind.TheVariants as kinds;
 ghost use Rattle.land_rules.specs.Denials.Sight.{is_awaited};
 ghost use Rattle.land_rules.specs.Relations.{is_lodger_on};
 ghost use Rattle.land_select.specs.Cache.{IsToldWith};
 ghost use Rattle.land_select.specs.Views.{awaited_of};
 ghost use Rattle.land_select_joins.specs.Lookups.Parts.{IsPart};
-ghost use Rattle.land_tables_schema.specs.Land.{IsLand};
-ghost use Rattle.land_tables_schema.specs.Rows.Looks.{IsLook};
-ghost use Rattle.sqlite.specs.Held.{state};
-ghost use Rattle.sqlite.specs.State.{HasCleanDisk};
 
 use crate::cache::{CachedValue, cached_object};
 use land_core::caller::Caller;
@@ -34,9 +32,11 @@ pub(crate) fn unit_awaited<S: Alter>(
     unit: u64,
     at: i64,
 ) -> Result<(bool, bool), ReadFault>
-    requires land { HasCleanDisk (state S.Store conn.old) → IsLand (state S.Store conn.old).now.schema }
-    ensures look { IsLook result (λ it. IsPart (λ r. (is_awaited r caller kinds.Unit unit, is_lodger_on r caller.party unit)) at (state S.Store conn.old).now.trees it) (state S.Store conn.old) (state S.Store conn.new) }
-    ensures mode { conn.old.in_transaction ≡ false → conn.new.in_transaction ≡ false }
+    requires land { HasRegisterTables S.Store conn.old }
+    ensures look { ReadsTables S.Store result
+        (IsPart (λ r. (is_awaited r caller kinds.Unit unit, is_lodger_on r caller.party unit)) at) conn.old
+        conn.new }
+    ensures mode { LeavesAutocommit conn.old conn.new }
 {
     if !is_lodger_on(alloc, conn, caller.party, unit, at)? {
         return Ok((false, false));
@@ -53,9 +53,10 @@ fn is_unit_awaited<S: Alter>(
     unit: u64,
     at: i64,
 ) -> Result<bool, ReadFault>
-    requires land { HasCleanDisk (state S.Store conn.old) → IsLand (state S.Store conn.old).now.schema }
-    ensures look { IsLook result (λ it. IsPart (λ r. is_awaited r caller kinds.Unit unit) at (state S.Store conn.old).now.trees it) (state S.Store conn.old) (state S.Store conn.new) }
-    ensures mode { conn.old.in_transaction ≡ false → conn.new.in_transaction ≡ false }
+    requires land { HasRegisterTables S.Store conn.old }
+    ensures look { ReadsTables S.Store result (IsPart (λ r. is_awaited r caller kinds.Unit unit) at) conn.old
+        conn.new }
+    ensures mode { LeavesAutocommit conn.old conn.new }
 {
     let told = unit_awaited(alloc, conn, caller, unit, at)?;
     let (awaited, _) = told;
@@ -70,9 +71,11 @@ fn entry_awaited<S: Alter>(
     number: u64,
     at: i64,
 ) -> Result<(bool, CachedValue), ReadFault>
-    requires land { HasCleanDisk (state S.Store conn.old) → IsLand (state S.Store conn.old).now.schema }
-    ensures look { IsLook result (λ it. IsToldWith (λ r. is_awaited r caller kinds.Rrr number) caller kinds.Rrr number at (state S.Store conn.old).now.trees it) (state S.Store conn.old) (state S.Store conn.new) }
-    ensures mode { conn.old.in_transaction ≡ false → conn.new.in_transaction ≡ false }
+    requires land { HasRegisterTables S.Store conn.old }
+    ensures look { ReadsTables S.Store result
+        (IsToldWith (λ r. is_awaited r caller kinds.Rrr number) caller kinds.Rrr number at) conn.old
+        conn.new }
+    ensures mode { LeavesAutocommit conn.old conn.new }
 {
     soundness_by_look_ups();
     let found = by_number::record::<RrrRecord, S>(alloc, conn, number, at)?;
@@ -98,10 +101,11 @@ pub(crate) fn awaited<S: Alter>(
     number: u64,
     at: i64,
 ) -> Result<(bool, CachedValue), ReadFault>
-    requires open { HasCleanDisk (state S.Store conn.old) → IsTrue (state S.Store conn.old).is_open }
-    requires land { HasCleanDisk (state S.Store conn.old) → IsLand (state S.Store conn.old).now.schema }
-    ensures look { IsLook result (λ it. IsToldWith (λ r. is_awaited r caller kind number) caller kind number at (state S.Store conn.old).now.trees it) (state S.Store conn.old) (state S.Store conn.new) }
-    ensures mode { conn.old.in_transaction ≡ false → conn.new.in_transaction ≡ false }
+    requires open { IsUsable S.Store conn.old }
+    requires land { HasRegisterTables S.Store conn.old }
+    ensures look { ReadsTables S.Store result
+        (IsToldWith (λ r. is_awaited r caller kind number) caller kind number at) conn.old conn.new }
+    ensures mode { LeavesAutocommit conn.old conn.new }
 {
     soundness_by_look_ups();
     match kind {
@@ -126,9 +130,10 @@ pub(crate) fn awaited_of<S: Alter>(
     entries: Records<RrrRecord>,
     at: i64,
 ) -> Result<Records<RrrRecord>, ReadFault>
-    requires land { HasCleanDisk (state S.Store conn.old) → IsLand (state S.Store conn.old).now.schema }
-    ensures look { IsLook result (λ it. IsPart (λ r. awaited_of r party unit entries) at (state S.Store conn.old).now.trees it) (state S.Store conn.old) (state S.Store conn.new) }
-    ensures mode { conn.old.in_transaction ≡ false → conn.new.in_transaction ≡ false }
+    requires land { HasRegisterTables S.Store conn.old }
+    ensures look { ReadsTables S.Store result (IsPart (λ r. awaited_of r party unit entries) at) conn.old
+        conn.new }
+    ensures mode { LeavesAutocommit conn.old conn.new }
 {
     if is_lodger_on(alloc, conn, party, unit, at)? {
         return Ok(entries);

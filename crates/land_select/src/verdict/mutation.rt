@@ -1,14 +1,12 @@
 //! Whether a mutation is shown to a caller at a moment by the caller's interest in a unit that the mutation names, by look-ups.
+ghost use Rattle.land_tables_schema.specs.Connections.{HasRegisterTables, IsUsable, LeavesAutocommit};
+ghost use Rattle.land_select_joins.specs.TableReads.{ReadsTables};
 ghost use Rattle.std.specs.List.{list_any};
-ghost use Rattle.std.specs.Prelude.{◌≡◌, ◌||◌, false, IsTrue};
+ghost use Rattle.std.specs.Prelude.{◌||◌, false};
 ghost use Rattle.land_core.specs.declared.kind.Kind.TheVariants as kinds;
 ghost use Rattle.land_rules.specs.Denials.Interests.{interest_at, is_shown_by_interest, names_shown, shows_unit};
 ghost use Rattle.land_select.specs.Cache.{IsToldWith};
 ghost use Rattle.land_select_joins.specs.Lookups.Parts.{IsPart};
-ghost use Rattle.land_tables_schema.specs.Land.{IsLand};
-ghost use Rattle.land_tables_schema.specs.Rows.Looks.{IsLook};
-ghost use Rattle.sqlite.specs.Held.{state};
-ghost use Rattle.sqlite.specs.State.{HasCleanDisk};
 
 use crate::cache::{CachedValue, cached_object};
 use crate::verdict::interest::is_unit_shown;
@@ -31,10 +29,12 @@ fn is_one_shown<S: Alter>(
     units: &[u64],
     at: i64,
 ) -> Result<bool, ReadFault>
-    requires open { HasCleanDisk (state S.Store conn.old) → IsTrue (state S.Store conn.old).is_open }
-    requires land { HasCleanDisk (state S.Store conn.old) → IsLand (state S.Store conn.old).now.schema }
-    ensures look { IsLook result (λ it. IsPart (λ r. list_any (λ unit. shows_unit (interest_at r caller unit)) units.now) at (state S.Store conn.old).now.trees it) (state S.Store conn.old) (state S.Store conn.new) }
-    ensures mode { conn.old.in_transaction ≡ false → conn.new.in_transaction ≡ false }
+    requires open { IsUsable S.Store conn.old }
+    requires land { HasRegisterTables S.Store conn.old }
+    ensures look { ReadsTables S.Store result
+        (IsPart (λ r. list_any (λ unit. shows_unit (interest_at r caller unit)) units.now) at) conn.old
+        conn.new }
+    ensures mode { LeavesAutocommit conn.old conn.new }
 {
     for unit in units {
         if is_unit_shown(alloc, conn, caller, *unit, at)? {
@@ -52,11 +52,13 @@ fn is_merger_shown<S: Alter>(
     merger: &Merger,
     at: i64,
 ) -> Result<bool, ReadFault>
-    requires open { HasCleanDisk (state S.Store conn.old) → IsTrue (state S.Store conn.old).is_open }
-    requires land { HasCleanDisk (state S.Store conn.old) → IsLand (state S.Store conn.old).now.schema }
-    ensures look { IsLook result (λ it. IsPart (λ r. shows_unit (interest_at r caller merger.now.unit) || list_any (λ unit. shows_unit (interest_at r caller unit)) merger.now.others) at (state S.Store conn.old).now.trees it)
-        (state S.Store conn.old) (state S.Store conn.new) }
-    ensures mode { conn.old.in_transaction ≡ false → conn.new.in_transaction ≡ false }
+    requires open { IsUsable S.Store conn.old }
+    requires land { HasRegisterTables S.Store conn.old }
+    ensures look { ReadsTables S.Store result
+        (IsPart (λ r. shows_unit (interest_at r caller merger.now.unit)
+        || list_any (λ unit. shows_unit (interest_at r caller unit)) merger.now.others) at) conn.old
+        conn.new }
+    ensures mode { LeavesAutocommit conn.old conn.new }
 {
     if is_unit_shown(alloc, conn, caller, merger.unit, at)? {
         return Ok(true);
@@ -72,10 +74,11 @@ fn names_shown<S: Alter>(
     mutation: &MutationRecord,
     at: i64,
 ) -> Result<bool, ReadFault>
-    requires open { HasCleanDisk (state S.Store conn.old) → IsTrue (state S.Store conn.old).is_open }
-    requires land { HasCleanDisk (state S.Store conn.old) → IsLand (state S.Store conn.old).now.schema }
-    ensures look { IsLook result (λ it. IsPart (λ r. names_shown r caller mutation.now) at (state S.Store conn.old).now.trees it) (state S.Store conn.old) (state S.Store conn.new) }
-    ensures mode { conn.old.in_transaction ≡ false → conn.new.in_transaction ≡ false }
+    requires open { IsUsable S.Store conn.old }
+    requires land { HasRegisterTables S.Store conn.old }
+    ensures look { ReadsTables S.Store result (IsPart (λ r. names_shown r caller mutation.now) at) conn.old
+        conn.new }
+    ensures mode { LeavesAutocommit conn.old conn.new }
 {
     match &mutation.content {
         Content::Transfer(it) => is_unit_shown(alloc, conn, caller, it.unit, at),
@@ -95,10 +98,12 @@ pub(crate) fn mutation_shown<S: Alter>(
     number: u64,
     at: i64,
 ) -> Result<(bool, CachedValue), ReadFault>
-    requires open { HasCleanDisk (state S.Store conn.old) → IsTrue (state S.Store conn.old).is_open }
-    requires land { HasCleanDisk (state S.Store conn.old) → IsLand (state S.Store conn.old).now.schema }
-    ensures look { IsLook result (λ it. IsToldWith (λ r. is_shown_by_interest r caller kinds.Mutation number) caller kinds.Mutation number at (state S.Store conn.old).now.trees it) (state S.Store conn.old) (state S.Store conn.new) }
-    ensures mode { conn.old.in_transaction ≡ false → conn.new.in_transaction ≡ false }
+    requires open { IsUsable S.Store conn.old }
+    requires land { HasRegisterTables S.Store conn.old }
+    ensures look { ReadsTables S.Store result
+        (IsToldWith (λ r. is_shown_by_interest r caller kinds.Mutation number) caller kinds.Mutation number
+        at) conn.old conn.new }
+    ensures mode { LeavesAutocommit conn.old conn.new }
 {
     soundness_by_look_ups();
     let found = by_number::record(alloc, conn, number, at)?;

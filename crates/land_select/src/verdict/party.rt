@@ -1,16 +1,14 @@
 //! Whether a party is in the sight of a caller that is not shown all of them, by look-ups, and what is found of it on the way.
+ghost use Rattle.land_tables_schema.specs.Connections.{HasRegisterTables, IsUsable, LeavesAutocommit};
+ghost use Rattle.land_select_joins.specs.TableReads.{ReadsTables};
 ghost use Rattle.std.specs.List.{list_any};
-ghost use Rattle.std.specs.Prelude.{◌≡◌, false, nat_eq, IsTrue, Some};
+ghost use Rattle.std.specs.Prelude.{◌≡◌, false, nat_eq, Some};
 ghost use Rattle.land_core.specs.declared.kind.Kind.TheVariants as kinds;
 ghost use Rattle.land_rules.specs.Denials.Sight.{sees_all};
 ghost use Rattle.land_rules.specs.Rules.{sees};
 ghost use Rattle.land_select.specs.Cache.{IsToldWith};
 ghost use Rattle.land_select.specs.Parties.{AreOtherNames, AreOwnNamesAt, relation_of};
 ghost use Rattle.land_select.specs.Views.{IsShown, IsShownGiven};
-ghost use Rattle.land_tables_schema.specs.Land.{IsLand};
-ghost use Rattle.land_tables_schema.specs.Rows.Looks.{IsLook};
-ghost use Rattle.sqlite.specs.Held.{state};
-ghost use Rattle.sqlite.specs.State.{HasCleanDisk};
 
 use crate::cache::CachedValue;
 use crate::verdict::interest::{is_citizen, names_of};
@@ -55,10 +53,10 @@ fn own_names<S: Alter>(
     caller: Caller,
     at: i64,
 ) -> Result<NumberList, ReadFault>
-    requires open { HasCleanDisk (state S.Store conn.old) → IsTrue (state S.Store conn.old).is_open }
-    requires land { HasCleanDisk (state S.Store conn.old) → IsLand (state S.Store conn.old).now.schema }
-    ensures look { IsLook result (λ it. AreOwnNamesAt caller at (state S.Store conn.old).now.trees it) (state S.Store conn.old) (state S.Store conn.new) }
-    ensures mode { conn.old.in_transaction ≡ false → conn.new.in_transaction ≡ false }
+    requires open { IsUsable S.Store conn.old }
+    requires land { HasRegisterTables S.Store conn.old }
+    ensures look { ReadsTables S.Store result (AreOwnNamesAt caller at) conn.old conn.new }
+    ensures mode { LeavesAutocommit conn.old conn.new }
 {
     if is_citizen(caller.role) {
         return names_of(alloc, conn, caller, at);
@@ -74,10 +72,11 @@ fn is_in_list<S: Alter>(
     number: u64,
     at: i64,
 ) -> Result<bool, ReadFault>
-    requires open { HasCleanDisk (state S.Store conn.old) → IsTrue (state S.Store conn.old).is_open }
-    requires land { HasCleanDisk (state S.Store conn.old) → IsLand (state S.Store conn.old).now.schema }
-    ensures look { IsLook result (λ it. IsShown (λ r. sees r caller kinds.Party number) at (state S.Store conn.old).now.trees it) (state S.Store conn.old) (state S.Store conn.new) }
-    ensures mode { conn.old.in_transaction ≡ false → conn.new.in_transaction ≡ false }
+    requires open { IsUsable S.Store conn.old }
+    requires land { HasRegisterTables S.Store conn.old }
+    ensures look { ReadsTables S.Store result (IsShown (λ r. sees r caller kinds.Party number) at) conn.old
+        conn.new }
+    ensures mode { LeavesAutocommit conn.old conn.new }
 {
     seen_is_exact();
     let listed = sight(alloc, conn, caller, Kind::Party, at)?;
@@ -98,10 +97,12 @@ fn is_told_by<S: Alter>(
 ) -> Result<bool, ReadFault>
     requires role { sees_all caller.role kinds.Party ≡ false }
     requires by { relation_of caller.role ≡ Some relation }
-    requires open { HasCleanDisk (state S.Store conn.old) → IsTrue (state S.Store conn.old).is_open }
-    requires land { HasCleanDisk (state S.Store conn.old) → IsLand (state S.Store conn.old).now.schema }
-    ensures look { IsLook result (λ it. IsShownGiven (AreOtherNames caller names.now number) (λ r. sees r caller kinds.Party number) at (state S.Store conn.old).now.trees it) (state S.Store conn.old) (state S.Store conn.new) }
-    ensures mode { conn.old.in_transaction ≡ false → conn.new.in_transaction ≡ false }
+    requires open { IsUsable S.Store conn.old }
+    requires land { HasRegisterTables S.Store conn.old }
+    ensures look { ReadsTables S.Store result
+        (IsShownGiven (AreOtherNames caller names.now number) (λ r. sees r caller kinds.Party number) at)
+        conn.old conn.new }
+    ensures mode { LeavesAutocommit conn.old conn.new }
 {
     seen_is_exact();
     circles_see_together();
@@ -123,10 +124,12 @@ fn is_told<S: Alter>(
     at: i64,
 ) -> Result<bool, ReadFault>
     requires role { sees_all caller.role kinds.Party ≡ false }
-    requires open { HasCleanDisk (state S.Store conn.old) → IsTrue (state S.Store conn.old).is_open }
-    requires land { HasCleanDisk (state S.Store conn.old) → IsLand (state S.Store conn.old).now.schema }
-    ensures look { IsLook result (λ it. IsShownGiven (AreOtherNames caller names.now number) (λ r. sees r caller kinds.Party number) at (state S.Store conn.old).now.trees it) (state S.Store conn.old) (state S.Store conn.new) }
-    ensures mode { conn.old.in_transaction ≡ false → conn.new.in_transaction ≡ false }
+    requires open { IsUsable S.Store conn.old }
+    requires land { HasRegisterTables S.Store conn.old }
+    ensures look { ReadsTables S.Store result
+        (IsShownGiven (AreOtherNames caller names.now number) (λ r. sees r caller kinds.Party number) at)
+        conn.old conn.new }
+    ensures mode { LeavesAutocommit conn.old conn.new }
 {
     seen_is_exact();
     circles_see_together();
@@ -147,10 +150,11 @@ pub(crate) fn party_in_sight<S: Alter>(
     at: i64,
 ) -> Result<(bool, CachedValue), ReadFault>
     requires role { sees_all caller.role kinds.Party ≡ false }
-    requires open { HasCleanDisk (state S.Store conn.old) → IsTrue (state S.Store conn.old).is_open }
-    requires land { HasCleanDisk (state S.Store conn.old) → IsLand (state S.Store conn.old).now.schema }
-    ensures look { IsLook result (λ it. IsToldWith (λ r. sees r caller kinds.Party number) caller kinds.Party number at (state S.Store conn.old).now.trees it) (state S.Store conn.old) (state S.Store conn.new) }
-    ensures mode { conn.old.in_transaction ≡ false → conn.new.in_transaction ≡ false }
+    requires open { IsUsable S.Store conn.old }
+    requires land { HasRegisterTables S.Store conn.old }
+    ensures look { ReadsTables S.Store result
+        (IsToldWith (λ r. sees r caller kinds.Party number) caller kinds.Party number at) conn.old conn.new }
+    ensures mode { LeavesAutocommit conn.old conn.new }
 {
     seen_is_exact();
     circles_see_together();

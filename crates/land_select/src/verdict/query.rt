@@ -1,11 +1,8 @@
 //! The verdict on what is asked, by look-ups and joins, and what is found on the way.
-ghost use Rattle.std.specs.Prelude.{◌≡◌, false, IsTrue};
+ghost use Rattle.land_tables_schema.specs.Connections.{HasRegisterTables, IsUsable, LeavesAutocommit};
+ghost use Rattle.land_select_joins.specs.TableReads.{ReadsTables};
 ghost use Rattle.land_select.specs.Cache.{IsSightedWith};
 ghost use Rattle.land_select.specs.Verdicts.{IsVerdictWith};
-ghost use Rattle.land_tables_schema.specs.Land.{IsLand};
-ghost use Rattle.land_tables_schema.specs.Rows.Looks.{IsLook};
-ghost use Rattle.sqlite.specs.Held.{state};
-ghost use Rattle.sqlite.specs.State.{HasCleanDisk};
 
 use crate::cache::CachedValue;
 use crate::query::Query;
@@ -28,10 +25,10 @@ fn sighted<S: Alter>(
     ask: &Ask,
     at: i64,
 ) -> Result<(Verdict, CachedValue), ReadFault>
-    requires open { HasCleanDisk (state S.Store conn.old) → IsTrue (state S.Store conn.old).is_open }
-    requires land { HasCleanDisk (state S.Store conn.old) → IsLand (state S.Store conn.old).now.schema }
-    ensures look { IsLook result (λ it. IsSightedWith caller ask.now at (state S.Store conn.old).now.trees it) (state S.Store conn.old) (state S.Store conn.new) }
-    ensures mode { conn.old.in_transaction ≡ false → conn.new.in_transaction ≡ false }
+    requires open { IsUsable S.Store conn.old }
+    requires land { HasRegisterTables S.Store conn.old }
+    ensures look { ReadsTables S.Store result (IsSightedWith caller ask.now at) conn.old conn.new }
+    ensures mode { LeavesAutocommit conn.old conn.new }
 {
     match ask {
         Ask::View { kind, number, .. } => viewing(alloc, conn, caller, *kind, *number, at),
@@ -49,10 +46,10 @@ fn judged<S: Alter>(
     past: bool,
     at: i64,
 ) -> Result<(Verdict, CachedValue), ReadFault>
-    requires open { HasCleanDisk (state S.Store conn.old) → IsTrue (state S.Store conn.old).is_open }
-    requires land { HasCleanDisk (state S.Store conn.old) → IsLand (state S.Store conn.old).now.schema }
-    ensures look { IsLook result (λ it. IsVerdictWith caller ask.now past at (state S.Store conn.old).now.trees it) (state S.Store conn.old) (state S.Store conn.new) }
-    ensures mode { conn.old.in_transaction ≡ false → conn.new.in_transaction ≡ false }
+    requires open { IsUsable S.Store conn.old }
+    requires land { HasRegisterTables S.Store conn.old }
+    ensures look { ReadsTables S.Store result (IsVerdictWith caller ask.now past at) conn.old conn.new }
+    ensures mode { LeavesAutocommit conn.old conn.new }
 {
     let first = standing(alloc, conn, caller, ask, past, LAST_MOMENT)?;
     match first {

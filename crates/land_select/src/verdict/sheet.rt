@@ -1,14 +1,12 @@
 //! The verdict on the title sheet of a unit, by look-ups, and what is found of the unit on the way.
-ghost use Rattle.std.specs.Prelude.{◌≡◌, false, true, IsTrue};
+ghost use Rattle.land_tables_schema.specs.Connections.{HasRegisterTables, IsUsable, LeavesAutocommit};
+ghost use Rattle.land_select_joins.specs.TableReads.{ReadsTables};
+ghost use Rattle.std.specs.Prelude.{◌≡◌, false, true};
 ghost use Rattle.land_core.specs.declared.kind.Kind.TheVariants as kinds;
 ghost use Rattle.land_rules.specs.Denials.Interests.{sees_by_interest};
 ghost use Rattle.land_rules.specs.Denials.Sight.{is_unit_of_conveyancer};
 ghost use Rattle.land_rules.specs.Rules.{first_denial, view_rules};
 ghost use Rattle.land_select.specs.Cache.{IsToldWith};
-ghost use Rattle.land_tables_schema.specs.Land.{IsLand};
-ghost use Rattle.land_tables_schema.specs.Rows.Looks.{IsLook};
-ghost use Rattle.sqlite.specs.Held.{state};
-ghost use Rattle.sqlite.specs.State.{HasCleanDisk};
 
 use crate::cache::CachedValue;
 use crate::verdict::conveyancer::unit_awaited;
@@ -37,9 +35,11 @@ fn awaited_sheet<S: Alter>(
     at: i64,
 ) -> Result<(Verdict, CachedValue), ReadFault>
     requires role { is_unit_of_conveyancer caller.role kinds.Unit ≡ true }
-    requires land { HasCleanDisk (state S.Store conn.old) → IsLand (state S.Store conn.old).now.schema }
-    ensures look { IsLook result (λ it. IsToldWith (λ r. first_denial (view_rules r caller kinds.Unit unit)) caller kinds.Unit unit at (state S.Store conn.old).now.trees it) (state S.Store conn.old) (state S.Store conn.new) }
-    ensures mode { conn.old.in_transaction ≡ false → conn.new.in_transaction ≡ false }
+    requires land { HasRegisterTables S.Store conn.old }
+    ensures look { ReadsTables S.Store result
+        (IsToldWith (λ r. first_denial (view_rules r caller kinds.Unit unit)) caller kinds.Unit unit at)
+        conn.old conn.new }
+    ensures mode { LeavesAutocommit conn.old conn.new }
 {
     soundness_by_look_ups();
     sight_tells_verdicts();
@@ -64,10 +64,12 @@ fn sheet_by_interest<S: Alter>(
 ) -> Result<(Verdict, CachedValue), ReadFault>
     requires role { sees_by_interest caller.role kinds.Unit ≡ true }
     requires other { is_unit_of_conveyancer caller.role kinds.Unit ≡ false }
-    requires open { HasCleanDisk (state S.Store conn.old) → IsTrue (state S.Store conn.old).is_open }
-    requires land { HasCleanDisk (state S.Store conn.old) → IsLand (state S.Store conn.old).now.schema }
-    ensures look { IsLook result (λ it. IsToldWith (λ r. first_denial (view_rules r caller kinds.Unit unit)) caller kinds.Unit unit at (state S.Store conn.old).now.trees it) (state S.Store conn.old) (state S.Store conn.new) }
-    ensures mode { conn.old.in_transaction ≡ false → conn.new.in_transaction ≡ false }
+    requires open { IsUsable S.Store conn.old }
+    requires land { HasRegisterTables S.Store conn.old }
+    ensures look { ReadsTables S.Store result
+        (IsToldWith (λ r. first_denial (view_rules r caller kinds.Unit unit)) caller kinds.Unit unit at)
+        conn.old conn.new }
+    ensures mode { LeavesAutocommit conn.old conn.new }
 {
     sight_tells_verdicts();
     interests_tell_sight();
@@ -86,10 +88,12 @@ pub(crate) fn sheet<S: Alter>(
     unit: u64,
     at: i64,
 ) -> Result<(Verdict, CachedValue), ReadFault>
-    requires open { HasCleanDisk (state S.Store conn.old) → IsTrue (state S.Store conn.old).is_open }
-    requires land { HasCleanDisk (state S.Store conn.old) → IsLand (state S.Store conn.old).now.schema }
-    ensures look { IsLook result (λ it. IsToldWith (λ r. first_denial (view_rules r caller kinds.Unit unit)) caller kinds.Unit unit at (state S.Store conn.old).now.trees it) (state S.Store conn.old) (state S.Store conn.new) }
-    ensures mode { conn.old.in_transaction ≡ false → conn.new.in_transaction ≡ false }
+    requires open { IsUsable S.Store conn.old }
+    requires land { HasRegisterTables S.Store conn.old }
+    ensures look { ReadsTables S.Store result
+        (IsToldWith (λ r. first_denial (view_rules r caller kinds.Unit unit)) caller kinds.Unit unit at)
+        conn.old conn.new }
+    ensures mode { LeavesAutocommit conn.old conn.new }
 {
     if is_unit_of_conveyancer(caller.role, Kind::Unit) {
         return awaited_sheet(alloc, conn, caller, unit, at);

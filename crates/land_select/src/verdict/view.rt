@@ -1,5 +1,7 @@
 //! Whether an object is in a caller's sight, and the verdict on its view, by look-ups and joins.
-ghost use Rattle.std.specs.Prelude.{◌≡◌, false, IsTrue};
+ghost use Rattle.land_tables_schema.specs.Connections.{HasRegisterTables, IsUsable, LeavesAutocommit};
+ghost use Rattle.land_select_joins.specs.TableReads.{ReadsTables};
+ghost use Rattle.std.specs.Prelude.{false};
 ghost use Rattle.land_core.specs.Register.{stands};
 ghost use Rattle.land_core.specs.declared.kind.Kind.TheVariants as kinds;
 ghost use Rattle.land_rules.specs.Denials.Sight.{is_awaited, told_by};
@@ -7,10 +9,6 @@ ghost use Rattle.land_rules.specs.Relations.{is_lodger_on};
 ghost use Rattle.land_rules.specs.Rules.{first_denial, sees, view_rules};
 ghost use Rattle.land_select.specs.Cache.{IsToldWith};
 ghost use Rattle.land_select_joins.specs.Lookups.Parts.{IsPart};
-ghost use Rattle.land_tables_schema.specs.Land.{IsLand};
-ghost use Rattle.land_tables_schema.specs.Rows.Looks.{IsLook};
-ghost use Rattle.sqlite.specs.Held.{state};
-ghost use Rattle.sqlite.specs.State.{HasCleanDisk};
 
 use crate::cache::{CachedValue, cached_object};
 use crate::verdict::by_interest::shown_by_interest;
@@ -46,9 +44,10 @@ pub(crate) fn standing_object<S: Alter>(
     number: u64,
     at: i64,
 ) -> Result<(bool, CachedValue), ReadFault>
-    requires land { HasCleanDisk (state S.Store conn.old) → IsLand (state S.Store conn.old).now.schema }
-    ensures look { IsLook result (λ it. IsToldWith (λ r. stands r kind number) caller kind number at (state S.Store conn.old).now.trees it) (state S.Store conn.old) (state S.Store conn.new) }
-    ensures mode { conn.old.in_transaction ≡ false → conn.new.in_transaction ≡ false }
+    requires land { HasRegisterTables S.Store conn.old }
+    ensures look { ReadsTables S.Store result (IsToldWith (λ r. stands r kind number) caller kind number at)
+        conn.old conn.new }
+    ensures mode { LeavesAutocommit conn.old conn.new }
 {
     soundness_by_look_ups();
     let found = object(alloc, conn, kind, number, at)?;
@@ -67,10 +66,11 @@ fn in_sight<S: Alter>(
     number: u64,
     at: i64,
 ) -> Result<(bool, CachedValue), ReadFault>
-    requires open { HasCleanDisk (state S.Store conn.old) → IsTrue (state S.Store conn.old).is_open }
-    requires land { HasCleanDisk (state S.Store conn.old) → IsLand (state S.Store conn.old).now.schema }
-    ensures look { IsLook result (λ it. IsToldWith (λ r. sees r caller kind number) caller kind number at (state S.Store conn.old).now.trees it) (state S.Store conn.old) (state S.Store conn.new) }
-    ensures mode { conn.old.in_transaction ≡ false → conn.new.in_transaction ≡ false }
+    requires open { IsUsable S.Store conn.old }
+    requires land { HasRegisterTables S.Store conn.old }
+    ensures look { ReadsTables S.Store result
+        (IsToldWith (λ r. sees r caller kind number) caller kind number at) conn.old conn.new }
+    ensures mode { LeavesAutocommit conn.old conn.new }
 {
     seen_is_exact();
     soundness_by_look_ups();
@@ -107,10 +107,11 @@ fn unit_verdict<S: Alter>(
     unit: u64,
     at: i64,
 ) -> Result<Verdict, ReadFault>
-    requires land { HasCleanDisk (state S.Store conn.old) → IsLand (state S.Store conn.old).now.schema }
-    ensures look { IsLook result (λ it. IsPart (λ r. told_by (is_awaited r caller kinds.Unit unit) (is_lodger_on r caller.party unit) caller kinds.Unit unit) at (state S.Store conn.old).now.trees it)
-        (state S.Store conn.old) (state S.Store conn.new) }
-    ensures mode { conn.old.in_transaction ≡ false → conn.new.in_transaction ≡ false }
+    requires land { HasRegisterTables S.Store conn.old }
+    ensures look { ReadsTables S.Store result
+        (IsPart (λ r. told_by (is_awaited r caller kinds.Unit unit) (is_lodger_on r caller.party unit) caller
+        kinds.Unit unit) at) conn.old conn.new }
+    ensures mode { LeavesAutocommit conn.old conn.new }
 {
     let told = unit_awaited(alloc, conn, caller, unit, at)?;
     let (in_sight, awaited) = told;
@@ -126,10 +127,12 @@ pub(crate) fn viewing<S: Alter>(
     number: u64,
     at: i64,
 ) -> Result<(Verdict, CachedValue), ReadFault>
-    requires open { HasCleanDisk (state S.Store conn.old) → IsTrue (state S.Store conn.old).is_open }
-    requires land { HasCleanDisk (state S.Store conn.old) → IsLand (state S.Store conn.old).now.schema }
-    ensures look { IsLook result (λ it. IsToldWith (λ r. first_denial (view_rules r caller kind number)) caller kind number at (state S.Store conn.old).now.trees it) (state S.Store conn.old) (state S.Store conn.new) }
-    ensures mode { conn.old.in_transaction ≡ false → conn.new.in_transaction ≡ false }
+    requires open { IsUsable S.Store conn.old }
+    requires land { HasRegisterTables S.Store conn.old }
+    ensures look { ReadsTables S.Store result
+        (IsToldWith (λ r. first_denial (view_rules r caller kind number)) caller kind number at) conn.old
+        conn.new }
+    ensures mode { LeavesAutocommit conn.old conn.new }
 {
     soundness_by_look_ups();
     sight_tells_verdicts();

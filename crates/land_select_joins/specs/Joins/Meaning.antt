@@ -35,13 +35,18 @@ pub record AreNumberRows (rows : List Row) (Wanted : ℕ → Type 0) : Type 0 wh
 
 -- Over the tables of a register with these indexes and these rows, each answer of a text for a caller and a moment has the wanted numbers
 -- and no others, in whatever order; and there is an answer.
-pub record GivesNumbers (text : List ℕ) (indexes : List Index) (db : Trees) (caller : ℕ) (t : ℤ) (Wanted : ℕ → Type 0) : Type 0 where
-  pub each : (rows : List Row) → Reads (command_in (understood (land_with indexes) text)) (record { schema = land_with indexes; trees = db }) (given caller t) rows → AreNumberRows rows Wanted
+pub record GivesNumbers (text : List ℕ) (indexes : List Index) (db : Trees) (caller : ℕ) (t : ℤ)
+    (Wanted : ℕ → Type 0) : Type 0 where
+  pub each : (rows : List Row) → Reads (command_in (understood (land_with indexes) text))
+      (record { schema = land_with indexes; trees = db }) (given caller t) rows → AreNumberRows rows Wanted
   pub rows : List Row
-  pub answer : Reads (command_in (understood (land_with indexes) text)) (record { schema = land_with indexes; trees = db }) (given caller t) rows
+  pub answer : Reads (command_in (understood (land_with indexes) text))
+      (record { schema = land_with indexes; trees = db }) (given caller t) rows
 
 -- Where the tables hold a history, the text of a selection gives the numbers that the selection gives, and no others, whatever indexes there
 -- are.
 abbrev pub TextsSelect : Type 0
-TextsSelect = (s : Selection) (indexes : List Index) (db : Trees) (moments : List Moment) (history : History) (caller : ℕ) (t : ℤ)
-    → HoldsHistory db moments history → GivesNumbers (text_of s) indexes db caller t (selects s t history caller)
+TextsSelect = (s : Selection) (indexes : List Index) (db : Trees) (moments : List Moment) (history : History)
+    (caller : ℕ) (t : ℤ)
+    → HoldsHistory db moments history → GivesNumbers (text_of s) indexes db caller t
+    (selects s t history caller)

@@ -85,7 +85,8 @@ AreRowsOf l number t db rows = AreRows (listing_of l) (is_meant l number) t db r
 
 -- the rows of what a party lodged under a reference
 abbrev pub AreRowsLodgedAs : (lodger : ℕ) → (reference : List ℕ) → (t : ℤ) → Trees → List Row → Type 0
-AreRowsLodgedAs lodger reference t db rows = AreRows mutations (λ mutation. is_lodged_as lodger reference mutation.1) t db rows
+AreRowsLodgedAs lodger reference t db rows =
+    AreRows mutations (λ mutation. is_lodged_as lodger reference mutation.1) t db rows
 
 -- this is what rows of some kind say
 abbrev pub AreSaid : {X : Type 0} → (Row → Result X WireFault) → (List Row → Type 0) → List X → Type 0
@@ -93,16 +94,20 @@ AreSaid said Are xs = (rows : List Row) × Are rows × (each_of said rows ≡ Ok
 
 -- a fault that says that rows cannot be read is right: such rows say nothing
 abbrev pub CannotSay : {X : Type 0} → (Row → Result X WireFault) → (List Row → Type 0) → ReadFault → Type 0
-CannotSay {X} said Are fault = fault ≡ Unreadable → (rows : List Row) × Are rows × ((xs : List X) → each_of said rows ≢ Ok xs)
+CannotSay {X} said Are fault = fault ≡ Unreadable → (rows : List Row) × Are rows
+    × ((xs : List X) → each_of said rows ≢ Ok xs)
 
 -- the same of the rows of what is looked for by a number
-abbrev pub AreSaidOf : {X : Type 0} → (Row → Result X WireFault) → LookUp → (number : ℕ) → (t : ℤ) → Trees → List X → Type 0
+abbrev pub AreSaidOf : {X : Type 0} → (Row → Result X WireFault) → LookUp → (number : ℕ) → (t : ℤ) → Trees
+    → List X → Type 0
 AreSaidOf said l number t db xs = AreSaid said (AreRowsOf l number t db) xs
 
-abbrev pub CannotBeSaid : {X : Type 0} → (Row → Result X WireFault) → LookUp → (number : ℕ) → (t : ℤ) → Trees → ReadFault → Type 0
+abbrev pub CannotBeSaid : {X : Type 0} → (Row → Result X WireFault) → LookUp → (number : ℕ) → (t : ℤ) → Trees
+    → ReadFault → Type 0
 CannotBeSaid said l number t db fault = CannotSay said (AreRowsOf l number t db) fault
 
 -- the record of one of some versions, none where there are none
 abbrev pub IsOneOf : {V : Type 0} → List (Version (ℕ × V)) → Option V → Type 0
 IsOneOf versions None = versions ≡ []
-IsOneOf {V} versions (Some value) = (version : Version (ℕ × V)) × Contains versions version × (version.what.1 ≡ value)
+IsOneOf {V} versions (Some value) =
+    (version : Version (ℕ × V)) × Contains versions version × (version.what.1 ≡ value)

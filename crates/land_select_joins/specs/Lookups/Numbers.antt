@@ -13,13 +13,15 @@ use Rattle.sqlite_value.specs.Order.{Row}
 
 -- a number is the given one, and a record stands under it
 abbrev pub IsItsOwn : {V : Type 0} → ℤ → List (Version (ℕ × V)) → (given number : ℕ) → Type 0
-IsItsOwn {V = V} t versions given number = (it : ℕ × V) × Stands t versions it × (it.0 ≡ given) × (it.0 ≡ number)
+IsItsOwn {V = V} t versions given number =
+    (it : ℕ × V) × Stands t versions it × (it.0 ≡ given) × (it.0 ≡ number)
 
 -- whether a look-up finds a number by the number that is given
 abbrev pub tells : NumberLookUp → (t : ℤ) → History → (given : ℕ) → (number : ℕ) → Type 0
 tells look_up.Party t h given number = IsItsOwn t h.parties given number
 tells look_up.Unit t h given number = IsItsOwn t h.units given number
-tells look_up.LodgerOfMutation t h given number = (it : ℕ × MutationRecord) × Stands t h.mutations it × (it.0 ≡ given) × (it.1.lodger ≡ number)
+tells look_up.LodgerOfMutation t h given number =
+    (it : ℕ × MutationRecord) × Stands t h.mutations it × (it.0 ≡ given) × (it.1.lodger ≡ number)
 tells look_up.LodgersOnUnit t h given number = Awaits t h number given
 
 -- the rows that a look-up finds by a number at a moment

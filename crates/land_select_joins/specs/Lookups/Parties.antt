@@ -33,26 +33,32 @@ abbrev pub has_entry_in : Register → (unit party : ℕ) → Bool
 has_entry_in r unit party = has_entry_among r (of_unit unit) party
 
 -- a party stands at a moment, and so does an entry that is meant and is the party's
-pub record HasEntry (t : ℤ) (h : History) (meant : ℕ → RrrRecord → Bool) (party : ℕ × PartyRecord) : Type 0 where
-  pub party_stands : Stands t h.parties party
-  pub entry : Entry
-  pub entry_stands : Stands t h.rrrs entry
-  pub is_meant : meant entry.0 entry.1 ≡ true
-  pub of_party : entry.1.party ≡ party.0
+pub record HasEntry (t : ℤ) (h : History) (meant : ℕ → RrrRecord → Bool) (party : ℕ × PartyRecord) : Type 0
+  where
+    pub party_stands : Stands t h.parties party
+    pub entry : Entry
+    pub entry_stands : Stands t h.rrrs entry
+    pub is_meant : meant entry.0 entry.1 ≡ true
+    pub of_party : entry.1.party ≡ party.0
 
 -- each row says a version of a party that is wanted, and of each such party a row says one
 pub record SayParties (rows : List Row) (Wanted : ℕ × PartyRecord → Type 0) : Type 0 where
-  pub each : (row : Row) → Has rows row → (v : Version (ℕ × PartyRecord)) × (parties.said row ≡ Ok v) × Wanted v.what
-  pub all : (party : ℕ × PartyRecord) → Wanted party → (row : Row) × Has rows row × ((v : Version (ℕ × PartyRecord)) × (parties.said row ≡ Ok v) × (v.what ≡ party))
+  pub each : (row : Row) → Has rows row → (v : Version (ℕ × PartyRecord)) × (parties.said row ≡ Ok v)
+      × Wanted v.what
+  pub all : (party : ℕ × PartyRecord) → Wanted party → (row : Row) × Has rows row
+      × ((v : Version (ℕ × PartyRecord)) × (parties.said row ≡ Ok v) × (v.what ≡ party))
 
 -- the rows of the parties that have an entry that is meant at a moment
 abbrev pub ArePartyRows : (ℕ → RrrRecord → Bool) → (t : ℤ) → Trees → List Row → Type 0
 ArePartyRows meant t db rows = OfHeld db (λ h. SayParties rows (HasEntry t h meant))
 
 -- where the tables hold a history that at the moment stands for a register, these are versions of the parties that have an entry that is meant
-abbrev pub ArePartiesAmong : (ℕ → RrrRecord → Bool) → (t : ℤ) → Trees → List (Version (ℕ × PartyRecord)) → Type 0
-ArePartiesAmong meant t db versions = OfHeld db (λ h. (r : Register) → StandsAt t h r → (party : ℕ × PartyRecord)
-    → Contains (map_list (λ (v : Version (ℕ × PartyRecord)). v.what) versions) party ↔ ((has_entry_among r meant party.0 ≡ true) × (map.get r.parties party.0 ≡ Some party.1)))
+abbrev pub ArePartiesAmong : (ℕ → RrrRecord → Bool) → (t : ℤ) → Trees → List (Version (ℕ × PartyRecord))
+    → Type 0
+ArePartiesAmong meant t db versions =
+    OfHeld db (λ h. (r : Register) → StandsAt t h r → (party : ℕ × PartyRecord)
+    → Contains (map_list (λ (v : Version (ℕ × PartyRecord)). v.what) versions) party
+    ↔ ((has_entry_among r meant party.0 ≡ true) × (map.get r.parties party.0 ≡ Some party.1)))
 
 -- those that have an entry in a unit
 abbrev pub ArePartiesIn : (unit : ℕ) → (t : ℤ) → Trees → List (Version (ℕ × PartyRecord)) → Type 0

@@ -14,8 +14,11 @@ IsPart part t db it = OfHeld db (λ h. (r : Register) → HaveMembers r.members 
 
 -- where the tables hold a history that at the moment stands for a register, these are those whose mandate a party holds in it, each once
 abbrev pub ArePrincipalsOf : (agent : ℕ) → (t : ℤ) → Trees → List ℕ → Type 0
-ArePrincipalsOf agent t db numbers = OfHeld db (λ h. (r : Register) → StandsAt t h r → IsPermutation numbers (principals_of r agent))
+ArePrincipalsOf agent t db numbers =
+    OfHeld db (λ h. (r : Register) → StandsAt t h r → IsPermutation numbers (principals_of r agent))
 
 -- and these the circle of the party in it
 abbrev pub IsCircleOf : (party : ℕ) → (t : ℤ) → Trees → List ℕ → Type 0
-IsCircleOf party t db numbers = OfHeld db (λ h. (r : Register) → StandsAt t h r → (number : ℕ) → Contains numbers number ↔ Contains (circle_of r party) number)
+IsCircleOf party t db numbers = OfHeld db
+    (λ h. (r : Register) → StandsAt t h r → (number : ℕ) → Contains numbers number
+    ↔ Contains (circle_of r party) number)

@@ -32,24 +32,30 @@ IsSeer relation t h party seer = selects (parties_by relation) t h seer party
 -- to who holds a right in a unit an entry of that unit is told, a mortgage where that right is ownership
 abbrev pub is_told_to_holder : (party : ℕ) → (seen held : Entry) → Bool
 is_told_to_holder party seen held =
-    nat_eq held.1.unit seen.1.unit && (nat_eq seen.1.party party && (is_right held.1.class && (not (is_mortgage seen.1.class) || is_right_of Ownership held.1.class)))
+    nat_eq held.1.unit seen.1.unit && (nat_eq seen.1.party party
+    && (is_right held.1.class && (not (is_mortgage seen.1.class) || is_right_of Ownership held.1.class)))
 
 -- to who has a mortgage on it, of mortgages its own alone
 abbrev pub is_told_to_creditor : (party : ℕ) → (seen held : Entry) → Bool
 is_told_to_creditor party seen held =
-    nat_eq held.1.unit seen.1.unit && (nat_eq seen.1.party party && (is_mortgage held.1.class && (not (is_mortgage seen.1.class) || nat_eq seen.1.party held.1.party)))
+    nat_eq held.1.unit seen.1.unit && (nat_eq seen.1.party party
+    && (is_mortgage held.1.class && (not (is_mortgage seen.1.class) || nat_eq seen.1.party held.1.party)))
 
 -- to who lodged a mutation that is undecided and names it
 abbrev pub is_told_to_lodger : (party : ℕ) → (seen : Entry) → Naming → ℕ × MutationRecord → Bool
 is_told_to_lodger party seen naming mutation =
-    nat_eq naming.unit seen.1.unit && (nat_eq mutation.0 naming.mutation && (nat_eq seen.1.party party && is_undecided mutation.1))
+    nat_eq naming.unit seen.1.unit && (nat_eq mutation.0 naming.mutation
+    && (nat_eq seen.1.party party && is_undecided mutation.1))
 
 -- in how many ways somebody is told of a party: by each of its entries, of each right, mortgage or mutation to whose party that is told
 abbrev pub ways : Relation → (t : ℤ) → History → (party : ℕ) → ℕ
-ways relation.Holding t h party = sum_by (λ seen. count_by (is_told_to_holder party seen) (standing t h.rrrs)) (standing t h.rrrs)
-ways relation.Crediting t h party = sum_by (λ seen. count_by (is_told_to_creditor party seen) (standing t h.rrrs)) (standing t h.rrrs)
+ways relation.Holding t h party = sum_by (λ seen. count_by (is_told_to_holder party seen) (standing t h.rrrs))
+    (standing t h.rrrs)
+ways relation.Crediting t h party =
+    sum_by (λ seen. count_by (is_told_to_creditor party seen) (standing t h.rrrs)) (standing t h.rrrs)
 ways relation.Awaiting t h party =
-    sum_by (λ seen. sum_by (λ naming. count_by (is_told_to_lodger party seen naming) (standing t h.mutations)) (standing t h.namings)) (standing t h.rrrs)
+    sum_by (λ seen. sum_by (λ naming. count_by (is_told_to_lodger party seen naming) (standing t h.mutations))
+    (standing t h.namings)) (standing t h.rrrs)
 
 -- these rows are theirs; or they are more than sixteen, and so are the ways
 pub record AreSeerRows (relation : Relation) (party : ℕ) (t : ℤ) (db : Trees) (rows : List Row) : Type 0 where

@@ -20,8 +20,10 @@ use Rattle.land_tables_history.specs.declared.history.History.{History}
 -- the selections of a role and a kind give exactly the numbers that the rules let the caller see, without mandates, in the register at
 -- the moment: none is missing, and none is more
 abbrev pub SelectionsAreTheRules : Type 0
-SelectionsAreTheRules = (r : Register) (h : History) (t : ℤ) → IsSoundOrNothing r → StandsAt t h r → (caller : Caller) (k : Kind) (number : ℕ)
-    → AnySelects (selections_of caller.role k) t h caller.party number ↔ Contains (seen_of (without_mandates r) caller k) number
+SelectionsAreTheRules = (r : Register) (h : History) (t : ℤ) → IsSoundOrNothing r → StandsAt t h r
+    → (caller : Caller) (k : Kind) (number : ℕ)
+    → AnySelects (selections_of caller.role k) t h caller.party number
+    ↔ Contains (seen_of (without_mandates r) caller k) number
 
 -- a party is a member of a group, the party of an entry, or the lodger of a mutation that stands
 abbrev pub IsMemberAt : (t : ℤ) → History → (party : ℕ) → Type 0
@@ -35,11 +37,13 @@ IsLodgerAt t h party = (m : ℕ × MutationRecord) × Stands t h.mutations m × 
 
 -- a party is named at a moment: it stands, or is one of these
 abbrev pub IsNamedAt : (t : ℤ) → History → (party : ℕ) → Type 0
-IsNamedAt t h party = StandsUnder t h.parties party ⊎ (IsMemberAt t h party ⊎ (IsPartyAt t h party ⊎ IsLodgerAt t h party))
+IsNamedAt t h party = StandsUnder t h.parties party
+    ⊎ (IsMemberAt t h party ⊎ (IsPartyAt t h party ⊎ IsLodgerAt t h party))
 
 -- who is not named at a moment is given then what anybody else is given
 abbrev pub TheUnnamedSeeTheLeast : Type 0
-TheUnnamedSeeTheLeast = (t : ℤ) (h : History) (party : ℕ) → ¬ IsNamedAt t h party → (ss : List Selection) (other number : ℕ)
+TheUnnamedSeeTheLeast = (t : ℤ) (h : History) (party : ℕ) → ¬ IsNamedAt t h party
+    → (ss : List Selection) (other number : ℕ)
     → AnySelects ss t h party number → AnySelects ss t h other number
 
 -- a number that no party has: zero, or one past the last
@@ -48,14 +52,19 @@ IsNobody party = (party ≡ 0) ⊎ (1000000000 < party)
 
 -- who is nobody is given what all others who are nobody are given, so that one may ask in the other's place
 abbrev pub NobodiesSeeAlike : Type 0
-NobodiesSeeAlike = (r : Register) (h : History) (t : ℤ) → IsSoundOrNothing r → StandsAt t h r → (party other : ℕ) → IsNobody party → IsNobody other → (role : Role) (k : Kind) (number : ℕ)
+NobodiesSeeAlike = (r : Register) (h : History) (t : ℤ) → IsSoundOrNothing r → StandsAt t h r
+    → (party other : ℕ) → IsNobody party → IsNobody other → (role : Role) (k : Kind) (number : ℕ)
     → AnySelects (selections_of role k) t h party number → AnySelects (selections_of role k) t h other number
 
 -- two ascending lists of the same numbers are one
 abbrev pub AscendingListsAreOne : Type 0
-AscendingListsAreOne = (xs ys : List ℕ) → IsStrictlyIncreasing xs → IsStrictlyIncreasing ys → ((n : ℕ) → Contains xs n ↔ Contains ys n) → xs ≡ ys
+AscendingListsAreOne = (xs ys : List ℕ) → IsStrictlyIncreasing xs → IsStrictlyIncreasing ys
+    → ((n : ℕ) → Contains xs n ↔ Contains ys n) → xs ≡ ys
 
 -- what the selections give, ascending and each number once, is the list of what is seen without mandates
 abbrev pub SelectedIsSeen : Type 0
-SelectedIsSeen = (r : Register) (h : History) (t : ℤ) → IsSoundOrNothing r → StandsAt t h r → (caller : Caller) (k : Kind) (listed : List ℕ)
-    → IsStrictlyIncreasing listed → ((n : ℕ) → Contains listed n ↔ AnySelects (selections_of caller.role k) t h caller.party n) → listed ≡ seen_of (without_mandates r) caller k
+SelectedIsSeen = (r : Register) (h : History) (t : ℤ) → IsSoundOrNothing r → StandsAt t h r
+    → (caller : Caller) (k : Kind) (listed : List ℕ)
+    → IsStrictlyIncreasing listed → ((n : ℕ) → Contains listed n
+    ↔ AnySelects (selections_of caller.role k) t h caller.party n)
+    → listed ≡ seen_of (without_mandates r) caller k

@@ -78,7 +78,8 @@ abbrev pub IsToldToCreditor : (caller : ℕ) → (seen : Entry) → Type 0
 IsToldToCreditor caller seen = (is_mortgage seen.1.class ≡ false) ⊎ (seen.1.party ≡ caller)
 
 -- by an entry that gives the caller an interest in its unit, an entry of that unit is told
-pub record IsTold (t : ℤ) (h : History) (Interest : Entry → Type 0) (Tells : (held seen : Entry) → Type 0) (seen : Entry) : Type 0 where
+pub record IsTold (t : ℤ) (h : History) (Interest : Entry → Type 0) (Tells : (held seen : Entry) → Type 0)
+    (seen : Entry) : Type 0 where
   pub held : Entry
   pub interest : Interest held
   pub stands : Stands t h.rrrs seen
@@ -125,20 +126,31 @@ all_selects kind.Mutation t h number = StandsUnder t h.mutations number
 -- whether a selection gives a number to a caller, by what stands at a moment
 abbrev pub selects : Selection → (t : ℤ) → History → (caller : ℕ) → (number : ℕ) → Type 0
 selects (selection.All k) t h caller number = all_selects k t h number
-selects selection.Itself t h caller number = (it : ℕ × PartyRecord) × Stands t h.parties it × (it.0 ≡ caller) × (it.0 ≡ number)
-selects selection.ItsGroups t h caller number = (joined : GroupMember) × Stands t h.members joined × (joined.member.party ≡ caller) × (joined.group ≡ number)
-selects selection.ItsLodgings t h caller number = (it : ℕ × MutationRecord) × Stands t h.mutations it × (it.1.lodger ≡ caller) × (it.0 ≡ number)
+selects selection.Itself t h caller number =
+    (it : ℕ × PartyRecord) × Stands t h.parties it × (it.0 ≡ caller) × (it.0 ≡ number)
+selects selection.ItsGroups t h caller number =
+    (joined : GroupMember) × Stands t h.members joined × (joined.member.party ≡ caller)
+    × (joined.group ≡ number)
+selects selection.ItsLodgings t h caller number =
+    (it : ℕ × MutationRecord) × Stands t h.mutations it × (it.1.lodger ≡ caller) × (it.0 ≡ number)
 selects selection.HeldUnits t h caller number = UnitOf (HoldsItself t h caller) number
 selects selection.GroupUnits t h caller number = UnitOf (HoldsThrough t h caller) number
-selects selection.HeldEntries t h caller number = EntryOf (IsTold t h (HoldsItself t h caller) IsToldToHolder) number
-selects selection.GroupEntries t h caller number = EntryOf (IsTold t h (HoldsThrough t h caller) IsToldToHolder) number
-selects selection.HeldParties t h caller number = PartyOf (IsTold t h (HoldsItself t h caller) IsToldToHolder) number
-selects selection.GroupParties t h caller number = PartyOf (IsTold t h (HoldsThrough t h caller) IsToldToHolder) number
+selects selection.HeldEntries t h caller number =
+    EntryOf (IsTold t h (HoldsItself t h caller) IsToldToHolder) number
+selects selection.GroupEntries t h caller number =
+    EntryOf (IsTold t h (HoldsThrough t h caller) IsToldToHolder) number
+selects selection.HeldParties t h caller number =
+    PartyOf (IsTold t h (HoldsItself t h caller) IsToldToHolder) number
+selects selection.GroupParties t h caller number =
+    PartyOf (IsTold t h (HoldsThrough t h caller) IsToldToHolder) number
 selects selection.HeldMutations t h caller number = MutationOf (IsNamed t h (HoldsItself t h caller)) number
 selects selection.GroupMutations t h caller number = MutationOf (IsNamed t h (HoldsThrough t h caller)) number
 selects selection.CreditUnits t h caller number = UnitOf (Credits t h caller) number
-selects selection.CreditEntries t h caller number = EntryOf (IsTold t h (Credits t h caller) (λ held. IsToldToCreditor caller)) number
-selects selection.CreditParties t h caller number = PartyOf (IsTold t h (Credits t h caller) (λ held. IsToldToCreditor caller)) number
-selects selection.LodgedUnits t h caller number = (it : ℕ × UnitRecord) × Stands t h.units it × Awaits t h caller it.0 × (it.0 ≡ number)
+selects selection.CreditEntries t h caller number =
+    EntryOf (IsTold t h (Credits t h caller) (λ held. IsToldToCreditor caller)) number
+selects selection.CreditParties t h caller number =
+    PartyOf (IsTold t h (Credits t h caller) (λ held. IsToldToCreditor caller)) number
+selects selection.LodgedUnits t h caller number =
+    (it : ℕ × UnitRecord) × Stands t h.units it × Awaits t h caller it.0 × (it.0 ≡ number)
 selects selection.LodgedEntries t h caller number = EntryOf (IsAwaited t h caller) number
 selects selection.LodgedParties t h caller number = PartyOf (IsAwaited t h caller) number

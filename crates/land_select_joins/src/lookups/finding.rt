@@ -1,10 +1,9 @@
 //! Look-ups are run, and the rows that they give are read.
-ghost use Rattle.std.specs.Prelude.{◌≡◌, false, IfErr};
-ghost use Rattle.land_select_joins.specs.Joins.Running.{HoldsNone};
+ghost use Rattle.land_tables_schema.specs.Connections.{HasRegisterTables, LeavesAutocommit};
+ghost use Rattle.land_select_joins.specs.TableReads.{ReadsTables};
+ghost use Rattle.std.specs.Prelude.{IfErr};
 ghost use Rattle.land_select_joins.specs.Lookups.Finding.{AreRowsLodgedAs, AreRowsOf, AreSaidOf, CannotBeSaid};
 ghost use Rattle.land_tables_rows.specs.Listing.Reading.{IsRead};
-ghost use Rattle.land_tables_schema.specs.Land.{IsLand};
-ghost use Rattle.land_tables_schema.specs.Rows.Looks.{IsLook};
 ghost use Rattle.sqlite.specs.Held.{state};
 ghost use Rattle.sqlite.specs.State.{HasCleanDisk};
 
@@ -25,9 +24,10 @@ fn rows_of<S: Alter>(
     number: u64,
     at: i64,
 ) -> Result<Vec<Row>, Error>
-    requires land { HasCleanDisk (state S.Store conn.old) → IsLand (state S.Store conn.old).now.schema }
-    ensures look { IsLook result (λ rows. AreRowsOf look_up number at (state S.Store conn.old).now.trees rows.items) (state S.Store conn.old) (state S.Store conn.new) }
-    ensures mode { conn.old.in_transaction ≡ false → conn.new.in_transaction ≡ false }
+    requires land { HasRegisterTables S.Store conn.old }
+    ensures look { ReadsTables S.Store result (λ db rows. AreRowsOf look_up number at db rows.items) conn.old
+        conn.new }
+    ensures mode { LeavesAutocommit conn.old conn.new }
 {
     conn.query_all(
         text_of(look_up),
@@ -42,9 +42,10 @@ pub(crate) fn rows_lodged_as<S: Alter>(
     reference: &str,
     at: i64,
 ) -> Result<Vec<Row>, Error>
-    requires land { HasCleanDisk (state S.Store conn.old) → IsLand (state S.Store conn.old).now.schema }
-    ensures look { IsLook result (λ rows. AreRowsLodgedAs lodger reference.now at (state S.Store conn.old).now.trees rows.items) (state S.Store conn.old) (state S.Store conn.new) }
-    ensures mode { conn.old.in_transaction ≡ false → conn.new.in_transaction ≡ false }
+    requires land { HasRegisterTables S.Store conn.old }
+    ensures look { ReadsTables S.Store result
+        (λ db rows. AreRowsLodgedAs lodger reference.now at db rows.items) conn.old conn.new }
+    ensures mode { LeavesAutocommit conn.old conn.new }
 {
     conn.query_all(
         texts::MUTATION_LODGED_AS,
@@ -72,10 +73,11 @@ pub fn find<X: FromRow, S: Alter>(
     number: u64,
     at: i64,
 ) -> Result<Sequence<X>, ReadFault>
-    requires land { HasCleanDisk (state S.Store conn.old) → IsLand (state S.Store conn.old).now.schema }
-    ensures look { IsLook result (λ it. AreSaidOf X.FromRow.said look_up number at (state S.Store conn.old).now.trees it) (state S.Store conn.old) (state S.Store conn.new) }
-    ensures unreadable { HasCleanDisk (state S.Store conn.new) → IfErr result (CannotBeSaid X.FromRow.said look_up number at (state S.Store conn.old).now.trees) }
-    ensures mode { conn.old.in_transaction ≡ false → conn.new.in_transaction ≡ false }
+    requires land { HasRegisterTables S.Store conn.old }
+    ensures look { ReadsTables S.Store result (AreSaidOf X.FromRow.said look_up number at) conn.old conn.new }
+    ensures unreadable { HasCleanDisk (state S.Store conn.new)
+        → IfErr result (CannotBeSaid X.FromRow.said look_up number at (state S.Store conn.old).now.trees) }
+    ensures mode { LeavesAutocommit conn.old conn.new }
 {
     let rows = rows_of(conn, look_up, number, at)?;
     read(alloc, rows.as_slice())

@@ -53,13 +53,23 @@ impl Numbered for PartyRecord {
 
     ghost BY_NUMBER = { look_up.Party };
 
-    ghost found = { λ db moments h held. record { versions = h.parties; stand = λ t r stands. stands.parties; found = λ number t rows are. are h.parties held.the_parties.said } };
+    ghost found = { λ db moments h held. record {
+      versions = h.parties;
+      stand = λ t r stands. stands.parties;
+      found =
+          λ number t rows are. are h.parties held.the_parties.said;
+    } };
 
     const KIND: Kind = Kind::Party;
 
     ghost KIND = { kinds.Party };
 
-    ghost within = { λ db moments h held. record { versions = h.parties; stand = λ t r stands. stands.parties; found = λ first last t rows are. are h.parties held.the_parties.said } };
+    ghost within = { λ db moments h held. record {
+      versions = h.parties;
+      stand = λ t r stands. stands.parties;
+      found =
+          λ first last t rows are. are h.parties held.the_parties.said;
+    } };
 }
 
 impl Numbered for UnitRecord {
@@ -69,13 +79,23 @@ impl Numbered for UnitRecord {
 
     ghost BY_NUMBER = { look_up.Unit };
 
-    ghost found = { λ db moments h held. record { versions = h.units; stand = λ t r stands. stands.units; found = λ number t rows are. are h.units held.the_units.said } };
+    ghost found = { λ db moments h held. record {
+      versions = h.units;
+      stand = λ t r stands. stands.units;
+      found =
+          λ number t rows are. are h.units held.the_units.said;
+    } };
 
     const KIND: Kind = Kind::Unit;
 
     ghost KIND = { kinds.Unit };
 
-    ghost within = { λ db moments h held. record { versions = h.units; stand = λ t r stands. stands.units; found = λ first last t rows are. are h.units held.the_units.said } };
+    ghost within = { λ db moments h held. record {
+      versions = h.units;
+      stand = λ t r stands. stands.units;
+      found =
+          λ first last t rows are. are h.units held.the_units.said;
+    } };
 }
 
 impl Numbered for ParcelRecord {
@@ -85,13 +105,23 @@ impl Numbered for ParcelRecord {
 
     ghost BY_NUMBER = { look_up.Parcel };
 
-    ghost found = { λ db moments h held. record { versions = h.parcels; stand = λ t r stands. stands.parcels; found = λ number t rows are. are h.parcels held.the_parcels.said } };
+    ghost found = { λ db moments h held. record {
+      versions = h.parcels;
+      stand = λ t r stands. stands.parcels;
+      found =
+          λ number t rows are. are h.parcels held.the_parcels.said;
+    } };
 
     const KIND: Kind = Kind::Parcel;
 
     ghost KIND = { kinds.Parcel };
 
-    ghost within = { λ db moments h held. record { versions = h.parcels; stand = λ t r stands. stands.parcels; found = λ first last t rows are. are h.parcels held.the_parcels.said } };
+    ghost within = { λ db moments h held. record {
+      versions = h.parcels;
+      stand = λ t r stands. stands.parcels;
+      found =
+          λ first last t rows are. are h.parcels held.the_parcels.said;
+    } };
 }
 
 impl Numbered for RrrRecord {
@@ -101,13 +131,23 @@ impl Numbered for RrrRecord {
 
     ghost BY_NUMBER = { look_up.Entry };
 
-    ghost found = { λ db moments h held. record { versions = h.rrrs; stand = λ t r stands. stands.rrrs; found = λ number t rows are. are h.rrrs held.the_rrrs.said } };
+    ghost found = { λ db moments h held. record {
+      versions = h.rrrs;
+      stand = λ t r stands. stands.rrrs;
+      found =
+          λ number t rows are. are h.rrrs held.the_rrrs.said;
+    } };
 
     const KIND: Kind = Kind::Rrr;
 
     ghost KIND = { kinds.Rrr };
 
-    ghost within = { λ db moments h held. record { versions = h.rrrs; stand = λ t r stands. stands.rrrs; found = λ first last t rows are. are h.rrrs held.the_rrrs.said } };
+    ghost within = { λ db moments h held. record {
+      versions = h.rrrs;
+      stand = λ t r stands. stands.rrrs;
+      found =
+          λ first last t rows are. are h.rrrs held.the_rrrs.said;
+    } };
 }
 
 impl Numbered for SourceRecord {
@@ -117,13 +157,23 @@ impl Numbered for SourceRecord {
 
     ghost BY_NUMBER = { look_up.Source };
 
-    ghost found = { λ db moments h held. record { versions = h.sources; stand = λ t r stands. stands.sources; found = λ number t rows are. are h.sources held.the_sources.said } };
+    ghost found = { λ db moments h held. record {
+      versions = h.sources;
+      stand = λ t r stands. stands.sources;
+      found =
+          λ number t rows are. are h.sources held.the_sources.said;
+    } };
 
     const KIND: Kind = Kind::Source;
 
     ghost KIND = { kinds.Source };
 
-    ghost within = { λ db moments h held. record { versions = h.sources; stand = λ t r stands. stands.sources; found = λ first last t rows are. are h.sources held.the_sources.said } };
+    ghost within = { λ db moments h held. record {
+      versions = h.sources;
+      stand = λ t r stands. stands.sources;
+      found =
+          λ first last t rows are. are h.sources held.the_sources.said;
+    } };
 }
 
 impl Numbered for MutationRecord {
@@ -133,11 +183,21 @@ impl Numbered for MutationRecord {
 
     ghost BY_NUMBER = { look_up.Mutation };
 
-    ghost found = { λ db moments h held. record { versions = h.mutations; stand = λ t r stands. stands.mutations; found = λ number t rows are. are h.mutations held.the_mutations.said } };
+    ghost found = { λ db moments h held. record {
+      versions = h.mutations;
+      stand = λ t r stands. stands.mutations;
+      found =
+          λ number t rows are. are h.mutations held.the_mutations.said;
+    } };
 
     const KIND: Kind = Kind::Mutation;
 
     ghost KIND = { kinds.Mutation };
 
-    ghost within = { λ db moments h held. record { versions = h.mutations; stand = λ t r stands. stands.mutations; found = λ first last t rows are. are h.mutations held.the_mutations.said } };
+    ghost within = { λ db moments h held. record {
+      versions = h.mutations;
+      stand = λ t r stands. stands.mutations;
+      found =
+          λ first last t rows are. are h.mutations held.the_mutations.said;
+    } };
 }

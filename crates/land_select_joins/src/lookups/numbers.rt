@@ -1,11 +1,7 @@
 //! Look-ups of numbers are run.
-ghost use Rattle.std.specs.Prelude.{◌≡◌, false, IfErr};
-ghost use Rattle.land_select_joins.specs.Joins.Running.{HoldsNone};
+ghost use Rattle.land_tables_schema.specs.Connections.{HasRegisterTables, LeavesAutocommit};
+ghost use Rattle.land_select_joins.specs.TableReads.{FailsOnlyWithoutHistory, ReadsTables};
 ghost use Rattle.land_select_joins.specs.Lookups.Numbers.{AreNumbersToldBy, AreRowsToldBy};
-ghost use Rattle.land_tables_schema.specs.Land.{IsLand};
-ghost use Rattle.land_tables_schema.specs.Rows.Looks.{IsLook};
-ghost use Rattle.sqlite.specs.Held.{state};
-ghost use Rattle.sqlite.specs.State.{HasCleanDisk};
 
 use crate::joins::running::{asked_for, read};
 use crate::lookups::number_look_up::{NumberLookUp, text_of};
@@ -22,9 +18,10 @@ fn rows_of<S: Alter>(
     number: u64,
     at: i64,
 ) -> Result<Vec<Row>, Error>
-    requires land { HasCleanDisk (state S.Store conn.old) → IsLand (state S.Store conn.old).now.schema }
-    ensures look { IsLook result (λ rows. AreRowsToldBy look_up number at (state S.Store conn.old).now.trees rows.items) (state S.Store conn.old) (state S.Store conn.new) }
-    ensures mode { conn.old.in_transaction ≡ false → conn.new.in_transaction ≡ false }
+    requires land { HasRegisterTables S.Store conn.old }
+    ensures look { ReadsTables S.Store result (λ db rows. AreRowsToldBy look_up number at db rows.items)
+        conn.old conn.new }
+    ensures mode { LeavesAutocommit conn.old conn.new }
 {
     conn.query_all(
         text_of(look_up),
@@ -41,10 +38,10 @@ pub fn numbers<S: Alter>(
     number: u64,
     at: i64,
 ) -> Result<NumberList, ReadFault>
-    requires land { HasCleanDisk (state S.Store conn.old) → IsLand (state S.Store conn.old).now.schema }
-    ensures look { IsLook result (λ it. AreNumbersToldBy look_up number at (state S.Store conn.old).now.trees it) (state S.Store conn.old) (state S.Store conn.new) }
-    ensures unreadable { HasCleanDisk (state S.Store conn.new) → IfErr result (HoldsNone (state S.Store conn.old).now.trees) }
-    ensures mode { conn.old.in_transaction ≡ false → conn.new.in_transaction ≡ false }
+    requires land { HasRegisterTables S.Store conn.old }
+    ensures look { ReadsTables S.Store result (AreNumbersToldBy look_up number at) conn.old conn.new }
+    ensures unreadable { FailsOnlyWithoutHistory S.Store result conn.old conn.new }
+    ensures mode { LeavesAutocommit conn.old conn.new }
 {
     let rows = rows_of(conn, look_up, number, at)?;
     read(alloc, rows.as_slice())

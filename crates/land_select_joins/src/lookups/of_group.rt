@@ -1,12 +1,9 @@
 //! What belongs to a group.
-ghost use Rattle.std.specs.Prelude.{◌≡◌, nat_eq, false, IfErr};
+ghost use Rattle.land_tables_schema.specs.Connections.{HasRegisterTables, LeavesAutocommit};
+ghost use Rattle.land_select_joins.specs.TableReads.{FailsOnlyWithoutHistory, ReadsTables};
+ghost use Rattle.std.specs.Prelude.{nat_eq};
 ghost use Rattle.land_core.specs.Entries.{only};
-ghost use Rattle.land_select_joins.specs.Joins.Running.{HoldsNone};
 ghost use Rattle.land_select_joins.specs.Lookups.Parts.{IsPart};
-ghost use Rattle.land_tables_schema.specs.Land.{IsLand};
-ghost use Rattle.land_tables_schema.specs.Rows.Looks.{IsLook};
-ghost use Rattle.sqlite.specs.Held.{state};
-ghost use Rattle.sqlite.specs.State.{HasCleanDisk};
 
 use crate::lookups::finding::find;
 use crate::lookups::look_up::LookUp;
@@ -25,10 +22,11 @@ pub fn members<S: Alter>(
     group: u64,
     at: i64,
 ) -> Result<Records<Members>, ReadFault>
-    requires land { HasCleanDisk (state S.Store conn.old) → IsLand (state S.Store conn.old).now.schema }
-    ensures look { IsLook result (λ it. IsPart (λ r. only (λ n members. nat_eq n group) r.members) at (state S.Store conn.old).now.trees it) (state S.Store conn.old) (state S.Store conn.new) }
-    ensures unreadable { HasCleanDisk (state S.Store conn.new) → IfErr result (HoldsNone (state S.Store conn.old).now.trees) }
-    ensures mode { conn.old.in_transaction ≡ false → conn.new.in_transaction ≡ false }
+    requires land { HasRegisterTables S.Store conn.old }
+    ensures look { ReadsTables S.Store result (IsPart (λ r. only (λ n members. nat_eq n group) r.members) at)
+        conn.old conn.new }
+    ensures unreadable { FailsOnlyWithoutHistory S.Store result conn.old conn.new }
+    ensures mode { LeavesAutocommit conn.old conn.new }
 {
     let found = find(alloc, conn, LookUp::MembersOfGroup, group, at)?;
     Ok(groups_at(alloc, found.as_slice(), at)?)

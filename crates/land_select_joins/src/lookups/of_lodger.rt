@@ -1,13 +1,9 @@
 //! What belongs to a lodger.
-ghost use Rattle.std.specs.Prelude.{◌≡◌, false, IfErr};
+ghost use Rattle.land_tables_schema.specs.Connections.{HasRegisterTables, LeavesAutocommit};
+ghost use Rattle.land_select_joins.specs.TableReads.{FailsOnlyWithoutHistory, ReadsTables};
 ghost use Rattle.land_core.specs.Entries.{only};
 ghost use Rattle.land_core.specs.Mutations.{is_lodged_as};
-ghost use Rattle.land_select_joins.specs.Joins.Running.{HoldsNone};
 ghost use Rattle.land_select_joins.specs.Lookups.Parts.{IsPart};
-ghost use Rattle.land_tables_schema.specs.Land.{IsLand};
-ghost use Rattle.land_tables_schema.specs.Rows.Looks.{IsLook};
-ghost use Rattle.sqlite.specs.Held.{state};
-ghost use Rattle.sqlite.specs.State.{HasCleanDisk};
 
 use crate::lookups::finding::{read, rows_lodged_as};
 use land_core::mutation::MutationRecord;
@@ -28,10 +24,11 @@ pub fn lodged_as<S: Alter>(
     reference: &str,
     at: i64,
 ) -> Result<Records<MutationRecord>, ReadFault>
-    requires land { HasCleanDisk (state S.Store conn.old) → IsLand (state S.Store conn.old).now.schema }
-    ensures look { IsLook result (λ it. IsPart (λ r. only (λ n m. is_lodged_as lodger reference.now m) r.mutations) at (state S.Store conn.old).now.trees it) (state S.Store conn.old) (state S.Store conn.new) }
-    ensures unreadable { HasCleanDisk (state S.Store conn.new) → IfErr result (HoldsNone (state S.Store conn.old).now.trees) }
-    ensures mode { conn.old.in_transaction ≡ false → conn.new.in_transaction ≡ false }
+    requires land { HasRegisterTables S.Store conn.old }
+    ensures look { ReadsTables S.Store result
+        (IsPart (λ r. only (λ n m. is_lodged_as lodger reference.now m) r.mutations) at) conn.old conn.new }
+    ensures unreadable { FailsOnlyWithoutHistory S.Store result conn.old conn.new }
+    ensures mode { LeavesAutocommit conn.old conn.new }
 {
     let rows = rows_lodged_as(conn, lodger, reference, at)?;
     let found: Sequence<Version<(u64, MutationRecord)>> = read(alloc, rows.as_slice())?;

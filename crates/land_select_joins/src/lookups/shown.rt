@@ -44,7 +44,9 @@ pub(crate) fn party_shown(
     roles: Roles,
     members: Records<Members>,
 ) -> Result<Option<Object>, AllocError>
-    ensures { IfOk result (λ it. it ≡ object_at (record nothing { parties = map.insert map.empty number shown; roles = roles; members = members }) kinds.Party number) }
+    ensures { IfOk result (λ it. it ≡ object_at
+        (record nothing { parties = map.insert map.empty number shown; roles = roles; members = members })
+        kinds.Party number) }
 {
     let mut parties = Records::new(alloc);
     parties.insert(number, shown)?;
@@ -145,7 +147,8 @@ impl Shown for MutationRecord {
     ghost kind = { kinds.Mutation };
 
     fn shown(number: u64, found: Option<MutationRecord>) -> Option<Object>
-        ensures { (r : Whole) → found ≡ map.get r.mutations number → result ≡ object_at r kinds.Mutation number }
+        ensures { (r : Whole) → found ≡ map.get r.mutations number
+            → result ≡ object_at r kinds.Mutation number }
     {
         match found {
             Some(

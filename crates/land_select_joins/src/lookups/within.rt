@@ -1,12 +1,11 @@
 //! Records of a range of numbers.
-ghost use Rattle.std.specs.Prelude.{◌≡◌, false, IfErr};
+ghost use Rattle.land_tables_schema.specs.Connections.{HasRegisterTables, LeavesAutocommit};
+ghost use Rattle.land_select_joins.specs.TableReads.{FailsOnlyWithoutHistory, ReadsTables};
+ghost use Rattle.std.specs.Prelude.{◌≡◌, IfErr};
 ghost use Rattle.land_core.specs.Entries.{only};
-ghost use Rattle.land_select_joins.specs.Joins.Running.{HoldsNone};
 ghost use Rattle.land_select_joins.specs.Lookups.Finding.{AreSaid, CannotSay};
 ghost use Rattle.land_select_joins.specs.Lookups.Parts.{IsPart};
 ghost use Rattle.land_select_joins.specs.Lookups.Ranges.{AreRowsWithin, is_within, text_within};
-ghost use Rattle.land_tables_schema.specs.Land.{IsLand};
-ghost use Rattle.land_tables_schema.specs.Rows.Looks.{IsLook};
 ghost use Rattle.sqlite.specs.Held.{state};
 ghost use Rattle.sqlite.specs.State.{HasCleanDisk};
 
@@ -51,9 +50,10 @@ fn rows_of<S: Alter>(
     last: u64,
     at: i64,
 ) -> Result<Vec<Row>, Error>
-    requires land { HasCleanDisk (state S.Store conn.old) → IsLand (state S.Store conn.old).now.schema }
-    ensures look { IsLook result (λ rows. AreRowsWithin kind first last at (state S.Store conn.old).now.trees rows.items) (state S.Store conn.old) (state S.Store conn.new) }
-    ensures mode { conn.old.in_transaction ≡ false → conn.new.in_transaction ≡ false }
+    requires land { HasRegisterTables S.Store conn.old }
+    ensures look { ReadsTables S.Store result (λ db rows. AreRowsWithin kind first last at db rows.items)
+        conn.old conn.new }
+    ensures mode { LeavesAutocommit conn.old conn.new }
 {
     conn.query_all(
         text_within(kind),
@@ -76,10 +76,14 @@ fn find<V: Numbered, S: Alter>(
 ) -> Result<Sequence<Version<(u64, V)>>, ReadFault>
 where
     Version<(u64, V)>: FromRow,
-    requires land { HasCleanDisk (state S.Store conn.old) → IsLand (state S.Store conn.old).now.schema }
-    ensures look { IsLook result (λ it. AreSaid ⟦<Version<(u64, V)> as FromRow>⟧.said (AreRowsWithin V.KIND first last at (state S.Store conn.old).now.trees) it) (state S.Store conn.old) (state S.Store conn.new) }
-    ensures unreadable { HasCleanDisk (state S.Store conn.new) → IfErr result (CannotSay ⟦<Version<(u64, V)> as FromRow>⟧.said (AreRowsWithin V.KIND first last at (state S.Store conn.old).now.trees)) }
-    ensures mode { conn.old.in_transaction ≡ false → conn.new.in_transaction ≡ false }
+    requires land { HasRegisterTables S.Store conn.old }
+    ensures look { ReadsTables S.Store result
+        (λ db it. AreSaid ⟦<Version<(u64, V)> as FromRow>⟧.said (AreRowsWithin V.KIND first last at db) it)
+        conn.old conn.new }
+    ensures unreadable { HasCleanDisk (state S.Store conn.new)
+        → IfErr result (CannotSay ⟦<Version<(u64, V)> as FromRow>⟧.said
+        (AreRowsWithin V.KIND first last at (state S.Store conn.old).now.trees)) }
+    ensures mode { LeavesAutocommit conn.old conn.new }
 {
     let rows = rows_of(conn, V::KIND, first, last, at)?;
     read(alloc, rows.as_slice())
@@ -96,10 +100,11 @@ pub fn records<V: Numbered + Duplicate, S: Alter>(
 ) -> Result<Records<V>, ReadFault>
 where
     Version<(u64, V)>: FromRow,
-    requires land { HasCleanDisk (state S.Store conn.old) → IsLand (state S.Store conn.old).now.schema }
-    ensures look { IsLook result (λ it. IsPart (λ r. only (λ n v. is_within first last n) (V.part r)) at (state S.Store conn.old).now.trees it) (state S.Store conn.old) (state S.Store conn.new) }
-    ensures unreadable { HasCleanDisk (state S.Store conn.new) → IfErr result (HoldsNone (state S.Store conn.old).now.trees) }
-    ensures mode { conn.old.in_transaction ≡ false → conn.new.in_transaction ≡ false }
+    requires land { HasRegisterTables S.Store conn.old }
+    ensures look { ReadsTables S.Store result
+        (IsPart (λ r. only (λ n v. is_within first last n) (V.part r)) at) conn.old conn.new }
+    ensures unreadable { FailsOnlyWithoutHistory S.Store result conn.old conn.new }
+    ensures mode { LeavesAutocommit conn.old conn.new }
 {
     let found = find::<V, S>(alloc, conn, first, last, at)?;
     Ok(part_at(alloc, found.as_slice(), at)?)
