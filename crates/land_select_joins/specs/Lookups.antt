@@ -1,4 +1,4 @@
--- Definitions of what look-ups find, of their texts, and of the parts of a register that are made of it.
+-- Definitions of lookups: their results, their SQL statements, and the parts of a register that they return.
 pub mod Finding
 pub mod Numbered
 pub mod Numbers

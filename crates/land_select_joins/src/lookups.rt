@@ -1,4 +1,4 @@
-//! Look-ups: what of the register stands at a moment, found in the tables by numbers of objects.
+//! Lookups: parts of the register at a time, read from the tables by the number of an object.
 
 pub mod by_number;
 pub mod finding;

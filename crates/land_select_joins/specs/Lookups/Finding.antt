@@ -1,4 +1,4 @@
--- What a look-up finds, by what the rows of its table say.
+-- The result of a lookup, by the contents of its table's rows.
 use Rattle.std.specs.List.{Contains}
 use Rattle.std.specs.Prelude.{◌≡◌, ◌≢◌, ℕ, ℤ, Bool, ◌&&◌, nat_eq, List, [], filter, map, IsPermutation, Option, Some, None, Result, Ok}
 use Rattle.land_core.specs.Mutations.{is_lodged_as}
@@ -25,7 +25,7 @@ use Rattle.land_wire_json.specs.declared.bodies.wire_fault.WireFault.{WireFault}
 use Rattle.sqlite_trees.specs.Tree.{Trees}
 use Rattle.sqlite_value.specs.Order.{Row}
 
--- what the versions of the table of a look-up are of
+-- the type of the records that a lookup returns
 abbrev pub Found : LookUp → Type 0
 Found look_up.Party = ℕ × PartyRecord
 Found look_up.Unit = ℕ × UnitRecord
@@ -40,7 +40,7 @@ Found look_up.MembersOfGroup = GroupMember
 Found look_up.MandatesOfAgent = Mandate
 Found look_up.Administrators = Grant
 
--- the table, and how its rows are read
+-- the table of a lookup, with the decoder of its rows
 abbrev pub listing_of : (l : LookUp) → Listing (Version (Found l))
 listing_of look_up.Party = parties
 listing_of look_up.Unit = units
@@ -55,7 +55,7 @@ listing_of look_up.MembersOfGroup = members
 listing_of look_up.MandatesOfAgent = mandates
 listing_of look_up.Administrators = roles
 
--- which of them are looked for, by the number that is given
+-- whether a record matches the given number
 abbrev pub is_meant : (l : LookUp) → (number : ℕ) → Found l → Bool
 is_meant look_up.Party number party = nat_eq party.0 number
 is_meant look_up.Unit number unit = nat_eq unit.0 number
@@ -70,34 +70,35 @@ is_meant look_up.MembersOfGroup number joined = nat_eq joined.group number
 is_meant look_up.MandatesOfAgent number mandate = nat_eq mandate.agent number
 is_meant look_up.Administrators number grant = is_role grant.role StateAdministrator
 
--- of some versions, those that stand at a moment and are meant
+-- the versions that are valid at time t and match
 abbrev pub wanted : {X : Type 0} → (X → Bool) → (t : ℤ) → List (Version X) → List (Version X)
 wanted meant t versions = filter (λ v. stands t v && meant v.what) versions
 
--- where the rows of a table say some versions, these rows say those of them that are wanted, in whatever order
+-- If the rows of a table decode to some versions, these rows decode to those of them that are valid at time t
+-- and match, in any order.
 abbrev pub AreRows : {X : Type 0} → Listing (Version X) → (X → Bool) → (t : ℤ) → Trees → List Row → Type 0
 AreRows {X} listing meant t db rows = (versions : List (Version X)) → Says listing db versions
     → IsPermutation (map listing.said rows) (map (λ v. Ok v) (wanted meant t versions))
 
--- the rows of what is looked for by a number
+-- the rows that a lookup returns for a number at a time
 abbrev pub AreRowsOf : LookUp → (number : ℕ) → (t : ℤ) → Trees → List Row → Type 0
 AreRowsOf l number t db rows = AreRows (listing_of l) (is_meant l number) t db rows
 
--- the rows of what a party lodged under a reference
+-- the rows of the mutation that a party lodged with a reference
 abbrev pub AreRowsLodgedAs : (lodger : ℕ) → (reference : List ℕ) → (t : ℤ) → Trees → List Row → Type 0
 AreRowsLodgedAs lodger reference t db rows =
     AreRows mutations (λ mutation. is_lodged_as lodger reference mutation.1) t db rows
 
--- this is what rows of some kind say
+-- the rows, of the given kind, decode to this list
 abbrev pub AreSaid : {X : Type 0} → (Row → Result X WireFault) → (List Row → Type 0) → List X → Type 0
 AreSaid said Are xs = (rows : List Row) × Are rows × (each_of said rows ≡ Ok xs)
 
--- a fault that says that rows cannot be read is right: such rows say nothing
+-- A fault says that rows are unreadable only if some rows of the given kind do not decode.
 abbrev pub CannotSay : {X : Type 0} → (Row → Result X WireFault) → (List Row → Type 0) → ReadFault → Type 0
 CannotSay {X} said Are fault = fault ≡ Unreadable → (rows : List Row) × Are rows
     × ((xs : List X) → each_of said rows ≢ Ok xs)
 
--- the same of the rows of what is looked for by a number
+-- the same two for the rows that a lookup returns for a number
 abbrev pub AreSaidOf : {X : Type 0} → (Row → Result X WireFault) → LookUp → (number : ℕ) → (t : ℤ) → Trees
     → List X → Type 0
 AreSaidOf said l number t db xs = AreSaid said (AreRowsOf l number t db) xs
@@ -106,7 +107,7 @@ abbrev pub CannotBeSaid : {X : Type 0} → (Row → Result X WireFault) → Look
     → ReadFault → Type 0
 CannotBeSaid said l number t db fault = CannotSay said (AreRowsOf l number t db) fault
 
--- the record of one of some versions, none where there are none
+-- the record of one of the versions, or `None` if there are none
 abbrev pub IsOneOf : {V : Type 0} → List (Version (ℕ × V)) → Option V → Type 0
 IsOneOf versions None = versions ≡ []
 IsOneOf {V} versions (Some value) =

@@ -1,4 +1,4 @@
--- The text of each look-up.
+-- The SQL statement of each lookup.
 use Rattle.std.specs.Prelude.{ℕ, List}
 use Rattle.land_select_joins.specs.declared.joins.own.TheConstants as own
 use Rattle.land_select_joins.specs.declared.lookups.look_up.LookUp.{LookUp}
@@ -23,14 +23,14 @@ text_of look_up.MembersOfGroup = texts.MEMBERS_OF_GROUP.now
 text_of look_up.MandatesOfAgent = texts.MANDATES_OF_AGENT.now
 text_of look_up.Administrators = texts.ADMINISTRATORS.now
 
--- and of each look-up of numbers
+-- the statement of each lookup of one column
 abbrev pub number_text_of : NumberLookUp → List ℕ
 number_text_of number_look_up.Party = own.ITSELF.now
 number_text_of number_look_up.Unit = texts.UNIT_NUMBER.now
 number_text_of number_look_up.LodgerOfMutation = texts.LODGER_OF_MUTATION.now
 number_text_of number_look_up.LodgersOnUnit = texts.LODGERS_ON_UNIT.now
 
--- and of each relation by which somebody is told of a party
+-- the statement of each relation between a viewer and a unit
 abbrev pub seer_text_of : Relation → List ℕ
 seer_text_of relation.Holding = texts.SEERS_BY_HOLDING.now
 seer_text_of relation.Crediting = texts.SEERS_BY_CREDITING.now

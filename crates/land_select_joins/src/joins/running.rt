@@ -1,4 +1,4 @@
-//! Selections are run, and what they give is united.
+//! Runs selections and unites their results.
 ghost use Rattle.land_tables_schema.specs.Connections.{HasRegisterTables, IsUsable, LeavesAutocommit};
 ghost use Rattle.land_select_joins.specs.TableReads.{FailsOnlyWithoutHistory, ReadsTables};
 ghost use Rattle.std.specs.Prelude.{◌≡◌, IfErr, IfOk};
@@ -23,14 +23,15 @@ use land_wire_json::bodies::wire_fault::WireFault;
 use sqlite::{Alter, Connection, Error, Row};
 use std::alloc::Global;
 
-/// The number that is asked for in place of one that is given: 0, which is nobody's, where no object can have it.
+/// Returns the number to query for: the given one, or 0, which no object has, if it is out of range. Sqlite
+/// integers are signed, so a larger number cannot be a parameter.
 pub fn asked_for(caller: u64) -> u64
     ensures { result ≡ asked_for caller }
 {
     if is_number(caller) { caller } else { 0 }
 }
 
-/// The rows that a selection gives to a caller at a moment, in whatever order.
+/// Runs a selection for a caller at a time and returns its rows, in any order.
 fn rows_of<S: Alter>(
     conn: &mut Connection<S>,
     selection: Selection,
@@ -48,7 +49,8 @@ fn rows_of<S: Alter>(
     )
 }
 
-/// The number in the one column of each row. 131: it is of another kind. 132: it is negative. 501: there was no memory.
+/// Decodes the number in the only column of each row. Returns error 131 for another type, 132 for a negative
+/// number, and 501 if out of memory.
 fn each_number(alloc: Global, rows: &[Row]) -> Result<NumberList, WireFault>
     ensures { Gives (λ it. it) result (each_of (λ row. natural_in (column row 0)) rows.now) }
 {
@@ -59,15 +61,15 @@ fn each_number(alloc: Global, rows: &[Row]) -> Result<NumberList, WireFault>
     Ok(all)
 }
 
-/// The numbers in rows. 520: one of them cannot be read. 501: there was no memory.
+/// Decodes the numbers in rows. Returns error 520 if a row is unreadable, and 501 if out of memory.
 pub(crate) fn read(alloc: Global, rows: &[Row]) -> Result<NumberList, ReadFault>
     ensures { IsRead (λ row. natural_in (column row 0)) rows.now result }
 {
     Ok(each_number(alloc, rows)?)
 }
 
-/// The numbers that a selection gives to a caller at a moment, in milliseconds since 1970 UTC, in whatever order. 520: the tables hold no
-/// history. 501: there was no memory.
+/// Returns the numbers of a selection for a caller at a time, in Unix milliseconds, in any order. Returns
+/// error 520 only if the tables hold no history, and 501 if out of memory.
 pub fn numbers<S: Alter>(
     alloc: Global,
     conn: &mut Connection<S>,
@@ -84,7 +86,8 @@ pub fn numbers<S: Alter>(
     read(alloc, rows.as_slice())
 }
 
-/// The numbers that some of the selections gives, in whatever order, and a number as often as selections give it.
+/// Returns the numbers of several selections, in any order. A number is repeated for each selection that
+/// returns it.
 fn gather<S: Alter>(
     alloc: Global,
     conn: &mut Connection<S>,
@@ -107,7 +110,7 @@ fn gather<S: Alter>(
     Ok(found)
 }
 
-/// The numbers that some of the selections gives to one of some callers, in whatever order, and a number as often as it is given.
+/// Returns the numbers of several selections for several callers, in any order and with repetitions.
 fn gather_for<S: Alter>(
     alloc: Global,
     conn: &mut Connection<S>,
@@ -130,7 +133,7 @@ fn gather_for<S: Alter>(
     Ok(found)
 }
 
-/// Numbers in ascending order, each once.
+/// Sorts numbers and removes repetitions.
 fn each_once(mut numbers: Vec<u64>) -> Result<NumberList, ReadFault>
     ensures ascending { IfOk result IsStrictlyIncreasing }
     ensures same { IfOk result (λ it. AreAll it (λ n. Contains numbers.items n)) }
@@ -141,8 +144,8 @@ fn each_once(mut numbers: Vec<u64>) -> Result<NumberList, ReadFault>
     Ok(Sequence::from_vec(numbers))
 }
 
-/// The numbers that some of the selections gives to a caller at a moment, in milliseconds since 1970 UTC, in ascending order and each once.
-/// 520: the tables hold no history. 501: there was no memory.
+/// Returns the union of several selections for a caller at a time, in Unix milliseconds, in increasing order.
+/// Returns error 520 only if the tables hold no history, and 501 if out of memory.
 pub fn unite<S: Alter>(
     alloc: Global,
     conn: &mut Connection<S>,
@@ -160,8 +163,8 @@ pub fn unite<S: Alter>(
     each_once(gather(alloc, conn, selections, caller, at)?)
 }
 
-/// The numbers that some of the selections gives at a moment, in milliseconds since 1970 UTC, to one of some callers, in ascending order and
-/// each once. 520: the tables hold no history. 501: there was no memory.
+/// Returns the union of several selections for several callers at a time, in Unix milliseconds, in increasing
+/// order. Returns error 520 only if the tables hold no history, and 501 if out of memory.
 pub fn unite_for<S: Alter>(
     alloc: Global,
     conn: &mut Connection<S>,

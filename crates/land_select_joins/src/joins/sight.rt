@@ -1,4 +1,4 @@
-//! What a caller sees of a kind at a moment.
+//! The objects of a kind that a caller sees at a time.
 ghost use Rattle.land_tables_schema.specs.Connections.{HasRegisterTables, IsUsable, LeavesAutocommit};
 ghost use Rattle.land_select_joins.specs.TableReads.{FailsOnlyWithoutHistory, ReadsTables};
 ghost use Rattle.std.specs.Prelude.{◌≡◌, ◌&&◌, not};
@@ -22,14 +22,16 @@ use land_tables_rows::listing::fault::ReadFault;
 use sqlite::{Alter, Connection};
 use std::alloc::Global;
 
-/// Whether mandates give a caller more to see of a kind: to a citizen, and not of parcels, which everybody sees.
+/// Checks if mandates add to a caller's sight of a kind: only for citizens, and not for parcels, which all
+/// roles see.
 fn has_circle(role: Role, kind: Kind) -> bool
     ensures { result ≡ is_role role roles.Citizen && not (sees_all role kind) }
 {
     role == Role::Citizen && !sees_all(role, kind)
 }
 
-/// The numbers of a kind that the rules would let a caller see at a moment if no mandates stood, in ascending order and each once.
+/// Returns the numbers of a kind that the policy, without mandates, lets a caller see at a time, in
+/// increasing order.
 fn sight_alone<S: Alter>(
     alloc: Global,
     conn: &mut Connection<S>,
@@ -47,8 +49,8 @@ fn sight_alone<S: Alter>(
     unite(alloc, conn, selections(caller.role, kind), caller.party, at)
 }
 
-/// The numbers of a kind that the rules let a citizen see at a moment, in ascending order and each once: what is given to one of its circle
-/// at that moment.
+/// Returns the numbers of a kind that the policy lets a citizen see at a time, in increasing order: the union
+/// over its circle at that time.
 fn sight_of_circle<S: Alter>(
     alloc: Global,
     conn: &mut Connection<S>,
@@ -75,9 +77,9 @@ fn sight_of_circle<S: Alter>(
     )
 }
 
-/// The numbers of a kind that the rules let a caller see at a moment, in milliseconds since 1970 UTC, in ascending order and each once; to a
-/// citizen is given what is given to itself and to those whose mandate it holds at that moment. 520: the tables hold no history. 501: there
-/// was no memory.
+/// Returns the numbers of a kind that the policy lets a caller see at a time, in Unix milliseconds, in
+/// increasing order. A citizen also sees the objects of the principals whose mandates it holds at that time.
+/// Returns error 520 only if the tables hold no history, and 501 if out of memory.
 pub fn sight<S: Alter>(
     alloc: Global,
     conn: &mut Connection<S>,

@@ -14,7 +14,7 @@ use land_tables_rows::reading::from_row::FromRow;
 use sqlite::{Alter, Connection};
 use std::alloc::Global;
 
-/// The record of one of some versions, `None` where there are none.
+/// Returns the record of one of the versions, or `None` if there are none.
 fn record_of<V: Drop>(found: Sequence<Version<(u64, V)>>) -> Option<V>
     ensures { IsOneOf found result }
 {
@@ -33,8 +33,8 @@ fn record_of<V: Drop>(found: Sequence<Version<(u64, V)>>) -> Option<V>
     }
 }
 
-/// The record of a kind that has a number and stands at a moment, in milliseconds since 1970 UTC, or `None`. 520: the tables hold no
-/// history. 501: there was no memory.
+/// Reads the record of a number at a time, in Unix milliseconds; `None` if it does not exist. Returns error
+/// 520 only if the tables hold no history, and 501 if out of memory.
 pub fn record<V: Numbered, S: Alter>(
     alloc: Global,
     conn: &mut Connection<S>,

@@ -1,4 +1,4 @@
-//! Look-ups are run, and the rows that they give are read.
+//! Runs lookups and decodes their rows.
 ghost use Rattle.land_tables_schema.specs.Connections.{HasRegisterTables, LeavesAutocommit};
 ghost use Rattle.land_select_joins.specs.TableReads.{ReadsTables};
 ghost use Rattle.std.specs.Prelude.{IfErr};
@@ -17,7 +17,7 @@ use land_tables_schema::rows::cells::{of_moment, of_number, of_text};
 use sqlite::{Alter, Connection, Error, Row};
 use std::alloc::Global;
 
-/// The rows that a look-up finds at a moment, in whatever order.
+/// Runs a lookup at a time and returns its rows, in any order.
 fn rows_of<S: Alter>(
     conn: &mut Connection<S>,
     look_up: LookUp,
@@ -35,7 +35,7 @@ fn rows_of<S: Alter>(
     )
 }
 
-/// The rows of what a party lodged under a reference, as it stands at a moment, in whatever order.
+/// Returns the rows of the mutation that a party lodged with a reference, at a time.
 pub(crate) fn rows_lodged_as<S: Alter>(
     conn: &mut Connection<S>,
     lodger: u64,
@@ -57,15 +57,15 @@ pub(crate) fn rows_lodged_as<S: Alter>(
     )
 }
 
-/// What some rows say. 520: one of them cannot be read. 501: there was no memory.
+/// Decodes rows. Returns error 520 if a row is unreadable, and 501 if out of memory.
 pub(crate) fn read<X: FromRow>(alloc: Global, rows: &[Row]) -> Result<Sequence<X>, ReadFault>
     ensures { IsRead X.FromRow.said rows.now result }
 {
     Ok(read_all(alloc, rows)?)
 }
 
-/// What the rows say that a look-up finds by a number at a moment, in milliseconds since 1970 UTC, in whatever order. 520: one of them
-/// cannot be read. 501: there was no memory.
+/// Runs a lookup at a time, in Unix milliseconds, and returns the decoded rows, in any order. Returns error
+/// 520 if a row is unreadable, and 501 if out of memory.
 pub fn find<X: FromRow, S: Alter>(
     alloc: Global,
     conn: &mut Connection<S>,

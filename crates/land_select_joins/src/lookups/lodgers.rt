@@ -1,4 +1,4 @@
-//! Who lodged mutations, told without what these say.
+//! Lodgers of mutations, read without the contents of these.
 ghost use Rattle.land_tables_schema.specs.Connections.{HasRegisterTables, LeavesAutocommit};
 ghost use Rattle.land_select_joins.specs.TableReads.{FailsOnlyWithoutHistory, ReadsTables};
 ghost use Rattle.std.specs.List.{list_any};
@@ -12,15 +12,15 @@ use land_tables_rows::listing::fault::ReadFault;
 use sqlite::{Alter, Connection};
 use std::alloc::Global;
 
-/// Whether a party is among some.
+/// Checks if a party is in a list.
 fn is_among(parties: &[u64], party: u64) -> bool
     ensures { result ≡ list_any (nat_eq party) parties.now }
 {
     parties.iter().any(|it| party == *it)
 }
 
-/// Whether the mutation of a number stands at a moment, in milliseconds since 1970 UTC, and a party lodged it, be it decided or not. 520: the
-/// tables hold no history. 501: there was no memory.
+/// Checks if the mutation of a number exists at a time, in Unix milliseconds, and a party lodged it. It may
+/// be decided. Returns error 520 only if the tables hold no history, and 501 if out of memory.
 pub fn has_lodged<S: Alter>(
     alloc: Global,
     conn: &mut Connection<S>,
@@ -37,8 +37,8 @@ pub fn has_lodged<S: Alter>(
     Ok(is_among(lodgers.as_slice(), party))
 }
 
-/// Whether an undecided mutation of a party names a unit at a moment, in milliseconds since 1970 UTC. 520: the tables hold no history. 501:
-/// there was no memory.
+/// Checks if a pending mutation of a party refers to a unit at a time, in Unix milliseconds. Returns error
+/// 520 only if the tables hold no history, and 501 if out of memory.
 pub fn is_lodger_on<S: Alter>(
     alloc: Global,
     conn: &mut Connection<S>,

@@ -1,10 +1,10 @@
-//! Which rows are looked for.
+//! The lookups of records.
 ghost use Rattle.std.specs.Prelude.{◌≡◌};
 ghost use Rattle.land_select_joins.specs.Lookups.Texts.{text_of};
 
 use crate::lookups::texts;
 
-/// Which rows of a table are looked for at a moment, by a number that is given.
+/// A lookup of records by a number, at a time.
 #[derive(Clone, Copy, Debug, PartialEq, Eq)]
 pub enum LookUp {
     /// The party of a number.
@@ -27,13 +27,14 @@ pub enum LookUp {
     RolesOfParty,
     /// The members of a group.
     MembersOfGroup,
-    /// The mandates that a party holds.
+    /// The mandates that a party holds as agent.
     MandatesOfAgent,
-    /// The state administrators, whatever number is given.
+    /// The state administrators. The number is not used.
     Administrators,
 }
 
-/// The text of a look-up. Parameter 1 is the number that is given, parameter 2 the moment in milliseconds since 1970 UTC.
+/// Returns the SQL statement of a lookup. Parameter 1 is the number, parameter 2 the time in Unix
+/// milliseconds.
 pub fn text_of(look_up: LookUp) -> &'static str
     ensures { result.now ≡ text_of look_up }
 {

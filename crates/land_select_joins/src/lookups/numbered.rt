@@ -1,4 +1,4 @@
-//! Records that have numbers.
+//! Records that are looked up by number.
 ghost use Rattle.std.specs.FinMap.{FinMap};
 ghost use Rattle.std.specs.Ordering.{nat_cmp};
 ghost use Rattle.land_core.specs.declared.register.Register.{Register};
@@ -19,30 +19,30 @@ use land_core::unit::UnitRecord;
 use land_tables_history::version::Version;
 use land_tables_rows::reading::from_row::FromRow;
 
-/// What the register has under a number, and a table versions of.
+/// A record type: the register has one per number, and a table has its versions.
 pub trait Numbered: Drop
 where
     Version<(u64, Self)>: FromRow,
 {
-    /// Where the register has them.
+    /// The part of the register that has these records.
     ghost part: { Register → FinMap nat_cmp Self };
 
-    /// The look-up that finds one by its number.
+    /// The lookup of one record by its number.
     const BY_NUMBER: LookUp;
 
-    /// The look-up that finds one by its number.
+    /// The lookup of one record by its number.
     ghost BY_NUMBER: { Which };
 
-    /// It finds what stands.
+    /// The lookup returns the current record.
     ghost found: { IsFoundBy ⟦<Version<(u64, Self)> as FromRow>⟧.said BY_NUMBER part };
 
-    /// Their kind.
+    /// The kind of the objects.
     const KIND: Kind;
 
-    /// Their kind.
+    /// The kind of the objects.
     ghost KIND: { WhichKind };
 
-    /// The text of the kind finds what stands under the numbers of a range.
+    /// The statement of the kind returns the records in a range of numbers.
     ghost within: { IsFoundWithin ⟦<Version<(u64, Self)> as FromRow>⟧.said KIND part };
 }
 

@@ -1,4 +1,4 @@
-//! Look-ups of numbers are run.
+//! Runs lookups of one column.
 ghost use Rattle.land_tables_schema.specs.Connections.{HasRegisterTables, LeavesAutocommit};
 ghost use Rattle.land_select_joins.specs.TableReads.{FailsOnlyWithoutHistory, ReadsTables};
 ghost use Rattle.land_select_joins.specs.Lookups.Numbers.{AreNumbersToldBy, AreRowsToldBy};
@@ -11,7 +11,7 @@ use land_tables_schema::rows::cells::{of_moment, of_number};
 use sqlite::{Alter, Connection, Error, Row};
 use std::alloc::Global;
 
-/// The rows that a look-up of numbers finds at a moment, in whatever order.
+/// Runs a lookup at a time and returns its rows, in any order.
 fn rows_of<S: Alter>(
     conn: &mut Connection<S>,
     look_up: NumberLookUp,
@@ -29,8 +29,8 @@ fn rows_of<S: Alter>(
     )
 }
 
-/// The numbers that a look-up finds by a number at a moment, in milliseconds since 1970 UTC, in whatever order. 520: the tables hold no
-/// history. 501: there was no memory.
+/// Runs a lookup at a time, in Unix milliseconds, and returns the numbers, in any order. Returns error 520
+/// only if the tables hold no history, and 501 if out of memory.
 pub fn numbers<S: Alter>(
     alloc: Global,
     conn: &mut Connection<S>,

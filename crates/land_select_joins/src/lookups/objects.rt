@@ -1,4 +1,4 @@
-//! Objects as they are shown, by their kinds and numbers.
+//! Objects by kind and number, as replies show them.
 ghost use Rattle.land_tables_schema.specs.Connections.{HasRegisterTables, LeavesAutocommit};
 ghost use Rattle.land_select_joins.specs.TableReads.{FailsOnlyWithoutHistory, ReadsTables};
 ghost use Rattle.std.specs.FinMap as map;
@@ -22,7 +22,7 @@ use land_tables_rows::reading::from_row::FromRow;
 use sqlite::{Alter, Connection};
 use std::alloc::Global;
 
-/// A party that stands at a number, with its roles and its members.
+/// Builds the object of a party, with its roles and its members.
 fn party_with<S: Alter>(
     alloc: Global,
     conn: &mut Connection<S>,
@@ -42,7 +42,7 @@ fn party_with<S: Alter>(
     Ok(party_shown(alloc, number, found, roles, members)?)
 }
 
-/// The party of a number, with its roles and its members.
+/// Reads the party of a number, with its roles and its members.
 fn party<S: Alter>(
     alloc: Global,
     conn: &mut Connection<S>,
@@ -62,7 +62,7 @@ fn party<S: Alter>(
     }
 }
 
-/// What is shown as it stands in its own table, of a number.
+/// Reads the object of a kind that has a table of its own.
 fn shown<V: Shown, S: Alter>(
     alloc: Global,
     conn: &mut Connection<S>,
@@ -80,8 +80,8 @@ where
     Ok(V::shown(number, found))
 }
 
-/// The object of a kind that stands at a number and a moment, in milliseconds since 1970 UTC, as it is shown, or `None`. 520: the tables hold
-/// no history. 501: there was no memory.
+/// Reads the object of a kind and a number at a time, in Unix milliseconds; `None` if it does not exist.
+/// Returns error 520 only if the tables hold no history, and 501 if out of memory.
 pub fn object<S: Alter>(
     alloc: Global,
     conn: &mut Connection<S>,

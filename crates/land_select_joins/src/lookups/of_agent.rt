@@ -1,4 +1,4 @@
-//! The mandates that a party holds, those who gave them, and the circle that they make with it.
+//! The mandates that a party holds, their principals, and the circle of the party.
 ghost use Rattle.land_tables_schema.specs.Connections.{HasRegisterTables, LeavesAutocommit};
 ghost use Rattle.land_select_joins.specs.TableReads.{FailsOnlyWithoutHistory, ReadsTables};
 ghost use Rattle.std.specs.Prelude.{◌≡◌, map, nat_eq, IfOk};
@@ -15,7 +15,8 @@ use land_tables_rows::listing::fault::ReadFault;
 use sqlite::{Alter, Connection};
 use std::alloc::{AllocError, Global};
 
-/// The mandates that a party holds at a moment, in milliseconds since 1970 UTC. 520: the tables hold no history. 501: there was no memory.
+/// Reads the mandates that a party holds at a time, in Unix milliseconds. Returns error 520 only if the
+/// tables hold no history, and 501 if out of memory.
 pub fn mandates<S: Alter>(
     alloc: Global,
     conn: &mut Connection<S>,
@@ -32,8 +33,9 @@ pub fn mandates<S: Alter>(
     Ok(mandates_at(alloc, held.as_slice(), at)?)
 }
 
-/// Those whose mandate a party holds at a moment, in milliseconds since 1970 UTC, in whatever order and each once; the principals of these
-/// are not looked for. 520: the tables hold no history. 501: there was no memory.
+/// Reads the principals of a party at a time, in Unix milliseconds, in any order and each once. Mandates are
+/// not transitive: the principals of these are not included. Returns error 520 only if the tables hold no
+/// history, and 501 if out of memory.
 pub fn principals<S: Alter>(
     alloc: Global,
     conn: &mut Connection<S>,
@@ -49,7 +51,7 @@ pub fn principals<S: Alter>(
     Ok(principals_of(alloc, found.as_slice())?)
 }
 
-/// The principals of some mandates, in the order of these.
+/// Returns the principals of mandates, in the same order.
 fn principals_of(alloc: Global, mandates: &[Version<Mandate>]) -> Result<NumberList, AllocError>
     ensures { IfOk result (λ it. it ≡ map (λ v. v.what.principal) mandates.now) }
 {
@@ -60,8 +62,8 @@ fn principals_of(alloc: Global, mandates: &[Version<Mandate>]) -> Result<NumberL
     Ok(numbers)
 }
 
-/// The circle of a party at a moment, in milliseconds since 1970 UTC, in whatever order: the party, and those whose mandate it holds. 520:
-/// the tables hold no history. 501: there was no memory.
+/// Reads the circle of a party at a time, in Unix milliseconds, in any order: the party and its principals.
+/// Returns error 520 only if the tables hold no history, and 501 if out of memory.
 pub fn circle<S: Alter>(
     alloc: Global,
     conn: &mut Connection<S>,

@@ -15,7 +15,7 @@ use land_tables_schema::rows::cells::{of_moment, of_number};
 use sqlite::{Alter, Connection, Error, Row};
 use std::alloc::Global;
 
-/// The rows of the parties of the entries of a unit at a moment, in whatever order.
+/// Returns the rows of the parties of a unit's entries at a time, in any order.
 fn rows_of<S: Alter>(conn: &mut Connection<S>, unit: u64, at: i64) -> Result<Vec<Row>, Error>
     requires land { HasRegisterTables S.Store conn.old }
     ensures look { ReadsTables S.Store result (λ db rows. ArePartyRows (of_unit unit) at db rows.items)
@@ -28,8 +28,8 @@ fn rows_of<S: Alter>(conn: &mut Connection<S>, unit: u64, at: i64) -> Result<Vec
     )
 }
 
-/// The parties of the entries of a unit that stand at a moment, in milliseconds since 1970 UTC, in whatever order, and a party as often as it
-/// has an entry in the unit. 520: the tables hold no history. 501: there was no memory.
+/// Reads the parties of a unit's entries at a time, in Unix milliseconds, in any order. A party is repeated
+/// for each of its entries. Returns error 520 only if the tables hold no history, and 501 if out of memory.
 pub fn parties<S: Alter>(
     alloc: Global,
     conn: &mut Connection<S>,
@@ -45,7 +45,7 @@ pub fn parties<S: Alter>(
     read(alloc, rows.as_slice())
 }
 
-/// The rows of the parties of the entries of a range of numbers at a moment, in whatever order.
+/// Returns the rows of the parties of entries in a range of numbers at a time, in any order.
 fn rows_within<S: Alter>(
     conn: &mut Connection<S>,
     first: u64,
@@ -67,8 +67,9 @@ fn rows_within<S: Alter>(
     )
 }
 
-/// The parties of the entries of a range of numbers, whose ends belong to it, that stand at a moment, in milliseconds since 1970 UTC, in
-/// whatever order, and a party as often as it has an entry there. 520: the tables hold no history. 501: there was no memory.
+/// Reads the parties of the entries in a range of numbers, both ends included, at a time, in Unix
+/// milliseconds, in any order. A party is repeated for each of its entries. Returns error 520 only if the
+/// tables hold no history, and 501 if out of memory.
 pub fn parties_within<S: Alter>(
     alloc: Global,
     conn: &mut Connection<S>,

@@ -1,4 +1,4 @@
-//! What belongs to a group.
+//! The members of a group.
 ghost use Rattle.land_tables_schema.specs.Connections.{HasRegisterTables, LeavesAutocommit};
 ghost use Rattle.land_select_joins.specs.TableReads.{FailsOnlyWithoutHistory, ReadsTables};
 ghost use Rattle.std.specs.Prelude.{nat_eq};
@@ -14,8 +14,9 @@ use land_tables_rows::listing::fault::ReadFault;
 use sqlite::{Alter, Connection};
 use std::alloc::Global;
 
-/// The members of a group at a moment, in milliseconds since 1970 UTC, under the number of the group; nothing where it has none. 520: the
-/// tables hold no history. 501: there was no memory.
+/// Reads the members of a group at a time, in Unix milliseconds, as a map from the group's number; the map is
+/// empty if the group has none. Returns error 520 only if the tables hold no history, and 501 if out of
+/// memory.
 pub fn members<S: Alter>(
     alloc: Global,
     conn: &mut Connection<S>,

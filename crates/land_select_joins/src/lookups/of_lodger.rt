@@ -1,4 +1,4 @@
-//! What belongs to a lodger.
+//! The mutations of a lodger.
 ghost use Rattle.land_tables_schema.specs.Connections.{HasRegisterTables, LeavesAutocommit};
 ghost use Rattle.land_select_joins.specs.TableReads.{FailsOnlyWithoutHistory, ReadsTables};
 ghost use Rattle.land_core.specs.Entries.{only};
@@ -15,8 +15,8 @@ use land_tables_rows::listing::fault::ReadFault;
 use sqlite::{Alter, Connection};
 use std::alloc::Global;
 
-/// The mutation that a party lodged under a reference and that stands at a moment, in milliseconds since 1970 UTC, under its number, if any.
-/// 520: the tables hold no history. 501: there was no memory.
+/// Reads the mutation that a party lodged with a reference, at a time, in Unix milliseconds, as a map from
+/// its number. Returns error 520 only if the tables hold no history, and 501 if out of memory.
 pub fn lodged_as<S: Alter>(
     alloc: Global,
     conn: &mut Connection<S>,

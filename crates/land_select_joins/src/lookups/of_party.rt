@@ -1,4 +1,4 @@
-//! What belongs to a party.
+//! The roles of a party.
 ghost use Rattle.land_tables_schema.specs.Connections.{HasRegisterTables, LeavesAutocommit};
 ghost use Rattle.land_select_joins.specs.TableReads.{FailsOnlyWithoutHistory, ReadsTables};
 ghost use Rattle.std.specs.Prelude.{nat_eq};
@@ -13,7 +13,8 @@ use land_tables_rows::listing::fault::ReadFault;
 use sqlite::{Alter, Connection};
 use std::alloc::Global;
 
-/// The roles that a party holds at a moment, in milliseconds since 1970 UTC. 520: the tables hold no history. 501: there was no memory.
+/// Reads the roles that a party holds at a time, in Unix milliseconds. Returns error 520 only if the tables
+/// hold no history, and 501 if out of memory.
 pub fn roles<S: Alter>(
     alloc: Global,
     conn: &mut Connection<S>,

@@ -1,4 +1,4 @@
-//! What belongs to a unit.
+//! The parcels and the entries of a unit.
 ghost use Rattle.land_tables_schema.specs.Connections.{HasRegisterTables, LeavesAutocommit};
 ghost use Rattle.land_select_joins.specs.TableReads.{FailsOnlyWithoutHistory, ReadsTables};
 ghost use Rattle.std.specs.Prelude.{nat_eq};
@@ -15,8 +15,8 @@ use land_tables_rows::listing::fault::ReadFault;
 use sqlite::{Alter, Connection};
 use std::alloc::Global;
 
-/// The parcels of a unit that stand at a moment, in milliseconds since 1970 UTC, under their numbers. 520: the tables hold no history. 501:
-/// there was no memory.
+/// Reads the parcels of a unit at a time, in Unix milliseconds, by number. Returns error 520 only if the
+/// tables hold no history, and 501 if out of memory.
 pub fn parcels<S: Alter>(
     alloc: Global,
     conn: &mut Connection<S>,
@@ -33,8 +33,8 @@ pub fn parcels<S: Alter>(
     Ok(part_at(alloc, found.as_slice(), at)?)
 }
 
-/// The entries of a unit that stand at a moment, in milliseconds since 1970 UTC, under their numbers. 520: the tables hold no history. 501:
-/// there was no memory.
+/// Reads the entries of a unit at a time, in Unix milliseconds, by number. Returns error 520 only if the
+/// tables hold no history, and 501 if out of memory.
 pub fn entries<S: Alter>(
     alloc: Global,
     conn: &mut Connection<S>,

@@ -1,4 +1,4 @@
-//! Who is the office.
+//! The state administrators.
 ghost use Rattle.land_tables_schema.specs.Connections.{HasRegisterTables, LeavesAutocommit};
 ghost use Rattle.land_select_joins.specs.TableReads.{FailsOnlyWithoutHistory, ReadsTables};
 ghost use Rattle.land_core.specs.Entries.{only};
@@ -14,8 +14,8 @@ use land_tables_rows::listing::fault::ReadFault;
 use sqlite::{Alter, Connection};
 use std::alloc::Global;
 
-/// The roles of all state administrators, none but that one, at a moment, in milliseconds since 1970 UTC. 520: the tables hold no history.
-/// 501: there was no memory.
+/// Reads the roles of all state administrators, only that one role of each, at a time, in Unix milliseconds.
+/// Returns error 520 only if the tables hold no history, and 501 if out of memory.
 pub fn administrators<S: Alter>(
     alloc: Global,
     conn: &mut Connection<S>,

@@ -1,4 +1,4 @@
-//! Whether parties and units stand, told by their numbers alone.
+//! Existence of parties and units, by their numbers only.
 ghost use Rattle.land_tables_schema.specs.Connections.{HasRegisterTables, LeavesAutocommit};
 ghost use Rattle.land_select_joins.specs.TableReads.{FailsOnlyWithoutHistory, ReadsTables};
 ghost use Rattle.std.specs.Prelude.{◌≡◌, nat_eq, length, not};
@@ -12,15 +12,15 @@ use land_tables_rows::listing::fault::ReadFault;
 use sqlite::{Alter, Connection};
 use std::alloc::Global;
 
-/// Whether there is one number at least.
+/// Checks if a list is not empty.
 fn are_some(numbers: &[u64]) -> bool
     ensures { result ≡ not (nat_eq (length numbers.now) 0) }
 {
     !numbers.is_empty()
 }
 
-/// Whether a party of a number stands at a moment, in milliseconds since 1970 UTC; what else its row has is not read. 520: the tables hold no
-/// history. 501: there was no memory.
+/// Checks if a party exists at a time, in Unix milliseconds. The other columns of its row are not read.
+/// Returns error 520 only if the tables hold no history, and 501 if out of memory.
 pub fn party_stands<S: Alter>(
     alloc: Global,
     conn: &mut Connection<S>,
@@ -37,8 +37,8 @@ pub fn party_stands<S: Alter>(
     Ok(are_some(told.as_slice()))
 }
 
-/// Whether a unit of a number stands at a moment, in milliseconds since 1970 UTC; what else its row has is not read. 520: the tables hold no
-/// history. 501: there was no memory.
+/// Checks if a unit exists at a time, in Unix milliseconds. The other columns of its row are not read.
+/// Returns error 520 only if the tables hold no history, and 501 if out of memory.
 pub fn unit_stands<S: Alter>(
     alloc: Global,
     conn: &mut Connection<S>,

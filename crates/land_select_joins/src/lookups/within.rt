@@ -1,4 +1,4 @@
-//! Records of a range of numbers.
+//! Records in a range of numbers.
 ghost use Rattle.land_tables_schema.specs.Connections.{HasRegisterTables, LeavesAutocommit};
 ghost use Rattle.land_select_joins.specs.TableReads.{FailsOnlyWithoutHistory, ReadsTables};
 ghost use Rattle.std.specs.Prelude.{◌≡◌, IfErr};
@@ -24,11 +24,11 @@ use land_tables_schema::rows::cells::{of_moment, of_number};
 use sqlite::{Alter, Connection, Error, Row};
 use std::alloc::Global;
 
-/// More than any object's number.
+/// A number above the number of each object.
 pub(crate) const BEYOND: u64 = 1_000_000_001;
 
-/// The text that selects a range of a kind. Parameter 1 is its first number, parameter 3 its last one, and parameter 2 the moment in
-/// milliseconds since 1970 UTC.
+/// Returns the SQL statement that selects a range of a kind. Parameter 1 is its first number, parameter 3 its
+/// last number, and parameter 2 the time in Unix milliseconds.
 pub fn text_within(kind: Kind) -> &'static str
     ensures { result.now ≡ text_within kind }
 {
@@ -42,7 +42,7 @@ pub fn text_within(kind: Kind) -> &'static str
     }
 }
 
-/// The rows of a kind that stand at a moment under the numbers of a range, in whatever order.
+/// Returns the rows of a kind in a range of numbers at a time, in any order.
 fn rows_of<S: Alter>(
     conn: &mut Connection<S>,
     kind: Kind,
@@ -65,8 +65,8 @@ fn rows_of<S: Alter>(
     )
 }
 
-/// What the rows say of a kind that stand at a moment under the numbers of a range, in whatever order. 520: one of them cannot be read.
-/// 501: there was no memory.
+/// Reads the versions of a kind in a range of numbers at a time, in any order. Returns error 520 if a row is
+/// unreadable, and 501 if out of memory.
 fn find<V: Numbered, S: Alter>(
     alloc: Global,
     conn: &mut Connection<S>,
@@ -89,8 +89,8 @@ where
     read(alloc, rows.as_slice())
 }
 
-/// The records of a kind that stand at a moment, in milliseconds since 1970 UTC, under the numbers of a range, whose ends belong to it.
-/// 520: the tables hold no history. 501: there was no memory.
+/// Reads the records of a kind in a range of numbers, both ends included, at a time, in Unix milliseconds.
+/// Returns error 520 only if the tables hold no history, and 501 if out of memory.
 pub fn records<V: Numbered + Duplicate, S: Alter>(
     alloc: Global,
     conn: &mut Connection<S>,
