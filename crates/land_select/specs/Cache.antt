@@ -1,4 +1,4 @@
--- What is found of the register as a request is judged, and kept for its reply.
+-- The values that a verdict reads and the cache keeps for the reply.
 use Rattle.std.specs.Prelude.{◌≡◌, ℕ, ℤ, Option, None, Some}
 use Rattle.land_core.specs.Register.{object_at}
 use Rattle.land_core.specs.declared.ask.Ask.{Ask}
@@ -20,45 +20,46 @@ use Rattle.land_select_joins.specs.Joins.Running.{OfHeld}
 use Rattle.land_tables_history.specs.History.{StandsAt}
 use Rattle.sqlite_trees.specs.Tree.{Trees}
 
--- an object, where there is one, as what was found
+-- an object, if there is one, as a cached value
 abbrev pub cached_object : Option Object → CachedValue
 cached_object None = found.Nothing
 cached_object (Some it) = found.Object it
 
--- what was found of a register for a caller that asks about an object is that object, or those entries of that unit that the caller sees
+-- A cached value is correct for a caller and an object of a register: it is that object, or the entries of
+-- that unit that the caller sees.
 abbrev pub IsFound : Register → Caller → Kind → (number : ℕ) → CachedValue → Type 0
 IsFound r caller k n found.Nothing = Unit {0}
 IsFound r caller k n (found.Object it) = object_at r k n ≡ Some it
 IsFound r caller k n (found.VisibleEntries entries) = entries ≡ in_sight r caller n
 
--- where an object was found, it is this one
+-- a cached object is the object of this kind and number
 abbrev pub IsObjectFound : Register → Kind → (number : ℕ) → CachedValue → Type 0
 IsObjectFound r k n found.Nothing = Unit {0}
 IsObjectFound r k n (found.Object it) = object_at r k n ≡ Some it
 IsObjectFound r k n (found.VisibleEntries entries) = Unit {0}
 
--- where the tables hold a history that at the moment stands for a register, sound or with nothing in it, this is told of it, and what was
--- found for a caller that asks about an object is so
+-- If the tables hold a history that at time t represents a register, sound or empty, the result is this fact
+-- of it, and the cached value is correct.
 abbrev pub IsToldWith : {T : Type 0} → (Register → T) → Caller → Kind → (number : ℕ) → (t : ℤ) → Trees → T
     × CachedValue → Type 0
 IsToldWith told caller k n t db it =
     OfHeld db (λ h. (r : Register) → IsSoundOrNothing r → StandsAt t h r → (it.0 ≡ told r)
     × IsFound r caller k n it.1)
 
--- for lists and acts nothing is kept
+-- the cached value is correct for a request; for lists and acts it is not used
 abbrev pub IsFoundFor : Register → Caller → Ask → CachedValue → Type 0
 IsFoundFor r caller (ask.View k n at) it = IsFound r caller k n it
 IsFoundFor r caller (ask.List k at) it = Unit {0}
 IsFoundFor r caller (ask.Sheet unit at) it = IsFound r caller kind.Unit unit it
 IsFoundFor r caller (ask.Do act) it = Unit {0}
 
--- the sight rules on what is asked, and what was found as they were judged
+-- the verdict of the sight rules on a request, with the cached value
 abbrev pub IsSightedWith : Caller → Ask → (t : ℤ) → Trees → Verdict × CachedValue → Type 0
 IsSightedWith caller a t db it = OfHeld db
     (λ h. (r : Register) → IsSoundOrNothing r → StandsAt t h r
     → (it.0 ≡ first_denial (sight_rules r caller a)) × IsFoundFor r caller a it.1)
 
--- what is kept is so in a timeline
+-- the cache is correct for a timeline
 abbrev pub IsKeptOf : Timeline → Option Cache → Type 0
 IsKeptOf tl None = Unit {0}
 IsKeptOf tl (Some it) = IsFound (register_at tl it.moment) it.caller it.kind it.number it.found

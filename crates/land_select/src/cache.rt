@@ -1,4 +1,4 @@
-//! What was found of the register as a request was judged, kept for its reply.
+//! Caches what was read while a request was authorized, so that building its reply does not read it again.
 ghost use Rattle.std.specs.Prelude.{◌≡◌, IfSome, None, Some, true};
 ghost use Rattle.land_core.specs.Register.{object_at};
 ghost use Rattle.land_core.specs.declared.kind.Kind.TheVariants as kinds;
@@ -12,34 +12,34 @@ use land_core::object::Object;
 use land_core::records::Records;
 use land_core::rrr::RrrRecord;
 
-/// What was found of the register as a request was judged.
+/// A cached read.
 #[derive(Debug, Drop)]
 pub(crate) enum CachedValue {
-    /// Nothing that the reply needs.
+    /// Nothing was cached.
     Nothing,
-    /// The object that is asked for.
+    /// The requested object.
     Object(Object),
-    /// Those entries of the unit that is asked for that the caller sees.
+    /// The entries of the requested unit that the caller sees.
     VisibleEntries(Records<RrrRecord>),
 }
 
-/// What was found, and for which request.
+/// A cached read with its key. It is valid for one request: each other call of the keeper clears it.
 #[derive(Debug, Drop)]
 pub(crate) struct Cache {
-    /// Who asks.
+    /// The caller.
     pub(crate) caller: Caller,
-    /// The kind of the object that is asked for.
+    /// The kind of the requested object.
     pub(crate) kind: Kind,
-    /// Its number.
+    /// The number of the requested object.
     pub(crate) number: u64,
-    /// The moment that is asked about, in milliseconds since 1970 UTC.
+    /// The requested time, in Unix milliseconds.
     pub(crate) moment: i64,
-    /// What was found.
+    /// The cached value.
     pub(crate) found: CachedValue,
 }
 
 impl Cache {
-    /// Whether this was found as an object was asked for at a moment.
+    /// Checks if this was read for an object at a time.
     fn is_for(&self, kind: Kind, number: u64, at: i64) -> bool
         ensures { result ≡ true → (self.now.kind ≡ kind) × (self.now.number ≡ number)
             × (self.now.moment ≡ at) }
@@ -47,7 +47,7 @@ impl Cache {
         self.kind == kind && self.number == number && self.moment == at
     }
 
-    /// Whether this was found as a caller asked.
+    /// Checks if this was read for a caller.
     fn is_for_caller(&self, caller: Caller) -> bool
         ensures { result ≡ true → self.now.caller ≡ caller }
     {
@@ -55,7 +55,7 @@ impl Cache {
     }
 }
 
-/// An object, where there is one, as what was found.
+/// Returns an object as a cached value.
 pub(crate) fn cached_object(object: Option<Object>) -> CachedValue
     ensures { result ≡ cached_object object }
 {
@@ -65,7 +65,8 @@ pub(crate) fn cached_object(object: Option<Object>) -> CachedValue
     }
 }
 
-/// Keeps what was found for the view of an object or the sheet of a unit. For lists and acts nothing is kept.
+/// Returns a new cache for the view of an object or the sheet of a unit; `None` for lists and acts, whose
+/// replies reuse nothing.
 pub(crate) fn cache_for(caller: Caller, ask: &Ask, at: i64, found: CachedValue) -> Option<Cache>
     ensures { (tl : Timeline) → IsFoundFor (register_at tl at) caller ask.now found → IsKeptOf tl result }
 {
@@ -83,21 +84,21 @@ pub(crate) fn cache_for(caller: Caller, ask: &Ask, at: i64, found: CachedValue) 
     })
 }
 
-/// Keeps what was found, in place of what was kept before.
+/// Replaces the cache.
 pub(crate) fn keep(cache: &mut Option<Cache>, found: Option<Cache>)
     ensures { cache.new ≡ found }
 {
     *cache = found;
 }
 
-/// Lets go what was kept.
+/// Clears the cache.
 pub(crate) fn forget(cache: &mut Option<Cache>)
     ensures { cache.new ≡ None }
 {
     *cache = None;
 }
 
-/// The object of a kind and a number at a moment, where it was kept.
+/// Returns the object of a kind and a number at a time, if it is cached.
 pub(crate) fn take_object(cache: Option<Cache>, kind: Kind, number: u64, at: i64) -> Option<Object>
     ensures { (tl : Timeline) → IsKeptOf tl cache
         → IfSome result (λ it. object_at (register_at tl at) kind number ≡ Some it) }
@@ -117,7 +118,7 @@ pub(crate) fn take_object(cache: Option<Cache>, kind: Kind, number: u64, at: i64
     }
 }
 
-/// What was kept for a caller of a unit at a moment, where something was.
+/// Returns the value that is cached for a caller, a unit and a time.
 pub(crate) fn take_unit(cache: Option<Cache>, caller: Caller, unit: u64, at: i64) -> CachedValue
     ensures { (tl : Timeline) → IsKeptOf tl cache
         → IsFound (register_at tl at) caller kinds.Unit unit result }

@@ -1,4 +1,5 @@
-//! The indexed keeper (`SqlKeeper`): SQL queries select the objects that a caller may see, and lookups by key read records.
+//! The indexed keeper (`SqlKeeper`): SQL queries select the objects that a caller sees, and lookups by key
+//! read records.
 #![tactic(auto)]
 
 mod cache;

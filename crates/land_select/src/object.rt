@@ -1,4 +1,4 @@
-//! An object as it stands at a moment, by look-ups.
+//! Reads an object by key.
 ghost use Rattle.std.specs.Prelude.{◌≡◌};
 
 use crate::query::Query;
@@ -9,14 +9,14 @@ use land_tables_rows::listing::fault::ReadFault;
 use sqlite::{Alter, Connection};
 use std::alloc::Global;
 
-/// Which object of a kind stands at a number and a moment.
+/// The query for an object at a time.
 #[derive(Clone, Copy, Debug)]
 pub(crate) struct ObjectQuery {
-    /// Its kind.
+    /// The kind of the object.
     pub(crate) kind: Kind,
-    /// Its number.
+    /// The number of the object.
     pub(crate) number: u64,
-    /// The moment, in milliseconds since 1970 UTC.
+    /// The time, in Unix milliseconds.
     pub(crate) moment: i64,
 }
 

@@ -1,4 +1,5 @@
-//! Objects of a kind as they are listed: all of a range of numbers by one text, and the parties of entries by one more.
+//! Reads a list of objects: a range of numbers with one SQL statement, and the parties of entries with a
+//! second one.
 ghost use Rattle.land_tables_schema.specs.Connections.{HasRegisterTables, LeavesAutocommit};
 ghost use Rattle.land_select_joins.specs.TableReads.{ReadsTables};
 ghost use Rattle.std.specs.FinMap as map;
@@ -36,12 +37,12 @@ use land_tables_rows::reading::from_row::FromRow;
 use sqlite::{Alter, Connection};
 use std::alloc::{AllocError, Global};
 
-/// What is listed as it stands in its own table.
+/// A record type whose table has all that a list shows.
 pub(crate) trait Listed: Numbered + Duplicate
 where
     Version<(u64, Self)>: FromRow,
 {
-    /// A register that has these and nothing else.
+    /// Builds a register with these records only.
     fn alone(alloc: Global, found: Records<Self>) -> Register
         ensures { (r : Whole) (first last : ℕ) → found ≡ only (λ n v. is_within first last n) (Self.part r)
             → ListsAlike Self.KIND first last result r };
@@ -107,7 +108,7 @@ impl Listed for MutationRecord {
     }
 }
 
-/// A register that lists the objects of a kind in a range as they stand at a moment.
+/// Reads a register that lists the objects of a kind in a range at a time.
 fn ranged<V: Listed, S: Alter>(
     alloc: Global,
     conn: &mut Connection<S>,
@@ -125,7 +126,7 @@ where
     Ok(V::alone(alloc, found))
 }
 
-/// The records of some parties, of which one may be there more than once.
+/// Returns the records of versions of parties, in which a party may be repeated.
 fn records_of(
     alloc: Global,
     parties: &[Version<(u64, PartyRecord)>],
@@ -140,7 +141,7 @@ fn records_of(
     Ok(records)
 }
 
-/// A register that has these entries and these parties, and nothing else.
+/// Builds a register with these entries and these parties only.
 fn entries_alone(
     alloc: Global,
     entries: Records<RrrRecord>,
@@ -159,7 +160,7 @@ fn entries_alone(
     Ok(register)
 }
 
-/// A register that lists the entries of a range as they stand at a moment.
+/// Reads a register that lists the entries in a range at a time.
 fn entries<S: Alter>(
     alloc: Global,
     conn: &mut Connection<S>,
@@ -176,7 +177,7 @@ fn entries<S: Alter>(
     Ok(entries_alone(alloc, found, parties.as_slice())?)
 }
 
-/// A register that lists the objects of a kind in a range as they stand at a moment, whatever the kind.
+/// Reads a register that lists the objects of any kind in a range at a time.
 fn register_of<S: Alter>(
     alloc: Global,
     conn: &mut Connection<S>,
@@ -199,7 +200,7 @@ fn register_of<S: Alter>(
     }
 }
 
-/// A range in which some numbers lie: from the least of them to the greatest.
+/// Returns the range from the least to the greatest of some numbers.
 fn range_of(numbers: &[u64]) -> (u64, u64)
     ensures { AllByRecursion (λ n. is_within result.0 result.1 n ≡ true) numbers.now }
 {
@@ -212,7 +213,7 @@ fn range_of(numbers: &[u64]) -> (u64, u64)
     (first, last)
 }
 
-/// The objects of a kind that stand at a moment under some numbers, in the order of these, as they are listed.
+/// Reads the objects of a kind for a list of numbers at a time, in the order of the list.
 fn objects<S: Alter>(
     alloc: Global,
     conn: &mut Connection<S>,
@@ -231,14 +232,14 @@ fn objects<S: Alter>(
     Ok(objects_of(alloc, &register, kind, numbers)?)
 }
 
-/// Which objects of a kind stand under some numbers at a moment.
+/// The query for the objects of a list of numbers at a time.
 #[derive(Clone, Copy)]
 pub(crate) struct ObjectsQuery<'a> {
-    /// Their kind.
+    /// The kind of the objects.
     pub(crate) kind: Kind,
-    /// Their numbers.
+    /// The numbers of the objects.
     pub(crate) numbers: &'a [u64],
-    /// The moment, in milliseconds since 1970 UTC.
+    /// The time, in Unix milliseconds.
     pub(crate) moment: i64,
 }
 

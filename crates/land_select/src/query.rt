@@ -1,4 +1,4 @@
-//! Questions to the tables of a register, and what they answer.
+//! Runs read-only queries on the tables of a register.
 ghost use Rattle.land_tables_schema.specs.Connections.{HasRegisterTables, IsUsable, LeavesAutocommit};
 ghost use Rattle.land_select_joins.specs.TableReads.{ReadsTables};
 ghost use Rattle.std.specs.Prelude.{◌≡◌, ◌≢◌, Err, IfOk};
@@ -18,12 +18,13 @@ use land_tables_rows::listing::fault::ReadFault;
 use sqlite::{Alter, Connection};
 use std::alloc::Global;
 
-/// A question to the tables of a register, whose answer changes nothing.
+/// A read-only query.
 pub(crate) trait Query<T> {
-    /// What an answer is, of the rows of the tables.
+    /// The correct results, for the rows of the tables.
     ghost results: { Self → Trees → T → Type 0 };
 
-    /// Looks for the answer in the tables. Want of memory, a failed call of the store, and a value that cannot be read are told apart.
+    /// Runs the query. Returns error 501 if out of memory, 502 if a store operation failed, and 520 if a
+    /// value is unreadable.
     fn run<S: Alter>(&self, alloc: Global, conn: &mut Connection<S>) -> Result<T, ReadFault>
         requires open { IsUsable S.Store conn.old }
         requires land { HasRegisterTables S.Store conn.old }
@@ -31,7 +32,7 @@ pub(crate) trait Query<T> {
         ensures mode { LeavesAutocommit conn.old conn.new };
 }
 
-/// The answer to a question. A store that it leaves without a fault 502 is open, and as it was.
+/// Runs a query on a connection. Without error 502 the store stays open and unchanged.
 fn execute_in<S: Alter, T, Q: Query<T>>(
     alloc: Global,
     conn: &mut Connection<S>,
@@ -49,7 +50,8 @@ fn execute_in<S: Alter, T, Q: Query<T>>(
     }
 }
 
-/// The answer to a question. 501: there was no memory. 502: a call of the store failed, and from then on 503. Nothing changes.
+/// Runs a query on the tables and leaves them unchanged. Returns error 501 if out of memory, 502 if a store
+/// operation failed, and 503 from then on.
 pub(crate) fn execute<S: Alter, T, Q: Query<T>>(
     alloc: Global,
     tables: &mut Tables<S>,

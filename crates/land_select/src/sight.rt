@@ -1,4 +1,4 @@
-//! What a caller sees of a kind, by joins.
+//! Reads the numbers of a kind that a caller sees.
 ghost use Rattle.std.specs.Prelude.{◌≡◌};
 
 use crate::query::Query;
@@ -10,14 +10,14 @@ use land_tables_rows::listing::fault::ReadFault;
 use sqlite::{Alter, Connection};
 use std::alloc::Global;
 
-/// Which numbers of a kind a caller sees at a moment.
+/// The query for the numbers of a kind that a caller sees at a time.
 #[derive(Clone, Copy, Debug)]
 pub(crate) struct SightQuery {
-    /// Who asks.
+    /// The caller.
     pub(crate) caller: Caller,
-    /// What is asked for.
+    /// The kind.
     pub(crate) kind: Kind,
-    /// The moment, in milliseconds since 1970 UTC.
+    /// The time, in Unix milliseconds.
     pub(crate) moment: i64,
 }
 

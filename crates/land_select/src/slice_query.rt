@@ -1,4 +1,4 @@
-//! The slice of the last register for an act, by look-ups.
+//! Reads the slice of the latest register for an act, by lookups.
 ghost use Rattle.std.specs.Prelude.{◌≡◌};
 
 use crate::query::Query;
@@ -10,16 +10,16 @@ use land_tables_rows::listing::fault::ReadFault;
 use sqlite::{Alter, Connection};
 use std::alloc::Global;
 
-/// What planning an act may look at of the register that stands at a moment.
+/// The query for the slice that planning an act may read, at a time.
 #[derive(Clone, Copy, Debug)]
 pub(crate) struct SliceQuery<'a> {
-    /// Whose act it is.
+    /// The caller.
     pub(crate) caller: Caller,
     /// The act.
     pub(crate) act: &'a Act,
-    /// The number that comes next.
+    /// The next number of the register.
     pub(crate) next: u64,
-    /// The moment, in milliseconds since 1970 UTC.
+    /// The time, in Unix milliseconds.
     pub(crate) moment: i64,
 }
 

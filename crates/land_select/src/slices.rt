@@ -1,4 +1,4 @@
-//! What is looked up of a register so that an act can be planned.
+//! Reads the part of a register that planning an act needs.
 
 mod gathers;
 mod holdings;

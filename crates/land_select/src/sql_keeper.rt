@@ -1,4 +1,4 @@
-//! The keeper over joins.
+//! The indexed keeper.
 ghost use Rattle.std.specs.Prelude.{◌≡◌, ◌≤ℤ◌};
 ghost use Rattle.land_keep.specs.Moments.{last_moment};
 
@@ -31,13 +31,14 @@ use sqlite::Alter;
 use std::alloc::Global;
 use std::marker::Model;
 
-/// A keeper over tables, whatever their store: what a caller sees of a kind is selected by joins, objects and title sheets are looked up by
-/// their numbers, and so are what is judged and the slices of acts. What was found of an object as the verdict on it was given is kept for the
-/// reply, so that it is not looked up again. Contracts see the tables.
+/// A keeper on tables of any store. SQL queries select the numbers that a caller sees; lookups by key read
+/// objects, title sheets, the slices of acts and the records that verdicts need. A value that a verdict has
+/// read is cached, so that the reply does not read it again. In contracts the value of the keeper is that of
+/// its tables.
 pub struct SqlKeeper<S: Alter> {
     /// The tables.
     tables: Tables<S>,
-    /// What was found as the last request was judged, until its object or sheet is asked for, or anything else.
+    /// The value that the last verdict read, until the next call.
     cache: Option<Cache>,
 }
 
@@ -66,7 +67,7 @@ impl<S: Alter + Drop> Drop for SqlKeeper<S> {
 }
 
 impl<S: Alter> SqlKeeper<S> {
-    /// A keeper over tables, closed if a call of their store has failed.
+    /// Creates a keeper on tables; closed if a store operation has failed.
     pub fn new(tables: Tables<S>) -> SqlKeeper<S>
         ensures { result ≡ tables }
     {
@@ -76,7 +77,7 @@ impl<S: Alter> SqlKeeper<S> {
         }
     }
 
-    /// Hands the tables back, as they are.
+    /// Returns the tables, unchanged.
     pub fn into_tables(self) -> Tables<S>
         ensures { result ≡ self }
     {
@@ -222,7 +223,7 @@ impl<S: Alter> Keeper for SqlKeeper<S> {
     }
 
     fn write(&mut self, alloc: Global, change: &Change, stamp: i64) -> Result<(), StoreFault> {
-        forget(&mut self.cache); // The change may be of what was found.
+        forget(&mut self.cache); // The change may be to the cached object.
         self.tables.write(alloc, change, stamp)
     }
 }

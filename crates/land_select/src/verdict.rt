@@ -1,4 +1,5 @@
-//! Authorizes requests by indexed lookups. Each verdict comes with the values read on its account, for the cache.
+//! Authorizes requests by indexed lookups. Each verdict comes with the object or the entries that it read,
+//! for the cache.
 
 pub(crate) mod by_interest;
 pub(crate) mod caller;

@@ -1,4 +1,4 @@
-//! A unit as a caller sees it at a moment, by look-ups and joins.
+//! Reads the view of a unit, as a caller sees it.
 ghost use Rattle.land_tables_schema.specs.Connections.{HasRegisterTables, IsUsable, LeavesAutocommit};
 ghost use Rattle.land_select_joins.specs.TableReads.{ReadsTables};
 ghost use Rattle.std.specs.FinMap as map;
@@ -44,7 +44,7 @@ use land_tables_rows::listing::fault::ReadFault;
 use sqlite::{Alter, Connection};
 use std::alloc::{AllocError, Global};
 
-/// Parcels with their numbers, ascending.
+/// Returns parcels with their numbers, in increasing order.
 fn shown_parcels(
     alloc: Global,
     found: &Records<ParcelRecord>,
@@ -64,7 +64,7 @@ fn shown_parcels(
     Ok(parcels)
 }
 
-/// The parcels of a unit that stand at a moment, by ascending numbers.
+/// Reads the parcels of a unit at a time, in increasing order of numbers.
 fn parcels_of<S: Alter>(
     alloc: Global,
     conn: &mut Connection<S>,
@@ -79,7 +79,7 @@ fn parcels_of<S: Alter>(
     Ok(shown_parcels(alloc, &found)?)
 }
 
-/// What the party of a number is called, among some; nothing where it is not among them.
+/// Returns the name of a party in a list; empty if it is not there.
 fn name_among(
     alloc: Global,
     parties: &[Version<(u64, PartyRecord)>],
@@ -95,7 +95,7 @@ fn name_among(
     Ok(Text::new(String::new(alloc)))
 }
 
-/// An entry with its number and the name of its party.
+/// Returns an entry with its number and the name of its party.
 fn with_name(
     alloc: Global,
     number: u64,
@@ -116,14 +116,14 @@ fn with_name(
     })
 }
 
-/// Whether a number is listed.
+/// Checks if a number is in a list.
 pub(crate) fn is_listed(listed: &[u64], number: u64) -> bool
     ensures { result ≡ list_any (nat_eq number) listed.now }
 {
     listed.iter().any(|it| number == *it)
 }
 
-/// Of some entries those whose numbers are listed.
+/// Returns the entries whose numbers are in a list.
 fn listed_entries(
     alloc: Global,
     found: &Records<RrrRecord>,
@@ -140,7 +140,7 @@ fn listed_entries(
     Ok(kept)
 }
 
-/// Some entries, by ascending numbers, each with the name of its party, which is among some.
+/// Returns entries in increasing order of numbers, each with the name of its party from a list.
 fn named_entries(
     alloc: Global,
     entries: &Records<RrrRecord>,
@@ -156,7 +156,7 @@ fn named_entries(
     Ok(all)
 }
 
-/// The entries of a unit that a caller sees at a moment, under their numbers.
+/// Reads the entries of a unit that a caller sees at a time, by number.
 fn entries_in_sight<S: Alter>(
     alloc: Global,
     conn: &mut Connection<S>,
@@ -188,7 +188,7 @@ fn entries_in_sight<S: Alter>(
     Ok(listed_entries(alloc, &entries, listed.as_slice())?)
 }
 
-/// Some entries of a unit, those that somebody sees, by ascending numbers, with the names of their parties.
+/// Reads the names of the parties of entries that a caller sees, and returns the entries in increasing order.
 fn with_names<S: Alter>(
     alloc: Global,
     conn: &mut Connection<S>,
@@ -206,8 +206,8 @@ fn with_names<S: Alter>(
     Ok(named_entries(alloc, entries, found.as_slice())?)
 }
 
-/// The entries of a unit that a caller sees at a moment, by ascending numbers, with the names of their parties: those that were found, or else
-/// those that are looked up.
+/// Returns the entries of a unit that a caller sees at a time, with the names of their parties, in increasing
+/// order: the cached ones, else those read from the tables.
 fn seen_entries<S: Alter>(
     alloc: Global,
     conn: &mut Connection<S>,
@@ -232,7 +232,7 @@ fn seen_entries<S: Alter>(
     }
 }
 
-/// A unit that stands, as a caller sees it.
+/// Reads the view of an existing unit.
 fn view_with<S: Alter>(
     alloc: Global,
     conn: &mut Connection<S>,
@@ -269,7 +269,7 @@ fn view_with<S: Alter>(
     }))
 }
 
-/// The record of a unit at a moment, or `None`: that of the unit that was found, or else the one that is looked up.
+/// Returns the record of a unit at a time: that of the cached unit, else the one read from the tables.
 fn record_of<S: Alter>(
     alloc: Global,
     conn: &mut Connection<S>,
@@ -296,7 +296,7 @@ fn record_of<S: Alter>(
     }
 }
 
-/// The unit that stands, as a caller sees it, or `None`.
+/// Reads the view of a unit; `None` if the unit does not exist.
 fn view<S: Alter>(
     alloc: Global,
     conn: &mut Connection<S>,
@@ -317,16 +317,16 @@ fn view<S: Alter>(
     }
 }
 
-/// How a caller sees a unit at a moment.
+/// The query for the view of a unit.
 #[derive(Clone, Copy, Debug)]
 pub(crate) struct UnitViewQuery<'a> {
-    /// Who asks.
+    /// The caller.
     pub(crate) caller: Caller,
     /// The number of the unit.
     pub(crate) unit: u64,
-    /// The moment, in milliseconds since 1970 UTC.
+    /// The time, in Unix milliseconds.
     pub(crate) moment: i64,
-    /// What was found as this was judged.
+    /// The value that the verdict read.
     pub(crate) found: &'a CachedValue,
 }
 
@@ -348,7 +348,7 @@ impl Query<Option<View>> for UnitViewQuery<'_> {
     }
 }
 
-/// A view that names a moment.
+/// Returns a view with another time.
 pub(crate) fn naming(found: Option<View>, at: i64) -> Option<View>
     ensures { result ≡ named_at at found }
 {

@@ -1,4 +1,4 @@
-//! Parts of a register that are gathered number by number.
+//! Parts of a register that are read number by number.
 ghost use Rattle.land_tables_schema.specs.Connections.{HasRegisterTables, IsUsable, LeavesAutocommit};
 ghost use Rattle.land_select_joins.specs.TableReads.{ReadsTables};
 ghost use Rattle.std.specs.Prelude.{ℕ, Bool};
@@ -9,12 +9,12 @@ use land_tables_rows::listing::fault::ReadFault;
 use sqlite::{Alter, Connection};
 use std::alloc::Global;
 
-/// A part of a register that is gathered number by number.
+/// A part of a register that is read number by number.
 pub(crate) trait Gathers: Sized {
-    /// That what a register has under the numbers that are asked for is known.
+    /// The part is correct for a set of numbers.
     ghost knows: { Register → (ℕ → Bool) → Self → Type 0 };
 
-    /// Looks up what stands under one more number at a moment, in milliseconds since 1970 UTC.
+    /// Reads the records of one more number at a time, in Unix milliseconds.
     fn gather<S: Alter>(
         self,
         alloc: Global,
@@ -28,7 +28,7 @@ pub(crate) trait Gathers: Sized {
         ensures mode { LeavesAutocommit conn.old conn.new };
 }
 
-/// Looks up what stands under some numbers at a moment, in milliseconds since 1970 UTC.
+/// Reads the records of a list of numbers at a time, in Unix milliseconds.
 pub(crate) fn gather_all<G: Gathers + Drop, S: Alter>(
     alloc: Global,
     conn: &mut Connection<S>,

@@ -1,4 +1,4 @@
-//! Units, with what belongs to them.
+//! Units, with their parcels and entries.
 ghost use Rattle.land_tables_schema.specs.Connections.{HasRegisterTables, LeavesAutocommit};
 ghost use Rattle.land_select_joins.specs.TableReads.{ReadsTables};
 ghost use Rattle.std.specs.FinMap as map;
@@ -16,19 +16,19 @@ use land_tables_rows::listing::fault::ReadFault;
 use sqlite::{Alter, Connection};
 use std::alloc::{AllocError, Global};
 
-/// Units under their numbers, with their parcels and their entries.
+/// Units by number, with their parcels and entries.
 #[derive(Debug, Drop)]
 pub(crate) struct Holdings {
     /// The units.
     pub(crate) units: Records<UnitRecord>,
-    /// Their parcels.
+    /// The parcels of the units.
     pub(crate) parcels: Records<ParcelRecord>,
-    /// Their entries.
+    /// The entries of the units.
     pub(crate) rrrs: Records<RrrRecord>,
 }
 
 impl Holdings {
-    /// No unit, which takes no memory.
+    /// Returns an empty part, without allocation.
     pub(crate) fn none(alloc: Global) -> Holdings
         ensures { result ≡ record { units = map.empty; parcels = map.empty; rrrs = map.empty } }
     {
@@ -39,7 +39,7 @@ impl Holdings {
         }
     }
 
-    /// These, and one more with its parcels and its entries.
+    /// Adds a unit, its parcels and its entries.
     fn with_unit(
         self,
         alloc: Global,
@@ -62,7 +62,7 @@ impl Holdings {
         })
     }
 
-    /// These, and one more, whose parcels and entries are looked up.
+    /// Adds a unit, and reads its parcels and entries.
     fn joined_by<S: Alter>(
         self,
         alloc: Global,

@@ -1,4 +1,4 @@
-//! The mutations that an act is about.
+//! The mutations that an act refers to.
 ghost use Rattle.land_tables_schema.specs.Connections.{HasRegisterTables, IsUsable, LeavesAutocommit};
 ghost use Rattle.land_select_joins.specs.TableReads.{ReadsTables};
 ghost use Rattle.std.specs.Prelude.{nat_eq};
@@ -16,7 +16,7 @@ use land_tables_rows::listing::fault::ReadFault;
 use sqlite::{Alter, Connection};
 use std::alloc::Global;
 
-/// The mutation at a number, if one stands there.
+/// Reads the mutation of a number, if it exists.
 fn at_number<S: Alter>(
     alloc: Global,
     conn: &mut Connection<S>,
@@ -32,8 +32,8 @@ fn at_number<S: Alter>(
     Ok(put_one(Records::new(alloc), number, found)?)
 }
 
-/// The mutations that an act is about, at a moment in milliseconds since 1970 UTC: the one that it decides, or what its caller lodged under
-/// its reference before.
+/// Reads the mutations that an act refers to, at a time, in Unix milliseconds: the one that it decides, or
+/// the one that its caller lodged before with the same reference.
 pub(crate) fn mutations_of<S: Alter>(
     alloc: Global,
     conn: &mut Connection<S>,

@@ -15,7 +15,7 @@ use land_tables_rows::listing::fault::ReadFault;
 use sqlite::{Alter, Connection};
 use std::alloc::{AllocError, Global};
 
-/// The mandate that an act gives or withdraws, if any.
+/// Returns the mandate that an act gives or withdraws, if any.
 fn mandate_of_act(caller: Caller, act: &Act) -> Option<Mandate>
     ensures { result ≡ mandate_of_act caller act.now }
 {
@@ -29,14 +29,14 @@ fn mandate_of_act(caller: Caller, act: &Act) -> Option<Mandate>
     }
 }
 
-/// Whether a mandate is another: of the same principal, to the same agent.
+/// Checks if two mandates have the same principal and the same agent.
 fn is_mandate(it: Mandate, mandate: Mandate) -> bool
     ensures { result ≡ is_mandate it mandate }
 {
     mandate.principal == it.principal && mandate.agent == it.agent
 }
 
-/// A mandate alone, where it is among some.
+/// Returns a mandate as the only one, if it is in a list.
 fn one_of(alloc: Global, mandates: &Mandates, it: Mandate) -> Result<Mandates, AllocError>
     ensures { IfOk result (λ kept. kept ≡ only (λ mandate u. is_mandate it mandate) mandates.now) }
 {
@@ -49,7 +49,7 @@ fn one_of(alloc: Global, mandates: &Mandates, it: Mandate) -> Result<Mandates, A
     Ok(kept)
 }
 
-/// A mandate, if it stands: it is looked for among those that its agent holds.
+/// Reads a mandate, if it exists, from those that its agent holds.
 fn between<S: Alter>(
     alloc: Global,
     conn: &mut Connection<S>,
@@ -65,7 +65,7 @@ fn between<S: Alter>(
     Ok(one_of(alloc, &held, it)?)
 }
 
-/// The mandate that an act gives or withdraws, if it stands at a moment in milliseconds since 1970 UTC.
+/// Reads the mandate that an act gives or withdraws, if it exists at a time, in Unix milliseconds.
 pub(crate) fn mandates_of<S: Alter>(
     alloc: Global,
     conn: &mut Connection<S>,

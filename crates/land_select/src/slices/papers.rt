@@ -1,4 +1,4 @@
-//! Sources, by which acts were done.
+//! The sources of mutations.
 ghost use Rattle.std.specs.FinMap as map;
 ghost use Rattle.std.specs.Prelude.{◌≡◌, IfOk};
 ghost use Rattle.land_select.specs.Slices.Gathered.{with_source};
@@ -12,7 +12,7 @@ use land_tables_rows::listing::fault::ReadFault;
 use sqlite::{Alter, Connection};
 use std::alloc::{AllocError, Global};
 
-/// Sources under their numbers.
+/// Sources by number.
 #[derive(Debug, Drop)]
 pub(crate) struct Papers {
     /// The sources.
@@ -20,7 +20,7 @@ pub(crate) struct Papers {
 }
 
 impl Papers {
-    /// No source, which takes no memory.
+    /// Returns an empty part, without allocation.
     pub(crate) fn none(alloc: Global) -> Papers
         ensures { result ≡ record { sources = map.empty } }
     {
@@ -29,7 +29,7 @@ impl Papers {
         }
     }
 
-    /// These, and one more.
+    /// Adds a source.
     fn with_source(self, number: u64, source: Option<SourceRecord>) -> Result<Papers, AllocError>
         ensures { IfOk result (λ it. it ≡ with_source self number source) }
     {

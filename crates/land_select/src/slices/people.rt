@@ -1,4 +1,4 @@
-//! Parties, with all that stands under their numbers.
+//! Parties, with their roles and members.
 ghost use Rattle.land_tables_schema.specs.Connections.{HasRegisterTables, LeavesAutocommit};
 ghost use Rattle.land_select_joins.specs.TableReads.{ReadsTables};
 ghost use Rattle.std.specs.Prelude.{◌≡◌, ℕ, Bool, IfOk};
@@ -16,18 +16,18 @@ use land_tables_rows::listing::fault::ReadFault;
 use sqlite::{Alter, Connection};
 use std::alloc::{AllocError, Global};
 
-/// Parties under their numbers, with the roles of each and the members of groups.
+/// Parties by number, with the roles of each and the members of groups.
 #[derive(Debug, Drop)]
 pub(crate) struct People {
     /// The parties.
     pub(crate) parties: Records<PartyRecord>,
-    /// Their roles.
+    /// The roles of the parties.
     pub(crate) roles: Roles,
-    /// The members of those that are groups.
+    /// The members of the groups.
     pub(crate) members: Records<Members>,
 }
 
-/// Puts at most one record under its number.
+/// Inserts at most one record.
 pub(crate) fn put_one<V: Drop>(
     records: Records<V>,
     number: u64,
@@ -42,7 +42,7 @@ pub(crate) fn put_one<V: Drop>(
     Ok(records)
 }
 
-/// Puts other records in.
+/// Inserts all records of another map.
 pub(crate) fn put_all<V: Duplicate>(
     alloc: Global,
     records: Records<V>,
@@ -57,7 +57,7 @@ pub(crate) fn put_all<V: Duplicate>(
     Ok(records)
 }
 
-/// Puts other roles in.
+/// Inserts all roles of another list.
 fn put_roles(roles: Roles, more: &Roles) -> Result<Roles, AllocError>
     ensures { IfOk result (λ it. it ≡ put_all roles more.now) }
 {
@@ -69,7 +69,7 @@ fn put_roles(roles: Roles, more: &Roles) -> Result<Roles, AllocError>
 }
 
 impl People {
-    /// Nobody, which takes no memory.
+    /// Returns an empty part, without allocation.
     pub(crate) fn nobody(alloc: Global) -> People
         ensures { result ≡ record { parties = map.empty; roles = map.empty; members = map.empty } }
     {
@@ -80,7 +80,7 @@ impl People {
         }
     }
 
-    /// These, and one more with its roles and its members.
+    /// Adds a party, its roles and its members.
     pub(crate) fn with_person(
         self,
         alloc: Global,
@@ -102,7 +102,7 @@ impl People {
             members: put_all(alloc, groups, members)?,
         })
     }
-    /// These, and one more, whose roles and members are looked up.
+    /// Adds a party, and reads its roles and members.
     fn joined_by<S: Alter>(
         self,
         alloc: Global,

@@ -1,4 +1,4 @@
-//! The slice of a register for an act, by look-ups.
+//! Reads the slice of a register for an act, by lookups.
 ghost use Rattle.land_tables_schema.specs.Connections.{HasRegisterTables, IsUsable, LeavesAutocommit};
 ghost use Rattle.land_select_joins.specs.TableReads.{ReadsTables};
 ghost use Rattle.std.specs.FinMap as map;
@@ -33,7 +33,7 @@ use land_tables_rows::listing::fault::ReadFault;
 use sqlite::{Alter, Connection};
 use std::alloc::{AllocError, Global};
 
-/// The parties that an act names, and who holds some roles.
+/// Returns the parties that an act refers to, and the holders of some roles.
 fn named_and_holders(
     alloc: Global,
     act: &Act,
@@ -50,7 +50,7 @@ fn named_and_holders(
     Ok(parties)
 }
 
-/// The parties that an act names, and all state administrators.
+/// Reads the parties that an act refers to, and all state administrators.
 fn people_of<S: Alter>(
     alloc: Global,
     conn: &mut Connection<S>,
@@ -70,7 +70,7 @@ fn people_of<S: Alter>(
     gather_all(alloc, conn, People::nobody(alloc), parties.as_slice(), at)
 }
 
-/// The units that an act names.
+/// Reads the units that an act refers to.
 fn holdings_of<S: Alter>(
     alloc: Global,
     conn: &mut Connection<S>,
@@ -89,7 +89,7 @@ fn holdings_of<S: Alter>(
     gather_all(alloc, conn, Holdings::none(alloc), units.as_slice(), at)
 }
 
-/// The sources of the mutations that an act is about.
+/// Reads the sources of the mutations that an act refers to.
 fn papers_of<S: Alter>(
     alloc: Global,
     conn: &mut Connection<S>,
@@ -107,7 +107,7 @@ fn papers_of<S: Alter>(
     gather_all(alloc, conn, Papers::none(alloc), sources.as_slice(), at)
 }
 
-/// The entry at a number, if one stands there.
+/// Reads the entry of a number, if it exists.
 fn entry_at<S: Alter>(
     alloc: Global,
     conn: &mut Connection<S>,
@@ -123,7 +123,7 @@ fn entry_at<S: Alter>(
     Ok(put_one(Records::new(alloc), number, found)?)
 }
 
-/// The entry that an act lifts, if it lifts one.
+/// Reads the entry that an act lifts, if any.
 fn lifted_by<S: Alter>(
     alloc: Global,
     conn: &mut Connection<S>,
@@ -142,7 +142,7 @@ fn lifted_by<S: Alter>(
     }
 }
 
-/// What of a slice is known before its sources and the entry that is lifted.
+/// The parts of a slice that are read before its sources and the lifted entry.
 #[derive(Debug, Drop)]
 struct Known {
     mutations: Records<MutationRecord>,
@@ -152,7 +152,7 @@ struct Known {
     next: u64,
 }
 
-/// The slice, of what is known of it.
+/// Completes a slice.
 fn slice_with<S: Alter>(
     alloc: Global,
     conn: &mut Connection<S>,
@@ -190,7 +190,7 @@ fn slice_with<S: Alter>(
     })
 }
 
-/// The slice, of the mutations that the act is about and of the mandate that it names.
+/// Reads the slice of an act whose mutations and mandate are known.
 fn slice_about<S: Alter>(
     alloc: Global,
     conn: &mut Connection<S>,
@@ -221,9 +221,9 @@ fn slice_about<S: Alter>(
     slice_with(alloc, conn, act, known, at)
 }
 
-/// The slice for an act of the register that stands at a moment, in milliseconds since 1970 UTC, and whose next number is given: nothing is read
-/// but what stands under the numbers that the act names, and under the number of its caller. 520: the tables hold no history. 501: there was no
-/// memory.
+/// Reads the slice for an act at a time, in Unix milliseconds, with the given next number. Only records of
+/// the numbers that the act refers to, and those of its caller, are read. Returns error 520 only if the
+/// tables hold no history, and 501 if out of memory.
 pub fn slice_at<S: Alter>(
     alloc: Global,
     conn: &mut Connection<S>,

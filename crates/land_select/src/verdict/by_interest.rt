@@ -1,4 +1,4 @@
-//! Whether an object is shown to a caller at a moment by the caller's interest in a unit, and what is found of it on the way.
+//! Visibility of an object by the caller's interest in a unit.
 ghost use Rattle.land_tables_schema.specs.Connections.{HasRegisterTables, IsUsable, LeavesAutocommit};
 ghost use Rattle.land_select_joins.specs.TableReads.{ReadsTables};
 ghost use Rattle.std.specs.Prelude.{false};
@@ -15,8 +15,8 @@ use land_tables_rows::listing::fault::ReadFault;
 use sqlite::{Alter, Connection};
 use std::alloc::Global;
 
-/// Whether an object is shown to a caller at a moment by the caller's interest in a unit: the one that is asked for, that of the entry, or
-/// one that the mutation names. An entry or a mutation that stands is found on the way.
+/// Checks if a caller sees an object at a time by its interest in a unit: the requested one, that of the
+/// entry, or one that the mutation refers to. Also returns the entry or the mutation, if it exists.
 pub(crate) fn shown_by_interest<S: Alter>(
     alloc: Global,
     conn: &mut Connection<S>,

@@ -1,4 +1,4 @@
-//! Who may ask, by look-ups.
+//! Authorizes the caller, by lookups.
 ghost use Rattle.land_tables_schema.specs.Connections.{HasRegisterTables, IsUsable, LeavesAutocommit};
 ghost use Rattle.land_select_joins.specs.TableReads.{ReadsTables};
 ghost use Rattle.std.specs.Prelude.{◌≡◌};
@@ -31,7 +31,7 @@ use land_tables_rows::listing::fault::ReadFault;
 use sqlite::{Alter, Connection};
 use std::alloc::Global;
 
-/// Whether a caller holds the role in which it asks, by its roles.
+/// Checks if a caller holds the role of its request.
 fn is_held(roles: &Roles, caller: Caller) -> bool
     ensures { result ≡ has_grant roles.now (grant_of caller.party caller.role) }
 {
@@ -41,8 +41,8 @@ fn is_held(roles: &Roles, caller: Caller) -> bool
     })
 }
 
-/// Whether a caller stands at a moment, and its roles. Whoever holds a role stands: the caller is looked for only where it does not hold the
-/// one in which it asks.
+/// Reads if a caller exists at a time, and its roles. A party with a role exists, so the party is read only
+/// if the caller does not hold the role of its request.
 fn person<S: Alter>(
     alloc: Global,
     conn: &mut Connection<S>,
@@ -63,7 +63,7 @@ fn person<S: Alter>(
     Ok((there, roles))
 }
 
-/// The entry of a number that stands at a moment, if there is a number.
+/// Reads the entry of a number at a time, if there is a number.
 fn entry_at<S: Alter>(
     alloc: Global,
     conn: &mut Connection<S>,
@@ -81,7 +81,7 @@ fn entry_at<S: Alter>(
     }
 }
 
-/// The mutation of a number that stands at a moment, if there is a number.
+/// Reads the mutation of a number at a time, if there is a number.
 fn mutation_at<S: Alter>(
     alloc: Global,
     conn: &mut Connection<S>,
@@ -100,7 +100,7 @@ fn mutation_at<S: Alter>(
     }
 }
 
-/// The entry that what is asked would discharge and the mutation that it would decide, as they stand at a moment.
+/// Reads the entry that a request would discharge and the mutation that it would decide, at a time.
 fn named<S: Alter>(
     alloc: Global,
     conn: &mut Connection<S>,
@@ -119,7 +119,7 @@ fn named<S: Alter>(
     Ok((entry, mutation))
 }
 
-/// A party, whatever it is called and of whatever kind, where one is there.
+/// Returns a party with an empty name, if it exists. The standing rules use neither its name nor its kind.
 fn somebody(alloc: Global, there: bool) -> Option<PartyRecord>
     ensures { result ≡ somebody there }
 {
@@ -133,7 +133,7 @@ fn somebody(alloc: Global, there: bool) -> Option<PartyRecord>
     }
 }
 
-/// The evidence by which who asks is judged, as it stands at a moment.
+/// Reads the evidence for the standing rules at a time.
 fn evidence<S: Alter>(
     alloc: Global,
     conn: &mut Connection<S>,
@@ -156,7 +156,8 @@ fn evidence<S: Alter>(
     Ok(evidence_of(alloc, caller, ask, party, roles, entry, mutation)?)
 }
 
-/// The least standing rule that denies what is asked, by the register that stands at a moment.
+/// Returns the verdict of the standing rules on a request, by the register at a time: the lowest number of a
+/// rule that denies it.
 pub(crate) fn standing<S: Alter>(
     alloc: Global,
     conn: &mut Connection<S>,

@@ -1,4 +1,4 @@
-//! What a conveyancer awaits at a moment, by look-ups: undecided mutations of its own that name a unit.
+//! Visibility by a pending mutation of a conveyancer that refers to the unit.
 ghost use Rattle.land_tables_schema.specs.Connections.{HasRegisterTables, IsUsable, LeavesAutocommit};
 ghost use Rattle.land_select_joins.specs.TableReads.{ReadsTables};
 ghost use Rattle.std.specs.FinMap as map;
@@ -24,7 +24,8 @@ use land_tables_rows::listing::fault::ReadFault;
 use sqlite::{Alter, Connection};
 use std::alloc::Global;
 
-/// Whether a unit stands at a moment and an undecided mutation of a caller names it, and whether one names it, be the unit there or not.
+/// Returns if a unit exists at a time and a pending mutation of the caller refers to it; and if one refers to
+/// it, regardless of its existence.
 pub(crate) fn unit_awaited<S: Alter>(
     alloc: Global,
     conn: &mut Connection<S>,
@@ -45,7 +46,7 @@ pub(crate) fn unit_awaited<S: Alter>(
     Ok((there, true))
 }
 
-/// Whether a unit stands at a moment and an undecided mutation of a caller names it.
+/// Checks if a unit exists at a time and a pending mutation of the caller refers to it.
 fn is_unit_awaited<S: Alter>(
     alloc: Global,
     conn: &mut Connection<S>,
@@ -63,7 +64,8 @@ fn is_unit_awaited<S: Alter>(
     Ok(awaited)
 }
 
-/// Whether the entry of a number stands at a moment and an undecided mutation of a caller names its unit, and the entry.
+/// Checks if an entry exists at a time and a pending mutation of the caller refers to its unit. Also returns
+/// the entry.
 fn entry_awaited<S: Alter>(
     alloc: Global,
     conn: &mut Connection<S>,
@@ -91,8 +93,8 @@ fn entry_awaited<S: Alter>(
     }
 }
 
-/// Whether an object is a unit that an undecided mutation of a caller names, or an entry of such a unit, and stands at a moment. An entry that
-/// stands is found on the way.
+/// Checks if an object exists at a time and is a unit to which a pending mutation of the caller refers, or an
+/// entry of such a unit. Also returns the entry, if it exists.
 pub(crate) fn awaited<S: Alter>(
     alloc: Global,
     conn: &mut Connection<S>,
@@ -121,7 +123,7 @@ pub(crate) fn awaited<S: Alter>(
     }
 }
 
-/// The entries of a unit, where an undecided mutation of a party names the unit at a moment, else none.
+/// Returns the entries of a unit if a pending mutation of the party refers to the unit at a time, else none.
 pub(crate) fn awaited_of<S: Alter>(
     alloc: Global,
     conn: &mut Connection<S>,

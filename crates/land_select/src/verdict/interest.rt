@@ -1,4 +1,4 @@
-//! The interest of a citizen or a bank in a unit at a moment, and what it is shown by that, by look-ups.
+//! The interest of a citizen or a bank in a unit, and the objects that it shows.
 ghost use Rattle.land_tables_schema.specs.Connections.{HasRegisterTables, IsUsable, LeavesAutocommit};
 ghost use Rattle.land_select_joins.specs.TableReads.{ReadsTables};
 ghost use Rattle.std.specs.Prelude.{◌≡◌, ◌++◌, false, true, IfOk};
@@ -31,14 +31,14 @@ use land_tables_rows::listing::fault::ReadFault;
 use sqlite::{Alter, Connection};
 use std::alloc::{AllocError, Global};
 
-/// Whether a role is that of a citizen.
+/// Checks if a role is that of a citizen.
 pub(crate) fn is_citizen(role: Role) -> bool
     ensures { result ≡ is_role role roles.Citizen }
 {
     role == Role::Citizen
 }
 
-/// The groups of which one of some parties is a member at a moment.
+/// Reads the groups with a member in a list, at a time.
 fn groups_of<S: Alter>(
     alloc: Global,
     conn: &mut Connection<S>,
@@ -53,7 +53,7 @@ fn groups_of<S: Alter>(
     unite_for(alloc, conn, &[Selection::ItsGroups], callers, at)
 }
 
-/// The names of some groups and those of a circle.
+/// Returns the names of groups and of a circle.
 fn together(groups: NumberList, circle: &[u64]) -> Result<NumberList, AllocError>
     ensures { IfOk result (λ it. it ≡ groups ++ circle.now) }
 {
@@ -62,8 +62,8 @@ fn together(groups: NumberList, circle: &[u64]) -> Result<NumberList, AllocError
     Ok(Sequence::from_vec(names))
 }
 
-/// The names in which a citizen holds at a moment, in whatever order: those of its circle at that moment, and of the groups of which one of it
-/// is a member. For another role none is looked for.
+/// Reads the names in which a citizen holds rights at a time, in any order: its circle, and the groups with a
+/// member in the circle. Other roles have none.
 pub(crate) fn names_of<S: Alter>(
     alloc: Global,
     conn: &mut Connection<S>,
@@ -83,7 +83,7 @@ pub(crate) fn names_of<S: Alter>(
     Ok(together(groups, callers.as_slice())?)
 }
 
-/// The interest of a caller at a moment in the unit of which these are the entries.
+/// Reads the interest of a caller at a time in the unit with these entries.
 fn interest_by<S: Alter>(
     alloc: Global,
     conn: &mut Connection<S>,
@@ -103,7 +103,7 @@ fn interest_by<S: Alter>(
     Ok(interest_of(caller, names.as_slice(), entries))
 }
 
-/// The interest of a caller in a unit at a moment.
+/// Reads the interest of a caller in a unit at a time.
 fn interest_in<S: Alter>(
     alloc: Global,
     conn: &mut Connection<S>,
@@ -120,7 +120,7 @@ fn interest_in<S: Alter>(
     interest_by(alloc, conn, caller, &entries, at)
 }
 
-/// Whether a unit is shown to a caller at a moment by the caller's interest in it.
+/// Checks if a caller's interest in a unit shows the unit, at a time.
 pub(crate) fn is_unit_shown<S: Alter>(
     alloc: Global,
     conn: &mut Connection<S>,
@@ -138,7 +138,7 @@ pub(crate) fn is_unit_shown<S: Alter>(
     Ok(interest.shows_unit())
 }
 
-/// Whether an entry is shown to a caller at a moment by the caller's interest in the unit of the entry.
+/// Checks if a caller's interest in the unit of an entry shows the entry, at a time.
 fn is_entry_shown<S: Alter>(
     alloc: Global,
     conn: &mut Connection<S>,
@@ -157,7 +157,8 @@ fn is_entry_shown<S: Alter>(
     Ok(interest.shows_entry(caller.party, entry))
 }
 
-/// Whether the entry of a number stands at a moment and is shown to a caller by the caller's interest in the unit of the entry, and the entry.
+/// Checks if an entry exists at a time and the caller's interest in its unit shows it. Also returns the
+/// entry.
 pub(crate) fn entry_shown<S: Alter>(
     alloc: Global,
     conn: &mut Connection<S>,
@@ -183,7 +184,7 @@ pub(crate) fn entry_shown<S: Alter>(
     }
 }
 
-/// Of the entries of a unit those that are shown to a party by the party's interest in the unit.
+/// Returns the entries of a unit that a party's interest in the unit shows.
 fn shown_by(
     alloc: Global,
     interest: Interest,
@@ -201,7 +202,7 @@ fn shown_by(
     Ok(kept)
 }
 
-/// Of the entries of a unit those that are shown to a caller at a moment by the caller's interest in the unit.
+/// Returns the entries of a unit that a caller's interest in the unit shows, at a time.
 pub(crate) fn shown_of<S: Alter>(
     alloc: Global,
     conn: &mut Connection<S>,
@@ -219,7 +220,8 @@ pub(crate) fn shown_of<S: Alter>(
     Ok(shown_by(alloc, interest, caller.party, entries)?)
 }
 
-/// Whether a unit is shown to a caller at a moment by the caller's interest in it, and if so those of its entries that the caller sees.
+/// Checks if a caller's interest in a unit shows the unit, at a time. Also returns the visible entries, if it
+/// does.
 pub(crate) fn unit_with_entries<S: Alter>(
     alloc: Global,
     conn: &mut Connection<S>,

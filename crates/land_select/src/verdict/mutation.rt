@@ -1,4 +1,4 @@
-//! Whether a mutation is shown to a caller at a moment by the caller's interest in a unit that the mutation names, by look-ups.
+//! Visibility of a mutation by the caller's interest in a unit to which it refers.
 ghost use Rattle.land_tables_schema.specs.Connections.{HasRegisterTables, IsUsable, LeavesAutocommit};
 ghost use Rattle.land_select_joins.specs.TableReads.{ReadsTables};
 ghost use Rattle.std.specs.List.{list_any};
@@ -21,7 +21,7 @@ use land_tables_rows::listing::fault::ReadFault;
 use sqlite::{Alter, Connection};
 use std::alloc::Global;
 
-/// Whether one of some units is shown to a caller at a moment by the caller's interest in it.
+/// Checks if the caller's interest shows at least one of some units, at a time.
 fn is_one_shown<S: Alter>(
     alloc: Global,
     conn: &mut Connection<S>,
@@ -44,7 +44,7 @@ fn is_one_shown<S: Alter>(
     Ok(false)
 }
 
-/// Whether the unit of a merger, or one of the others that it names, is shown to a caller at a moment by the caller's interest in that unit.
+/// Checks if the caller's interest shows the unit of a merger, or one of its other units, at a time.
 fn is_merger_shown<S: Alter>(
     alloc: Global,
     conn: &mut Connection<S>,
@@ -66,7 +66,7 @@ fn is_merger_shown<S: Alter>(
     is_one_shown(alloc, conn, caller, merger.others.as_slice(), at)
 }
 
-/// Whether a mutation names a unit that is shown to a caller at a moment by the caller's interest in that unit.
+/// Checks if a mutation refers to a unit that the caller's interest in it shows, at a time.
 fn names_shown<S: Alter>(
     alloc: Global,
     conn: &mut Connection<S>,
@@ -89,8 +89,8 @@ fn names_shown<S: Alter>(
     }
 }
 
-/// Whether the mutation of a number stands at a moment and is shown to a caller by the caller's interest in a unit that the mutation names, and
-/// the mutation.
+/// Checks if a mutation exists at a time and refers to a unit that the caller's interest in it shows. Also
+/// returns the mutation.
 pub(crate) fn mutation_shown<S: Alter>(
     alloc: Global,
     conn: &mut Connection<S>,

@@ -1,4 +1,4 @@
-//! Whether a party is in the sight of a caller that is not shown all of them, by look-ups, and what is found of it on the way.
+//! Visibility of a party, for a caller that does not see all parties.
 ghost use Rattle.land_tables_schema.specs.Connections.{HasRegisterTables, IsUsable, LeavesAutocommit};
 ghost use Rattle.land_select_joins.specs.TableReads.{ReadsTables};
 ghost use Rattle.std.specs.List.{list_any};
@@ -27,7 +27,7 @@ use land_tables_rows::listing::fault::ReadFault;
 use sqlite::{Alter, Connection};
 use std::alloc::Global;
 
-/// By what a role is told of the parties of entries, if by anything.
+/// Returns the relation by which a role sees the parties of entries, if any.
 fn relation_of(role: Role) -> Option<Relation>
     ensures { result ≡ relation_of role }
 {
@@ -39,14 +39,15 @@ fn relation_of(role: Role) -> Option<Relation>
     }
 }
 
-/// Whether one of some parties is among others.
+/// Checks if two lists have a common number.
 fn are_met(parties: &[u64], others: &[u64]) -> bool
     ensures { result ≡ list_any (λ party. list_any (nat_eq party) others.now) parties.now }
 {
     parties.iter().any(|party| is_listed(others, *party))
 }
 
-/// The names of a caller at a moment, in whatever order: of a citizen those in which it holds, of another its own.
+/// Reads the names of a caller at a time, in any order: those in which a citizen holds rights; for other
+/// roles, the caller itself.
 fn own_names<S: Alter>(
     alloc: Global,
     conn: &mut Connection<S>,
@@ -64,7 +65,7 @@ fn own_names<S: Alter>(
     Ok(Sequence::of_one(alloc, caller.party)?)
 }
 
-/// Whether a party is in the list of all that a caller sees.
+/// Checks if a party is in the list of all parties that a caller sees.
 fn is_in_list<S: Alter>(
     alloc: Global,
     conn: &mut Connection<S>,
@@ -83,9 +84,9 @@ fn is_in_list<S: Alter>(
     Ok(is_listed(listed.as_slice(), number))
 }
 
-/// Whether a caller that is told of parties by a relation sees one that is none of its names: where few are told of the party, by whether it
-/// is one of these; where they are many, by the list of all parties that the caller sees. So no more is read than a few rows, or what the
-/// caller's own list takes.
+/// Checks if a caller sees, by a relation, a party that is not one of its names. If the party has few
+/// viewers, one of them has to be a name of the caller; else the list of all parties that the caller sees
+/// decides. So the cost is that of a few rows, or of the caller's own list.
 fn is_told_by<S: Alter>(
     alloc: Global,
     conn: &mut Connection<S>,
@@ -114,7 +115,7 @@ fn is_told_by<S: Alter>(
     }
 }
 
-/// Whether a caller sees a party that is none of its names.
+/// Checks if a caller sees a party that is not one of its names.
 fn is_told<S: Alter>(
     alloc: Global,
     conn: &mut Connection<S>,
@@ -140,8 +141,8 @@ fn is_told<S: Alter>(
     }
 }
 
-/// Whether a caller sees a party at a moment, and what is found of it on the way: one of its own names is seen where it stands, another party
-/// where the caller is told of it.
+/// Checks if a caller sees a party at a time: one of its own names if it exists, another party if the caller
+/// is one of its viewers. Also returns the party, if it was read.
 pub(crate) fn party_in_sight<S: Alter>(
     alloc: Global,
     conn: &mut Connection<S>,

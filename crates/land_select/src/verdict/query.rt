@@ -1,4 +1,4 @@
-//! The verdict on what is asked, by look-ups and joins, and what is found on the way.
+//! Authorizes a request: the verdict, and the object or the entries that it read.
 ghost use Rattle.land_tables_schema.specs.Connections.{HasRegisterTables, IsUsable, LeavesAutocommit};
 ghost use Rattle.land_select_joins.specs.TableReads.{ReadsTables};
 ghost use Rattle.land_select.specs.Cache.{IsSightedWith};
@@ -17,7 +17,7 @@ use land_tables_rows::listing::fault::ReadFault;
 use sqlite::{Alter, Connection};
 use std::alloc::Global;
 
-/// The least sight rule that denies what is asked, by what stands at a moment, and what was found on the way.
+/// Returns the verdict of the sight rules on a request by the register at a time, and the value that it read.
 fn sighted<S: Alter>(
     alloc: Global,
     conn: &mut Connection<S>,
@@ -37,7 +37,8 @@ fn sighted<S: Alter>(
     }
 }
 
-/// The verdict on what is asked at a moment, and what was found on the way: who asks is judged by what stands at the last moment.
+/// Returns the verdict on a request at a time, and the value that it read. The standing rules use the
+/// register at the last moment.
 fn judged<S: Alter>(
     alloc: Global,
     conn: &mut Connection<S>,
@@ -58,16 +59,16 @@ fn judged<S: Alter>(
     }
 }
 
-/// What a caller asks at a moment.
+/// The query for the verdict on a request.
 #[derive(Clone, Copy, Debug)]
 pub(crate) struct VerdictQuery<'a> {
-    /// Who asks.
+    /// The caller.
     pub(crate) caller: Caller,
-    /// What is asked.
+    /// The request.
     pub(crate) ask: &'a Ask,
-    /// Whether the moment is before now.
+    /// Whether the time is before now.
     pub(crate) past: bool,
-    /// The moment, in milliseconds since 1970 UTC.
+    /// The time, in Unix milliseconds.
     pub(crate) moment: i64,
 }
 

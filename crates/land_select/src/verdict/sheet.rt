@@ -1,4 +1,4 @@
-//! The verdict on the title sheet of a unit, by look-ups, and what is found of the unit on the way.
+//! Authorizes the title sheet of a unit.
 ghost use Rattle.land_tables_schema.specs.Connections.{HasRegisterTables, IsUsable, LeavesAutocommit};
 ghost use Rattle.land_select_joins.specs.TableReads.{ReadsTables};
 ghost use Rattle.std.specs.Prelude.{◌≡◌, false, true};
@@ -26,7 +26,7 @@ use land_tables_rows::listing::fault::ReadFault;
 use sqlite::{Alter, Connection};
 use std::alloc::Global;
 
-/// The verdict on the sheet of a unit by a conveyancer, and the entries of the unit, where it is awaited.
+/// Returns the verdict on a conveyancer's sheet of a unit; and the entries of the unit, if it is visible.
 fn awaited_sheet<S: Alter>(
     alloc: Global,
     conn: &mut Connection<S>,
@@ -54,7 +54,8 @@ fn awaited_sheet<S: Alter>(
     Ok((verdict, CachedValue::VisibleEntries(entries)))
 }
 
-/// The verdict on the sheet of a unit by a citizen or a bank, and those entries of the unit that the caller sees, where the unit is shown.
+/// Returns the verdict on the sheet of a unit for a citizen or a bank; and the visible entries of the unit,
+/// if it is visible.
 fn sheet_by_interest<S: Alter>(
     alloc: Global,
     conn: &mut Connection<S>,
@@ -79,8 +80,7 @@ fn sheet_by_interest<S: Alter>(
     Ok((verdict, found))
 }
 
-/// The verdict on the sheet of a unit, by what stands at a moment, and what was found of the unit on the way: where a sheet is shown, its entries
-/// in the caller's sight, or the unit.
+/// Returns the verdict on the sheet of a unit at a time; and its visible entries or the unit, for the cache.
 pub(crate) fn sheet<S: Alter>(
     alloc: Global,
     conn: &mut Connection<S>,

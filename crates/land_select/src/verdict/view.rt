@@ -1,4 +1,4 @@
-//! Whether an object is in a caller's sight, and the verdict on its view, by look-ups and joins.
+//! Authorizes the view of an object.
 ghost use Rattle.land_tables_schema.specs.Connections.{HasRegisterTables, IsUsable, LeavesAutocommit};
 ghost use Rattle.land_select_joins.specs.TableReads.{ReadsTables};
 ghost use Rattle.std.specs.Prelude.{false};
@@ -35,7 +35,7 @@ use land_tables_rows::listing::fault::ReadFault;
 use sqlite::{Alter, Connection};
 use std::alloc::Global;
 
-/// Whether an object stands at a moment, and the object.
+/// Checks if an object exists at a time. Also returns the object.
 pub(crate) fn standing_object<S: Alter>(
     alloc: Global,
     conn: &mut Connection<S>,
@@ -54,10 +54,17 @@ pub(crate) fn standing_object<S: Alter>(
     Ok((found.is_some(), cached_object(found)))
 }
 
-/// Whether a caller sees an object at a moment, and what is found of it on the way. Where the caller is shown all objects of the kind, one look
-/// by its number finds it; where it is shown those that it lodged, one tells who lodged it. The entries of one unit, or of those that a mutation
-/// names, and a citizen's groups are read where the caller's interest in a unit tells; who lodged what names the unit, where a conveyancer
-/// awaits it; who is told of a party, where they are few; else the list of those that it sees.
+/// Checks if a caller sees an object at a time. Also returns the object, if it was read.
+///
+/// Reads as little as the role allows:
+///
+/// | the caller sees, of this kind | rows read |
+/// |---|---|
+/// | all objects | the object |
+/// | its own lodgings | the lodger of the mutation |
+/// | by an interest in a unit (citizen, bank) | the entries of the unit or of those that the mutation refers to, a citizen's groups |
+/// | by a pending mutation (conveyancer) | the lodgers of mutations that refer to the unit |
+/// | parties of visible entries | the party's viewers if there are at most 16 rows, else the caller's list |
 fn in_sight<S: Alter>(
     alloc: Global,
     conn: &mut Connection<S>,
@@ -98,8 +105,8 @@ fn in_sight<S: Alter>(
     Ok((is_listed(listed.as_slice(), number), CachedValue::Nothing))
 }
 
-/// The verdict on the view of a unit by a conveyancer, by what stands at a moment: what its undecided mutations name is asked once, for the
-/// sight of the unit and for the rule that denies it.
+/// Returns the verdict on a conveyancer's view of a unit at a time. The pending mutations decide both the
+/// visibility of the unit and the rule that denies it, so they are read once.
 fn unit_verdict<S: Alter>(
     alloc: Global,
     conn: &mut Connection<S>,
@@ -118,7 +125,7 @@ fn unit_verdict<S: Alter>(
     Ok(view_verdict(in_sight, awaited, caller, Kind::Unit, unit))
 }
 
-/// The verdict on the view of an object, by what stands at a moment, and what was found of it on the way.
+/// Returns the verdict on the view of an object at a time. Also returns the object, if it was read.
 pub(crate) fn viewing<S: Alter>(
     alloc: Global,
     conn: &mut Connection<S>,
