@@ -1,4 +1,4 @@
-//! Verdicts, of whom holds nothing and of whom holds a part.
+//! Verdicts on callers without and with rights.
 use crate::growths::marks::mark;
 use land_core::act::{Act, Decision, Lift};
 use land_core::ask::Ask;
@@ -12,22 +12,22 @@ use land_rules::verdict::Verdict;
 use land_test_scenario::stop::{Stop, expect};
 use std::alloc::Global;
 
-/// What is asked for now.
+/// The request of a test case.
 #[derive(Clone, Copy)]
 enum Asked {
     /// An object of a kind, by its number.
     View(Kind, u64),
     /// The title sheet of a unit.
     Sheet(u64),
-    /// That a party is given a role.
+    /// Grant a role to a party.
     Grant(u64, Role),
-    /// That a mutation is approved.
+    /// Approve a mutation.
     Approve(u64),
-    /// That a burden is lifted.
+    /// Lift a burden.
     Lift(u64),
 }
 
-/// What is judged: its name, who asks, in which role, for what, and the rule that denies it, 0 where none does.
+/// A verdict: its name, the caller, its role, the request, and the number of the rule that denies it, or 0.
 struct Judged(&'static str, u64, Role, Asked, u8);
 
 /// The garden, the ownership in it, its subdivision, which Sam lodged, and its owner.
@@ -39,7 +39,7 @@ const SUBDIVISION: Asked = Asked::View(Kind::Mutation, 23);
 
 const BEN: Asked = Asked::View(Kind::Party, 3);
 
-/// Nora holds nothing, Ben owns the garden, Sam has a lease in it and the bank a mortgage on it.
+/// Nora has no rights, Ben owns the garden, Sam has a lease in it and the bank a mortgage on it.
 const JUDGED: &[Judged] = &[
     Judged("a unit, denied", 5, Role::Citizen, GARDEN, 11),
     Judged("a unit, allowed", 3, Role::Citizen, GARDEN, 0),
@@ -92,7 +92,7 @@ const JUDGED: &[Judged] = &[
     ),
 ];
 
-/// What is asked for, as a keeper is asked.
+/// Returns the request.
 fn ask_of(asked: &Asked) -> Ask {
     match asked {
         Asked::View(kind, number) => Ask::View {
@@ -115,7 +115,7 @@ fn ask_of(asked: &Asked) -> Ask {
     }
 }
 
-/// The number of a verdict.
+/// Returns the number of a verdict, 0 if it allows.
 fn rule_of(verdict: Verdict) -> u8 {
     match verdict {
         Verdict::Allowed => 0,
@@ -123,7 +123,7 @@ fn rule_of(verdict: Verdict) -> u8 {
     }
 }
 
-/// Whether a keeper denies an ask now by this rule, or allows it for 0.
+/// Checks if a keeper denies a request now by this rule, or allows it for 0.
 fn is_denied_by<K: Keeper>(
     alloc: Global,
     keeper: &mut K,
@@ -140,7 +140,7 @@ fn is_denied_by<K: Keeper>(
     Ok(rule_of(verdict) == rule)
 }
 
-/// Whether a keeper judges as it is to be.
+/// Checks if a keeper returns the expected verdict.
 fn is_judged<K: Keeper>(alloc: Global, keeper: &mut K, judged: &Judged) -> Result<bool, Stop> {
     let caller = Caller {
         party: judged.1,
@@ -150,7 +150,7 @@ fn is_judged<K: Keeper>(alloc: Global, keeper: &mut K, judged: &Judged) -> Resul
     is_denied_by(alloc, keeper, caller, &ask, judged.4)
 }
 
-/// Each of them is judged as it is to be.
+/// Checks that each verdict is the expected one.
 pub fn are_judged<K: Keeper>(rt: &impl Print, alloc: Global, keeper: &mut K) -> Result<(), Stop> {
     for (place, judged) in JUDGED.iter().enumerate() {
         mark(rt, judged.0)?;
