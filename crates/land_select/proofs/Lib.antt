@@ -1,4 +1,4 @@
--- Lemmas of the keeper over joins.
+-- Lemmas of the indexed keeper.
 pub mod Awaiting
 pub mod Callers
 pub mod CachedValue

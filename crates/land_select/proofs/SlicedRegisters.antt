@@ -1,4 +1,4 @@
--- A slice, from what is gathered for it.
+-- A slice, from the parts that are read for it.
 use Rattle.std.proofs.Common.{◌≡◌, ◌≢◌, ℕ, Bool, true, false, ◌||◌, ◌++◌, List, [], ◌∷◌, inl, refl, sym, ap, ap₂, ◌∙◌, IsTrue, Ok, arith, Result, Err}
 use Rattle.std.proofs.lemmas.List.Folds.{list_any-append}
 use Rattle.std.specs.Cmp.{nat_cmp_total}
@@ -31,7 +31,7 @@ use Rattle.land_tables_schema.proofs.Looking.{look_told}
 use Rattle.land_tables_schema.specs.Rows.Looks.{IsLook}
 use Rattle.sqlite.specs.State.{HasCleanDisk, State}
 
--- no look at all, of a store that is open if its disk is honest
+-- no read of a store that is open if its disk is honest
 pub no_look_needed : {X E : Type 0} (x : X) (Given : X → Type 0) (a : State) → (HasCleanDisk a → IsTrue a.is_open) → Given x → IsLook {X = X} {E = E} (Ok x) Given a a
 no_look_needed x Given a is_open given = record {
   given = λ _. given;
@@ -45,7 +45,7 @@ pub with_last : (ns : List ℕ) (n : ℕ) (asked : ℕ → Bool) → with_number
 with_last [] n asked = refl
 with_last (m ∷ ns) n asked = with_last ns n (with_number m asked)
 
--- ---- what an act is not about
+-- ---- numbers to which an act does not refer
 
 pub about_none : (r : Register) (caller : Caller) (a : Act) → ((it : _) → a ≢ act.Lodge it) → ((it : _) → a ≢ act.Approve it) → ((it : _) → a ≢ act.Refuse it) → map.empty ≡ mutations_looked_at r caller a
 about_none r caller (act.Enrol it) l p q = none_kept nat_cmp_total nat_cmp-IsAntisymmetric r.mutations
@@ -77,7 +77,7 @@ lifts_none r (act.Approve it) l = none_kept nat_cmp_total nat_cmp-IsAntisymmetri
 lifts_none r (act.Refuse it) l = none_kept nat_cmp_total nat_cmp-IsAntisymmetric r.rrrs
 lifts_none r (act.Lift it) l = absurd (l it refl)
 
--- ---- what is gathered, from nothing
+-- ---- parts, starting with empty ones
 
 pub people_gathered : (r : Register) (caller : Caller) (a : Act) (mutations : FinMap nat_cmp MutationRecord) (office : Grants) (it : People) → mutations ≡ mutations_looked_at r caller a
     → office ≡ only (λ grant u. is_role grant.role StateAdministrator) r.roles
@@ -133,7 +133,7 @@ papers_gathered r mutations it grown = record {
 
 -- ---- the slice
 
--- the slice has what is known of it, its sources, and its entries with the one that is lifted
+-- the slice consists of its known parts, its sources, and its entries with the lifted one
 pub sliced : (r : Register) (caller : Caller) (a : Act) (known : Known) (papers : Papers) (lifted rrrs : FinMap nat_cmp RrrRecord) → IsKnown r caller a known
     → KnowsPapers r (λ n. some (λ k m. nat_eq m.source n) known.mutations) papers → lifted ≡ only (λ n e. names_rrr r a n) r.rrrs → rrrs ≡ put_all known.holdings.rrrs lifted
     → ◌≡◌ {A = Register} (record {
@@ -170,7 +170,7 @@ sliced r caller a known papers lifted rrrs is knows lifts puts =
         (record { parties = p'; roles = g'; members = m'; units = u'; parcels = l'; rrrs = e'; sources = s'; mutations = t'; mandates = d'; next = n' })
     alike p p' g g' m m' u u' l l' e e' s s' t t' d d' n n' a b c f h i j k o q = cc
 
--- what a look gives, in other words, whether it succeeds or not
+-- the result of a read-only query in other words, for success and failure
 pub look_so : {X E : Type 0} {P Q : X → Type 0} (a b : State) (r : Result X E) → IsLook r P a b → ((x : X) → P x → Q x) → IsLook r Q a b
 look_so a b (Ok x) look so = look_told a b (Ok x) look (λ clean given. so x given)
 look_so a b (Err e) look so = record { given = λ _. tt; same = λ _. tt; left = look.left; survives = look.survives }

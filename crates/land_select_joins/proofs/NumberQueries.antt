@@ -1,4 +1,4 @@
--- The text of each look-up of numbers as a join of tables, and what it gives.
+-- The statement of each lookup of one column as a join of tables, and its results.
 use Rattle.std.proofs.Common.{◌≡◌, ◌↔◌, ℕ, ℤ, List, [], ◌∷◌, ◌++◌, codes, Bool, true, false, if◌then◌else◌, refl, sym, ap, ◌∙◌, true≢false}
 use Rattle.land_core.specs.Numbers.{is_number}
 use Rattle.land_select_joins.proofs.Joined.{IsJoin, Says, complete, from, known_in, numbered, sound}
@@ -26,21 +26,21 @@ use Rattle.sqlite_value.specs.Order.{Row}
 
 -- ---- joins
 
--- the tables that are read
+-- the tables
 abbrev pub places_of : NumberLookUp → List Place
 places_of look_up.Party = parties ∷ []
 places_of look_up.Unit = units ∷ []
 places_of look_up.LodgerOfMutation = mutations ∷ []
 places_of look_up.LodgersOnUnit = names ∷ mutations ∷ []
 
--- the tests: of ON, of the number that is given, of the state, and of the lifespans
+-- the tests: ON, the given number, the state and the lifespans
 abbrev pub filter_of : NumberLookUp → List Term
 filter_of look_up.Party = known.itself
 filter_of look_up.Unit = same (col 1 1) caller ∷ still 1 4
 filter_of look_up.LodgerOfMutation = same (col 1 1) caller ∷ still 1 9
 filter_of look_up.LodgersOnUnit = same (col 2 1) (col 1 1) ∷ same (col 1 2) caller ∷ word (col 2 8) (codes "lodged") ∷ still 1 3 ++ still 2 9
 
--- the column that is shown
+-- the column of the result
 abbrev pub shown_of : NumberLookUp → Term
 shown_of look_up.Party = col 1 1
 shown_of look_up.Unit = col 1 1
@@ -83,7 +83,7 @@ join_of look_up.Unit = unit_join
 join_of look_up.LodgerOfMutation = lodger_join
 join_of look_up.LodgersOnUnit = lodgers_join
 
--- ---- what the terms of a text say is what its look-up tells
+-- ---- the terms of a statement select what its lookup returns
 
 module _ (h : History) (number : ℕ) (t : ℤ) (told : ℕ) where
   a_party : Says (parties ∷ []) known.itself (col 1 1) h number t told ↔ tells look_up.Party t h number told
@@ -142,7 +142,7 @@ module _ (db : Trees) (moments : List Moment) (h : History) (held : HoldsHistory
   moved : (one number : ℕ) → one ≡ number → is_number one ≡ true → is_number number ≡ true
   moved one number same is = ap is_number (sym same) ∙ is
 
-  -- something is told by a number that an object can have, and by no other
+  -- a lookup returns a number only for a given one that is in range
   number_within : (l : NumberLookUp) (number told : ℕ) → tells l t h number told → is_number number ≡ true
   number_within look_up.Party number told x = moved x.0.0 number x.2 (within parties x.0 (version t h.parties x.0 x.1))
   number_within look_up.Unit number told x = moved x.0.0 number x.2 (within units x.0 (version t h.units x.0 x.1))
@@ -152,7 +152,7 @@ module _ (db : Trees) (moments : List Moment) (h : History) (held : HoldsHistory
   none : (number : ℕ) → is_number number ≡ false → is_number number ≡ true → ⊥
   none number out is = true≢false (sym is ∙ out)
 
-  -- so what is told by a number is told by the one that is asked for in its place
+  -- so a lookup returns the same for the replacement of a number
   asked_so : (l : NumberLookUp) (number told : ℕ) → tells l t h (asked_for number) told ↔ tells l t h number told
   asked_so l number told = go (is_number number) refl
     where
@@ -160,12 +160,12 @@ module _ (db : Trees) (moments : List Moment) (h : History) (held : HoldsHistory
       go true is = ((λ x. x), (λ x. x))
       go false is = ((λ x. absurd (none 0 refl (number_within l 0 told x))), (λ x. absurd (none number is (number_within l number told x))))
 
--- ---- answers
+-- ---- results
 
 abbrev pub query_of : NumberLookUp → Query
 query_of l = plainly (from (places_of l)) (filter_of l) (shown_of l ∷ [])
 
--- what the text of a look-up answers are the rows that it finds
+-- the result of a lookup's statement has the rows of the lookup
 pub are_rows_of : (l : NumberLookUp) (number : ℕ) (t : ℤ) (db : Trees) (rows : List Row) → IsAnswer (query_of l) (overlay db []) (given (asked_for number) t) rows → AreRowsToldBy l number t db rows
 are_rows_of l number t db rows a moments h held =
     let asked = asked_for number in

@@ -1,4 +1,4 @@
--- Each text as a query of one table.
+-- Each statement as a query of one table.
 use Rattle.std.proofs.Common.{◌≡◌, ◌&&◌, ℕ, ℤ, List, [], ◌∷◌, codes, Ok, refl}
 use Rattle.land_select_joins.proofs.Joined.{Asks}
 use Rattle.land_select_joins.proofs.Known.{caller, same, still, word}
@@ -24,7 +24,7 @@ use Rattle.sqlite_tied.specs.Compute.{everything}
 use Rattle.sqlite_trees.specs.Tree.{Trees}
 use Rattle.sqlite_value.specs.Order.{Row}
 
--- the tests of WHERE: of the key, and of the lifespan
+-- the tests of WHERE: the key and the lifespan
 abbrev pub filter_of : LookUp → List Term
 filter_of look_up.Party = same (col 1 1) caller ∷ still 1 4
 filter_of look_up.Unit = same (col 1 1) caller ∷ still 1 4
@@ -39,7 +39,7 @@ filter_of look_up.MembersOfGroup = same (col 1 1) caller ∷ still 1 5
 filter_of look_up.MandatesOfAgent = same (col 1 2) caller ∷ still 1 3
 filter_of look_up.Administrators = word (col 1 2) (codes "stateAdministrator") ∷ still 1 3
 
--- the columns that are shown
+-- the columns of the result
 abbrev pub project_of : LookUp → List Term
 project_of look_up.Party = columns_of 1 1 5
 project_of look_up.Unit = columns_of 1 1 5
@@ -57,7 +57,7 @@ project_of look_up.Administrators = columns_of 1 1 4
 abbrev pub query_of : LookUp → Query
 query_of l = plainly (listing_of l).table.tree (filter_of l) (project_of l)
 
--- each text is its query and nothing else
+-- each statement is exactly its query
 pub asks : (l : LookUp) (indexes : List Index) → Asks (land_with indexes) (text_of l) (query_of l)
 unfolding understood everything
 asks look_up.Party indexes = record { names = codes "number" ∷ codes "name" ∷ codes "kind" ∷ codes "since" ∷ codes "until" ∷ []; command = refl; unlisted = refl; plain = (refl, refl) }
@@ -88,7 +88,7 @@ stored look_up.MembersOfGroup db = refl
 stored look_up.MandatesOfAgent db = refl
 stored look_up.Administrators db = refl
 
--- and shows the columns of a row that are read
+-- and returns the columns of a row that are decoded
 pub shown : (l : LookUp) (params r : Row) → eval_all (project_of l) (params ∷ r ∷ []) ≡ (listing_of l).shown r
 shown look_up.Party params r = refl
 shown look_up.Unit params r = refl
@@ -103,7 +103,7 @@ shown look_up.MembersOfGroup params r = refl
 shown look_up.MandatesOfAgent params r = refl
 shown look_up.Administrators params r = refl
 
--- a row that says a version passes where the version stands and is meant
+-- a row of a version passes if the version is current and matches
 pub tests : (l : LookUp) (r : Row) (v : Version (Found l)) → (listing_of l).said ((listing_of l).shown r) ≡ Ok v → (number : ℕ) (t : ℤ)
     → passes (filter_of l) (given (asked_for number) t) r ≡ (stands t v && is_meant l number v.what)
 tests look_up.Party r v e number t =

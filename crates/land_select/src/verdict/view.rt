@@ -62,7 +62,7 @@ pub(crate) fn standing_object<S: Alter>(
 /// |---|---|
 /// | all objects | the object |
 /// | its own lodgings | the lodger of the mutation |
-/// | by an interest in a unit (citizen, bank) | the entries of the unit or of those that the mutation refers to, a citizen's groups |
+/// | by an interest in a unit (citizen, bank) | entries of the unit or of the mutation's units, a citizen's groups |
 /// | by a pending mutation (conveyancer) | the lodgers of mutations that refer to the unit |
 /// | parties of visible entries | the party's viewers if there are at most 16 rows, else the caller's list |
 fn in_sight<S: Alter>(

@@ -10,7 +10,7 @@ use Rattle.sqlite.specs.Held.{state}
 use Rattle.sqlite.specs.State.{State}
 use Rattle.land_select.proofs.verdict.mutation.names_shown.Goals as goal
 
--- what is told of a content is told of the same content
+-- equal contents refer to the same units
 names : {result : Result Bool ReadFault} (a b : State) (caller : Caller) (t : ℤ) (one other : Content) → one ≡ other
     → IsLook result (IsPart (λ r. names_where (λ unit. shows_unit (interest_at r caller unit)) one) t a.now.trees) a b
     → IsLook result (IsPart (λ r. names_where (λ unit. shows_unit (interest_at r caller unit)) other) t a.now.trees) a b

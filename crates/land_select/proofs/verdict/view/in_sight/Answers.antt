@@ -52,7 +52,7 @@ returns-then-sees_by_awaiting-clause-look g c =
     let told = is moments h held r premise stands in
     (told.0 ∙ sym (c.what_is_awaited_is_seen.ensures r premise c.args.caller c.args.kind c.args.number by), told.1))
 
--- the kind of parties alone compares equal to it
+-- only the kind of parties compares equal to it
 same_kind : (kind : Kind) → sameb the_type kind Party ≡ true → kind ≡ Party
 same_kind Party same = refl
 same_kind Unit same = absurd (false≢true same)
