@@ -9,7 +9,7 @@ ghost use Rattle.land_core.specs.declared.caller.Caller.{Caller as Who};
 ghost use Rattle.land_core.specs.declared.kind.Kind.TheVariants as kinds;
 ghost use Rattle.land_keep.specs.Sheets.{entries_seen, parcels_at, shown_parcel, view_at};
 ghost use Rattle.land_select.specs.Cache.{IsFound, IsObjectFound};
-ghost use Rattle.land_select.specs.Views.{IsShown, IsShownGiven, in_sight, name_among, named_among, named_at, view_from, with_name};
+ghost use Rattle.land_select.specs.Views.{IsShown, IsShownGiven, visible_entries, name_among, named_among, named_at, view_from, with_name};
 ghost use Rattle.land_select_joins.specs.Lookups.Parts.{IsPart};
 
 use crate::cache::CachedValue;
@@ -166,7 +166,7 @@ fn entries_in_sight<S: Alter>(
 ) -> Result<Records<RrrRecord>, ReadFault>
     requires open { IsUsable S.Store conn.old }
     requires land { HasRegisterTables S.Store conn.old }
-    ensures look { ReadsTables S.Store result (IsShown (λ r. in_sight r caller unit) at) conn.old conn.new }
+    ensures look { ReadsTables S.Store result (IsShown (λ r. visible_entries r caller unit) at) conn.old conn.new }
     ensures mode { LeavesAutocommit conn.old conn.new }
 {
     seen_is_exact();
@@ -198,7 +198,7 @@ fn with_names<S: Alter>(
 ) -> Result<Sequence<NamedRrr>, ReadFault>
     requires land { HasRegisterTables S.Store conn.old }
     ensures look { (caller : Who) → ReadsTables S.Store result
-        (IsShownGiven (λ r. entries.now ≡ in_sight r caller unit) (λ r. entries_seen r caller unit) at)
+        (IsShownGiven (λ r. entries.now ≡ visible_entries r caller unit) (λ r. entries_seen r caller unit) at)
         conn.old conn.new }
     ensures mode { LeavesAutocommit conn.old conn.new }
 {

@@ -101,7 +101,7 @@ fn mutation_at<S: Alter>(
 }
 
 /// Reads the entry that a request would discharge and the mutation that it would decide, at a time.
-fn named<S: Alter>(
+fn read_referenced<S: Alter>(
     alloc: Global,
     conn: &mut Connection<S>,
     ask: &Ask,
@@ -149,7 +149,7 @@ fn evidence<S: Alter>(
 {
     soundness_by_look_ups();
     let asking = person(alloc, conn, caller, at)?;
-    let asked = named(alloc, conn, ask, at)?;
+    let asked = read_referenced(alloc, conn, ask, at)?;
     let (there, roles) = asking;
     let (entry, mutation) = asked;
     let party = somebody(alloc, there);
@@ -158,7 +158,7 @@ fn evidence<S: Alter>(
 
 /// Returns the verdict of the standing rules on a request, by the register at a time: the lowest number of a
 /// rule that denies it.
-pub(crate) fn standing<S: Alter>(
+pub(crate) fn read_standing_verdict<S: Alter>(
     alloc: Global,
     conn: &mut Connection<S>,
     caller: Caller,

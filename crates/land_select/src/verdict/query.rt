@@ -6,8 +6,8 @@ ghost use Rattle.land_select.specs.Verdicts.{IsVerdictWith};
 
 use crate::cache::CachedValue;
 use crate::query::Query;
-use crate::verdict::caller::standing;
-use crate::verdict::sheet::sheet;
+use crate::verdict::caller::read_standing_verdict;
+use crate::verdict::sheet::read_sheet_verdict;
 use crate::verdict::view::viewing;
 use land_core::ask::Ask;
 use land_core::caller::Caller;
@@ -32,7 +32,7 @@ fn sighted<S: Alter>(
 {
     match ask {
         Ask::View { kind, number, .. } => viewing(alloc, conn, caller, *kind, *number, at),
-        Ask::Sheet { unit, .. } => sheet(alloc, conn, caller, *unit, at),
+        Ask::Sheet { unit, .. } => read_sheet_verdict(alloc, conn, caller, *unit, at),
         Ask::List { .. } | Ask::Do(_) => Ok((Verdict::Allowed, CachedValue::Nothing)),
     }
 }
@@ -52,7 +52,7 @@ fn judged<S: Alter>(
     ensures look { ReadsTables S.Store result (IsVerdictWith caller ask.now past at) conn.old conn.new }
     ensures mode { LeavesAutocommit conn.old conn.new }
 {
-    let first = standing(alloc, conn, caller, ask, past, LAST_MOMENT)?;
+    let first = read_standing_verdict(alloc, conn, caller, ask, past, LAST_MOMENT)?;
     match first {
         Verdict::Allowed => sighted(alloc, conn, caller, ask, at),
         Verdict::Denied(rule) => Ok((Verdict::Denied(rule), CachedValue::Nothing)),

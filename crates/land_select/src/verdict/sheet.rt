@@ -81,7 +81,7 @@ fn sheet_by_interest<S: Alter>(
 }
 
 /// Returns the verdict on the sheet of a unit at a time; and its visible entries or the unit, for the cache.
-pub(crate) fn sheet<S: Alter>(
+pub(crate) fn read_sheet_verdict<S: Alter>(
     alloc: Global,
     conn: &mut Connection<S>,
     caller: Caller,

@@ -121,8 +121,8 @@ fn unit_verdict<S: Alter>(
     ensures mode { LeavesAutocommit conn.old conn.new }
 {
     let told = unit_awaited(alloc, conn, caller, unit, at)?;
-    let (in_sight, awaited) = told;
-    Ok(view_verdict(in_sight, awaited, caller, Kind::Unit, unit))
+    let (is_seen, is_named) = told;
+    Ok(view_verdict(is_seen, is_named, caller, Kind::Unit, unit))
 }
 
 /// Returns the verdict on the view of an object at a time. Also returns the object, if it was read.

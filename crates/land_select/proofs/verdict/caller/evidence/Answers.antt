@@ -15,19 +15,19 @@ use Rattle.land_select.proofs.verdict.caller.evidence.Goals as goal
 
 pub returns-in_err-asked-clause-look : goal.returns-in_err-asked-clause-look
 returns-in_err-asked-clause-look g c =
-    look_fails (state g.S.Store c.args.conn.now) (state g.S.Store c.person.new.conn) (state g.S.Store c.named.new.conn) c.from_residual-in_err-asked.result c.from_residual-in_err-asked.ensures.0 c.in_ok-asking.ensures.look c.in_err-asked.ensures.look
+    look_fails (state g.S.Store c.args.conn.now) (state g.S.Store c.person.new.conn) (state g.S.Store c.read_referenced.new.conn) c.from_residual-in_err-asked.result c.from_residual-in_err-asked.ensures.0 c.in_ok-asking.ensures.look c.in_err-asked.ensures.look
 
 pub returns-in_err-evidence_of-clause-look : goal.returns-in_err-evidence_of-clause-look
 returns-in_err-evidence_of-clause-look g c =
     let a = state g.S.Store c.args.conn.now in
-    let d = state g.S.Store c.named.new.conn in
+    let d = state g.S.Store c.read_referenced.new.conn in
     let two : IsLook {X = Unit {0}} {E = ReadFault} (Ok tt) (λ _. Unit {0}) a d = look_then a (state g.S.Store c.person.new.conn) d c.in_ok-asking.ensures.look c.in_ok-asked.ensures.look (λ _ _ _ _. tt) in
     look_lost a d c.from_residual-in_err-evidence_of.result c.from_residual-in_err-evidence_of.ensures.0 two
 
 pub returns-clause-look : goal.returns-clause-look
 returns-clause-look g c =
     let a = state g.S.Store c.args.conn.now in
-    let d = state g.S.Store c.named.new.conn in
+    let d = state g.S.Store c.read_referenced.new.conn in
     let caller = c.args.caller in
     let ask = c.args.ask.now in
     let t = c.args.at in

@@ -18,5 +18,5 @@ returns-in-Sheet-clause-look g c =
     let a = state g.S.Store c.args.conn.now in
     let t = c.args.at in
     let when : to_z w64 (of_z w64 t) ≡ t = search rules in
-    let look = rw when at c.sheet.ensures.look in
-    subst (λ (it : Ask). IsLook c.sheet.result (IsSightedWith c.args.caller it t a.now.trees) a (state g.S.Store c.sheet.new.conn)) (sym c.in-Sheet.is) look
+    let look = rw when at c.read_sheet_verdict.ensures.look in
+    subst (λ (it : Ask). IsLook c.read_sheet_verdict.result (IsSightedWith c.args.caller it t a.now.trees) a (state g.S.Store c.read_sheet_verdict.new.conn)) (sym c.in-Sheet.is) look

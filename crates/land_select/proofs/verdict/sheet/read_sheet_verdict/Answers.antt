@@ -1,5 +1,5 @@
 use Rattle.std.proofs.Common.{rules, ◌≡◌, to_z, of_z, w64}
-use Rattle.land_select.proofs.verdict.sheet.sheet.Goals as goal
+use Rattle.land_select.proofs.verdict.sheet.read_sheet_verdict.Goals as goal
 
 pub returns-then-is_unit_of_conveyancer-clause-look : goal.returns-then-is_unit_of_conveyancer-clause-look
 returns-then-is_unit_of_conveyancer-clause-look g c =

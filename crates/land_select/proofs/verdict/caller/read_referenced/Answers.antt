@@ -6,7 +6,7 @@ use Rattle.land_select_joins.specs.Lookups.Parts.{IsPart}
 use Rattle.land_tables_schema.proofs.Looking.{look_fails, look_then}
 use Rattle.sqlite.specs.Effect.{Database}
 use Rattle.sqlite.specs.Held.{state}
-use Rattle.land_select.proofs.verdict.caller.named.Goals as goal
+use Rattle.land_select.proofs.verdict.caller.read_referenced.Goals as goal
 
 pub returns-in_err-mutation-clause-look : goal.returns-in_err-mutation-clause-look
 returns-in_err-mutation-clause-look g c =

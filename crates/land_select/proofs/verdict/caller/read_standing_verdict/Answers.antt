@@ -2,7 +2,7 @@ use Rattle.std.proofs.Common.{rules, ◌≡◌, to_z, of_z, w64, ◌∙◌}
 use Rattle.land_select.proofs.Judged.{evidence_denies}
 use Rattle.land_tables_schema.proofs.Looking.{look_told}
 use Rattle.sqlite.specs.Held.{state}
-use Rattle.land_select.proofs.verdict.caller.standing.Goals as goal
+use Rattle.land_select.proofs.verdict.caller.read_standing_verdict.Goals as goal
 
 pub returns-clause-look : goal.returns-clause-look
 returns-clause-look g c =
