@@ -24,9 +24,9 @@ use Rattle.land_core.specs.declared.source.SourceRecord.{SourceRecord}
 use Rattle.land_core.specs.declared.unit.UnitRecord.{UnitRecord}
 use Rattle.land_select.proofs.Keeping.{entry_found, entry_there, is_kept, none_kept, same_entries, same_kept, was_kept}
 use Rattle.land_select.specs.Slices.Gathered.{KnowsHoldings, KnowsPapers, KnowsPeople, put_all, put_one, with_number, with_person, with_source, with_unit}
-use Rattle.land_select.specs.declared.slices.holdings.Holdings.{Holdings}
-use Rattle.land_select.specs.declared.slices.papers.Papers.{Papers}
-use Rattle.land_select.specs.declared.slices.people.People.{People}
+use Rattle.land_select.specs.declared.slices.units_and_entries.UnitsAndEntries.{UnitsAndEntries}
+use Rattle.land_select.specs.declared.slices.gathered_sources.GatheredSources.{GatheredSources}
+use Rattle.land_select.specs.declared.slices.parties_and_roles.PartiesAndRoles.{PartiesAndRoles}
 use Rattle.land_select_joins.proofs.Containing.{first, first_or_later, in_nothing, later}
 
 -- ---- truths
@@ -153,7 +153,7 @@ single_kept all n found is =
     ∙ same_kept nat_cmp_total nat_cmp-IsAntisymmetric (λ k v. with_number n (λ k. false) k) (λ k v. nat_eq k n) all (λ k v. or_nothing (nat_eq k n))
 
 -- one more party with its roles and its members
-pub person_known : (r : Register) (asked : ℕ → Bool) (known : People) (n : ℕ) (party : Option PartyRecord) (roles : Grants) (members : FinMap nat_cmp Members) → party ≡ map.get r.parties n
+pub person_known : (r : Register) (asked : ℕ → Bool) (known : PartiesAndRoles) (n : ℕ) (party : Option PartyRecord) (roles : Grants) (members : FinMap nat_cmp Members) → party ≡ map.get r.parties n
     → roles ≡ only (λ grant u. nat_eq grant.party n) r.roles → members ≡ only (λ k ms. nat_eq k n) r.members → KnowsPeople r asked known
     → KnowsPeople r (with_number n asked) (with_person known n party roles members)
 person_known r asked known n party roles members party_is roles_are members_are knows = record {
@@ -163,7 +163,7 @@ person_known r asked known n party roles members party_is roles_are members_are 
 }
 
 -- one more unit with its parcels and its entries
-pub unit_known : (r : Register) (asked : ℕ → Bool) (known : Holdings) (n : ℕ) (unit : Option UnitRecord) (parcels : FinMap nat_cmp ParcelRecord) (rrrs : FinMap nat_cmp RrrRecord)
+pub unit_known : (r : Register) (asked : ℕ → Bool) (known : UnitsAndEntries) (n : ℕ) (unit : Option UnitRecord) (parcels : FinMap nat_cmp ParcelRecord) (rrrs : FinMap nat_cmp RrrRecord)
     → unit ≡ map.get r.units n → parcels ≡ only (λ k p. nat_eq p.unit n) r.parcels → rrrs ≡ only (λ k e. nat_eq e.unit n) r.rrrs → KnowsHoldings r asked known
     → KnowsHoldings r (with_number n asked) (with_unit known n unit parcels rrrs)
 unit_known r asked known n unit parcels rrrs unit_is parcels_are rrrs_are knows = record {
@@ -173,6 +173,6 @@ unit_known r asked known n unit parcels rrrs unit_is parcels_are rrrs_are knows 
 }
 
 -- one more source
-pub source_known : (r : Register) (asked : ℕ → Bool) (known : Papers) (n : ℕ) (source : Option SourceRecord) → source ≡ map.get r.sources n → KnowsPapers r asked known
+pub source_known : (r : Register) (asked : ℕ → Bool) (known : GatheredSources) (n : ℕ) (source : Option SourceRecord) → source ≡ map.get r.sources n → KnowsPapers r asked known
     → KnowsPapers r (with_number n asked) (with_source known n source)
 source_known r asked known n source is knows = record { sources = ap (λ m. put_one m n source) knows.sources ∙ one_kept asked r.sources n source is }

@@ -9,7 +9,7 @@ use crate::query::execute;
 use crate::sight::SightQuery;
 use crate::slice_query::SliceQuery;
 use crate::verdict::query::VerdictQuery;
-use crate::view::{UnitViewQuery, naming};
+use crate::view::{UnitViewQuery, with_moment};
 use land_acts::slice::Slice;
 use land_core::act::Act;
 use land_core::ask::Ask;
@@ -207,7 +207,7 @@ impl<S: Alter> Keeper for SqlKeeper<S> {
             found: &found,
         };
         let shown = execute(alloc, &mut self.tables, &seen)?;
-        Ok(naming(shown, at))
+        Ok(with_moment(shown, at))
     }
 
     fn slice(&mut self, alloc: Global, caller: Caller, act: &Act) -> Result<Slice, StoreFault> {

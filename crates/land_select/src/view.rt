@@ -349,7 +349,7 @@ impl Query<Option<View>> for UnitViewQuery<'_> {
 }
 
 /// Returns a view with another time.
-pub(crate) fn naming(found: Option<View>, at: i64) -> Option<View>
+pub(crate) fn with_moment(found: Option<View>, at: i64) -> Option<View>
     ensures { result ≡ named_at at found }
 {
     match found {

@@ -13,7 +13,7 @@ use Rattle.land_select_joins.proofs.Records.{are_rows}
 use Rattle.land_select_joins.proofs.Shapes.{Fits}
 use Rattle.land_select_joins.proofs.Tested.{by_reference, decides_by}
 use Rattle.land_select_joins.specs.Joins.Running.{asked_for}
-use Rattle.land_select_joins.specs.Lookups.Finding.{AreRowsLodgedAs}
+use Rattle.land_select_joins.specs.Lookups.RecordRows.{AreRowsLodgedAs}
 use Rattle.land_select_joins.specs.declared.lookups.texts.TheConstants.{MUTATION_LODGED_AS}
 use Rattle.land_tables_history.specs.Standing.{stands}
 use Rattle.land_tables_history.specs.declared.version.Version.{Version}

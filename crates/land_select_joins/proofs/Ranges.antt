@@ -8,7 +8,7 @@ use Rattle.land_core.specs.declared.register.Register.{Register}
 use Rattle.land_select_joins.proofs.Parts.{part_found}
 use Rattle.land_select_joins.proofs.Records.{all_wanted, can_be_read}
 use Rattle.land_select_joins.specs.Joins.Running.{HoldsNone}
-use Rattle.land_select_joins.specs.Lookups.Finding.{AreSaid, CannotSay, wanted}
+use Rattle.land_select_joins.specs.Lookups.RecordRows.{AreSaid, CannotBeRead, wanted}
 use Rattle.land_select_joins.specs.Lookups.Numbered.{IsFoundWithin}
 use Rattle.land_select_joins.specs.Lookups.Parts.{IsPart}
 use Rattle.land_select_joins.specs.Lookups.Ranges.{AreRowsWithin, is_within}
@@ -30,7 +30,7 @@ module _ {V : Type 0} (said : Row → Result (Version (ℕ × V)) WireFault) (k 
       (all_wanted said read.0 (wanted (λ e. is_within first last e.0) t of.versions) (of.found first last t read.0 read.1) found read.2))
 
   -- if they are unreadable, the tables hold no history
-  pub none_within : (fault : ReadFault) → CannotSay said (AreRowsWithin k first last t db) fault → HoldsNone db fault
+  pub none_within : (fault : ReadFault) → CannotBeRead said (AreRowsWithin k first last t db) fault → HoldsNone db fault
   none_within fault cannot is moments h held =
       let of = by db moments h held in
       let no = cannot is in

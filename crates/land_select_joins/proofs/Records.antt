@@ -13,10 +13,10 @@ use Rattle.land_select_joins.proofs.Queries.{filter_of, project_of, query_of, sh
 use Rattle.land_select_joins.proofs.Standing.{entry_found, entry_there}
 use Rattle.land_select_joins.specs.Joins.Meaning.{given}
 use Rattle.land_select_joins.specs.Joins.Running.{HoldsNone, OfHeld, asked_for}
-use Rattle.land_select_joins.specs.Lookups.Finding.{AreRows, AreRowsOf, AreSaid, AreSaidOf, CannotBeSaid, CannotSay, Found, IsOneOf, is_meant, listing_of, wanted}
+use Rattle.land_select_joins.specs.Lookups.RecordRows.{AreRows, AreRowsOf, AreSaid, AreSaidOf, CannotBeSaid, CannotBeRead, Found, IsOneOf, is_meant, listing_of, wanted}
 use Rattle.land_select_joins.specs.Lookups.Numbered.{IsFoundBy}
 use Rattle.land_select_joins.specs.Lookups.Parts.{IsPart}
-use Rattle.land_select_joins.specs.declared.lookups.look_up.LookUp.{LookUp}
+use Rattle.land_select_joins.specs.declared.lookups.record_lookup.LookUp.{LookUp}
 use Rattle.land_tables_history.proofs.Permutations.{filter_permuted}
 use Rattle.land_tables_history.specs.Standing.{IsPartAt, stands, standing}
 use Rattle.land_tables_history.specs.declared.history.History.{History}
@@ -76,7 +76,7 @@ module _ {X : Type 0} (said : Row → Result X WireFault) (Are : List Row → Ty
   said_of (Ok xs) read = (rows, are, read)
   said_of (Err fault) read = tt
 
-  pub cannot_be_said : (r : Result (List X) ReadFault) → IsRead said rows r → IfErr r (CannotSay said Are)
+  pub cannot_be_said : (r : Result (List X) ReadFault) → IsRead said rows r → IfErr r (CannotBeRead said Are)
   cannot_be_said (Ok xs) read = tt
   cannot_be_said (Err fault) read = λ is. (rows, are, (read (λ e. absurd (let a = is in let b = e in cc))).1)
 

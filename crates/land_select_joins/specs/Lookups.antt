@@ -1,5 +1,5 @@
 -- Definitions of lookups: their results, their SQL statements, and the parts of a register that they return.
-pub mod Finding
+pub mod RecordRows
 pub mod Numbered
 pub mod Numbers
 pub mod Parties

@@ -15,9 +15,9 @@ use Rattle.land_core.specs.declared.register.Register.{Register}
 use Rattle.land_core.specs.declared.rrr.RrrRecord.{RrrRecord}
 use Rattle.land_core.specs.declared.source.SourceRecord.{SourceRecord}
 use Rattle.land_core.specs.declared.unit.UnitRecord.{UnitRecord}
-use Rattle.land_select.specs.declared.slices.holdings.Holdings.{Holdings}
-use Rattle.land_select.specs.declared.slices.papers.Papers.{Papers}
-use Rattle.land_select.specs.declared.slices.people.People.{People}
+use Rattle.land_select.specs.declared.slices.units_and_entries.UnitsAndEntries.{UnitsAndEntries}
+use Rattle.land_select.specs.declared.slices.gathered_sources.GatheredSources.{GatheredSources}
+use Rattle.land_select.specs.declared.slices.parties_and_roles.PartiesAndRoles.{PartiesAndRoles}
 use Rattle.land_select.specs.declared.slices.slice.Known.{Known}
 use Rattle.land_select_joins.specs.Joins.Running.{OfHeld}
 use Rattle.land_tables_history.specs.Groups.{HaveMembers}
@@ -42,23 +42,23 @@ abbrev pub put_all : {K V : Type 0} {R : K → K → _} → FinMap R V → FinMa
 put_all m more = with_entries m (map.entries more)
 
 -- the parties of a set of numbers, with their roles and members, are those of the register
-pub record KnowsPeople (r : Register) (asked : ℕ → Bool) (known : People) : Type 0 where
+pub record KnowsPeople (r : Register) (asked : ℕ → Bool) (known : PartiesAndRoles) : Type 0 where
   pub parties : known.parties ≡ only (λ n p. asked n) r.parties
   pub roles : known.roles ≡ only (λ grant u. asked grant.party) r.roles
   pub members : known.members ≡ only (λ n members. asked n) r.members
 
 -- the units of a set of numbers, with their parcels and entries, are those of the register
-pub record KnowsHoldings (r : Register) (asked : ℕ → Bool) (known : Holdings) : Type 0 where
+pub record KnowsHoldings (r : Register) (asked : ℕ → Bool) (known : UnitsAndEntries) : Type 0 where
   pub units : known.units ≡ only (λ n u. asked n) r.units
   pub parcels : known.parcels ≡ only (λ n p. asked p.unit) r.parcels
   pub rrrs : known.rrrs ≡ only (λ n e. asked e.unit) r.rrrs
 
 -- the sources of a set of numbers are those of the register
-pub record KnowsPapers (r : Register) (asked : ℕ → Bool) (known : Papers) : Type 0 where
+pub record KnowsPapers (r : Register) (asked : ℕ → Bool) (known : GatheredSources) : Type 0 where
   pub sources : known.sources ≡ only (λ n s. asked n) r.sources
 
 -- the parts with one more party, its roles and its members
-abbrev pub with_person : People → ℕ → Option PartyRecord → Grants → FinMap nat_cmp Members → People
+abbrev pub with_person : PartiesAndRoles → ℕ → Option PartyRecord → Grants → FinMap nat_cmp Members → PartiesAndRoles
 with_person known n party roles members = record {
   parties = put_one known.parties n party;
   roles = put_all known.roles roles;
@@ -66,8 +66,8 @@ with_person known n party roles members = record {
 }
 
 -- the parts with one more unit, its parcels and its entries
-abbrev pub with_unit : Holdings → ℕ → Option UnitRecord → FinMap nat_cmp ParcelRecord
-    → FinMap nat_cmp RrrRecord → Holdings
+abbrev pub with_unit : UnitsAndEntries → ℕ → Option UnitRecord → FinMap nat_cmp ParcelRecord
+    → FinMap nat_cmp RrrRecord → UnitsAndEntries
 with_unit known n unit parcels rrrs = record {
   units = put_one known.units n unit;
   parcels = put_all known.parcels parcels;
@@ -75,7 +75,7 @@ with_unit known n unit parcels rrrs = record {
 }
 
 -- the parts with one more source
-abbrev pub with_source : Papers → ℕ → Option SourceRecord → Papers
+abbrev pub with_source : GatheredSources → ℕ → Option SourceRecord → GatheredSources
 with_source known n source = record { sources = put_one known.sources n source }
 
 -- ---- results of reads
@@ -95,7 +95,7 @@ Grows knows more from it t db = IsSo (λ r. (asked : ℕ → Bool) → knows r a
 -- register
 pub record IsKnown (r : Register) (caller : Caller) (a : Act) (known : Known) : Type 0 where
   pub mutations : known.mutations ≡ mutations_looked_at r caller a
-  pub people : KnowsPeople r (λ n. looks_at_party r a n) known.people
-  pub holdings : KnowsHoldings r (λ n. names_unit r a n) known.holdings
+  pub parties_and_roles : KnowsPeople r (λ n. looks_at_party r a n) known.parties_and_roles
+  pub units_and_entries : KnowsHoldings r (λ n. names_unit r a n) known.units_and_entries
   pub mandates : known.mandates ≡ only (λ m u. names_mandate caller a m) r.mandates
   pub next : r.next ≡ known.next

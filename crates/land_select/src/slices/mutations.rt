@@ -6,7 +6,7 @@ ghost use Rattle.land_acts.specs.Slices.{mutations_looked_at};
 ghost use Rattle.land_core.specs.Entries.{only};
 ghost use Rattle.land_select_joins.specs.Lookups.Parts.{IsPart};
 
-use crate::slices::people::put_one;
+use crate::slices::parties_and_roles::put_one;
 use land_core::act::Act;
 use land_core::caller::Caller;
 use land_core::mutation::MutationRecord;

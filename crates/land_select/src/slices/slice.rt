@@ -11,13 +11,13 @@ ghost use Rattle.land_select.specs.Slices.Gathered.{IsKnown, IsSo, KnowsHoldings
 ghost use Rattle.land_select.specs.Slices.Named.{parties_of};
 ghost use Rattle.land_select_joins.specs.Lookups.Parts.{IsPart};
 
+use crate::slices::gathered_sources::GatheredSources;
 use crate::slices::gathers::gather_all;
-use crate::slices::holdings::Holdings;
 use crate::slices::mutations::mutations_of;
 use crate::slices::named::{parties_of, sources_of, units_of};
 use crate::slices::pairs::mandates_of;
-use crate::slices::papers::Papers;
-use crate::slices::people::{People, put_all, put_one};
+use crate::slices::parties_and_roles::{PartiesAndRoles, put_all, put_one};
+use crate::slices::units_and_entries::UnitsAndEntries;
 use land_acts::slice::Slice;
 use land_core::act::Act;
 use land_core::caller::Caller;
@@ -57,7 +57,7 @@ fn people_of<S: Alter>(
     act: &Act,
     mutations: &Records<MutationRecord>,
     at: i64,
-) -> Result<People, ReadFault>
+) -> Result<PartiesAndRoles, ReadFault>
     requires open { IsUsable S.Store conn.old }
     requires land { HasRegisterTables S.Store conn.old }
     ensures look { ReadsTables S.Store result
@@ -67,7 +67,13 @@ fn people_of<S: Alter>(
 {
     let office = office::administrators(alloc, conn, at)?;
     let parties = named_and_holders(alloc, act, mutations, &office)?;
-    gather_all(alloc, conn, People::nobody(alloc), parties.as_slice(), at)
+    gather_all(
+        alloc,
+        conn,
+        PartiesAndRoles::nobody(alloc),
+        parties.as_slice(),
+        at,
+    )
 }
 
 /// Reads the units that an act refers to.
@@ -77,7 +83,7 @@ fn holdings_of<S: Alter>(
     act: &Act,
     mutations: &Records<MutationRecord>,
     at: i64,
-) -> Result<Holdings, ReadFault>
+) -> Result<UnitsAndEntries, ReadFault>
     requires open { IsUsable S.Store conn.old }
     requires land { HasRegisterTables S.Store conn.old }
     ensures look { ReadsTables S.Store result
@@ -86,7 +92,13 @@ fn holdings_of<S: Alter>(
     ensures mode { LeavesAutocommit conn.old conn.new }
 {
     let units = units_of(alloc, act, mutations)?;
-    gather_all(alloc, conn, Holdings::none(alloc), units.as_slice(), at)
+    gather_all(
+        alloc,
+        conn,
+        UnitsAndEntries::none(alloc),
+        units.as_slice(),
+        at,
+    )
 }
 
 /// Reads the sources of the mutations that an act refers to.
@@ -95,7 +107,7 @@ fn papers_of<S: Alter>(
     conn: &mut Connection<S>,
     mutations: &Records<MutationRecord>,
     at: i64,
-) -> Result<Papers, ReadFault>
+) -> Result<GatheredSources, ReadFault>
     requires open { IsUsable S.Store conn.old }
     requires land { HasRegisterTables S.Store conn.old }
     ensures look { ReadsTables S.Store result
@@ -104,7 +116,13 @@ fn papers_of<S: Alter>(
     ensures mode { LeavesAutocommit conn.old conn.new }
 {
     let sources = sources_of(alloc, mutations)?;
-    gather_all(alloc, conn, Papers::none(alloc), sources.as_slice(), at)
+    gather_all(
+        alloc,
+        conn,
+        GatheredSources::none(alloc),
+        sources.as_slice(),
+        at,
+    )
 }
 
 /// Reads the entry of a number, if it exists.
@@ -146,8 +164,8 @@ fn lifted_by<S: Alter>(
 #[derive(Debug, Drop)]
 struct Known {
     mutations: Records<MutationRecord>,
-    people: People,
-    holdings: Holdings,
+    parties_and_roles: PartiesAndRoles,
+    units_and_entries: UnitsAndEntries,
     mandates: Mandates,
     next: u64,
 }
@@ -169,21 +187,21 @@ fn slice_with<S: Alter>(
 {
     let Known {
         mutations,
-        people,
-        holdings,
+        parties_and_roles,
+        units_and_entries,
         mandates,
         next,
     } = known;
-    let papers = papers_of(alloc, conn, &mutations, at)?;
+    let gathered_sources = papers_of(alloc, conn, &mutations, at)?;
     let lifted = lifted_by(alloc, conn, act, at)?;
     Ok(Register {
-        parties: people.parties,
-        roles: people.roles,
-        members: people.members,
-        units: holdings.units,
-        parcels: holdings.parcels,
-        rrrs: put_all(alloc, holdings.rrrs, &lifted)?,
-        sources: papers.sources,
+        parties: parties_and_roles.parties,
+        roles: parties_and_roles.roles,
+        members: parties_and_roles.members,
+        units: units_and_entries.units,
+        parcels: units_and_entries.parcels,
+        rrrs: put_all(alloc, units_and_entries.rrrs, &lifted)?,
+        sources: gathered_sources.sources,
         mutations,
         mandates,
         next,
@@ -209,12 +227,12 @@ fn slice_about<S: Alter>(
         at db) conn.old conn.new }
     ensures mode { LeavesAutocommit conn.old conn.new }
 {
-    let people = people_of(alloc, conn, act, &mutations, at)?;
-    let holdings = holdings_of(alloc, conn, act, &mutations, at)?;
+    let parties_and_roles = people_of(alloc, conn, act, &mutations, at)?;
+    let units_and_entries = holdings_of(alloc, conn, act, &mutations, at)?;
     let known = Known {
         mutations,
-        people,
-        holdings,
+        parties_and_roles,
+        units_and_entries,
         mandates,
         next,
     };

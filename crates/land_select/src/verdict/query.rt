@@ -39,7 +39,7 @@ fn sighted<S: Alter>(
 
 /// Returns the verdict on a request at a time, and the value that it read. The standing rules use the
 /// register at the last moment.
-fn judged<S: Alter>(
+fn read_verdict<S: Alter>(
     alloc: Global,
     conn: &mut Connection<S>,
     caller: Caller,
@@ -82,6 +82,6 @@ impl Query<(Verdict, CachedValue)> for VerdictQuery<'_> {
         alloc: Global,
         conn: &mut Connection<S>,
     ) -> Result<(Verdict, CachedValue), ReadFault> {
-        judged(alloc, conn, self.caller, self.ask, self.past, self.moment)
+        read_verdict(alloc, conn, self.caller, self.ask, self.past, self.moment)
     }
 }

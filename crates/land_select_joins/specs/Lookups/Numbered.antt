@@ -5,9 +5,9 @@ use Rattle.std.specs.Prelude.{ℕ, ℤ, nat_eq, List, map, IsPermutation, Result
 use Rattle.land_core.specs.declared.kind.Kind.{Kind}
 use Rattle.land_core.specs.declared.register.Register.{Register}
 use Rattle.land_select_joins.specs.Joins.Running.{OfHeld}
-use Rattle.land_select_joins.specs.Lookups.Finding.{AreRowsOf, wanted}
+use Rattle.land_select_joins.specs.Lookups.RecordRows.{AreRowsOf, wanted}
 use Rattle.land_select_joins.specs.Lookups.Ranges.{AreRowsWithin, is_within}
-use Rattle.land_select_joins.specs.declared.lookups.look_up.LookUp.{LookUp}
+use Rattle.land_select_joins.specs.declared.lookups.record_lookup.LookUp.{LookUp}
 use Rattle.land_tables_history.specs.History.{StandsAt}
 use Rattle.land_tables_history.specs.Standing.{IsPartAt}
 use Rattle.land_tables_history.specs.declared.history.History.{History}

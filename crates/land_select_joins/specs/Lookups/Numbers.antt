@@ -5,7 +5,7 @@ use Rattle.land_select_joins.specs.Joins.Meaning.{AreNumberRows}
 use Rattle.land_select_joins.specs.Joins.Running.{AreAll, OfHeld}
 use Rattle.land_select_joins.specs.Sights.Selections.{Awaits, Stands}
 use Rattle.land_select_joins.specs.declared.lookups.number_look_up.NumberLookUp.{NumberLookUp}
-use Rattle.land_select_joins.specs.declared.lookups.number_look_up.NumberLookUp.TheVariants as look_up
+use Rattle.land_select_joins.specs.declared.lookups.number_look_up.NumberLookUp.TheVariants as record_lookup
 use Rattle.land_tables_history.specs.declared.history.History.{History}
 use Rattle.land_tables_history.specs.declared.version.Version.{Version}
 use Rattle.sqlite_trees.specs.Tree.{Trees}
@@ -18,11 +18,11 @@ IsItsOwn {V = V} t versions given number =
 
 -- whether a lookup returns a number for the given one
 abbrev pub tells : NumberLookUp → (t : ℤ) → History → (given : ℕ) → (number : ℕ) → Type 0
-tells look_up.Party t h given number = IsItsOwn t h.parties given number
-tells look_up.Unit t h given number = IsItsOwn t h.units given number
-tells look_up.LodgerOfMutation t h given number =
+tells record_lookup.Party t h given number = IsItsOwn t h.parties given number
+tells record_lookup.Unit t h given number = IsItsOwn t h.units given number
+tells record_lookup.LodgerOfMutation t h given number =
     (it : ℕ × MutationRecord) × Stands t h.mutations it × (it.0 ≡ given) × (it.1.lodger ≡ number)
-tells look_up.LodgersOnUnit t h given number = Awaits t h number given
+tells record_lookup.LodgersOnUnit t h given number = Awaits t h number given
 
 -- the rows that a lookup returns for a number at a time
 abbrev pub AreRowsToldBy : NumberLookUp → (given : ℕ) → (t : ℤ) → Trees → List Row → Type 0

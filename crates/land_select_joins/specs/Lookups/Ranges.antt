@@ -8,7 +8,7 @@ use Rattle.land_core.specs.declared.party.PartyRecord.{PartyRecord}
 use Rattle.land_core.specs.declared.rrr.RrrRecord.{RrrRecord}
 use Rattle.land_core.specs.declared.source.SourceRecord.{SourceRecord}
 use Rattle.land_core.specs.declared.unit.UnitRecord.{UnitRecord}
-use Rattle.land_select_joins.specs.Lookups.Finding.{AreRows}
+use Rattle.land_select_joins.specs.Lookups.RecordRows.{AreRows}
 use Rattle.land_select_joins.specs.declared.lookups.texts.TheConstants as texts
 use Rattle.land_tables_history.specs.declared.version.Version.{Version}
 use Rattle.land_tables_rows.specs.Listing.Reading.{Listing, mutations, parcels, parties, rrrs, sources, units}

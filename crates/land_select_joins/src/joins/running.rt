@@ -88,7 +88,7 @@ pub fn numbers<S: Alter>(
 
 /// Returns the numbers of several selections, in any order. A number is repeated for each selection that
 /// returns it.
-fn gather<S: Alter>(
+fn collect_numbers<S: Alter>(
     alloc: Global,
     conn: &mut Connection<S>,
     selections: &[Selection],
@@ -127,7 +127,7 @@ fn gather_for<S: Alter>(
 {
     let mut found = Vec::new(alloc);
     for caller in callers {
-        let given = gather(alloc, conn, selections, *caller, at)?;
+        let given = collect_numbers(alloc, conn, selections, *caller, at)?;
         found.extend_from_slice(given.as_slice())?;
     }
     Ok(found)
@@ -160,7 +160,7 @@ pub fn unite<S: Alter>(
     ensures unreadable { FailsOnlyWithoutHistory S.Store result conn.old conn.new }
     ensures mode { LeavesAutocommit conn.old conn.new }
 {
-    each_once(gather(alloc, conn, selections, caller, at)?)
+    each_once(collect_numbers(alloc, conn, selections, caller, at)?)
 }
 
 /// Returns the union of several selections for several callers at a time, in Unix milliseconds, in increasing

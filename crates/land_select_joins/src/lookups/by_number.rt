@@ -2,11 +2,11 @@
 ghost use Rattle.land_tables_schema.specs.Connections.{HasRegisterTables, LeavesAutocommit};
 ghost use Rattle.land_select_joins.specs.TableReads.{FailsOnlyWithoutHistory, ReadsTables};
 ghost use Rattle.std.specs.FinMap as map;
-ghost use Rattle.land_select_joins.specs.Lookups.Finding.{IsOneOf};
+ghost use Rattle.land_select_joins.specs.Lookups.RecordRows.{IsOneOf};
 ghost use Rattle.land_select_joins.specs.Lookups.Parts.{IsPart};
 
-use crate::lookups::finding::find;
 use crate::lookups::numbered::Numbered;
+use crate::lookups::record_rows::find;
 use land_core::sequence::Sequence;
 use land_tables_history::version::Version;
 use land_tables_rows::listing::fault::ReadFault;

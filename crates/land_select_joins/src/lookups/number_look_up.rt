@@ -20,10 +20,10 @@ pub enum NumberLookUp {
 
 /// Returns the SQL statement of a lookup. Parameter 1 is the number, parameter 2 the time in Unix
 /// milliseconds.
-pub fn text_of(look_up: NumberLookUp) -> &'static str
-    ensures { result.now ≡ number_text_of look_up }
+pub fn text_of(record_lookup: NumberLookUp) -> &'static str
+    ensures { result.now ≡ number_text_of record_lookup }
 {
-    match look_up {
+    match record_lookup {
         NumberLookUp::Party => own::ITSELF,
         NumberLookUp::Unit => texts::UNIT_NUMBER,
         NumberLookUp::LodgerOfMutation => texts::LODGER_OF_MUTATION,

@@ -5,10 +5,10 @@ ghost use Rattle.land_core.specs.declared.register.Register.{Register};
 ghost use Rattle.land_core.specs.declared.kind.Kind.{Kind as WhichKind};
 ghost use Rattle.land_core.specs.declared.kind.Kind.TheVariants as kinds;
 ghost use Rattle.land_select_joins.specs.Lookups.Numbered.{IsFoundBy, IsFoundWithin};
-ghost use Rattle.land_select_joins.specs.declared.lookups.look_up.LookUp.{LookUp as Which};
-ghost use Rattle.land_select_joins.specs.declared.lookups.look_up.LookUp.TheVariants as look_up;
+ghost use Rattle.land_select_joins.specs.declared.lookups.record_lookup.LookUp.{LookUp as Which};
+ghost use Rattle.land_select_joins.specs.declared.lookups.record_lookup.LookUp.TheVariants as record_lookup;
 
-use crate::lookups::look_up::LookUp;
+use crate::lookups::record_lookup::LookUp;
 use land_core::kind::Kind;
 use land_core::mutation::MutationRecord;
 use land_core::parcel::ParcelRecord;
@@ -51,7 +51,7 @@ impl Numbered for PartyRecord {
 
     const BY_NUMBER: LookUp = LookUp::Party;
 
-    ghost BY_NUMBER = { look_up.Party };
+    ghost BY_NUMBER = { record_lookup.Party };
 
     ghost found = { λ db moments h held. record {
       versions = h.parties;
@@ -77,7 +77,7 @@ impl Numbered for UnitRecord {
 
     const BY_NUMBER: LookUp = LookUp::Unit;
 
-    ghost BY_NUMBER = { look_up.Unit };
+    ghost BY_NUMBER = { record_lookup.Unit };
 
     ghost found = { λ db moments h held. record {
       versions = h.units;
@@ -103,7 +103,7 @@ impl Numbered for ParcelRecord {
 
     const BY_NUMBER: LookUp = LookUp::Parcel;
 
-    ghost BY_NUMBER = { look_up.Parcel };
+    ghost BY_NUMBER = { record_lookup.Parcel };
 
     ghost found = { λ db moments h held. record {
       versions = h.parcels;
@@ -129,7 +129,7 @@ impl Numbered for RrrRecord {
 
     const BY_NUMBER: LookUp = LookUp::Entry;
 
-    ghost BY_NUMBER = { look_up.Entry };
+    ghost BY_NUMBER = { record_lookup.Entry };
 
     ghost found = { λ db moments h held. record {
       versions = h.rrrs;
@@ -155,7 +155,7 @@ impl Numbered for SourceRecord {
 
     const BY_NUMBER: LookUp = LookUp::Source;
 
-    ghost BY_NUMBER = { look_up.Source };
+    ghost BY_NUMBER = { record_lookup.Source };
 
     ghost found = { λ db moments h held. record {
       versions = h.sources;
@@ -181,7 +181,7 @@ impl Numbered for MutationRecord {
 
     const BY_NUMBER: LookUp = LookUp::Mutation;
 
-    ghost BY_NUMBER = { look_up.Mutation };
+    ghost BY_NUMBER = { record_lookup.Mutation };
 
     ghost found = { λ db moments h held. record {
       versions = h.mutations;

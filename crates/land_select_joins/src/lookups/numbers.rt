@@ -14,17 +14,17 @@ use std::alloc::Global;
 /// Runs a lookup at a time and returns its rows, in any order.
 fn rows_of<S: Alter>(
     conn: &mut Connection<S>,
-    look_up: NumberLookUp,
+    record_lookup: NumberLookUp,
     number: u64,
     at: i64,
 ) -> Result<Vec<Row>, Error>
     requires land { HasRegisterTables S.Store conn.old }
-    ensures look { ReadsTables S.Store result (λ db rows. AreRowsToldBy look_up number at db rows.items)
+    ensures look { ReadsTables S.Store result (λ db rows. AreRowsToldBy record_lookup number at db rows.items)
         conn.old conn.new }
     ensures mode { LeavesAutocommit conn.old conn.new }
 {
     conn.query_all(
-        text_of(look_up),
+        text_of(record_lookup),
         &[of_number(asked_for(number)), of_moment(at)],
     )
 }
@@ -34,15 +34,15 @@ fn rows_of<S: Alter>(
 pub fn numbers<S: Alter>(
     alloc: Global,
     conn: &mut Connection<S>,
-    look_up: NumberLookUp,
+    record_lookup: NumberLookUp,
     number: u64,
     at: i64,
 ) -> Result<NumberList, ReadFault>
     requires land { HasRegisterTables S.Store conn.old }
-    ensures look { ReadsTables S.Store result (AreNumbersToldBy look_up number at) conn.old conn.new }
+    ensures look { ReadsTables S.Store result (AreNumbersToldBy record_lookup number at) conn.old conn.new }
     ensures unreadable { FailsOnlyWithoutHistory S.Store result conn.old conn.new }
     ensures mode { LeavesAutocommit conn.old conn.new }
 {
-    let rows = rows_of(conn, look_up, number, at)?;
+    let rows = rows_of(conn, record_lookup, number, at)?;
     read(alloc, rows.as_slice())
 }

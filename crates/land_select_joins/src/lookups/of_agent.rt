@@ -5,8 +5,8 @@ ghost use Rattle.std.specs.Prelude.{◌≡◌, map, nat_eq, IfOk};
 ghost use Rattle.land_core.specs.Entries.{only};
 ghost use Rattle.land_select_joins.specs.Lookups.Parts.{ArePrincipalsOf, IsCircleOf, IsPart};
 
-use crate::lookups::finding::find;
-use crate::lookups::look_up::LookUp;
+use crate::lookups::record_lookup::LookUp;
+use crate::lookups::record_rows::find;
 use land_core::mandates::{Mandate, Mandates};
 use land_core::sequence::{NumberList, Sequence};
 use land_tables_history::mandates::mandates_at;

@@ -4,7 +4,7 @@ ghost use Rattle.land_select_joins.specs.TableReads.{FailsOnlyWithoutHistory, Re
 ghost use Rattle.land_select_joins.specs.Lookups.Parties.{ArePartiesIn, ArePartiesWithin, ArePartyRows, of_range, of_unit};
 
 use crate::joins::running::asked_for;
-use crate::lookups::finding::read;
+use crate::lookups::record_rows::read;
 use crate::lookups::texts;
 use crate::lookups::within::BEYOND;
 use land_core::party::PartyRecord;

@@ -5,7 +5,7 @@ ghost use Rattle.land_core.specs.Entries.{only};
 ghost use Rattle.land_core.specs.Mutations.{is_lodged_as};
 ghost use Rattle.land_select_joins.specs.Lookups.Parts.{IsPart};
 
-use crate::lookups::finding::{read, rows_lodged_as};
+use crate::lookups::record_rows::{read, rows_lodged_as};
 use land_core::mutation::MutationRecord;
 use land_core::records::Records;
 use land_core::sequence::Sequence;

@@ -5,8 +5,8 @@ ghost use Rattle.std.specs.Prelude.{nat_eq};
 ghost use Rattle.land_core.specs.Entries.{only};
 ghost use Rattle.land_select_joins.specs.Lookups.Parts.{IsPart};
 
-use crate::lookups::finding::find;
-use crate::lookups::look_up::LookUp;
+use crate::lookups::record_lookup::LookUp;
+use crate::lookups::record_rows::find;
 use land_core::parcel::ParcelRecord;
 use land_core::records::Records;
 use land_core::rrr::RrrRecord;

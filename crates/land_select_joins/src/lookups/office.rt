@@ -6,8 +6,8 @@ ghost use Rattle.land_core.specs.Role.{is_role};
 ghost use Rattle.land_core.specs.declared.role.Role.TheVariants.{StateAdministrator};
 ghost use Rattle.land_select_joins.specs.Lookups.Parts.{IsPart};
 
-use crate::lookups::finding::find;
-use crate::lookups::look_up::LookUp;
+use crate::lookups::record_lookup::LookUp;
+use crate::lookups::record_rows::find;
 use land_core::roles::Roles;
 use land_tables_history::roles::roles_at;
 use land_tables_rows::listing::fault::ReadFault;

@@ -3,14 +3,14 @@ ghost use Rattle.land_tables_schema.specs.Connections.{HasRegisterTables, Leaves
 ghost use Rattle.land_select_joins.specs.TableReads.{FailsOnlyWithoutHistory, ReadsTables};
 ghost use Rattle.std.specs.Prelude.{◌≡◌, IfErr};
 ghost use Rattle.land_core.specs.Entries.{only};
-ghost use Rattle.land_select_joins.specs.Lookups.Finding.{AreSaid, CannotSay};
+ghost use Rattle.land_select_joins.specs.Lookups.RecordRows.{AreSaid, CannotBeRead};
 ghost use Rattle.land_select_joins.specs.Lookups.Parts.{IsPart};
 ghost use Rattle.land_select_joins.specs.Lookups.Ranges.{AreRowsWithin, is_within, text_within};
 ghost use Rattle.sqlite.specs.Held.{state};
 ghost use Rattle.sqlite.specs.State.{HasCleanDisk};
 
-use crate::lookups::finding::read;
 use crate::lookups::numbered::Numbered;
+use crate::lookups::record_rows::read;
 use crate::lookups::texts;
 use land_core::duplicate::Duplicate;
 use land_core::kind::Kind;
@@ -81,7 +81,7 @@ where
         (λ db it. AreSaid ⟦<Version<(u64, V)> as FromRow>⟧.said (AreRowsWithin V.KIND first last at db) it)
         conn.old conn.new }
     ensures unreadable { HasCleanDisk (state S.Store conn.new)
-        → IfErr result (CannotSay ⟦<Version<(u64, V)> as FromRow>⟧.said
+        → IfErr result (CannotBeRead ⟦<Version<(u64, V)> as FromRow>⟧.said
         (AreRowsWithin V.KIND first last at (state S.Store conn.old).now.trees)) }
     ensures mode { LeavesAutocommit conn.old conn.new }
 {

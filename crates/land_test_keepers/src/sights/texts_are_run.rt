@@ -53,7 +53,7 @@ pub(crate) const LAST: i64 = 1017;
 pub(crate) type Recorded = Connection<Recorder<MemStore>>;
 
 /// Opens a connection to a store that records its reads.
-fn connected(alloc: Global) -> Result<Recorded, Stop> {
+fn connect_recorder(alloc: Global) -> Result<Recorded, Stop> {
     let store = Recorder::over(MemStore::new(alloc, &[])?);
     match Connection::over(alloc, store) {
         Ok(conn) => Ok(conn),
@@ -63,7 +63,7 @@ fn connected(alloc: Global) -> Result<Recorded, Stop> {
 
 /// Returns the register after the scenario, in such a store.
 pub(crate) fn played(alloc: Global) -> Result<SqlKeeper<Recorder<MemStore>>, Stop> {
-    let tables = match Tables::create(connected(alloc)?) {
+    let tables = match Tables::create(connect_recorder(alloc)?) {
         Ok(tables) => tables,
         Err((_, fault)) => return Err(Stop::from(fault)),
     };

@@ -29,5 +29,5 @@ returns-clause-value g c clean =
     let given = rw (c.self.view_is, t) at (c.take_unit-found.ensures tl kept) in
     let answer = rw (c.self.view_is, u) at (c.in_ok-shown.ensures.value clean) in
     let found = given_stands (λ r. IsFound r caller kind.Unit unit c.take_unit-found.result) (λ r. view_at r caller unit c.min-moment.result) s c.args.at c.min-moment.result (look_moment c.args.at c.min-moment.result least) c.in_ok-shown.shown answer given in
-    let named = rw t at c.naming.ensures in
+    let named = rw t at c.with_moment.ensures in
     named ∙ ap (named_at c.args.at) found ∙ renamed (register_at (held g.S.Store c.args.self.now) c.args.at) caller unit c.args.at c.min-moment.result

@@ -10,4 +10,4 @@ returns-clause-look g c =
     let a = state g.S.Store c.args.conn.now in
     let it = c.args.self.now in
     let t : to_z w64 (of_z w64 it.moment) ≡ it.moment = search rules in
-    subst (λ (x : ℤ). IsLook c.judged.result (IsVerdictWith it.caller it.ask.now it.past x a.now.trees) a (state g.S.Store c.judged.new.conn)) t c.judged.ensures.look
+    subst (λ (x : ℤ). IsLook c.read_verdict.result (IsVerdictWith it.caller it.ask.now it.past x a.now.trees) a (state g.S.Store c.read_verdict.new.conn)) t c.read_verdict.ensures.look
