@@ -1,15 +1,18 @@
 -- The parties that a caller sees, by its own names and by the viewers of a party.
-use Rattle.std.specs.Prelude.{◌≡◌, ◌↔◌, ℕ, ℤ, Bool, true, false, nat_eq, List, None, Some, Option, if◌then◌else◌}
+use Rattle.std.specs.Prelude.{◌≡◌, ◌↔◌, ℕ, ℤ, Bool, true, false, nat_eq, List, None, Some, Option}
+use Rattle.std.specs.Prelude.{if◌then◌else◌}
 use Rattle.std.specs.List.{Contains, list_any}
 use Rattle.land_core.specs.Role.{is_role}
 use Rattle.land_core.specs.declared.caller.Caller.{Caller}
 use Rattle.land_core.specs.declared.register.Register.{Register}
 use Rattle.land_core.specs.declared.role.Role.{Role}
-use Rattle.land_core.specs.declared.role.Role.TheVariants.{Citizen, Conveyancer, Notary, Bank, CertifiedSurveyor, StateAdministrator}
+use Rattle.land_core.specs.declared.role.Role.TheVariants.{Citizen, Conveyancer, Notary, Bank}
+use Rattle.land_core.specs.declared.role.Role.TheVariants.{CertifiedSurveyor, StateAdministrator}
 use Rattle.land_rules.specs.Circles.{circle_of, is_name_of}
 use Rattle.land_select_joins.specs.Joins.Running.{OfHeld}
 use Rattle.land_select_joins.specs.declared.lookups.relation.Relation.{Relation}
-use Rattle.land_select_joins.specs.declared.lookups.relation.Relation.TheVariants.{Holding, Crediting, Awaiting}
+use Rattle.land_select_joins.specs.declared.lookups.relation.Relation.TheVariants.{Holding, Crediting}
+use Rattle.land_select_joins.specs.declared.lookups.relation.Relation.TheVariants.{Awaiting}
 use Rattle.land_tables_history.specs.History.{StandsAt}
 use Rattle.sqlite_trees.specs.Tree.{Trees}
 

@@ -1,7 +1,5 @@
 //! Reads a list of objects: a range of numbers with one SQL statement, and the parties of entries with a
 //! second one.
-ghost use Rattle.land_tables_schema.specs.Connections.{HasRegisterTables, LeavesAutocommit};
-ghost use Rattle.land_select_joins.specs.TableReads.{ReadsTables};
 ghost use Rattle.std.specs.FinMap as map;
 ghost use Rattle.std.specs.List.{AllByRecursion};
 ghost use Rattle.std.specs.Prelude.{◌≡◌, ℕ, true, map as map_list, IfOk};
@@ -13,7 +11,9 @@ ghost use Rattle.land_keep.specs.Named.{objects_at};
 ghost use Rattle.land_select.specs.Listing.{ListsAlike, ListsRange};
 ghost use Rattle.land_select_joins.specs.Lookups.Parts.{IsPart};
 ghost use Rattle.land_select_joins.specs.Lookups.Ranges.{is_within};
+ghost use Rattle.land_select_joins.specs.TableReads.{ReadsTables};
 ghost use Rattle.land_tables_history.specs.declared.version.Version.{Version as Spanned};
+ghost use Rattle.land_tables_schema.specs.Connections.{HasRegisterTables, LeavesAutocommit};
 
 use crate::query::Query;
 use land_core::duplicate::Duplicate;

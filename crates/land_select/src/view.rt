@@ -1,6 +1,4 @@
 //! Reads the view of a unit, as a caller sees it.
-ghost use Rattle.land_tables_schema.specs.Connections.{HasRegisterTables, IsUsable, LeavesAutocommit};
-ghost use Rattle.land_select_joins.specs.TableReads.{ReadsTables};
 ghost use Rattle.std.specs.FinMap as map;
 ghost use Rattle.std.specs.List.{list_any};
 ghost use Rattle.std.specs.Prelude.{◌≡◌, nat_eq, map as map_list, [], IfOk, Some};
@@ -9,8 +7,11 @@ ghost use Rattle.land_core.specs.declared.caller.Caller.{Caller as Who};
 ghost use Rattle.land_core.specs.declared.kind.Kind.TheVariants as kinds;
 ghost use Rattle.land_keep.specs.Sheets.{entries_seen, parcels_at, shown_parcel, view_at};
 ghost use Rattle.land_select.specs.Cache.{IsFound, IsObjectFound};
-ghost use Rattle.land_select.specs.Views.{IsShown, IsShownGiven, visible_entries, name_among, named_among, named_at, view_from, with_name};
+ghost use Rattle.land_select.specs.Views.{IsShown, IsShownGiven, visible_entries, name_among, named_among};
+ghost use Rattle.land_select.specs.Views.{named_at, view_from, with_name};
 ghost use Rattle.land_select_joins.specs.Lookups.Parts.{IsPart};
+ghost use Rattle.land_select_joins.specs.TableReads.{ReadsTables};
+ghost use Rattle.land_tables_schema.specs.Connections.{HasRegisterTables, IsUsable, LeavesAutocommit};
 
 use crate::cache::CachedValue;
 use crate::query::Query;
@@ -166,7 +167,8 @@ fn entries_in_sight<S: Alter>(
 ) -> Result<Records<RrrRecord>, ReadFault>
     requires open { IsUsable S.Store conn.old }
     requires land { HasRegisterTables S.Store conn.old }
-    ensures look { ReadsTables S.Store result (IsShown (λ r. visible_entries r caller unit) at) conn.old conn.new }
+    ensures look { ReadsTables S.Store result (IsShown (λ r. visible_entries r caller unit) at) conn.old
+        conn.new }
     ensures mode { LeavesAutocommit conn.old conn.new }
 {
     seen_is_exact();

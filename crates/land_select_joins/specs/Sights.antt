@@ -5,10 +5,23 @@ use Rattle.std.specs.Prelude.{◌⊎◌, ℕ, ℤ, List, [], ◌∷◌}
 use Rattle.land_core.specs.declared.kind.Kind.{Kind}
 use Rattle.land_core.specs.declared.kind.Kind.TheVariants as kind
 use Rattle.land_core.specs.declared.role.Role.{Role}
-use Rattle.land_core.specs.declared.role.Role.TheVariants.{Citizen, Conveyancer, Notary, Bank, CertifiedSurveyor, StateAdministrator}
+use Rattle.land_core.specs.declared.role.Role.TheVariants.{Citizen, Conveyancer, Notary, Bank}
+use Rattle.land_core.specs.declared.role.Role.TheVariants.{CertifiedSurveyor, StateAdministrator}
 use Rattle.land_select_joins.specs.Sights.Selections.{selects}
 use Rattle.land_select_joins.specs.declared.sights.selection.Selection.{Selection}
-use Rattle.land_select_joins.specs.declared.sights.selection.Selection.TheVariants.{All, Itself, ItsGroups, ItsLodgings, HeldUnits, GroupUnits, HeldEntries, GroupEntries, HeldParties, GroupParties, HeldMutations, GroupMutations, CreditUnits, CreditEntries, CreditParties, LodgedUnits, LodgedEntries, LodgedParties}
+use Rattle.land_select_joins.specs.declared.sights.selection.Selection.TheVariants.{All, Itself, ItsGroups}
+use Rattle.land_select_joins.specs.declared.sights.selection.Selection.TheVariants.{ItsLodgings, HeldUnits}
+use Rattle.land_select_joins.specs.declared.sights.selection.Selection.TheVariants.{GroupUnits, HeldEntries}
+use Rattle.land_select_joins.specs.declared.sights.selection.Selection.TheVariants.{GroupEntries, HeldParties}
+use Rattle.land_select_joins.specs.declared.sights.selection.Selection.TheVariants.{GroupParties}
+use Rattle.land_select_joins.specs.declared.sights.selection.Selection.TheVariants.{HeldMutations}
+use Rattle.land_select_joins.specs.declared.sights.selection.Selection.TheVariants.{GroupMutations}
+use Rattle.land_select_joins.specs.declared.sights.selection.Selection.TheVariants.{CreditUnits}
+use Rattle.land_select_joins.specs.declared.sights.selection.Selection.TheVariants.{CreditEntries}
+use Rattle.land_select_joins.specs.declared.sights.selection.Selection.TheVariants.{CreditParties}
+use Rattle.land_select_joins.specs.declared.sights.selection.Selection.TheVariants.{LodgedUnits}
+use Rattle.land_select_joins.specs.declared.sights.selection.Selection.TheVariants.{LodgedEntries}
+use Rattle.land_select_joins.specs.declared.sights.selection.Selection.TheVariants.{LodgedParties}
 use Rattle.land_tables_history.specs.declared.history.History.{History}
 
 -- The selections of a role and a kind. A citizen sees by the rights that it holds, itself or through a group;

@@ -58,7 +58,8 @@ pub record KnowsPapers (r : Register) (asked : ℕ → Bool) (known : GatheredSo
   pub sources : known.sources ≡ only (λ n s. asked n) r.sources
 
 -- the parts with one more party, its roles and its members
-abbrev pub with_person : PartiesAndRoles → ℕ → Option PartyRecord → Grants → FinMap nat_cmp Members → PartiesAndRoles
+abbrev pub with_person : PartiesAndRoles → ℕ → Option PartyRecord → Grants → FinMap nat_cmp Members
+    → PartiesAndRoles
 with_person known n party roles members = record {
   parties = put_one known.parties n party;
   roles = put_all known.roles roles;

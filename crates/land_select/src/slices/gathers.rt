@@ -1,9 +1,9 @@
 //! Parts of a register that are read number by number.
-ghost use Rattle.land_tables_schema.specs.Connections.{HasRegisterTables, IsUsable, LeavesAutocommit};
-ghost use Rattle.land_select_joins.specs.TableReads.{ReadsTables};
 ghost use Rattle.std.specs.Prelude.{ℕ, Bool};
 ghost use Rattle.land_core.specs.declared.register.Register.{Register};
 ghost use Rattle.land_select.specs.Slices.Gathered.{Grows, with_number, with_numbers};
+ghost use Rattle.land_select_joins.specs.TableReads.{ReadsTables};
+ghost use Rattle.land_tables_schema.specs.Connections.{HasRegisterTables, IsUsable, LeavesAutocommit};
 
 use land_tables_rows::listing::fault::ReadFault;
 use sqlite::{Alter, Connection};

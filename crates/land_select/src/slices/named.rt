@@ -1,6 +1,7 @@
 //! The numbers that an act refers to.
 ghost use Rattle.std.specs.Prelude.{◌≡◌, [], ◌∷◌, map as map_list, IfOk};
-ghost use Rattle.land_select.specs.Slices.Named.{of_mutation, parties_of, parties_of_content, sources_of, units_of, units_of_content};
+ghost use Rattle.land_select.specs.Slices.Named.{of_mutation, parties_of, parties_of_content, sources_of};
+ghost use Rattle.land_select.specs.Slices.Named.{units_of, units_of_content};
 
 use land_core::act::{Act, NewRight};
 use land_core::content::Content;

@@ -1,11 +1,11 @@
 //! The mandate that an act gives or withdraws.
-ghost use Rattle.land_tables_schema.specs.Connections.{HasRegisterTables, IsUsable, LeavesAutocommit};
-ghost use Rattle.land_select_joins.specs.TableReads.{ReadsTables};
 ghost use Rattle.std.specs.Prelude.{◌≡◌, IfOk};
 ghost use Rattle.land_acts.specs.Slices.{is_mandate, names_mandate};
 ghost use Rattle.land_core.specs.Entries.{only};
 ghost use Rattle.land_select.specs.Slices.Named.{mandate_of_act};
 ghost use Rattle.land_select_joins.specs.Lookups.Parts.{IsPart};
+ghost use Rattle.land_select_joins.specs.TableReads.{ReadsTables};
+ghost use Rattle.land_tables_schema.specs.Connections.{HasRegisterTables, IsUsable, LeavesAutocommit};
 
 use land_core::act::Act;
 use land_core::caller::Caller;

@@ -1,9 +1,10 @@
 //! Parties, with their roles and members.
-ghost use Rattle.land_tables_schema.specs.Connections.{HasRegisterTables, LeavesAutocommit};
-ghost use Rattle.land_select_joins.specs.TableReads.{ReadsTables};
 ghost use Rattle.std.specs.Prelude.{◌≡◌, ℕ, Bool, IfOk};
 ghost use Rattle.std.specs.FinMap as map;
-ghost use Rattle.land_select.specs.Slices.Gathered.{IsSo, KnowsPeople, put_all, put_one, with_number, with_person};
+ghost use Rattle.land_select.specs.Slices.Gathered.{IsSo, KnowsPeople, put_all, put_one, with_number};
+ghost use Rattle.land_select.specs.Slices.Gathered.{with_person};
+ghost use Rattle.land_select_joins.specs.TableReads.{ReadsTables};
+ghost use Rattle.land_tables_schema.specs.Connections.{HasRegisterTables, LeavesAutocommit};
 
 use crate::slices::gathers::Gathers;
 use land_core::duplicate::Duplicate;

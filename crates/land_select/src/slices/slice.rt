@@ -1,15 +1,16 @@
 //! Reads the slice of a register for an act, by lookups.
-ghost use Rattle.land_tables_schema.specs.Connections.{HasRegisterTables, IsUsable, LeavesAutocommit};
-ghost use Rattle.land_select_joins.specs.TableReads.{ReadsTables};
 ghost use Rattle.std.specs.FinMap as map;
 ghost use Rattle.std.specs.Prelude.{◌≡◌, ◌++◌, nat_eq, map as map_list, IfOk};
-ghost use Rattle.land_acts.specs.Slices.{looks_at_party, looks_at_source, mutations_looked_at, names_mandate, names_rrr, names_unit, slice_of};
+ghost use Rattle.land_acts.specs.Slices.{looks_at_party, looks_at_source, mutations_looked_at, names_mandate};
+ghost use Rattle.land_acts.specs.Slices.{names_rrr, names_unit, slice_of};
 ghost use Rattle.land_core.specs.Entries.{only, some};
 ghost use Rattle.land_core.specs.Grants.{grants_in};
 ghost use Rattle.land_core.specs.declared.caller.Caller.{Caller as Asker};
 ghost use Rattle.land_select.specs.Slices.Gathered.{IsKnown, IsSo, KnowsHoldings, KnowsPapers, KnowsPeople};
 ghost use Rattle.land_select.specs.Slices.Named.{parties_of};
 ghost use Rattle.land_select_joins.specs.Lookups.Parts.{IsPart};
+ghost use Rattle.land_select_joins.specs.TableReads.{ReadsTables};
+ghost use Rattle.land_tables_schema.specs.Connections.{HasRegisterTables, IsUsable, LeavesAutocommit};
 
 use crate::slices::gathered_sources::GatheredSources;
 use crate::slices::gathers::gather_all;

@@ -1,9 +1,9 @@
 //! Units, with their parcels and entries.
-ghost use Rattle.land_tables_schema.specs.Connections.{HasRegisterTables, LeavesAutocommit};
-ghost use Rattle.land_select_joins.specs.TableReads.{ReadsTables};
 ghost use Rattle.std.specs.FinMap as map;
 ghost use Rattle.std.specs.Prelude.{◌≡◌, ℕ, Bool, IfOk};
 ghost use Rattle.land_select.specs.Slices.Gathered.{IsSo, KnowsHoldings, with_number, with_unit};
+ghost use Rattle.land_select_joins.specs.TableReads.{ReadsTables};
+ghost use Rattle.land_tables_schema.specs.Connections.{HasRegisterTables, LeavesAutocommit};
 
 use crate::slices::gathers::Gathers;
 use crate::slices::parties_and_roles::{put_all, put_one};

@@ -1,9 +1,9 @@
 //! Visibility of an object by the caller's interest in a unit.
-ghost use Rattle.land_tables_schema.specs.Connections.{HasRegisterTables, IsUsable, LeavesAutocommit};
-ghost use Rattle.land_select_joins.specs.TableReads.{ReadsTables};
 ghost use Rattle.std.specs.Prelude.{false};
 ghost use Rattle.land_rules.specs.Denials.Interests.{is_shown_by_interest};
 ghost use Rattle.land_select.specs.Cache.{IsToldWith};
+ghost use Rattle.land_select_joins.specs.TableReads.{ReadsTables};
+ghost use Rattle.land_tables_schema.specs.Connections.{HasRegisterTables, IsUsable, LeavesAutocommit};
 
 use crate::cache::CachedValue;
 use crate::verdict::interest::{entry_shown, is_unit_shown};

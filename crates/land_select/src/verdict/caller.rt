@@ -1,6 +1,4 @@
 //! Authorizes the caller, by lookups.
-ghost use Rattle.land_tables_schema.specs.Connections.{HasRegisterTables, IsUsable, LeavesAutocommit};
-ghost use Rattle.land_select_joins.specs.TableReads.{ReadsTables};
 ghost use Rattle.std.specs.Prelude.{◌≡◌};
 ghost use Rattle.land_core.specs.Grants.{grant_of, has_grant};
 ghost use Rattle.land_core.specs.Register.{stands};
@@ -10,6 +8,8 @@ ghost use Rattle.land_rules.specs.Rules.{first_denial, standing_rules};
 ghost use Rattle.land_select.specs.Verdicts.{evidence_in, record_at, roles_in, somebody};
 ghost use Rattle.land_select.specs.Views.{IsShown};
 ghost use Rattle.land_select_joins.specs.Lookups.Parts.{IsPart};
+ghost use Rattle.land_select_joins.specs.TableReads.{ReadsTables};
+ghost use Rattle.land_tables_schema.specs.Connections.{HasRegisterTables, IsUsable, LeavesAutocommit};
 
 use land_core::ask::Ask;
 use land_core::caller::Caller;

@@ -1,6 +1,4 @@
 //! Visibility by a pending mutation of a conveyancer that refers to the unit.
-ghost use Rattle.land_tables_schema.specs.Connections.{HasRegisterTables, IsUsable, LeavesAutocommit};
-ghost use Rattle.land_select_joins.specs.TableReads.{ReadsTables};
 ghost use Rattle.std.specs.FinMap as map;
 ghost use Rattle.std.specs.Prelude.{false, if◌then◌else◌};
 ghost use Rattle.land_core.specs.declared.kind.Kind.TheVariants as kinds;
@@ -9,6 +7,8 @@ ghost use Rattle.land_rules.specs.Relations.{is_lodger_on};
 ghost use Rattle.land_select.specs.Cache.{IsToldWith};
 ghost use Rattle.land_select.specs.Views.{awaited_of};
 ghost use Rattle.land_select_joins.specs.Lookups.Parts.{IsPart};
+ghost use Rattle.land_select_joins.specs.TableReads.{ReadsTables};
+ghost use Rattle.land_tables_schema.specs.Connections.{HasRegisterTables, IsUsable, LeavesAutocommit};
 
 use crate::cache::{CachedValue, cached_object};
 use land_core::caller::Caller;

@@ -1,16 +1,17 @@
 //! The interest of a citizen or a bank in a unit, and the objects that it shows.
-ghost use Rattle.land_tables_schema.specs.Connections.{HasRegisterTables, IsUsable, LeavesAutocommit};
-ghost use Rattle.land_select_joins.specs.TableReads.{ReadsTables};
 ghost use Rattle.std.specs.Prelude.{◌≡◌, ◌++◌, false, true, IfOk};
 ghost use Rattle.land_core.specs.Entries.{only};
 ghost use Rattle.land_core.specs.Role.{is_role};
 ghost use Rattle.land_core.specs.declared.kind.Kind.TheVariants as kinds;
 ghost use Rattle.land_core.specs.declared.role.Role.TheVariants as roles;
 ghost use Rattle.land_rules.specs.Circles.{circle_of, is_name_of};
-ghost use Rattle.land_rules.specs.Denials.Interests.{interest_at, interest_of, is_shown_by_interest, sees_by_interest, shows_entry, shows_unit};
+ghost use Rattle.land_rules.specs.Denials.Interests.{interest_at, interest_of, is_shown_by_interest};
+ghost use Rattle.land_rules.specs.Denials.Interests.{sees_by_interest, shows_entry, shows_unit};
 ghost use Rattle.land_select.specs.Cache.{IsToldWith};
 ghost use Rattle.land_select.specs.Views.{AreGroupsAt, AreNamesAt, shown_of};
 ghost use Rattle.land_select_joins.specs.Lookups.Parts.{IsPart};
+ghost use Rattle.land_select_joins.specs.TableReads.{ReadsTables};
+ghost use Rattle.land_tables_schema.specs.Connections.{HasRegisterTables, IsUsable, LeavesAutocommit};
 
 use crate::cache::{CachedValue, cached_object};
 use land_core::caller::Caller;

@@ -1,12 +1,13 @@
 //! Visibility of a mutation by the caller's interest in a unit to which it refers.
-ghost use Rattle.land_tables_schema.specs.Connections.{HasRegisterTables, IsUsable, LeavesAutocommit};
-ghost use Rattle.land_select_joins.specs.TableReads.{ReadsTables};
 ghost use Rattle.std.specs.List.{list_any};
 ghost use Rattle.std.specs.Prelude.{◌||◌, false};
 ghost use Rattle.land_core.specs.declared.kind.Kind.TheVariants as kinds;
-ghost use Rattle.land_rules.specs.Denials.Interests.{interest_at, is_shown_by_interest, names_shown, shows_unit};
+ghost use Rattle.land_rules.specs.Denials.Interests.{interest_at, is_shown_by_interest, names_shown};
+ghost use Rattle.land_rules.specs.Denials.Interests.{shows_unit};
 ghost use Rattle.land_select.specs.Cache.{IsToldWith};
 ghost use Rattle.land_select_joins.specs.Lookups.Parts.{IsPart};
+ghost use Rattle.land_select_joins.specs.TableReads.{ReadsTables};
+ghost use Rattle.land_tables_schema.specs.Connections.{HasRegisterTables, IsUsable, LeavesAutocommit};
 
 use crate::cache::{CachedValue, cached_object};
 use crate::verdict::interest::is_unit_shown;

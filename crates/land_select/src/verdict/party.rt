@@ -1,6 +1,4 @@
 //! Visibility of a party, for a caller that does not see all parties.
-ghost use Rattle.land_tables_schema.specs.Connections.{HasRegisterTables, IsUsable, LeavesAutocommit};
-ghost use Rattle.land_select_joins.specs.TableReads.{ReadsTables};
 ghost use Rattle.std.specs.List.{list_any};
 ghost use Rattle.std.specs.Prelude.{◌≡◌, false, nat_eq, Some};
 ghost use Rattle.land_core.specs.declared.kind.Kind.TheVariants as kinds;
@@ -9,6 +7,8 @@ ghost use Rattle.land_rules.specs.Rules.{sees};
 ghost use Rattle.land_select.specs.Cache.{IsToldWith};
 ghost use Rattle.land_select.specs.Parties.{AreOtherNames, AreOwnNamesAt, relation_of};
 ghost use Rattle.land_select.specs.Views.{IsShown, IsShownGiven};
+ghost use Rattle.land_select_joins.specs.TableReads.{ReadsTables};
+ghost use Rattle.land_tables_schema.specs.Connections.{HasRegisterTables, IsUsable, LeavesAutocommit};
 
 use crate::cache::CachedValue;
 use crate::verdict::interest::{is_citizen, names_of};

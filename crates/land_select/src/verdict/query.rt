@@ -1,8 +1,8 @@
 //! Authorizes a request: the verdict, and the object or the entries that it read.
-ghost use Rattle.land_tables_schema.specs.Connections.{HasRegisterTables, IsUsable, LeavesAutocommit};
-ghost use Rattle.land_select_joins.specs.TableReads.{ReadsTables};
 ghost use Rattle.land_select.specs.Cache.{IsSightedWith};
 ghost use Rattle.land_select.specs.Verdicts.{IsVerdictWith};
+ghost use Rattle.land_select_joins.specs.TableReads.{ReadsTables};
+ghost use Rattle.land_tables_schema.specs.Connections.{HasRegisterTables, IsUsable, LeavesAutocommit};
 
 use crate::cache::CachedValue;
 use crate::query::Query;

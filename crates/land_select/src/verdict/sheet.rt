@@ -1,12 +1,12 @@
 //! Authorizes the title sheet of a unit.
-ghost use Rattle.land_tables_schema.specs.Connections.{HasRegisterTables, IsUsable, LeavesAutocommit};
-ghost use Rattle.land_select_joins.specs.TableReads.{ReadsTables};
 ghost use Rattle.std.specs.Prelude.{◌≡◌, false, true};
 ghost use Rattle.land_core.specs.declared.kind.Kind.TheVariants as kinds;
 ghost use Rattle.land_rules.specs.Denials.Interests.{sees_by_interest};
 ghost use Rattle.land_rules.specs.Denials.Sight.{is_unit_of_conveyancer};
 ghost use Rattle.land_rules.specs.Rules.{first_denial, view_rules};
 ghost use Rattle.land_select.specs.Cache.{IsToldWith};
+ghost use Rattle.land_select_joins.specs.TableReads.{ReadsTables};
+ghost use Rattle.land_tables_schema.specs.Connections.{HasRegisterTables, IsUsable, LeavesAutocommit};
 
 use crate::cache::CachedValue;
 use crate::verdict::conveyancer::unit_awaited;

@@ -1,6 +1,7 @@
 -- The result of a lookup, by the contents of its table's rows.
 use Rattle.std.specs.List.{Contains}
-use Rattle.std.specs.Prelude.{◌≡◌, ◌≢◌, ℕ, ℤ, Bool, ◌&&◌, nat_eq, List, [], filter, map, IsPermutation, Option, Some, None, Result, Ok}
+use Rattle.std.specs.Prelude.{◌≡◌, ◌≢◌, ℕ, ℤ, Bool, ◌&&◌, nat_eq, List, [], filter, map, IsPermutation}
+use Rattle.std.specs.Prelude.{Option, Some, None, Result, Ok}
 use Rattle.land_core.specs.Mutations.{is_lodged_as}
 use Rattle.land_core.specs.Role.{is_role}
 use Rattle.land_core.specs.declared.mandates.Mandate.{Mandate}
@@ -17,7 +18,8 @@ use Rattle.land_select_joins.specs.declared.lookups.record_lookup.LookUp.TheVari
 use Rattle.land_tables_history.specs.Standing.{stands}
 use Rattle.land_tables_history.specs.declared.group_member.GroupMember.{GroupMember}
 use Rattle.land_tables_history.specs.declared.version.Version.{Version}
-use Rattle.land_tables_rows.specs.Listing.Reading.{Listing, Says, mandates, members, mutations, parcels, parties, roles, rrrs, sources, units}
+use Rattle.land_tables_rows.specs.Listing.Reading.{Listing, Says, mandates, members, mutations, parcels}
+use Rattle.land_tables_rows.specs.Listing.Reading.{parties, roles, rrrs, sources, units}
 use Rattle.land_tables_rows.specs.Reading.Readings.{each_of}
 use Rattle.land_tables_rows.specs.declared.listing.fault.ReadFault.{ReadFault}
 use Rattle.land_tables_rows.specs.declared.listing.fault.ReadFault.TheVariants.{Unreadable}

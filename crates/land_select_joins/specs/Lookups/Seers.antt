@@ -12,7 +12,9 @@ use Rattle.land_select_joins.specs.Sights.Selections.{Entry, selects}
 use Rattle.land_select_joins.specs.declared.lookups.relation.Relation.{Relation}
 use Rattle.land_select_joins.specs.declared.lookups.relation.Relation.TheVariants as relation
 use Rattle.land_select_joins.specs.declared.sights.selection.Selection.{Selection}
-use Rattle.land_select_joins.specs.declared.sights.selection.Selection.TheVariants.{HeldParties, CreditParties, LodgedParties}
+use Rattle.land_select_joins.specs.declared.sights.selection.Selection.TheVariants.{HeldParties}
+use Rattle.land_select_joins.specs.declared.sights.selection.Selection.TheVariants.{CreditParties}
+use Rattle.land_select_joins.specs.declared.sights.selection.Selection.TheVariants.{LodgedParties}
 use Rattle.land_tables_history.specs.Standing.{standing}
 use Rattle.land_tables_history.specs.declared.history.History.{History}
 use Rattle.land_tables_history.specs.declared.naming.Naming.{Naming}

@@ -1,14 +1,15 @@
 //! Runs selections and unites their results.
-ghost use Rattle.land_tables_schema.specs.Connections.{HasRegisterTables, IsUsable, LeavesAutocommit};
-ghost use Rattle.land_select_joins.specs.TableReads.{FailsOnlyWithoutHistory, ReadsTables};
 ghost use Rattle.std.specs.Prelude.{◌≡◌, IfErr, IfOk};
 ghost use Rattle.std.specs.List.{Contains};
 ghost use Rattle.std.specs.List.Sorted.{IsStrictlyIncreasing};
-ghost use Rattle.land_select_joins.specs.Joins.Running.{AreAll, AreNumbersForAny, AreNumbersOf, AreNumbersOfAny, AreRowsOf, asked_for};
+ghost use Rattle.land_select_joins.specs.Joins.Running.{AreAll, AreNumbersForAny, AreNumbersOf};
+ghost use Rattle.land_select_joins.specs.Joins.Running.{AreNumbersOfAny, AreRowsOf, asked_for};
+ghost use Rattle.land_select_joins.specs.TableReads.{FailsOnlyWithoutHistory, ReadsTables};
 ghost use Rattle.land_tables_rows.specs.Listing.Reading.{IsRead};
 ghost use Rattle.land_tables_rows.specs.Reading.Cells.{natural_in};
 ghost use Rattle.land_tables_rows.specs.Reading.Readings.{each_of};
 ghost use Rattle.land_tables_rows.specs.declared.listing.fault.ReadFault.TheVariants.{NoMemory};
+ghost use Rattle.land_tables_schema.specs.Connections.{HasRegisterTables, IsUsable, LeavesAutocommit};
 ghost use Rattle.land_wire_json.specs.Bodies.WireFaults.{Gives};
 ghost use Rattle.sqlite_value.specs.Order.{column};
 

@@ -1,12 +1,12 @@
 //! The objects of a kind that a caller sees at a time.
-ghost use Rattle.land_tables_schema.specs.Connections.{HasRegisterTables, IsUsable, LeavesAutocommit};
-ghost use Rattle.land_select_joins.specs.TableReads.{FailsOnlyWithoutHistory, ReadsTables};
 ghost use Rattle.std.specs.Prelude.{◌≡◌, ◌&&◌, not};
 ghost use Rattle.land_core.specs.Role.{is_role};
 ghost use Rattle.land_core.specs.declared.role.Role.TheVariants as roles;
 ghost use Rattle.land_rules.specs.Denials.Sight.{sees_all};
 ghost use Rattle.land_rules.specs.Laws.{citizen};
 ghost use Rattle.land_select_joins.specs.Joins.Sight.{IsSight, IsSightAlone};
+ghost use Rattle.land_select_joins.specs.TableReads.{FailsOnlyWithoutHistory, ReadsTables};
+ghost use Rattle.land_tables_schema.specs.Connections.{HasRegisterTables, IsUsable, LeavesAutocommit};
 
 use crate::joins::running::{unite, unite_for};
 use crate::lookups::of_agent::circle;

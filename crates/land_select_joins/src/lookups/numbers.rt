@@ -1,7 +1,7 @@
 //! Runs lookups of one column.
-ghost use Rattle.land_tables_schema.specs.Connections.{HasRegisterTables, LeavesAutocommit};
-ghost use Rattle.land_select_joins.specs.TableReads.{FailsOnlyWithoutHistory, ReadsTables};
 ghost use Rattle.land_select_joins.specs.Lookups.Numbers.{AreNumbersToldBy, AreRowsToldBy};
+ghost use Rattle.land_select_joins.specs.TableReads.{FailsOnlyWithoutHistory, ReadsTables};
+ghost use Rattle.land_tables_schema.specs.Connections.{HasRegisterTables, LeavesAutocommit};
 
 use crate::joins::running::{asked_for, read};
 use crate::lookups::number_look_up::{NumberLookUp, text_of};

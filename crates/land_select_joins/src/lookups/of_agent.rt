@@ -1,9 +1,9 @@
 //! The mandates that a party holds, their principals, and the circle of the party.
-ghost use Rattle.land_tables_schema.specs.Connections.{HasRegisterTables, LeavesAutocommit};
-ghost use Rattle.land_select_joins.specs.TableReads.{FailsOnlyWithoutHistory, ReadsTables};
 ghost use Rattle.std.specs.Prelude.{◌≡◌, map, nat_eq, IfOk};
 ghost use Rattle.land_core.specs.Entries.{only};
 ghost use Rattle.land_select_joins.specs.Lookups.Parts.{ArePrincipalsOf, IsCircleOf, IsPart};
+ghost use Rattle.land_select_joins.specs.TableReads.{FailsOnlyWithoutHistory, ReadsTables};
+ghost use Rattle.land_tables_schema.specs.Connections.{HasRegisterTables, LeavesAutocommit};
 
 use crate::lookups::record_lookup::LookUp;
 use crate::lookups::record_rows::find;

@@ -1,7 +1,8 @@
 //! The parties of the entries of a unit, or of a range of numbers.
-ghost use Rattle.land_tables_schema.specs.Connections.{HasRegisterTables, LeavesAutocommit};
+ghost use Rattle.land_select_joins.specs.Lookups.Parties.{ArePartiesIn, ArePartiesWithin, ArePartyRows};
+ghost use Rattle.land_select_joins.specs.Lookups.Parties.{of_range, of_unit};
 ghost use Rattle.land_select_joins.specs.TableReads.{FailsOnlyWithoutHistory, ReadsTables};
-ghost use Rattle.land_select_joins.specs.Lookups.Parties.{ArePartiesIn, ArePartiesWithin, ArePartyRows, of_range, of_unit};
+ghost use Rattle.land_tables_schema.specs.Connections.{HasRegisterTables, LeavesAutocommit};
 
 use crate::joins::running::asked_for;
 use crate::lookups::record_rows::read;

@@ -1,9 +1,9 @@
 //! The mutations of a lodger.
-ghost use Rattle.land_tables_schema.specs.Connections.{HasRegisterTables, LeavesAutocommit};
-ghost use Rattle.land_select_joins.specs.TableReads.{FailsOnlyWithoutHistory, ReadsTables};
 ghost use Rattle.land_core.specs.Entries.{only};
 ghost use Rattle.land_core.specs.Mutations.{is_lodged_as};
 ghost use Rattle.land_select_joins.specs.Lookups.Parts.{IsPart};
+ghost use Rattle.land_select_joins.specs.TableReads.{FailsOnlyWithoutHistory, ReadsTables};
+ghost use Rattle.land_tables_schema.specs.Connections.{HasRegisterTables, LeavesAutocommit};
 
 use crate::lookups::record_rows::{read, rows_lodged_as};
 use land_core::mutation::MutationRecord;

@@ -1,9 +1,10 @@
 //! Runs lookups and decodes their rows.
-ghost use Rattle.land_tables_schema.specs.Connections.{HasRegisterTables, LeavesAutocommit};
-ghost use Rattle.land_select_joins.specs.TableReads.{ReadsTables};
 ghost use Rattle.std.specs.Prelude.{IfErr};
-ghost use Rattle.land_select_joins.specs.Lookups.RecordRows.{AreRowsLodgedAs, AreRowsOf, AreSaidOf, CannotBeSaid};
+ghost use Rattle.land_select_joins.specs.Lookups.RecordRows.{AreRowsLodgedAs, AreRowsOf, AreSaidOf};
+ghost use Rattle.land_select_joins.specs.Lookups.RecordRows.{CannotBeSaid};
+ghost use Rattle.land_select_joins.specs.TableReads.{ReadsTables};
 ghost use Rattle.land_tables_rows.specs.Listing.Reading.{IsRead};
+ghost use Rattle.land_tables_schema.specs.Connections.{HasRegisterTables, LeavesAutocommit};
 ghost use Rattle.sqlite.specs.Held.{state};
 ghost use Rattle.sqlite.specs.State.{HasCleanDisk};
 
@@ -25,7 +26,8 @@ fn rows_of<S: Alter>(
     at: i64,
 ) -> Result<Vec<Row>, Error>
     requires land { HasRegisterTables S.Store conn.old }
-    ensures look { ReadsTables S.Store result (λ db rows. AreRowsOf record_lookup number at db rows.items) conn.old
+    ensures look { ReadsTables S.Store result (λ db rows. AreRowsOf record_lookup number at db rows.items)
+        conn.old
         conn.new }
     ensures mode { LeavesAutocommit conn.old conn.new }
 {
@@ -74,9 +76,11 @@ pub fn find<X: FromRow, S: Alter>(
     at: i64,
 ) -> Result<Sequence<X>, ReadFault>
     requires land { HasRegisterTables S.Store conn.old }
-    ensures look { ReadsTables S.Store result (AreSaidOf X.FromRow.said record_lookup number at) conn.old conn.new }
+    ensures look { ReadsTables S.Store result (AreSaidOf X.FromRow.said record_lookup number at) conn.old
+        conn.new }
     ensures unreadable { HasCleanDisk (state S.Store conn.new)
-        → IfErr result (CannotBeSaid X.FromRow.said record_lookup number at (state S.Store conn.old).now.trees) }
+        → IfErr result (CannotBeSaid X.FromRow.said record_lookup number at
+        (state S.Store conn.old).now.trees) }
     ensures mode { LeavesAutocommit conn.old conn.new }
 {
     let rows = rows_of(conn, record_lookup, number, at)?;

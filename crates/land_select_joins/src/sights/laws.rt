@@ -1,5 +1,6 @@
 //! Laws, each stated on definitions only.
-ghost use Rattle.land_select_joins.specs.Sights.Laws.{AscendingListsAreOne, NobodiesSeeAlike, SelectedIsSeen, SelectionsAreTheRules, TheUnnamedSeeTheLeast};
+ghost use Rattle.land_select_joins.specs.Sights.Laws.{AscendingListsAreOne, NobodiesSeeAlike, SelectedIsSeen};
+ghost use Rattle.land_select_joins.specs.Sights.Laws.{SelectionsAreTheRules, TheUnnamedSeeTheLeast};
 
 use land_core::laws::soundness_by_look_ups;
 use land_rules::laws::seen_is_exact;
