@@ -1,5 +1,4 @@
 //! Visibility of an object by the caller's interest in a unit.
-ghost use Rattle.std.specs.Prelude.{false};
 ghost use Rattle.land_rules.specs.Denials.Interests.{is_shown_by_interest};
 ghost use Rattle.land_select.specs.Cache.{IsToldWith};
 ghost use Rattle.land_select_joins.specs.TableReads.{ReadsTables};

@@ -1,6 +1,6 @@
 //! Visibility by a pending mutation of a conveyancer that refers to the unit.
 ghost use Rattle.std.specs.FinMap as map;
-ghost use Rattle.std.specs.Prelude.{false, if◌then◌else◌};
+ghost use Rattle.std.specs.Prelude.{if◌then◌else◌};
 ghost use Rattle.land_core.specs.declared.kind.Kind.TheVariants as kinds;
 ghost use Rattle.land_rules.specs.Denials.Sight.{is_awaited};
 ghost use Rattle.land_rules.specs.Relations.{is_lodger_on};

@@ -1,5 +1,5 @@
 //! The interest of a citizen or a bank in a unit, and the objects that it shows.
-ghost use Rattle.std.specs.Prelude.{◌≡◌, ◌++◌, false, true, IfOk};
+ghost use Rattle.std.specs.Prelude.{◌≡◌, ◌++◌, true, IfOk};
 ghost use Rattle.land_core.specs.Entries.{only};
 ghost use Rattle.land_core.specs.Role.{is_role};
 ghost use Rattle.land_core.specs.declared.kind.Kind.TheVariants as kinds;

@@ -1,6 +1,6 @@
 //! Visibility of a mutation by the caller's interest in a unit to which it refers.
 ghost use Rattle.std.specs.List.{list_any};
-ghost use Rattle.std.specs.Prelude.{◌||◌, false};
+ghost use Rattle.std.specs.Prelude.{◌||◌};
 ghost use Rattle.land_core.specs.declared.kind.Kind.TheVariants as kinds;
 ghost use Rattle.land_rules.specs.Denials.Interests.{interest_at, is_shown_by_interest, names_shown};
 ghost use Rattle.land_rules.specs.Denials.Interests.{shows_unit};

@@ -1,5 +1,4 @@
 //! Authorizes the view of an object.
-ghost use Rattle.std.specs.Prelude.{false};
 ghost use Rattle.land_core.specs.Register.{stands};
 ghost use Rattle.land_core.specs.declared.kind.Kind.TheVariants as kinds;
 ghost use Rattle.land_rules.specs.Denials.Sight.{is_awaited, told_by};
