@@ -20,7 +20,7 @@ use Rattle.land_rules.specs.Relations.{is_lodger_on}
 use Rattle.land_rules.specs.Rules.{sees}
 use Rattle.land_select.proofs.ShownByInterest.{only_where}
 use Rattle.land_select.proofs.Viewed.{agreed}
-use Rattle.land_select.specs.Views.{awaited_of, visible_entries}
+use Rattle.land_select.specs.Views.{awaited_of, visible_rrrs}
 use Rattle.land_select_joins.proofs.Standing.{entry_there}
 
 -- ---- a unit
@@ -45,7 +45,7 @@ none_kept p (x ∷ xs) = go (p x) (none_kept p xs)
 
 -- of the entries of a unit, those that a pending mutation shows are visible
 pub awaited_in_sight : WhatIsAwaitedIsSeen → (r : Register) (caller : Caller) (unit : ℕ) → IsSoundOrNothing r → sees_by_awaiting caller.role Rrr ≡ true
-    → awaited_of r caller.party unit (entries_of r unit) ≡ visible_entries r caller unit
+    → awaited_of r caller.party unit (entries_of r unit) ≡ visible_rrrs r caller unit
 awaited_in_sight law r caller unit premise by = go (is_lodger_on r caller.party unit) refl
   where
     seen : (e : ℕ × RrrRecord) → Contains (map.entries r.rrrs) e → e.1.unit ≡ unit → sees r caller Rrr e.0 ≡ is_lodger_on r caller.party unit
@@ -57,7 +57,7 @@ awaited_in_sight law r caller unit premise by = go (is_lodger_on r caller.party 
         agreed (λ e. nat_eq e.1.unit unit && b) (λ e. nat_eq e.1.unit unit && sees r caller Rrr e.0) (map.entries r.rrrs)
         (λ e among. only_where (nat_eq e.1.unit unit) b (sees r caller Rrr e.0) (λ same. sym (seen e among ((Decides-eqb e.1.unit unit).0 same) ∙ is)))
 
-    go : (b : Bool) → is_lodger_on r caller.party unit ≡ b → cond b (entries_of r unit) map.empty ≡ visible_entries r caller unit
+    go : (b : Bool) → is_lodger_on r caller.party unit ≡ b → cond b (entries_of r unit) map.empty ≡ visible_rrrs r caller unit
     go true is =
         ap (with_entries (map.empty {R = nat_cmp}))
         (agreed (λ e. nat_eq e.1.unit unit) (λ e. nat_eq e.1.unit unit && true) (map.entries r.rrrs) (λ e among. sym (and_true (nat_eq e.1.unit unit))) ∙ kept true is)
@@ -65,6 +65,6 @@ awaited_in_sight law r caller unit premise by = go (is_lodger_on r caller.party 
 
 -- so all of them are, if a pending mutation refers to the unit
 pub entries_awaited : WhatIsAwaitedIsSeen → (r : Register) (caller : Caller) (unit : ℕ) → IsSoundOrNothing r → sees_by_awaiting caller.role Rrr ≡ true → is_awaited r caller UnitKind unit ≡ true
-    → entries_of r unit ≡ visible_entries r caller unit
+    → entries_of r unit ≡ visible_rrrs r caller unit
 entries_awaited law r caller unit premise by is =
     sym (ap (λ b. cond b (entries_of r unit) map.empty) (and_parts (is_lodger_on r caller.party unit) (stands r UnitKind unit) is).0) ∙ awaited_in_sight law r caller unit premise by

@@ -16,7 +16,7 @@ use Rattle.land_core.specs.declared.register.Register.{Register}
 use Rattle.land_core.specs.declared.rrr.RrrRecord.{RrrRecord}
 use Rattle.land_keep.specs.Sheets.{entries_seen, name_at, named_rrr}
 use Rattle.land_rules.specs.Rules.{sees}
-use Rattle.land_select.specs.Views.{visible_entries, name_among, named_among, with_name}
+use Rattle.land_select.specs.Views.{visible_rrrs, name_among, named_among, with_name}
 use Rattle.land_select_joins.proofs.Containing.{first, first_or_later, in_nothing, later}
 use Rattle.land_select_joins.proofs.Records.{passes_filter}
 use Rattle.land_select_joins.proofs.Standing.{entry_there}
@@ -89,7 +89,7 @@ abbrev is_seen : Register → Caller → (unit : ℕ) → ℕ × RrrRecord → B
 is_seen r caller unit e = nat_eq e.1.unit unit && sees r caller Rrr e.0
 
 -- so the visible entries with names are those of the title sheet
-pub named_in_sight : (r : Register) (caller : Caller) (unit : ℕ) (entries : FinMap nat_cmp RrrRecord) (parties : List PartyVersion) → entries ≡ visible_entries r caller unit
+pub named_in_sight : (r : Register) (caller : Caller) (unit : ℕ) (entries : FinMap nat_cmp RrrRecord) (parties : List PartyVersion) → entries ≡ visible_rrrs r caller unit
     → ((party : ℕ × PartyRecord) → Contains (map_list what_of parties) party ↔ ((has_entry_in r unit party.0 ≡ true) × (map.get r.parties party.0 ≡ Some party.1)))
     → named_among parties (map.entries entries) ≡ entries_seen r caller unit
 named_in_sight r caller unit entries parties are all =

@@ -20,7 +20,7 @@ use Rattle.land_rules.specs.Laws.{IsSoundOrNothing}
 use Rattle.land_rules.specs.Relations.{holds_as, is_member_of}
 use Rattle.land_rules.specs.Rules.{sees}
 use Rattle.land_select.proofs.Viewed.{agreed, twice}
-use Rattle.land_select.specs.Views.{visible_entries, shown_of}
+use Rattle.land_select.specs.Views.{visible_rrrs, shown_of}
 use Rattle.land_select_joins.proofs.Containing.{any_decides}
 use Rattle.land_select_joins.proofs.Naming.{Joins, member_decides}
 use Rattle.land_select_joins.proofs.Standing.{entry_there}
@@ -75,7 +75,7 @@ only_where true b c same = same refl
 only_where false b c same = refl
 
 -- the entries of a unit that an interest shows are visible
-pub shown_in_sight : InterestsTellSight → (r : Register) (caller : Caller) (unit : ℕ) → IsSoundOrNothing r → sees_by_interest caller.role Rrr ≡ true → shown_of r caller (entries_of r unit) ≡ visible_entries r caller unit
+pub shown_in_sight : InterestsTellSight → (r : Register) (caller : Caller) (unit : ℕ) → IsSoundOrNothing r → sees_by_interest caller.role Rrr ≡ true → shown_of r caller (entries_of r unit) ≡ visible_rrrs r caller unit
 shown_in_sight law r caller unit premise by =
     ap (with_entries (map.empty {R = nat_cmp}))
     (ap (filter (λ e. shows_entry (interest_at r caller unit) caller.party e.1)) (entries-only nat_cmp_total nat_cmp-IsAntisymmetric (λ n e. nat_eq e.unit unit) r.rrrs)

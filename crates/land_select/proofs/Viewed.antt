@@ -22,7 +22,7 @@ use Rattle.land_rules.specs.Denials.Sight.{AllThatStandsIsSeen, sees_all}
 use Rattle.land_rules.specs.Laws.{SeenIsExactly}
 use Rattle.land_rules.specs.Laws.{IsSoundOrNothing}
 use Rattle.land_rules.specs.Rules.{seen_of, sees}
-use Rattle.land_select.specs.Views.{IsShown, visible_entries, named_at, view_from}
+use Rattle.land_select.specs.Views.{IsShown, visible_rrrs, named_at, view_from}
 use Rattle.land_select_joins.proofs.Containing.{first, later}
 use Rattle.land_select_joins.proofs.Standing.{entry_there}
 use Rattle.land_select_joins.specs.Joins.Sight.{IsSight}
@@ -70,7 +70,7 @@ both_true true b is = sym is
 both_true false b is = refl
 
 -- a caller that sees all entries sees those of a unit
-pub all_in_sight : AllThatStandsIsSeen → (r : Register) (caller : Caller) (unit : ℕ) → sees_all caller.role Rrr ≡ true → only (λ n e. nat_eq e.unit unit) r.rrrs ≡ visible_entries r caller unit
+pub all_in_sight : AllThatStandsIsSeen → (r : Register) (caller : Caller) (unit : ℕ) → sees_all caller.role Rrr ≡ true → only (λ n e. nat_eq e.unit unit) r.rrrs ≡ visible_rrrs r caller unit
 all_in_sight law r caller unit all =
     ap (with_entries (map.empty {R = nat_cmp}))
     (agreed (λ e. nat_eq e.1.unit unit) (λ e. nat_eq e.1.unit unit && sees r caller Rrr e.0) (map.entries r.rrrs)
@@ -78,7 +78,7 @@ all_in_sight law r caller unit all =
 
 -- the entries of a unit that are in the list are visible
 pub listed_in_sight : SeenIsExactly → (r : Register) (caller : Caller) (unit : ℕ) (listed : List ℕ) → listed ≡ seen_of r caller Rrr
-    → only (λ n e. list_any (nat_eq n) listed) (only (λ n e. nat_eq e.unit unit) r.rrrs) ≡ visible_entries r caller unit
+    → only (λ n e. list_any (nat_eq n) listed) (only (λ n e. nat_eq e.unit unit) r.rrrs) ≡ visible_rrrs r caller unit
 listed_in_sight exact r caller unit listed are =
     ap (with_entries (map.empty {R = nat_cmp}))
     (ap (filter (λ e. list_any (nat_eq e.0) listed)) (entries-only nat_cmp_total nat_cmp-IsAntisymmetric (λ n e. nat_eq e.unit unit) r.rrrs)

@@ -12,7 +12,7 @@ use Rattle.land_keep.specs.Timeline.{Timeline, register_at}
 use Rattle.land_rules.specs.Laws.{IsSoundOrNothing}
 use Rattle.land_rules.specs.Rules.{first_denial, sight_rules}
 use Rattle.land_rules.specs.declared.verdict.Verdict.{Verdict}
-use Rattle.land_select.specs.Views.{visible_entries}
+use Rattle.land_select.specs.Views.{visible_rrrs}
 use Rattle.land_select.specs.declared.cache.CachedValue.{CachedValue}
 use Rattle.land_select.specs.declared.cache.CachedValue.TheVariants as found
 use Rattle.land_select.specs.declared.cache.Cache.{Cache}
@@ -30,7 +30,7 @@ cached_object (Some it) = found.Object it
 abbrev pub IsFound : Register → Caller → Kind → (number : ℕ) → CachedValue → Type 0
 IsFound r caller k n found.Nothing = Unit {0}
 IsFound r caller k n (found.Object it) = object_at r k n ≡ Some it
-IsFound r caller k n (found.VisibleEntries entries) = entries ≡ visible_entries r caller n
+IsFound r caller k n (found.VisibleEntries entries) = entries ≡ visible_rrrs r caller n
 
 -- a cached object is the object of this kind and number
 abbrev pub IsObjectFound : Register → Kind → (number : ℕ) → CachedValue → Type 0

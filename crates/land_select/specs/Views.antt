@@ -55,8 +55,8 @@ abbrev pub named_among : List (Version (ℕ × PartyRecord)) → List (ℕ × Rr
 named_among parties entries = map_list (λ e. with_name e.0 e.1 (name_among parties e.1.party)) entries
 
 -- the entries of a unit that a caller sees
-abbrev pub visible_entries : Register → Caller → (unit : ℕ) → FinMap nat_cmp RrrRecord
-visible_entries r caller unit = only (λ n e. nat_eq e.unit unit && sees r caller Rrr n) r.rrrs
+abbrev pub visible_rrrs : Register → Caller → (unit : ℕ) → FinMap nat_cmp RrrRecord
+visible_rrrs r caller unit = only (λ n e. nat_eq e.unit unit && sees r caller Rrr n) r.rrrs
 
 -- If the tables hold a history that at time t represents a register, the list has exactly the groups in it
 -- with a member in a list.

@@ -7,7 +7,7 @@ ghost use Rattle.land_core.specs.declared.caller.Caller.{Caller as Who};
 ghost use Rattle.land_core.specs.declared.kind.Kind.TheVariants as kinds;
 ghost use Rattle.land_keep.specs.Sheets.{entries_seen, parcels_at, shown_parcel, view_at};
 ghost use Rattle.land_select.specs.Cache.{IsFound, IsObjectFound};
-ghost use Rattle.land_select.specs.Views.{IsShown, IsShownGiven, visible_entries, name_among, named_among};
+ghost use Rattle.land_select.specs.Views.{IsShown, IsShownGiven, visible_rrrs, name_among, named_among};
 ghost use Rattle.land_select.specs.Views.{named_at, view_from, with_name};
 ghost use Rattle.land_select_joins.specs.Lookups.Parts.{IsPart};
 ghost use Rattle.land_select_joins.specs.TableReads.{ReadsTables};
@@ -167,7 +167,7 @@ fn entries_in_sight<S: Alter>(
 ) -> Result<Records<RrrRecord>, ReadFault>
     requires open { IsUsable S.Store conn.old }
     requires land { HasRegisterTables S.Store conn.old }
-    ensures look { ReadsTables S.Store result (IsShown (λ r. visible_entries r caller unit) at) conn.old
+    ensures look { ReadsTables S.Store result (IsShown (λ r. visible_rrrs r caller unit) at) conn.old
         conn.new }
     ensures mode { LeavesAutocommit conn.old conn.new }
 {
@@ -200,7 +200,7 @@ fn with_names<S: Alter>(
 ) -> Result<Sequence<NamedRrr>, ReadFault>
     requires land { HasRegisterTables S.Store conn.old }
     ensures look { (caller : Who) → ReadsTables S.Store result
-        (IsShownGiven (λ r. entries.now ≡ visible_entries r caller unit) (λ r. entries_seen r caller unit) at)
+        (IsShownGiven (λ r. entries.now ≡ visible_rrrs r caller unit) (λ r. entries_seen r caller unit) at)
         conn.old conn.new }
     ensures mode { LeavesAutocommit conn.old conn.new }
 {
