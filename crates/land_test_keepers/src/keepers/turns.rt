@@ -1,8 +1,12 @@
 //! Alternatives of the scenario after some of its steps.
 use crate::keepers::story::Story;
+use land_core::limits::LAST_MOMENT;
 use land_test_scenario::scenario::QUARTER;
 use land_test_scenario::talk::Told::{self, Denied, Fault, Refused, Sheet, Shown};
 use land_test_scenario::talk::{ANNA, BANK, BEN, ENROL, NORA, NOTARY, OFFICE, Row, SAM, SURVEYOR};
+
+/// A clock reading after the last moment.
+const AFTER_LAST_MOMENT: i64 = LAST_MOMENT + 1;
 
 const GARDEN: Told = Shown(r#"{"object":{"checked":true,"name":"Garden","number":9}}"#);
 
@@ -613,7 +617,7 @@ pub const EARLY: &[Story] = &[
     Story(
         "stamps",
         0,
-        &[5000, 4000, 4000, 4_102_444_800_000, 4_102_444_799_999, 1000],
+        &[5000, 4000, 4000, AFTER_LAST_MOMENT, LAST_MOMENT, 1000],
         STAMPS,
     ),
     Story("before 1970", 0, &[-1, -5000, i64::MIN], BEFORE_1970),

@@ -4,6 +4,7 @@ use crate::random::drawn::OFFICE;
 use crate::random::keepers::Keepers;
 use land_core::caller::Caller;
 use land_core::kind::Kind;
+use land_core::limits::LAST_MOMENT;
 use land_core::role::Role;
 use land_keep::keeper::Keeper;
 use land_test_scenario::stop::{Stop, expect};
@@ -36,7 +37,7 @@ fn draw_moment(dice: &mut Dice, last: i64) -> i64 {
     let count = u32::try_from(last.saturating_sub(998)).unwrap_or(1);
     match dice.throw(10) {
         0 => -1,
-        1 => 4_102_444_799_999,
+        1 => LAST_MOMENT,
         _ => i64::from(dice.throw(count)).saturating_add(999),
     }
 }
